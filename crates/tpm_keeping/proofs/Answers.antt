@@ -56,6 +56,7 @@ all_promised j s lasting still forced named =
       lasts = λ _. named;
       below = h.below;
       unnamed = h.unnamed;
+      lives = h.lives;
       now = record {
         rest = [];
         has = sym (append-nil cs);
@@ -70,7 +71,7 @@ all_promised j s lasting still forced named =
 same_promised : (j : Journal) (s : Shared) (lasting : Bool) → Still j s → 0 < s.file.number → IsFile j s.origin s.history s.promised lasting s.next s.file
 same_promised j s lasting still named =
     let h = still.file in
-    record { surely = h.surely; enough = h.enough; kept = h.kept; lasts = λ _. named; below = h.below; unnamed = h.unnamed; now = h.now; past = h.past }
+    record { surely = h.surely; enough = h.enough; kept = h.kept; lasts = λ _. named; below = h.below; unnamed = h.unnamed; lives = h.lives; now = h.now; past = h.past }
 
 left_file : (j : Journal) (s : Shared) (force : Force) (job : Job) (lasting : Bool) → Still j s → 0 < s.file.number
     → (promises force job ≡ true → IsForced j s.origin s.file) → IsFile j s.origin s.history (promise force job s) lasting s.next s.file

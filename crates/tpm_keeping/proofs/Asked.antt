@@ -1,12 +1,11 @@
 -- What holds of all commands that were asked for holds of the history.
-use Rattle.std.proofs.Common.{◌≡◌, ◌⊎◌, ℕ, zero, suc, ◌+◌, ◌<◌, ◌≤◌, ◌==◌, Bool, true, false, cond, List, [], ◌∷◌, ◌++◌, length, take, drop, Some, None, Option, refl, sym, ap, ◌∙◌, subst, arith}
+use Rattle.std.proofs.Common.{◌≡◌, ℕ, ◌+◌, ◌==◌, Bool, true, false, cond, List, [], ◌∷◌, ◌++◌, length, Some, None, Option, refl, sym, subst}
 use Rattle.std.specs.List.{AllByRecursion}
 use Rattle.std.specs.Prelude.{nat_le, ◌||◌}
-use Rattle.tpm_keeping.specs.Journal.{Journal, IsJournal}
-use Rattle.tpm_keeping.specs.Holder.{Holder, Told, Done, Stands, Gone, Bytes, Failed, Starved, acts, asked_in, begins, begins_of, caught_up, executes, finishes, found, goes, is_always, is_never, knows_file, looked, newborn, next_in, reads_on, rests_in, settles, shows}
-use Rattle.tpm_keeping.specs.World.{Effect, Nothing, Part, All, Event, Starts, Asks, Does, Fails, Dies, Forks, Drops, Crashes, IsStart, Shared, World, adds, leads, does, does_in, fails_in, freed, happen, happens, left, lost, put_more, starts_in, tells, with_holder}
+use Rattle.tpm_keeping.specs.Journal.{Journal, IsJournal, Spot}
+use Rattle.tpm_keeping.specs.Holder.{Holder, Told, Done, Stands, Gone, Bytes, Failed, Starved, acts, asked_in, begins, begins_of, caught_up, executes, finishes, found, goes, is_always, is_never, knows_file, looked, newborn, next_in, reads_on, rests_in, settles}
+use Rattle.tpm_keeping.specs.World.{Effect, Part, All, Event, Starts, Asks, Does, Fails, Dies, Forks, Drops, Crashes, IsStart, Shared, World, adds, leads, does, does_in, fails_in, freed, happen, happens, left, lost, put_more, starts_in, tells, with_holder}
 use Rattle.tpm_keeping.specs.Kept.{Pass}
-use Rattle.tpm_keeping.proofs.Entries.{IsFront}
 use Rattle.tpm_keeping.proofs.Invariant.{Fine}
 use Rattle.tpm_keeping.proofs.Promises.{crash_is_front}
 use Rattle.tpm_keeping.proofs.Runs.{begun, step}
@@ -39,18 +38,18 @@ chosen test c false x y hx hy = hy
 settles_fair : (test : List ℕ → Bool) (k : Holder) → test k.command ≡ true → Fair test (settles k) k.command
 settles_fair test k ok = chosen test k.command (k.settled || is_never k.force) (Leaving ending.Done) Settling tt ok
 
-executes_fair : (test : List ℕ → Bool) (j : Journal) (k : Holder) (s : List ℕ) (b : Bool) → test k.command ≡ true → IsFair test (executes j k s b)
+executes_fair : (test : List ℕ → Bool) (j : Journal) (k : Holder) (s : Spot) (b : Bool) → test k.command ≡ true → IsFair test (executes j k s b)
 executes_fair test j k s true ok = ok
 executes_fair test j k s false ok = ok
 
-acts_fair : (job : Job) (test : List ℕ → Bool) (j : Journal) (k : Holder) (s : List ℕ) → test k.command ≡ true → IsFair test (acts j job k s)
+acts_fair : (job : Job) (test : List ℕ → Bool) (j : Journal) (k : Holder) (s : Spot) → test k.command ≡ true → IsFair test (acts j job k s)
 acts_fair Execute test j k s ok = executes_fair test j k s (nat_le k.limit k.place) ok
 acts_fair Leap test j k s ok = ok
 acts_fair Renew test j k s ok = ok
 acts_fair Show test j k s ok = chosen test k.command (is_always k.force) Putting (settles k) ok (settles_fair test k ok)
 acts_fair Begin test j k s ok = chosen test k.command (is_always k.force) Putting (settles k) ok (settles_fair test k ok)
 
-finishes_fair : (o : Option (List ℕ × ℕ)) (test : List ℕ → Bool) (j : Journal) (k : Holder) → test k.command ≡ true → IsFair test (finishes j k o)
+finishes_fair : (o : Option (Spot × ℕ)) (test : List ℕ → Bool) (j : Journal) (k : Holder) → test k.command ≡ true → IsFair test (finishes j k o)
 finishes_fair None test j k ok = tt
 finishes_fair (Some found) test j k ok = acts_fair k.job test j (caught_up k found.1) found.0 ok
 
@@ -147,7 +146,7 @@ does_passes Making (Part count) test s k ok h = h
 does_passes Making All test s k ok h = h
 does_passes Naming All test s k ok h =
     both_pass test (s.history ++ leads k.job k.command) (adds k.job k.command)
-        (both_pass test s.history (leads k.job k.command) h (leads_pass k.job test k.command ok)) (adds_pass k.job test k.command ok)
+    (both_pass test s.history (leads k.job k.command) h (leads_pass k.job test k.command ok)) (adds_pass k.job test k.command ok)
 does_passes Settling All test s k ok h = h
 does_passes phase effect test s k ok h = h
 

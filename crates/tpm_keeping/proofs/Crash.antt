@@ -4,7 +4,7 @@ use Rattle.std.specs.List.{AllByRecursion}
 use Rattle.std.specs.Prelude.{nat_le}
 use Rattle.std.proofs.lemmas.Bool.Decides.{nat_tests}
 use Rattle.std.proofs.lemmas.List.{append-nil}
-use Rattle.tpm_keeping.specs.Journal.{Journal, IsJournal, entries, run, whole_in}
+use Rattle.tpm_keeping.specs.Journal.{Journal, IsJournal, entries, started, trail, whole_in}
 use Rattle.tpm_keeping.specs.World.{Answer, Content, File, Shared, content_at, crashed, crashed_to, file_at, left_of, litter_of, within}
 use Rattle.tpm_keeping.specs.Kept.{Ascend, IsTrue}
 use Rattle.tpm_keeping.proofs.Entries.{whole, front_past, is_cut, is_front, keeps_sure}
@@ -93,30 +93,30 @@ left_text : (j : Journal) (base : List ℕ) (f : File) (c : Content) (count : �
 left_text j base f c count litter laws ok t le =
     let head = j.head base in
     let m = count - length head in
-    let all = entries j base c.commands in
-    let cut = is_cut j base c.commands t.tail m litter laws ok t.torn in
-    let inside = whole_in j base c.commands m in
+    let all = entries j (started j base) c.commands in
+    let cut = is_cut j (started j base) c.commands t.tail m litter laws ok t.torn in
+    let inside = whole_in j (started j base) c.commands m in
     record {
       tail = cut.left;
       is = ap (λ (x : List ℕ). take count x ++ litter) (t.is ∙ append_assoc head all t.tail)
           ∙ (ap (λ (x : List ℕ). x ++ litter) (front_past head (all ++ t.tail) count le)
           ∙ (append_assoc head (take m (all ++ t.tail)) litter
-          ∙ (ap (λ (x : List ℕ). head ++ x) cut.is ∙ sym (append_assoc head (entries j base inside) cut.left))));
+          ∙ (ap (λ (x : List ℕ). head ++ x) cut.is ∙ sym (append_assoc head (entries j (started j base) inside) cut.left))));
       torn = cut.torn;
     }
 
 -- how many commands are left, at least
 left_sure : (j : Journal) (base : List ℕ) (surely rest : List (List ℕ)) (c : Content) (count : ℕ) → c.commands ≡ surely ++ rest → length (whole j base surely) ≤ count
-    → length surely ≤ length (whole_in j base c.commands (count - length (j.head base)))
+    → length surely ≤ length (whole_in j (started j base) c.commands (count - length (j.head base)))
 left_sure j base surely rest c count has le =
     let m = count - length (j.head base) in
-    let size = length-append (j.head base) (entries j base surely) in
-    let kept = keeps_sure j base surely rest m (omega (arith, le, size)) in
-    let others = whole_in j (run j base surely) rest (m - length (entries j base surely)) in
-    omega (arith, ap (λ (x : List (List ℕ)). length (whole_in j base x m)) has, ap length kept, length-append surely others)
+    let size = length-append (j.head base) (entries j (started j base) surely) in
+    let kept = keeps_sure j (started j base) surely rest m (omega (arith, le, size)) in
+    let others = whole_in j (trail j (started j base) surely) rest (m - length (entries j (started j base) surely)) in
+    omega (arith, ap (λ (x : List (List ℕ)). length (whole_in j (started j base) x m)) has, ap length kept, length-append surely others)
 
-none_in : (j : Journal) (base : List ℕ) (cs : List (List ℕ)) (count : ℕ) → cs ≡ [] → whole_in j base cs count ≡ []
-none_in j base cs count none = ap (λ (x : List (List ℕ)). whole_in j base x count) none
+none_in : (j : Journal) (base : List ℕ) (cs : List (List ℕ)) (count : ℕ) → cs ≡ [] → whole_in j (started j base) cs count ≡ []
+none_in j base cs count none = ap (λ (x : List (List ℕ)). whole_in j (started j base) x count) none
 
 -- what was promised is among them
 kept_in : (s : Shared) (f : File) (inside surely rest commands : List (List ℕ)) → s.promised ≤ length f.before + length surely
@@ -141,10 +141,10 @@ crash_to j s f content far litter laws still h =
     let junk = litter_of j litter in
     let is = content_there (IsContent j base f.number s.history f.before h.surely) f.now f.past content h.now h.past in
     let m = count - length (j.head base) in
-    let inside = whole_in j base c.commands m in
-    let front = is_front j base c.commands m in
+    let inside = whole_in j (started j base) c.commands m in
+    let front = is_front j (started j base) c.commands m in
     let left = left_of j base f c count junk in
-    let size : length (j.head base) ≤ length (whole j base h.surely) = omega (arith, length-append (j.head base) (entries j base h.surely)) in
+    let size : length (j.head base) ≤ length (whole j base h.surely) = omega (arith, length-append (j.head base) (entries j (started j base) h.surely)) in
     let sure : 0 < f.number → length h.surely ≤ length inside = λ named.
     left_sure j base h.surely is.rest c count is.has (omega (arith, h.enough named)) in
     let text : 0 < f.number → IsText j base left.now = λ named.
@@ -168,6 +168,7 @@ crash_to j s f content far litter laws still h =
         lasts = h.lasts;
         below = h.below;
         unnamed = h.unnamed;
+        lives = h.lives;
         now = record {
           rest = [];
           has = sym (append-nil inside);

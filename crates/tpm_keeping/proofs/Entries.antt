@@ -5,32 +5,50 @@ use Rattle.std.proofs.lemmas.Bool.Decides.{nat_tests}
 use Rattle.std.proofs.lemmas.Grind.{common_steps}
 use Rattle.std.proofs.lemmas.List.{take_all, take-append-le}
 use Rattle.std.proofs.Math.Seq.{take-append-add}
-use Rattle.tpm_keeping.specs.Journal.{Journal, IsJournal, entries, run, whole_in}
+use Rattle.tpm_keeping.specs.Journal.{Journal, IsJournal, Spot, entries, run, started, stepped, trail, whole_in}
 
 abbrev pub whole : Journal → List ℕ → List (List ℕ) → List ℕ
-whole j base cs = j.head base ++ entries j base cs
+whole j base cs = j.head base ++ entries j (started j base) cs
 
 pub run_both : (j : Journal) (s : List ℕ) (cs ds : List (List ℕ)) → run j s (cs ++ ds) ≡ run j (run j s cs) ds
 run_both j s [] ds = refl
 run_both j s (c ∷ cs) ds = run_both j (j.after s c) cs ds
 
-pub entries_both : (j : Journal) (s : List ℕ) (cs ds : List (List ℕ))
-    → entries j s (cs ++ ds) ≡ entries j s cs ++ entries j (run j s cs) ds
-entries_both j s [] ds = refl
-entries_both j s (c ∷ cs) ds =
-    let rest = entries j (j.after s c) cs in
-    ap (λ (t : List ℕ). j.entry s c ++ t) (entries_both j (j.after s c) cs ds)
-    ∙ sym (append_assoc (j.entry s c) rest (entries j (run j (j.after s c) cs) ds))
+pub trail_both : (j : Journal) (p : Spot) (cs ds : List (List ℕ)) → trail j p (cs ++ ds) ≡ trail j (trail j p cs) ds
+trail_both j p [] ds = refl
+trail_both j p (c ∷ cs) ds = trail_both j (stepped j p c) cs ds
+
+-- the state at a spot does not depend on what entries are chained to
+pub trail_state : (j : Journal) (p : Spot) (cs : List (List ℕ)) → (trail j p cs).state ≡ run j p.state cs
+trail_state j p [] = refl
+trail_state j p (c ∷ cs) = trail_state j (stepped j p c) cs
+
+-- commands lead from a state to a state
+pub run_lives : (j : Journal) (s : List ℕ) (cs : List (List ℕ)) → IsJournal j → j.is_state s ≡ true → j.is_state (run j s cs) ≡ true
+run_lives j s [] laws lives = lives
+run_lives j s (c ∷ cs) laws lives = run_lives j (j.after s c) cs laws (laws.leads s c lives)
+
+pub trail_lives : (j : Journal) (p : Spot) (cs : List (List ℕ)) → IsJournal j → j.is_state p.state ≡ true → j.is_state (trail j p cs).state ≡ true
+trail_lives j p [] laws lives = lives
+trail_lives j p (c ∷ cs) laws lives = trail_lives j (stepped j p c) cs laws (laws.leads p.state c lives)
+
+pub entries_both : (j : Journal) (p : Spot) (cs ds : List (List ℕ))
+    → entries j p (cs ++ ds) ≡ entries j p cs ++ entries j (trail j p cs) ds
+entries_both j p [] ds = refl
+entries_both j p (c ∷ cs) ds =
+    let rest = entries j (stepped j p c) cs in
+    ap (λ (t : List ℕ). j.entry p c ++ t) (entries_both j (stepped j p c) cs ds)
+    ∙ sym (append_assoc (j.entry p c) rest (entries j (trail j (stepped j p c) cs) ds))
 
 pub whole_both : (j : Journal) (s : List ℕ) (cs ds : List (List ℕ))
-    → whole j s (cs ++ ds) ≡ whole j s cs ++ entries j (run j s cs) ds
+    → whole j s (cs ++ ds) ≡ whole j s cs ++ entries j (trail j (started j s) cs) ds
 whole_both j s cs ds =
-    ap (λ (t : List ℕ). j.head s ++ t) (entries_both j s cs ds)
-    ∙ sym (append_assoc (j.head s) (entries j s cs) (entries j (run j s cs) ds))
+    ap (λ (t : List ℕ). j.head s ++ t) (entries_both j (started j s) cs ds)
+    ∙ sym (append_assoc (j.head s) (entries j (started j s) cs) (entries j (trail j (started j s) cs) ds))
 
 pub whole_length : (j : Journal) (s : List ℕ) (cs ds : List (List ℕ)) → length (whole j s cs) ≤ length (whole j s (cs ++ ds))
 whole_length j s cs ds =
-    omega (arith, ap length (whole_both j s cs ds), length-append (whole j s cs) (entries j (run j s cs) ds))
+    omega (arith, ap length (whole_both j s cs ds), length-append (whole j s cs) (entries j (trail j (started j s) cs) ds))
 
 -- ---- a front
 
@@ -43,35 +61,35 @@ front_twice : (n : ℕ) (x : List ℕ) → take n (take n x) ≡ take n x
 front_twice n x = take_all n (take n x) (grind (arith, common_steps))
 
 -- up to a byte, with litter after it: whole entries, and less than one
-pub record IsCut (j : Journal) (s : List ℕ) (cs : List (List ℕ)) (tail : List ℕ) (count : ℕ) (litter : List ℕ) : Type 0 where
+pub record IsCut (j : Journal) (s : Spot) (cs : List (List ℕ)) (tail : List ℕ) (count : ℕ) (litter : List ℕ) : Type 0 where
   pub left : List ℕ
   pub is : take count (entries j s cs ++ tail) ++ litter ≡ entries j s (whole_in j s cs count) ++ left
-  pub torn : j.is_torn (run j s (whole_in j s cs count)) left ≡ true
+  pub torn : j.is_torn (trail j s (whole_in j s cs count)) left ≡ true
 
-cut_one : (j : Journal) (s c : List ℕ) (cs : List (List ℕ)) (tail : List ℕ) (count : ℕ) (litter : List ℕ) → IsJournal j
+cut_one : (j : Journal) (s : Spot) (c : List ℕ) (cs : List (List ℕ)) (tail : List ℕ) (count : ℕ) (litter : List ℕ) → IsJournal j
     → j.is_litter litter ≡ true → (b : Bool) → nat_le (length (j.entry s c)) count ≡ b
-    → IsCut j (j.after s c) cs tail (count - length (j.entry s c)) litter → IsCut j s (c ∷ cs) tail count litter
+    → IsCut j (stepped j s c) cs tail (count - length (j.entry s c)) litter → IsCut j s (c ∷ cs) tail count litter
 cut_one j s c cs tail count litter laws ok true is h =
     let e = j.entry s c in
     let m = count - length e in
-    let rest = entries j (j.after s c) cs in
-    let inside = whole_in j (j.after s c) cs m in
+    let rest = entries j (stepped j s c) cs in
+    let inside = whole_in j (stepped j s c) cs m in
     let fits : length e ≤ count = grind (arith, nat_tests) in
     let all : whole_in j s (c ∷ cs) count ≡ c ∷ inside = rw is refl in
-    let text : take count ((e ++ rest) ++ tail) ++ litter ≡ (e ++ entries j (j.after s c) inside) ++ h.left =
+    let text : take count ((e ++ rest) ++ tail) ++ litter ≡ (e ++ entries j (stepped j s c) inside) ++ h.left =
     ap (λ (t : List ℕ). take count t ++ litter) (append_assoc e rest tail)
     ∙ (ap (λ (t : List ℕ). t ++ litter) (front_past e (rest ++ tail) count fits)
     ∙ (append_assoc e (take m (rest ++ tail)) litter
     ∙ (ap (λ (t : List ℕ). e ++ t) h.is
-    ∙ sym (append_assoc e (entries j (j.after s c) inside) h.left)))) in
+    ∙ sym (append_assoc e (entries j (stepped j s c) inside) h.left)))) in
     record {
       left = h.left;
       is = text ∙ ap (λ (ds : List (List ℕ)). entries j s ds ++ h.left) (sym all);
-      torn = ap (λ (ds : List (List ℕ)). j.is_torn (run j s ds) h.left) all ∙ h.torn;
+      torn = ap (λ (ds : List (List ℕ)). j.is_torn (trail j s ds) h.left) all ∙ h.torn;
     }
 cut_one j s c cs tail count litter laws ok false is h =
     let e = j.entry s c in
-    let rest = entries j (j.after s c) cs in
+    let rest = entries j (stepped j s c) cs in
     let short : count < length e = grind (arith, nat_tests) in
     let none : whole_in j s (c ∷ cs) count ≡ [] = rw is refl in
     let text : take count ((e ++ rest) ++ tail) ≡ take count e =
@@ -83,18 +101,18 @@ cut_one j s c cs tail count litter laws ok false is h =
       left = take count e ++ litter;
       is = ap (λ (t : List ℕ). t ++ litter) text
           ∙ ap (λ (ds : List (List ℕ)). entries j s ds ++ (take count e ++ litter)) (sym none);
-      torn = ap (λ (ds : List (List ℕ)). j.is_torn (run j s ds) (take count e ++ litter)) none ∙ torn;
+      torn = ap (λ (ds : List (List ℕ)). j.is_torn (trail j s ds) (take count e ++ litter)) none ∙ torn;
     }
 
-pub is_cut : (j : Journal) (s : List ℕ) (cs : List (List ℕ)) (tail : List ℕ) (count : ℕ) (litter : List ℕ) → IsJournal j
-    → j.is_litter litter ≡ true → j.is_torn (run j s cs) tail ≡ true → IsCut j s cs tail count litter
+pub is_cut : (j : Journal) (s : Spot) (cs : List (List ℕ)) (tail : List ℕ) (count : ℕ) (litter : List ℕ) → IsJournal j
+    → j.is_litter litter ≡ true → j.is_torn (trail j s cs) tail ≡ true → IsCut j s cs tail count litter
 is_cut j s [] tail count litter laws ok torn = record {
   left = take count tail ++ litter;
   is = refl;
   torn = laws.littered s tail count litter torn ok;
 }
 is_cut j s (c ∷ cs) tail count litter laws ok torn =
-    let rest = is_cut j (j.after s c) cs tail (count - length (j.entry s c)) litter laws ok torn in
+    let rest = is_cut j (stepped j s c) cs tail (count - length (j.entry s c)) litter laws ok torn in
     cut_one j s c cs tail count litter laws ok (nat_le (length (j.entry s c)) count) refl rest
 
 -- these are the first of all
@@ -102,10 +120,10 @@ pub record IsFront (cs all : List (List ℕ)) : Type 0 where
   pub more : List (List ℕ)
   pub is : all ≡ cs ++ more
 
-front_one : (j : Journal) (s c : List ℕ) (cs : List (List ℕ)) (count : ℕ) (b : Bool) → nat_le (length (j.entry s c)) count ≡ b
-    → IsFront (whole_in j (j.after s c) cs (count - length (j.entry s c))) cs → IsFront (whole_in j s (c ∷ cs) count) (c ∷ cs)
+front_one : (j : Journal) (s : Spot) (c : List ℕ) (cs : List (List ℕ)) (count : ℕ) (b : Bool) → nat_le (length (j.entry s c)) count ≡ b
+    → IsFront (whole_in j (stepped j s c) cs (count - length (j.entry s c))) cs → IsFront (whole_in j s (c ∷ cs) count) (c ∷ cs)
 front_one j s c cs count true is h =
-    let all : whole_in j s (c ∷ cs) count ≡ c ∷ whole_in j (j.after s c) cs (count - length (j.entry s c)) = rw is refl in
+    let all : whole_in j s (c ∷ cs) count ≡ c ∷ whole_in j (stepped j s c) cs (count - length (j.entry s c)) = rw is refl in
     record {
       more = h.more;
       is = ap (λ (ds : List (List ℕ)). c ∷ ds) h.is ∙ ap (λ (ds : List (List ℕ)). ds ++ h.more) (sym all);
@@ -114,22 +132,22 @@ front_one j s c cs count false is h =
     let none : whole_in j s (c ∷ cs) count ≡ [] = rw is refl in
     record { more = c ∷ cs; is = ap (λ (ds : List (List ℕ)). ds ++ (c ∷ cs)) (sym none) }
 
-pub is_front : (j : Journal) (s : List ℕ) (cs : List (List ℕ)) (count : ℕ) → IsFront (whole_in j s cs count) cs
+pub is_front : (j : Journal) (s : Spot) (cs : List (List ℕ)) (count : ℕ) → IsFront (whole_in j s cs count) cs
 is_front j s [] count = record { more = []; is = refl }
 is_front j s (c ∷ cs) count =
     front_one j s c cs count (nat_le (length (j.entry s c)) count) refl
-    (is_front j (j.after s c) cs (count - length (j.entry s c)))
+    (is_front j (stepped j s c) cs (count - length (j.entry s c)))
 
 -- the entries that end before the byte are among them
-pub keeps_sure : (j : Journal) (s : List ℕ) (surely rest : List (List ℕ)) (count : ℕ) → length (entries j s surely) ≤ count
-    → whole_in j s (surely ++ rest) count ≡ surely ++ whole_in j (run j s surely) rest (count - length (entries j s surely))
+pub keeps_sure : (j : Journal) (s : Spot) (surely rest : List (List ℕ)) (count : ℕ) → length (entries j s surely) ≤ count
+    → whole_in j s (surely ++ rest) count ≡ surely ++ whole_in j (trail j s surely) rest (count - length (entries j s surely))
 keeps_sure j s [] rest count le = let same : count ≡ count - 0 = omega arith in ap (whole_in j s rest) same
 keeps_sure j s (c ∷ surely) rest count le =
     let e = j.entry s c in
-    let others = entries j (j.after s c) surely in
+    let others = entries j (stepped j s c) surely in
     let both : length (e ++ others) ≡ length e + length others = length-append e others in
     let fits : nat_le (length e) count ≡ true = grind (arith, nat_tests) in
-    let inside = keeps_sure j (j.after s c) surely rest (count - length e) (omega arith) in
+    let inside = keeps_sure j (stepped j s c) surely rest (count - length e) (omega arith) in
     let counts : (count - length e) - length others ≡ count - length (e ++ others) = omega arith in
     rw fits (ap (λ (ds : List (List ℕ)). c ∷ ds) inside
-    ∙ ap (λ (n : ℕ). c ∷ (surely ++ whole_in j (run j (j.after s c) surely) rest n)) counts)
+    ∙ ap (λ (n : ℕ). c ∷ (surely ++ whole_in j (trail j (stepped j s c) surely) rest n)) counts)

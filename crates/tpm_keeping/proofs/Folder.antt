@@ -4,11 +4,11 @@ use Rattle.std.specs.List.{AllByRecursion}
 use Rattle.std.specs.Prelude.{nat_le}
 use Rattle.std.proofs.lemmas.Bool.Decides.{nat_tests}
 use Rattle.std.proofs.lemmas.List.{append-nil, drop-drop, drop_all, drop_at, take_all, take_at}
-use Rattle.tpm_keeping.specs.Journal.{Journal, IsJournal, entries, run}
+use Rattle.tpm_keeping.specs.Journal.{Journal, IsJournal, Spot, entries, run, started, trail}
 use Rattle.tpm_keeping.specs.Holder.{Holder, is_always, sure}
 use Rattle.tpm_keeping.specs.World.{Answer, Content, File, Shared, adds, leads, written, put_more, put_on, put, forced, named_from, named, state_in}
-use Rattle.tpm_keeping.proofs.Entries.{whole, run_both, whole_both, whole_length}
-use Rattle.tpm_keeping.proofs.Invariant.{Calm, base_of, body, state_of, IsText, IsContent, IsFile, Each, Still, sight, IsAt, Knows, Puts, Follows, Founds, Makes}
+use Rattle.tpm_keeping.proofs.Entries.{run_lives, trail_lives, trail_state, whole, run_both, whole_both, whole_length}
+use Rattle.tpm_keeping.proofs.Invariant.{spot_of, Calm, base_of, body, state_of, IsText, IsContent, IsFile, Each, Still, sight, IsAt, Knows, Puts, Follows, Founds, Makes}
 use Rattle.tpm_keeping.specs.declared.holder.Force.{Force}
 use Rattle.tpm_keeping.specs.declared.holder.Job.{Job}
 use Rattle.tpm_keeping.specs.declared.holder.Job.TheVariants.{Execute, Leap, Renew, Show, Begin}
@@ -43,6 +43,7 @@ file_longer j origin history more promised lasting next later f le h = record {
   lasts = h.lasts;
   below = omega (arith, h.below, le);
   unnamed = h.unnamed;
+  lives = h.lives;
   now = content_longer j (base_of j origin f) f.number history f.before h.surely more f.now h.now;
   past = contents_longer j (base_of j origin f) f.number history f.before h.surely more f.past h.past;
 }
@@ -103,10 +104,10 @@ over front same rest n =
 pub record IsPut (j : Journal) (s : Shared) (k : Holder) (n : ℕ) : Type 0 where
   pub tail : List ℕ
   pub is : (put_on s.file k n).now.text ≡ whole j (base_of j s.origin s.file) (s.file.now.commands ++ put_more k n) ++ tail
-  pub torn : j.is_torn (run j (base_of j s.origin s.file) (s.file.now.commands ++ put_more k n)) tail ≡ true
+  pub torn : j.is_torn (trail j (started j (base_of j s.origin s.file)) (s.file.now.commands ++ put_more k n)) tail ≡ true
 
 -- a part of the entry, or none
-less_torn : (j : Journal) (state : List ℕ) (job : Job) (c : List ℕ) (m : ℕ) → IsJournal j → (m < length (entries j state (adds job c))) ⊎ (m ≡ 0)
+less_torn : (j : Journal) (state : Spot) (job : Job) (c : List ℕ) (m : ℕ) → IsJournal j → (m < length (entries j state (adds job c))) ⊎ (m ≡ 0)
     → j.is_torn state (take m (entries j state (adds job c))) ≡ true
 less_torn j state job c m laws (inr none) =
     ap (λ (i : ℕ). j.is_torn state (take i (entries j state (adds job c)))) none ∙ laws.nothing state
@@ -121,10 +122,10 @@ less_torn j state Begin c m laws (inl le) = absurd (omega (arith, le))
 -- the text after a put
 put_text : (j : Journal) (s : Shared) (k : Holder) (n : ℕ) (t : IsText j (base_of j s.origin s.file) s.file.now) → Puts j s.origin s.file k.job k
     → (put_on s.file k n).now.text
-    ≡ body j s.origin s.file ++ take (n - length k.unsure) (entries j (state_of j s.origin s.file) (adds k.job k.command))
+    ≡ body j s.origin s.file ++ take (n - length k.unsure) (entries j (spot_of j s.origin s.file) (adds k.job k.command))
 put_text j s k n t puts =
     let b = body j s.origin s.file in
-    let rest = entries j (state_of j s.origin s.file) (adds k.job k.command) in
+    let rest = entries j (spot_of j s.origin s.file) (adds k.job k.command) in
     let a = puts.all in
     let cut : take k.place s.file.now.text ≡ a.front ++ k.unsure =
     ap (take k.place) t.is ∙ (take_at b t.tail k.place (sym a.reached) ∙ a.text) in
@@ -143,7 +144,7 @@ is_put j s k n laws t puts = by (nat_le (length k.out) n) refl
         let base = base_of j s.origin s.file in
         let cs = s.file.now.commands in
         let new = adds k.job k.command in
-        let rest = entries j (state_of j s.origin s.file) new in
+        let rest = entries j (spot_of j s.origin s.file) new in
         let le : length k.out ≤ n = grind (arith, nat_tests) in
         let more : put_more k n ≡ new = rw is refl in
         let far : length rest ≤ n - length k.unsure = omega (arith, le, ap length puts.out, length-append k.unsure rest) in
@@ -155,13 +156,13 @@ is_put j s k n laws t puts = by (nat_le (length k.out) n) refl
               ∙ (sym (whole_both j base cs new)
               ∙ (ap (λ (x : List (List ℕ)). whole j base (cs ++ x)) (sym more)
               ∙ sym (append-nil (whole j base (cs ++ put_more k n))))));
-          torn = laws.nothing (run j base (cs ++ put_more k n));
+          torn = laws.nothing (trail j (started j base) (cs ++ put_more k n));
         }
     by false is =
         let base = base_of j s.origin s.file in
         let cs = s.file.now.commands in
         let new = adds k.job k.command in
-        let rest = entries j (state_of j s.origin s.file) new in
+        let rest = entries j (spot_of j s.origin s.file) new in
         let less : n < length k.out = grind (arith, nat_tests) in
         let more : cs ≡ cs ++ put_more k n = rw is (sym (append-nil cs)) in
         let few : n < length k.unsure + length rest = omega (arith, less, ap length puts.out, length-append k.unsure rest) in
@@ -170,8 +171,8 @@ is_put j s k n laws t puts = by (nat_le (length k.out) n) refl
         record {
           tail = take (n - length k.unsure) rest;
           is = put_text j s k n t puts ∙ ap (λ (x : List (List ℕ)). whole j base x ++ take (n - length k.unsure) rest) more;
-          torn = ap (λ (x : List (List ℕ)). j.is_torn (run j base x) (take (n - length k.unsure) rest)) (sym more)
-              ∙ less_torn j (state_of j s.origin s.file) k.job k.command (n - length k.unsure) laws short;
+          torn = ap (λ (x : List (List ℕ)). j.is_torn (trail j (started j base) x) (take (n - length k.unsure) rest)) (sym more)
+              ∙ less_torn j (spot_of j s.origin s.file) k.job k.command (n - length k.unsure) laws short;
         }
       where
         some : (n u r : ℕ) (b : Bool) → nat_le u n ≡ b → n < u + r → (n - u < r) ⊎ (n - u ≡ 0)
@@ -182,7 +183,7 @@ is_put j s k n laws t puts = by (nat_le (length k.out) n) refl
 
 -- what a holder knows that does nothing to the folder is so after it
 pub record Grows (j : Journal) (s t : Shared) : Type 0 where
-  pub knows : (force : Force) (file : ℕ) (device : Option (List ℕ)) (place : ℕ) (unsure : List ℕ) → file < s.next
+  pub knows : (force : Force) (file : ℕ) (device : Option Spot) (place : ℕ) (unsure : List ℕ) → file < s.next
       → Knows j s.origin s.file force file device place unsure → Knows j t.origin t.file force file device place unsure
   pub calm : (settled : Bool) (file : ℕ) → file < s.next → Calm (sight s) settled file → Calm (sight t) settled file
   pub next : s.next ≤ t.next
@@ -192,7 +193,7 @@ pub record Moves (j : Journal) (s t : Shared) : Type 0 where
   pub grows : Grows j s t
 
 -- other bytes of the front are on the disk, and no fewer than a holder has seen forced
-forced_at : (j : Journal) (origin : List ℕ) (f g : File) (more : List (List ℕ)) (force : Force) (state : List ℕ) (place : ℕ) (unsure : List ℕ)
+forced_at : (j : Journal) (origin : List ℕ) (f g : File) (more : List (List ℕ)) (force : Force) (state : Spot) (place : ℕ) (unsure : List ℕ)
     → g.before ≡ f.before → g.now.commands ≡ f.now.commands ++ more → min f.forced (length (body j origin f)) ≤ g.forced
     → IsAt j (base_of j origin f) f.now.commands f.forced force state place unsure
     → IsAt j (base_of j origin g) g.now.commands g.forced force state place unsure
@@ -253,6 +254,7 @@ put_still j s k n laws still puts =
         lasts = h.lasts;
         below = h.below;
         unnamed = h.unnamed;
+        lives = h.lives;
         now = record {
           rest = h.now.rest ++ more;
           has = ap (λ (x : List (List ℕ)). x ++ more) h.now.has ∙ append_assoc h.surely h.now.rest more;
@@ -301,6 +303,7 @@ forced_still j s forced past is_dropped still le is =
         lasts = h.lasts;
         below = h.below;
         unnamed = h.unnamed;
+        lives = h.lives;
         now = h.now;
         past = elim is [ inl same ↦ subst P (sym same) h.past | inr none ↦ subst P (sym none) tt ];
       };
@@ -371,9 +374,9 @@ named_grows j origin s k = record {
 
 -- the new file
 named_file : (j : Journal) (origin : List ℕ) (s : Shared) (k : Holder) → IsJournal j → s.fresh ≡ k.out → length k.out ≤ s.fresh_forced → s.promised ≤ length s.history
-    → k.out ≡ whole j (run j origin (s.history ++ leads k.job k.command)) (adds k.job k.command) → 0 < s.next
+    → k.out ≡ whole j (run j origin (s.history ++ leads k.job k.command)) (adds k.job k.command) → 0 < s.next → j.is_state (run j origin (s.history ++ leads k.job k.command)) ≡ true
     → IsFile j origin ((s.history ++ leads k.job k.command) ++ adds k.job k.command) s.promised s.lasting (s.next + 1) (named_from origin s k).file
-named_file j origin s k laws fresh enough kept text next =
+named_file j origin s k laws fresh enough kept text next lives =
     let before = s.history ++ leads k.job k.command in
     let new = adds k.job k.command in
     let base = run j origin before in
@@ -384,12 +387,13 @@ named_file j origin s k laws fresh enough kept text next =
       lasts = λ _. next;
       below = omega arith;
       unnamed = λ none. absurd (omega (arith, none, next));
+      lives = λ _. lives;
       now = record {
         rest = [];
         has = sym (append-nil new);
         more = [];
         of = ap (λ (x : List (List ℕ)). before ++ x) (sym (append-nil new));
-        text = λ _. record { tail = []; is = fresh ∙ (text ∙ sym (append-nil (whole j base new))); torn = laws.nothing (run j base new) };
+        text = λ _. record { tail = []; is = fresh ∙ (text ∙ sym (append-nil (whole j base new))); torn = laws.nothing (trail j (started j base) new) };
         empty = λ none. absurd (omega (arith, none, next));
       };
       past = tt;
@@ -407,7 +411,8 @@ promised_within j s still =
 -- the state of the file is that of the history
 pub state_is : (j : Journal) (s : Shared) → Still j s → state_of j s.origin s.file ≡ run j s.origin s.history
 state_is j s still =
-    sym (run_both j s.origin s.file.before s.file.now.commands) ∙ ap (run j s.origin) (sym still.told)
+    trail_state j (started j (base_of j s.origin s.file)) s.file.now.commands
+    ∙ (sym (run_both j s.origin s.file.before s.file.now.commands) ∙ ap (run j s.origin) (sym still.told))
 
 follows_still : (j : Journal) (s : Shared) (k : Holder) → IsJournal j → Still j s → Follows j s.origin s.file k.job k.command k.device k.out k.response
     → s.fresh ≡ k.out → length k.out ≤ s.fresh_forced → Still j (named_from s.origin s k)
@@ -417,11 +422,13 @@ follows_still j s k laws still h fresh enough =
     let base : run j (state_of j s.origin s.file) lead ≡ run j s.origin (s.history ++ lead) =
     ap (λ (x : List ℕ). run j x lead) (state_is j s still) ∙ sym (run_both j s.origin s.history lead) in
     let text : k.out ≡ whole j (run j s.origin (s.history ++ lead)) new = h.text ∙ ap (λ (x : List ℕ). whole j x new) base in
+    let here = trail_lives j (started j (base_of j s.origin s.file)) s.file.now.commands laws (still.file.lives h.named) in
+    let lives : j.is_state (run j s.origin (s.history ++ lead)) ≡ true = sym (ap j.is_state base) ∙ run_lives j (state_of j s.origin s.file) lead laws here in
     let files = files_longer j s.origin s.history (lead ++ new) s.promised s.lasting s.next (s.next + 1) (s.file ∷ s.older) (omega arith) (still.file, still.older) in
     let same = sym (append_assoc s.history lead new) in
     record {
       told = refl;
-      file = named_file j s.origin s k laws fresh enough (promised_within j s still) text (omega (arith, still.file.below));
+      file = named_file j s.origin s k laws fresh enough (promised_within j s still) text (omega (arith, still.file.below)) lives;
       older = subst (λ (x : List (List ℕ)). AllByRecursion (IsFile j s.origin x s.promised s.lasting (s.next + 1)) (s.file ∷ s.older)) same files;
       alone = λ none. absurd (omega (arith, none, still.file.below));
       each = subst (λ (x : List (List ℕ)). Each j s.origin x s.answers) same (each_longer j s.origin s.history (lead ++ new) s.answers still.each);
@@ -458,6 +465,7 @@ file_anew j origin other history promised lasting next f none h = record {
   lasts = h.lasts;
   below = h.below;
   unnamed = h.unnamed;
+  lives = λ named. absurd (omega (arith, none, named));
   now = content_anew j (base_of j origin f) (base_of j other f) f.number history f.before h.surely f.now none h.now;
   past = contents_anew j (base_of j origin f) (base_of j other f) f.number history f.before h.surely f.past none h.past;
 }
@@ -492,13 +500,14 @@ founds_still j s k laws still h fresh enough =
     h.text ∙ (sym (append-nil (j.head h.state))
     ∙ (ap (λ (x : List (List ℕ)). whole j (run j h.state x) []) (sym begins)
     ∙ ap (λ (x : List (List ℕ)). whole j (run j h.state (s.history ++ lead)) x) (sym addless))) in
+    let lives : j.is_state (run j h.state (s.history ++ lead)) ≡ true = ap (λ (x : List (List ℕ)). j.is_state (run j h.state x)) begins ∙ h.lives in
     let longer = file_longer j s.origin s.history (lead ++ new) s.promised s.lasting s.next (s.next + 1) s.file (omega arith) still.file in
     let old = file_anew j s.origin h.state (s.history ++ (lead ++ new)) s.promised s.lasting (s.next + 1) s.file h.unnamed longer in
     let same = sym (append_assoc s.history lead new) in
     let alone = still.alone h.unnamed in
     record {
       told = refl;
-      file = named_file j h.state s k laws fresh enough (promised_within j s still) text (omega (arith, still.file.below));
+      file = named_file j h.state s k laws fresh enough (promised_within j s still) text (omega (arith, still.file.below)) lives;
       older = subst (λ (x : List File). AllByRecursion (IsFile j h.state ((s.history ++ lead) ++ new) s.promised s.lasting (s.next + 1)) (s.file ∷ x)) (sym alone)
           (subst (λ (x : List (List ℕ)). IsFile j h.state x s.promised s.lasting (s.next + 1) s.file) same old, tt);
       alone = λ nothing. absurd (omega (arith, nothing, still.file.below));

@@ -1,7 +1,7 @@
 -- What is so at each moment of the folder and of each holder.
 use Rattle.std.proofs.Common.{◌≡◌, ◌⊎◌, ℕ, ◌+◌, ◌<◌, ◌≤◌, Bool, true, false, List, [], ◌∷◌, ◌++◌, length, take, drop, Some, None, Option}
 use Rattle.std.specs.List.{AllByRecursion}
-use Rattle.tpm_keeping.specs.Journal.{Journal, entries, run}
+use Rattle.tpm_keeping.specs.Journal.{Journal, Spot, entries, run, started, trail}
 use Rattle.tpm_keeping.specs.Holder.{Holder, is_always, is_never}
 use Rattle.tpm_keeping.specs.World.{Answer, Content, File, Shared, World, adds, leads}
 use Rattle.tpm_keeping.specs.Kept.{Ascend, IsTrue}
@@ -23,14 +23,17 @@ base_of j origin f = run j origin f.before
 abbrev pub body : Journal → List ℕ → File → List ℕ
 body j origin f = whole j (base_of j origin f) f.now.commands
 
--- the state after them
+-- the spot after them, and its state
+abbrev pub spot_of : Journal → List ℕ → File → Spot
+spot_of j origin f = trail j (started j (base_of j origin f)) f.now.commands
+
 abbrev pub state_of : Journal → List ℕ → File → List ℕ
-state_of j origin f = run j (base_of j origin f) f.now.commands
+state_of j origin f = (spot_of j origin f).state
 
 pub record IsText (j : Journal) (base : List ℕ) (c : Content) : Type 0 where
   pub tail : List ℕ
   pub is : c.text ≡ whole j base c.commands ++ tail
-  pub torn : j.is_torn (run j base c.commands) tail ≡ true
+  pub torn : j.is_torn (trail j (started j base) c.commands) tail ≡ true
 
 -- one content of a file, of whose commands the first are surely on the disk
 pub record IsContent (j : Journal) (base : List ℕ) (number : ℕ) (history before surely : List (List ℕ)) (c : Content) : Type 0 where
@@ -49,6 +52,7 @@ pub record IsFile (j : Journal) (origin : List ℕ) (history : List (List ℕ)) 
   pub lasts : lasting ≡ true → 0 < f.number
   pub below : f.number < next
   pub unnamed : f.number ≡ 0 → f.before ≡ []
+  pub lives : 0 < f.number → j.is_state (base_of j origin f) ≡ true
   pub now : IsContent j (base_of j origin f) f.number history f.before surely f.now
   pub past : AllByRecursion (IsContent j (base_of j origin f) f.number history f.before surely) f.past
 
@@ -93,21 +97,21 @@ sight s = record {
   answers = s.answers;
 }
 
--- a state that has executed the first of these commands, up to a place in the file; what the holder
+-- a spot that has executed the first of these commands, up to a place in the file; what the holder
 -- has seen forced is forced
-pub record IsAt (j : Journal) (base : List ℕ) (cs : List (List ℕ)) (forced : ℕ) (force : Force) (state : List ℕ) (place : ℕ) (unsure : List ℕ) : Type 0 where
+pub record IsAt (j : Journal) (base : List ℕ) (cs : List (List ℕ)) (forced : ℕ) (force : Force) (spot : Spot) (place : ℕ) (unsure : List ℕ) : Type 0 where
   pub done : List (List ℕ)
   pub ahead : List (List ℕ)
   pub parts : cs ≡ done ++ ahead
-  pub is : state ≡ run j base done
+  pub is : spot ≡ trail j (started j base) done
   pub front : List ℕ
   pub text : whole j base done ≡ front ++ unsure
   pub reached : place ≡ length (whole j base done)
   pub sure : is_always force ≡ true → length front ≤ forced
 
 -- what a holder has in memory is of the file, if that is still the one that it knows
-pub record Knows (j : Journal) (origin : List ℕ) (f : File) (force : Force) (file : ℕ) (device : Option (List ℕ)) (place : ℕ) (unsure : List ℕ) : Type 0 where
-  pub at : (s : List ℕ) → device ≡ Some s → file ≡ f.number
+pub record Knows (j : Journal) (origin : List ℕ) (f : File) (force : Force) (file : ℕ) (device : Option Spot) (place : ℕ) (unsure : List ℕ) : Type 0 where
+  pub at : (s : Spot) → device ≡ Some s → file ≡ f.number
       → IsAt j (base_of j origin f) f.now.commands f.forced force s place unsure
   pub empty : device ≡ None → (place ≡ 0) × (unsure ≡ [])
 
@@ -163,32 +167,33 @@ promises force job = false
 pub record Puts (j : Journal) (origin : List ℕ) (f : File) (job : Job) (k : Holder) : Type 0 where
   pub all : HasAll j origin f k.force k.file k.place k.unsure
   pub quiet : promises Power job ≡ false
-  pub has : k.device ≡ Some (run j (state_of j origin f) (adds job k.command))
-  pub out : k.out ≡ k.unsure ++ entries j (state_of j origin f) (adds job k.command)
+  pub has : k.device ≡ Some (trail j (spot_of j origin f) (adds job k.command))
+  pub out : k.out ≡ k.unsure ++ entries j (spot_of j origin f) (adds job k.command)
   pub gives : Gives job j (state_of j origin f) k.command k.response
 
 -- it has executed the file, and its command is in it
-pub record Stays (j : Journal) (origin : List ℕ) (f : File) (history : List (List ℕ)) (answers : List Answer) (force : Force) (file : ℕ) (device : Option (List ℕ)) (place : ℕ) (unsure : List ℕ) (job : Job) (command response : List ℕ) : Type 0 where
+pub record Stays (j : Journal) (origin : List ℕ) (f : File) (history : List (List ℕ)) (answers : List Answer) (force : Force) (file : ℕ) (device : Option Spot) (place : ℕ) (unsure : List ℕ) (job : Job) (command response : List ℕ) : Type 0 where
   pub all : HasAll j origin f force file place unsure
-  pub has : device ≡ Some (state_of j origin f)
+  pub has : device ≡ Some (spot_of j origin f)
   pub last : LastIf job j origin history answers command response
 
 abbrev pub StaysOf : Journal → Sight → Holder → Type 0
 StaysOf j v k = Stays j v.origin v.file v.history v.answers k.force k.file k.device k.place k.unsure k.job k.command k.response
 
 -- it begins a journal after the one that is there
-pub record Follows (j : Journal) (origin : List ℕ) (f : File) (job : Job) (command : List ℕ) (device : Option (List ℕ)) (out response : List ℕ) : Type 0 where
+pub record Follows (j : Journal) (origin : List ℕ) (f : File) (job : Job) (command : List ℕ) (device : Option Spot) (out response : List ℕ) : Type 0 where
   pub named : 0 < f.number
-  pub has : device ≡ Some (run j (run j (state_of j origin f) (leads job command)) (adds job command))
+  pub has : device ≡ Some (trail j (started j (run j (state_of j origin f) (leads job command))) (adds job command))
   pub text : out ≡ whole j (run j (state_of j origin f) (leads job command)) (adds job command)
   pub gives : Gives job j (state_of j origin f) command response
 
 -- or the first one
-pub record Founds (j : Journal) (f : File) (job : Job) (device : Option (List ℕ)) (out : List ℕ) : Type 0 where
+pub record Founds (j : Journal) (f : File) (job : Job) (device : Option Spot) (out : List ℕ) : Type 0 where
   pub unnamed : f.number ≡ 0
   pub is : job ≡ Begin
   pub state : List ℕ
-  pub has : device ≡ Some state
+  pub lives : j.is_state state ≡ true
+  pub has : device ≡ Some (started j state)
   pub text : out ≡ j.head state
 
 abbrev pub Makes : Journal → Sight → Holder → Type 0

@@ -1,8 +1,8 @@
 -- The journal of lines meets what a keeper needs.
-use Rattle.std.proofs.Common.{◌≡◌, ℕ, zero, suc, ◌+◌, ◌<◌, ◌≤◌, Bool, true, false, List, [], ◌∷◌, ◌++◌, length, take, Some, None, Option, refl, sym, ap, ◌∙◌, subst, arith, append_assoc, length-append}
+use Rattle.std.proofs.Common.{◌≡◌, ℕ, zero, suc, ◌+◌, ◌<◌, true, List, [], ◌∷◌, ◌++◌, length, take, Some, refl, sym, ap, ◌∙◌, arith, append_assoc, length-append}
 use Rattle.std.proofs.lemmas.List.{append-nil}
-use Rattle.tpm_keeping.specs.Journal.{Journal, IsJournal, entries, run}
-use Rattle.tpm_keeping.specs.Lines.{is_zeros, line, line_at, lines, marked, opened_by, unended, walk, with_first}
+use Rattle.tpm_keeping.specs.Journal.{IsJournal, Spot, entries, started, stepped, trail}
+use Rattle.tpm_keeping.specs.Lines.{is_zeros, line, line_at, lines, marked, opened_by, spot_at, unended, walk, with_first}
 
 line_again : (s rest : List ℕ) → line_at (line s ++ rest) ≡ Some (s, rest)
 line_again [] rest = refl
@@ -30,18 +30,23 @@ walk_torn (zero ∷ tail) state part taken far torn = walk_torn tail state (part
 walk_torn (suc zero ∷ tail) state part taken far torn = absurd cc
 walk_torn (suc (suc b) ∷ tail) state part taken far torn = walk_torn tail state (part ++ suc (suc b) ∷ []) taken (suc far) torn
 
-walk_all : (cs : List (List ℕ)) (state tail : List ℕ) (far : ℕ) → unended tail ≡ true
-    → walk state [] far far (entries lines state cs ++ tail) ≡ (run lines state cs, far + length (entries lines state cs))
-walk_all [] state tail far torn =
+walk_all : (cs : List (List ℕ)) (p : Spot) (tail : List ℕ) (far : ℕ) → unended tail ≡ true
+    → walk p.state [] far far (entries lines p cs ++ tail) ≡ ((trail lines p cs).state, far + length (entries lines p cs))
+walk_all [] p tail far torn =
     let same : far ≡ far + 0 = omega arith in
-    walk_torn tail state [] far far torn ∙ ap (λ (n : ℕ). (state, n)) same
-walk_all (c ∷ cs) state tail far torn =
-    let rest = entries lines (state ++ marked c) cs in
+    walk_torn tail p.state [] far far torn ∙ ap (λ (n : ℕ). (p.state, n)) same
+walk_all (c ∷ cs) p tail far torn =
+    let next = stepped lines p c in
+    let rest = entries lines next cs in
     let size : (far + length (line c)) + length rest ≡ far + length (line c ++ rest) = omega (arith, length-append (line c) rest) in
-    ap (walk state [] far far) (append_assoc (line c) rest tail)
-    ∙ (walk_line c state [] (rest ++ tail) far far
-    ∙ (walk_all cs (state ++ marked c) tail (far + length (line c)) torn
-    ∙ ap (λ (n : ℕ). (run lines (state ++ marked c) cs, n)) size))
+    ap (walk p.state [] far far) (append_assoc (line c) rest tail)
+    ∙ (walk_line c p.state [] (rest ++ tail) far far
+    ∙ (walk_all cs next tail (far + length (line c)) torn
+    ∙ ap (λ (n : ℕ). ((trail lines next cs).state, n)) size))
+
+same_chain : (p : Spot) (cs : List (List ℕ)) → spot_at p.chain (trail lines p cs).state ≡ trail lines p cs
+same_chain p [] = refl
+same_chain p (c ∷ cs) = same_chain (stepped lines p c) cs
 
 front_unended : (c : List ℕ) (k : ℕ) → k < length (line c) → unended (take k (line c)) ≡ true
 front_unended c zero le = refl
@@ -62,19 +67,26 @@ cut_unended (suc (suc b) ∷ tail) (suc k) litter torn is = cut_unended tail k l
 
 pub lines_are_a_journal : IsJournal lines
 lines_are_a_journal = record {
-    opens = λ s cs tail torn. (
-      let n = length (entries lines s cs) in
-      let all = walk_all cs s tail 0 torn in
+  begins = λ seed s is. refl;
+  leads = λ s c is. refl;
+  opens = λ s cs tail lives torn. (
+      let p = started lines s in
+      let n = length (entries lines p cs) in
+      let all = walk_all cs p tail 0 torn in
       let size : suc (length s) + (0 + n) ≡ length (line s) + n = omega (arith, line_size s) in
-      ap opened_by (line_again s (entries lines s cs ++ tail))
-      ∙ (ap (λ (r : List ℕ × ℕ). Some (r.0, suc (length s) + r.1)) all ∙ ap (λ (m : ℕ). Some (run lines s cs, m)) size)
-    );
-    follows = λ s cs tail torn. (
-      let same : 0 + length (entries lines s cs) ≡ length (entries lines s cs) = omega arith in
-      ap (λ (r : List ℕ × ℕ). Some r) (walk_all cs s tail 0 torn) ∙ ap (λ (m : ℕ). Some (run lines s cs, m)) same
-    );
-    nothing = λ s. refl;
-    front = λ s c k le. front_unended c k le;
-    littered = λ s tail k litter torn is. cut_unended tail k litter torn is;
-    clean = refl;
-  }
+      ap opened_by (line_again s (entries lines p cs ++ tail))
+      ∙ (ap (λ (r : List ℕ × ℕ). Some (spot_at 0 r.0, suc (length s) + r.1)) all
+      ∙ (ap (λ (q : Spot). Some (q, suc (length s) + (0 + n))) (same_chain p cs)
+      ∙ ap (λ (m : ℕ). Some (trail lines p cs, m)) size))
+      );
+  follows = λ p cs tail lives torn. (
+      let n = length (entries lines p cs) in
+      let same : 0 + n ≡ n = omega arith in
+      ap (λ (r : List ℕ × ℕ). Some (spot_at p.chain r.0, r.1)) (walk_all cs p tail 0 torn)
+      ∙ (ap (λ (q : Spot). Some (q, 0 + n)) (same_chain p cs) ∙ ap (λ (m : ℕ). Some (trail lines p cs, m)) same)
+      );
+  nothing = λ s. refl;
+  front = λ s c k le. front_unended c k le;
+  littered = λ s tail k litter torn is. cut_unended tail k litter torn is;
+  clean = refl;
+}

@@ -5,11 +5,11 @@ use Rattle.std.specs.Prelude.{nat_le}
 use Rattle.std.proofs.lemmas.Bool.Decides.{nat_tests}
 use Rattle.std.proofs.lemmas.List.{append-nil, drop-drop, take-append-drop}
 use Rattle.std.proofs.Math.Seq.{take-append-add}
-use Rattle.tpm_keeping.specs.Journal.{Journal, IsJournal, entries, run}
+use Rattle.tpm_keeping.specs.Journal.{Journal, IsJournal, Spot, entries, run, started, trail}
 use Rattle.tpm_keeping.specs.Holder.{Holder, Stands, Gone, begins, begins_of, dropped, has_named, has_put, has_read, is_always, is_never, knows_file, looked, newborn, next_in, reads_on, settles, sure}
 use Rattle.tpm_keeping.specs.World.{Answer, Effect, Part, All, File, Shared, World, adds, leads, does, forced, named, named_from, put, put_dropped, put_more, state_in, tells, with_holder}
-use Rattle.tpm_keeping.proofs.Entries.{whole, run_both, whole_both}
-use Rattle.tpm_keeping.proofs.Invariant.{Calm, Each, Fine, Fits, Follows, Founds, Gives, HasAll, In, IsLast, IsReading, Knows, KnowsOf, LastIf, Makes, Puts, Sight, StaysOf, Still, base_of, body, holds, promises, sight, state_of}
+use Rattle.tpm_keeping.proofs.Entries.{trail_both, whole, run_both, whole_both}
+use Rattle.tpm_keeping.proofs.Invariant.{spot_of, Calm, Each, Fine, Fits, Follows, Founds, Gives, HasAll, In, IsLast, IsReading, Knows, KnowsOf, LastIf, Makes, Puts, Sight, StaysOf, Still, base_of, body, holds, promises, sight, state_of}
 use Rattle.tpm_keeping.proofs.Folder.{Grows, Moves, body_in, drop_moves, force_moves, fresh_moves, named_moves, put_moves, same_moves, settle_moves, state_is, unnamed_history}
 use Rattle.tpm_keeping.proofs.Reading.{quietly, reads_on_fits, settles_fits}
 use Rattle.tpm_keeping.specs.declared.holder.Fault.{Fault}
@@ -119,22 +119,22 @@ dropped_fits j s p k f next lock =
 
 -- ---- looking
 
-begins_fits : (job : Job) (j : Journal) (s : Shared) (p : ℕ) (k : Holder) → k.job ≡ job → s.file.number ≡ 0 → 0 < s.next → (s.locked ≡ true) × (s.locker ≡ p)
+begins_fits : (job : Job) (j : Journal) (s : Shared) (p : ℕ) (k : Holder) → IsJournal j → k.job ≡ job → s.file.number ≡ 0 → 0 < s.next → (s.locked ≡ true) × (s.locker ≡ p)
     → k.file < s.next → Calm (sight s) k.settled k.file → Fits j s p (begins j job k)
-begins_fits Begin j s p k is none next lock below calm = by (j.begun k.command)
+begins_fits Begin j s p k laws is none next lock below calm = by (j.begun k.command) refl
   where
-    by : (o : Option (List ℕ)) → Fits j s p (begins_of j k o)
-    by None = dropped_fits j s p k fault.Unreadable next lock
-    by (Some state) = record {
+    by : (o : Option (List ℕ)) → j.begun k.command ≡ o → Fits j s p (begins_of j k o)
+    by None from = dropped_fits j s p k fault.Unreadable next lock
+    by (Some state) from = record {
       lock = λ _. lock;
-      now = inr (record { unnamed = none; is = is; state = state; has = refl; text = refl });
+      now = inr (record { unnamed = none; is = is; state = state; lives = laws.begins k.command state from; has = refl; text = refl });
       below = below;
       calm = calm;
     }
-begins_fits Execute j s p k is none next lock below calm = dropped_fits j s p k fault.Absent next lock
-begins_fits Leap j s p k is none next lock below calm = dropped_fits j s p k fault.Absent next lock
-begins_fits Renew j s p k is none next lock below calm = dropped_fits j s p k fault.Absent next lock
-begins_fits Show j s p k is none next lock below calm = dropped_fits j s p k fault.Absent next lock
+begins_fits Execute j s p k laws is none next lock below calm = dropped_fits j s p k fault.Absent next lock
+begins_fits Leap j s p k laws is none next lock below calm = dropped_fits j s p k fault.Absent next lock
+begins_fits Renew j s p k laws is none next lock below calm = dropped_fits j s p k fault.Absent next lock
+begins_fits Show j s p k laws is none next lock below calm = dropped_fits j s p k fault.Absent next lock
 
 looked_fits : (j : Journal) (s : Shared) (p : ℕ) (k : Holder) → IsJournal j → Still j s → (s.locked ≡ true) × (s.locker ≡ p) → k.file < s.next
     → Calm (sight s) k.settled k.file → KnowsOf j (sight s) k → 0 < s.file.number → Fits j s p (looked j k s.file.number (length s.file.now.text))
@@ -166,7 +166,7 @@ looks_fits j s p k more laws still lock below calm knows = by (s.file.number == 
     by : (b : Bool) → (s.file.number == 0) ≡ b → Fits j s p (next_in j Looking k (cond b Gone (Stands s.file.number (length s.file.now.text))))
     by true is =
         let none : s.file.number ≡ 0 = grind (arith, nat_tests) in
-        begins_fits k.job j s p k refl none (omega (arith, below)) lock below calm
+        begins_fits k.job j s p k laws refl none (omega (arith, below)) lock below calm
     by false is =
         let named' : 0 < s.file.number = grind (arith, nat_tests) in
         looked_fits j s p k laws still lock below calm knows named'
@@ -238,11 +238,11 @@ last_put Show j s c response still quiet gives =
 last_put Begin j s c response still quiet gives = tt
 
 put_all : (j : Journal) (s : Shared) (k : Holder) (t : Shared) (new : List (List ℕ)) (b : Bool) → is_always k.force ≡ b → (a : HasAll j s.origin s.file k.force k.file k.place k.unsure)
-    → k.out ≡ k.unsure ++ entries j (state_of j s.origin s.file) new → t.origin ≡ s.origin → t.file.number ≡ s.file.number
-    → body j t.origin t.file ≡ body j s.origin s.file ++ entries j (state_of j s.origin s.file) new → t.file.forced ≡ min s.file.forced k.place
+    → k.out ≡ k.unsure ++ entries j (spot_of j s.origin s.file) new → t.origin ≡ s.origin → t.file.number ≡ s.file.number
+    → body j t.origin t.file ≡ body j s.origin s.file ++ entries j (spot_of j s.origin s.file) new → t.file.forced ≡ min s.file.forced k.place
     → HasAll j t.origin t.file k.force k.file (sure k + length k.out) (cond b k.out [])
 put_all j s k t new true word a out origin number text forced' =
-    let rest = entries j (state_of j s.origin s.file) new in
+    let rest = entries j (spot_of j s.origin s.file) new in
     let all : body j t.origin t.file ≡ a.front ++ k.out =
     text ∙ (ap (λ (x : List ℕ). x ++ rest) a.text ∙ (append_assoc a.front k.unsure rest ∙ ap (λ (x : List ℕ). a.front ++ x) (sym out))) in
     record {
@@ -254,7 +254,7 @@ put_all j s k t new true word a out origin number text forced' =
       sure = λ always. omega (arith, a.sure always, forced', a.reached, ap length a.text, length-append a.front k.unsure);
     }
 put_all j s k t new false word a out origin number text forced' =
-    let rest = entries j (state_of j s.origin s.file) new in
+    let rest = entries j (spot_of j s.origin s.file) new in
     let all : body j t.origin t.file ≡ a.front ++ k.out =
     text ∙ (ap (λ (x : List ℕ). x ++ rest) a.text ∙ (append_assoc a.front k.unsure rest ∙ ap (λ (x : List ℕ). a.front ++ x) (sym out))) in
     record {
@@ -286,10 +286,10 @@ put_fits j s p k still lock below calm puts = by (is_always k.force) refl
         let base = base_of j s.origin s.file in
         let self : nat_le (length k.out) (length k.out) ≡ true = grind (arith, nat_tests) in
         let full : put_more k (length k.out) ≡ new = rw self refl in
-        let text : body j t.origin t.file ≡ body j s.origin s.file ++ entries j (state_of j s.origin s.file) new =
+        let text : body j t.origin t.file ≡ body j s.origin s.file ++ entries j (spot_of j s.origin s.file) new =
         ap (λ (x : List (List ℕ)). whole j base (s.file.now.commands ++ x)) full ∙ whole_both j base s.file.now.commands new in
-        let state : state_of j t.origin t.file ≡ run j (state_of j s.origin s.file) new =
-        ap (λ (x : List (List ℕ)). run j base (s.file.now.commands ++ x)) full ∙ run_both j base s.file.now.commands new in
+        let spot : spot_of j t.origin t.file ≡ trail j (spot_of j s.origin s.file) new =
+        ap (λ (x : List (List ℕ)). trail j (started j base) (s.file.now.commands ++ x)) full ∙ trail_both j (started j base) s.file.now.commands new in
         let low : is_always k.force ≡ true → sure k ≤ s.file.forced = λ always.
         omega (arith, a.sure always, a.reached, ap length a.text, length-append a.front k.unsure) in
         record {
@@ -297,7 +297,7 @@ put_fits j s p k still lock below calm puts = by (is_always k.force) refl
           now = (
             record {
               all = put_all j s k t new true word a puts.out refl refl text refl;
-              has = puts.has ∙ ap (λ (x : List ℕ). Some x) (sym state);
+              has = puts.has ∙ ap (λ (x : Spot). Some x) (sym spot);
               last = subst (λ (x : List (List ℕ)). LastIf k.job j s.origin (s.history ++ x) s.answers k.command k.response) (sym full)
                   (last_put k.job j s k.command k.response still puts.quiet puts.gives);
             },
@@ -313,14 +313,14 @@ put_fits j s p k still lock below calm puts = by (is_always k.force) refl
         let base = base_of j s.origin s.file in
         let self : nat_le (length k.out) (length k.out) ≡ true = grind (arith, nat_tests) in
         let full : put_more k (length k.out) ≡ new = rw self refl in
-        let text : body j t.origin t.file ≡ body j s.origin s.file ++ entries j (state_of j s.origin s.file) new =
+        let text : body j t.origin t.file ≡ body j s.origin s.file ++ entries j (spot_of j s.origin s.file) new =
         ap (λ (x : List (List ℕ)). whole j base (s.file.now.commands ++ x)) full ∙ whole_both j base s.file.now.commands new in
-        let state : state_of j t.origin t.file ≡ run j (state_of j s.origin s.file) new =
-        ap (λ (x : List (List ℕ)). run j base (s.file.now.commands ++ x)) full ∙ run_both j base s.file.now.commands new in
+        let spot : spot_of j t.origin t.file ≡ trail j (spot_of j s.origin s.file) new =
+        ap (λ (x : List (List ℕ)). trail j (started j base) (s.file.now.commands ++ x)) full ∙ trail_both j (started j base) s.file.now.commands new in
         settles_fits j t p (record k { place = sure k + length k.out; unsure = []; out = [] }) lock below calm
         (record {
           all = put_all j s k t new false word puts.all puts.out refl refl text refl;
-          has = puts.has ∙ ap (λ (x : List ℕ). Some x) (sym state);
+          has = puts.has ∙ ap (λ (x : Spot). Some x) (sym spot);
           last = subst (λ (x : List (List ℕ)). LastIf k.job j s.origin (s.history ++ x) s.answers k.command k.response) (sym full)
               (last_put k.job j s k.command k.response still puts.quiet puts.gives);
         })
@@ -368,7 +368,7 @@ last_named Begin j s c response still gives = tt
 -- the new journal, in which all is forced
 pub record IsNew (j : Journal) (origin : List ℕ) (s : Shared) (k : Holder) : Type 0 where
   pub body : body j origin (named_from origin s k).file ≡ k.out
-  pub has : k.device ≡ Some (state_of j origin (named_from origin s k).file)
+  pub has : k.device ≡ Some (spot_of j origin (named_from origin s k).file)
   pub last : LastIf k.job j origin (named_from origin s k).history s.answers k.command k.response
 
 new_fits : (j : Journal) (origin : List ℕ) (s : Shared) (p : ℕ) (k : Holder) → (s.locked ≡ true) × (s.locker ≡ p) → 0 < s.next → length k.out ≤ s.fresh_forced
@@ -418,7 +418,7 @@ follows_new j s k still h =
     ap (λ (x : List ℕ). run j x lead) (state_is j s still) ∙ sym (run_both j s.origin s.history lead) in
     record {
       body = ap (λ (x : List ℕ). whole j x (adds k.job k.command)) (sym base) ∙ sym h.text;
-      has = h.has ∙ ap (λ (x : List ℕ). Some (run j x (adds k.job k.command))) base;
+      has = h.has ∙ ap (λ (x : List ℕ). Some (trail j (started j x) (adds k.job k.command))) base;
       last = last_named k.job j s k.command k.response still h.gives;
     }
 
@@ -431,7 +431,7 @@ founds_new j s k still h =
     let addless : new ≡ [] = ap (λ (job : Job). adds job k.command) h.is in
     record {
       body = ap (λ (x : List (List ℕ)). whole j (run j h.state x) new) begins' ∙ (ap (whole j h.state) addless ∙ (append-nil (j.head h.state) ∙ sym h.text));
-      has = h.has ∙ ap (λ (x : List ℕ). Some x) (sym (ap (λ (x : List (List ℕ)). run j (run j h.state x) new) begins' ∙ ap (run j h.state) addless));
+      has = h.has ∙ ap (λ (x : Spot). Some x) (sym (ap (λ (x : List (List ℕ)). trail j (started j (run j h.state x)) new) begins' ∙ ap (trail j (started j h.state)) addless));
       last = subst (λ (job : Job). LastIf job j h.state ((s.history ++ leads job k.command) ++ adds job k.command) s.answers k.command k.response) (sym h.is) tt;
     }
 

@@ -1,9 +1,9 @@
 -- What was promised stays the beginning of the history.
-use Rattle.std.proofs.Common.{◌≡◌, ◌⊎◌, ℕ, zero, suc, ◌+◌, ◌-◌, ◌<◌, ◌≤◌, ◌==◌, Bool, true, false, cond, List, [], ◌∷◌, ◌++◌, length, max, take, Some, None, Option, refl, sym, ap, ◌∙◌, subst, arith, inl, inr, append_assoc, length-append}
+use Rattle.std.proofs.Common.{◌≡◌, ℕ, ◌-◌, ◌≤◌, ◌==◌, Bool, true, false, cond, List, [], ◌++◌, length, max, take, refl, sym, ap, ◌∙◌, subst, arith, append_assoc}
 use Rattle.std.proofs.lemmas.List.{append-nil, take-append-le}
-use Rattle.tpm_keeping.specs.Journal.{Journal, IsJournal, run, whole_in}
+use Rattle.tpm_keeping.specs.Journal.{Journal, IsJournal, run, started, whole_in}
 use Rattle.tpm_keeping.specs.Holder.{Holder, Told, Starved, Failed}
-use Rattle.tpm_keeping.specs.World.{Effect, File, Part, All, Event, Starts, Asks, Does, Fails, Dies, Forks, Drops, Crashes, IsStart, Shared, World, content_at, crashed, crashed_to, does, does_in, fails_in, file_at, happen, happens, left, with_holder}
+use Rattle.tpm_keeping.specs.World.{Effect, File, Part, All, Event, Starts, Asks, Does, Fails, Dies, Forks, Drops, Crashes, IsStart, Shared, World, content_at, crashed, crashed_to, does, does_in, fails_in, file_at, happen, happens, left}
 use Rattle.tpm_keeping.specs.Kept.{KeepsPromises}
 use Rattle.tpm_keeping.proofs.Entries.{IsFront, is_front}
 use Rattle.tpm_keeping.proofs.Invariant.{Fine, In, IsContent, IsDone, IsFile, LastIf, Still, base_of, sight}
@@ -87,8 +87,8 @@ crash_front j s f content far litter h =
     let c = content_at f.now f.past content in
     let is = content_there (IsContent j base f.number s.history f.before h.surely) f.now f.past content h.now h.past in
     let count = max f.forced far in
-    let inside = whole_in j base c.commands (count - length (j.head base)) in
-    let front = is_front j base c.commands (count - length (j.head base)) in
+    let inside = whole_in j (started j base) c.commands (count - length (j.head base)) in
+    let front = is_front j (started j base) c.commands (count - length (j.head base)) in
     record {
       more = front.more ++ is.more;
       is = is.of

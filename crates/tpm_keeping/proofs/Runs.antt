@@ -1,11 +1,11 @@
 -- Each event leaves the folder and all holders fine, and so does a run.
 use Rattle.std.proofs.Common.{◌≡◌, ℕ, suc, ◌+◌, ◌<◌, ◌==◌, Bool, true, false, cond, List, [], ◌∷◌, ◌++◌, length, take, drop, Some, None, refl, sym, ap, ◌∙◌, subst, arith, append_assoc}
 use Rattle.std.specs.List.{AllByRecursion}
-use Rattle.tpm_keeping.specs.Journal.{Journal, IsJournal, entries}
+use Rattle.tpm_keeping.specs.Journal.{Journal, IsJournal, Spot, entries, started}
 use Rattle.tpm_keeping.specs.Holder.{Holder, Told, Done, Bytes, Failed, Starved, asked, asked_in, dropped, fault_told, forgets, goes, newborn, next_in, rests, rests_in}
 use Rattle.tpm_keeping.specs.World.{Effect, All, Event, Starts, Asks, Does, Fails, Dies, Forks, Drops, Crashes, IsStart, Shared, World, does, does_in, fails_in, freed, happen, happens, left, starts_in, tells, with_holder}
 use Rattle.tpm_keeping.specs.Kept.{Ascend, IsKept}
-use Rattle.tpm_keeping.proofs.Invariant.{Each, Fine, IsFile, Safe, Fits, In, IsContent, KnowsOf, StaysOf, Still, base_of, holds, sight, state_of}
+use Rattle.tpm_keeping.proofs.Invariant.{spot_of, Each, Fine, IsFile, Safe, Fits, In, IsContent, KnowsOf, StaysOf, Still, base_of, holds, sight}
 use Rattle.tpm_keeping.proofs.Folder.{drop_moves, promised_within, same_grows, same_moves, state_is}
 use Rattle.tpm_keeping.proofs.Answers.{left_moves}
 use Rattle.tpm_keeping.proofs.OneStep.{alone, away_fits, beside, does_moves, dropped_fits, forced_fits, goes_fine, has_read_fits, knows_nothing, looks_fits, named_fits, newborn_fits, put_fits, same_lock, update}
@@ -39,20 +39,20 @@ knows_stays j s k h = record {
     done = s.file.now.commands;
     ahead = [];
     parts = sym (append_nil s.file.now.commands);
-    is = some_is d (state_of j s.origin s.file) (sym is ∙ h.has);
+    is = some_is d (spot_of j s.origin s.file) (sym is ∙ h.has);
     front = h.all.front;
     text = h.all.text;
     reached = h.all.reached;
     sure = h.all.sure;
   };
-  empty = λ none. absurd (let e : None ≡ Some (state_of j s.origin s.file) = sym none ∙ h.has in cc);
+  empty = λ none. absurd (let e : None ≡ Some (spot_of j s.origin s.file) = sym none ∙ h.has in cc);
 }
   where
     append_nil : (x : List (List ℕ)) → x ++ [] ≡ x
     append_nil [] = refl
     append_nil (c ∷ x) = ap (λ (y : List (List ℕ)). c ∷ y) (append_nil x)
 
-    some_is : (a b : List ℕ) → Some a ≡ Some b → a ≡ b
+    some_is : (a b : Spot) → Some a ≡ Some b → a ≡ b
     some_is a b e = cc
 
 leaves_fine : (e : End) (j : Journal) (w : World) (p : ℕ) → Fine j w → holds (w.holders p).phase ≡ true → In (Leaving e) j (sight w.shared) (w.holders p)
@@ -278,13 +278,15 @@ kept j w laws h =
     let s = w.shared in
     let still = h.still in
     let base = base_of j s.origin s.file in
-    let size = length (j.head base) + length (entries j base s.file.now.commands) in
+    let size = length (j.head base) + length (entries j (started j base) s.file.now.commands) in
     record {
       opens = λ named. (
           let t = still.file.now.text named in (
+            spot_of j s.origin s.file,
             size,
-            ap j.opened (t.is ∙ append_assoc (j.head base) (entries j base s.file.now.commands) t.tail)
-                ∙ (laws.opens base s.file.now.commands t.tail t.torn ∙ ap (λ (x : List ℕ). Some (x, size)) (state_is j s still)),
+            ap j.opened (t.is ∙ append_assoc (j.head base) (entries j (started j base) s.file.now.commands) t.tail)
+                ∙ laws.opens base s.file.now.commands t.tail (still.file.lives named) t.torn,
+            state_is j s still,
           )
           );
       each = still.each;
@@ -309,6 +311,7 @@ begun j w h =
           lasts = λ lasting. absurd (let e : false ≡ true = sym h.lasting ∙ lasting in cc);
           below = omega (arith, h.number, h.next);
           unnamed = λ _. h.before;
+          lives = λ named. absurd (omega (arith, named, h.number));
           now = record {
             rest = [];
             has = h.commands;

@@ -1,6 +1,6 @@
 -- One holder of a kept device: what it knows, and where it goes.
 use Rattle.std.specs.Prelude.{ℕ, ◌+◌, ◌-◌, ◌==◌, ◌&&◌, ◌||◌, Bool, true, false, cond, List, [], ◌++◌, length, nat_le, take, Option, Some, None}
-use Rattle.tpm_keeping.specs.Journal.{Journal}
+use Rattle.tpm_keeping.specs.Journal.{Journal, Spot, started, stepped}
 use Rattle.tpm_keeping.specs.declared.holder.Force.{Force}
 use Rattle.tpm_keeping.specs.declared.holder.Force.TheVariants.{Never, Always}
 use Rattle.tpm_keeping.specs.declared.holder.Job.{Job}
@@ -18,8 +18,8 @@ pub record Holder : Type 0 where
   pub phase : Phase
   pub job : Job
   pub command : List ℕ
-  -- the device in memory; the number of the file that it was read from; how many bytes it executed
-  pub device : Option (List ℕ)
+  -- the spot of the device in memory; the number of the file that it was read from; how many bytes it executed
+  pub device : Option Spot
   pub file : ℕ
   pub place : ℕ
   -- the last of these bytes, which the holder has not itself seen forced
@@ -123,40 +123,45 @@ abbrev pub settles : Holder → Phase
 settles k = cond (k.settled || is_never k.force) (Leaving ending.Done) Settling
 
 -- What is put is all that the holder has not seen forced, and the entry.
-abbrev pub executes : Journal → Holder → (s : List ℕ) → (grown : Bool) → Holder
-executes j k s true = record k {
+abbrev pub executes : Journal → Holder → (p : Spot) → (grown : Bool) → Holder
+executes j k p true = record k {
   phase = Making;
-  device = Some (j.after s k.command);
-  out = j.head s ++ j.entry s k.command;
-  response = j.response s k.command;
+  device = Some (stepped j (started j p.state) k.command);
+  out = j.head p.state ++ j.entry (started j p.state) k.command;
+  response = j.response p.state k.command;
 }
-executes j k s false = record k {
+executes j k p false = record k {
   phase = Putting;
-  device = Some (j.after s k.command);
-  out = k.unsure ++ j.entry s k.command;
-  response = j.response s k.command;
+  device = Some (stepped j p k.command);
+  out = k.unsure ++ j.entry p k.command;
+  response = j.response p.state k.command;
 }
 
-abbrev pub shows : Holder → (s response : List ℕ) → Holder
-shows k s response = record k {
+abbrev pub shows : Holder → (p : Spot) → (response : List ℕ) → Holder
+shows k p response = record k {
   phase = cond (is_always k.force) Putting (settles k);
-  device = Some s;
+  device = Some p;
   out = k.unsure;
   response = response;
 }
 
 -- the device has executed the whole file
-abbrev pub acts : Journal → Job → Holder → (s : List ℕ) → Holder
-acts j Execute k s = executes j k s (nat_le k.limit k.place)
-acts j Leap k s = record k {
+abbrev pub acts : Journal → Job → Holder → (p : Spot) → Holder
+acts j Execute k p = executes j k p (nat_le k.limit k.place)
+acts j Leap k p = record k {
   phase = Making;
-  device = Some (j.after s k.command);
-  out = j.head (j.after s k.command);
-  response = j.response s k.command;
+  device = Some (started j (j.after p.state k.command));
+  out = j.head (j.after p.state k.command);
+  response = j.response p.state k.command;
 }
-acts j Renew k s = record k { phase = Making; device = Some s; out = j.head s; response = [] }
-acts j Show k s = shows k s (j.head s)
-acts j Begin k s = shows k s []
+acts j Renew k p = record k {
+  phase = Making;
+  device = Some (started j p.state);
+  out = j.head p.state;
+  response = [];
+}
+acts j Show k p = shows k p (j.head p.state)
+acts j Begin k p = shows k p []
 
 -- so much of what was read is executed
 abbrev pub caught_up : Holder → (taken : ℕ) → Holder
@@ -166,13 +171,13 @@ caught_up k taken = record k {
   read = [];
 }
 
-abbrev pub finishes : Journal → Holder → Option (List ℕ × ℕ) → Holder
+abbrev pub finishes : Journal → Holder → Option (Spot × ℕ) → Holder
 finishes j k None = dropped fault.Damaged k
 finishes j k (Some found) = acts j k.job (caught_up k found.1) found.0
 
-abbrev pub found : Journal → Option (List ℕ) → List ℕ → Option (List ℕ × ℕ)
+abbrev pub found : Journal → Option Spot → List ℕ → Option (Spot × ℕ)
 found j None text = j.opened text
-found j (Some s) text = j.followed s text
+found j (Some p) text = j.followed p text
 
 -- once all was read, it is executed
 abbrev pub reads_on : Journal → Holder → Holder
@@ -201,7 +206,12 @@ looked j k file size =
 -- There is no journal: one begins, if that is asked for.
 abbrev pub begins_of : Journal → Holder → Option (List ℕ) → Holder
 begins_of j k None = dropped fault.Unreadable k
-begins_of j k (Some s) = record k { phase = Making; device = Some s; out = j.head s; response = [] }
+begins_of j k (Some s) = record k {
+  phase = Making;
+  device = Some (started j s);
+  out = j.head s;
+  response = [];
+}
 
 abbrev pub begins : Journal → Job → Holder → Holder
 begins j Begin k = begins_of j k (j.begun k.command)

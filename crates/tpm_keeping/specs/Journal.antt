@@ -3,20 +3,30 @@
 -- and so is the restoring of a snapshot.
 use Rattle.std.specs.Prelude.{◌≡◌, ℕ, ◌+◌, ◌-◌, ◌<◌, Bool, true, cond, List, [], ◌∷◌, ◌++◌, length, nat_le, take, Option, Some}
 
+-- A spot in a journal: the state after an entry, and what the next entry is chained to, as a sum.
+pub record Spot : Type 0 where
+  pub state : List ℕ
+  pub chain : ℕ
+
 pub record Journal : Type 0 where
+  -- whether a text is one of a state
+  pub is_state : List ℕ → Bool
   -- the state after a command, and its response
   pub after : List ℕ → List ℕ → List ℕ
   pub response : List ℕ → List ℕ → List ℕ
   -- the state in which a device begins, of random bytes or of a text, if they are one
   pub begun : List ℕ → Option (List ℕ)
-  -- a command's entry, and the text with which a journal begins in a state
-  pub entry : List ℕ → List ℕ → List ℕ
+  -- a command's entry at a spot, and what the next one is chained to then
+  pub entry : Spot → List ℕ → List ℕ
+  pub link : Spot → List ℕ → ℕ
+  -- the text with which a journal begins in a state, and what its first entry is chained to
   pub head : List ℕ → List ℕ
-  -- the state to which a text leads, by itself or from a state, and how many of its bytes
-  pub opened : List ℕ → Option (List ℕ × ℕ)
-  pub followed : List ℕ → List ℕ → Option (List ℕ × ℕ)
-  -- after a state, this text is what is left of an entry that was not written whole
-  pub is_torn : List ℕ → List ℕ → Bool
+  pub first : List ℕ → ℕ
+  -- the spot to which a text leads, by itself or from a spot, and how many of its bytes
+  pub opened : List ℕ → Option (Spot × ℕ)
+  pub followed : Spot → List ℕ → Option (Spot × ℕ)
+  -- at a spot, this text is what is left of an entry that was not written whole
+  pub is_torn : Spot → List ℕ → Bool
   -- what a crash of the host may leave after a file's bytes, as zeros, and what no entry looks like
   pub is_litter : List ℕ → Bool
 
@@ -25,35 +35,49 @@ abbrev pub run : Journal → List ℕ → List (List ℕ) → List ℕ
 run j s [] = s
 run j s (c ∷ cs) = run j (j.after s c) cs
 
--- their entries
-abbrev pub entries : Journal → List ℕ → List (List ℕ) → List ℕ
-entries j s [] = []
-entries j s (c ∷ cs) = j.entry s c ++ entries j (j.after s c) cs
+-- the spots after a head, a command's entry, and many
+abbrev pub started : Journal → List ℕ → Spot
+started j s = record { state = s; chain = j.first s }
+
+abbrev pub stepped : Journal → Spot → List ℕ → Spot
+stepped j p c = record { state = j.after p.state c; chain = j.link p c }
+
+abbrev pub trail : Journal → Spot → List (List ℕ) → Spot
+trail j p [] = p
+trail j p (c ∷ cs) = trail j (stepped j p c) cs
+
+-- the entries of commands
+abbrev pub entries : Journal → Spot → List (List ℕ) → List ℕ
+entries j p [] = []
+entries j p (c ∷ cs) = j.entry p c ++ entries j (stepped j p c) cs
 
 -- the commands whose entries are whole in so many bytes
-abbrev pub whole_in : Journal → List ℕ → List (List ℕ) → (count : ℕ) → List (List ℕ)
-whole_in j s [] count = []
-whole_in j s (c ∷ cs) count =
-    cond (nat_le (length (j.entry s c)) count)
-    (c ∷ whole_in j (j.after s c) cs (count - length (j.entry s c)))
+abbrev pub whole_in : Journal → Spot → List (List ℕ) → (count : ℕ) → List (List ℕ)
+whole_in j p [] count = []
+whole_in j p (c ∷ cs) count =
+    cond (nat_le (length (j.entry p c)) count)
+    (c ∷ whole_in j (stepped j p c) cs (count - length (j.entry p c)))
     []
 
 -- What a journal has to meet.
 pub record IsJournal (j : Journal) : Type 0 where
+  -- a device begins in a state, and a command leads to one
+  pub begins : (seed s : List ℕ) → j.begun seed ≡ Some s → j.is_state s ≡ true
+  pub leads : (s c : List ℕ) → j.is_state s ≡ true → j.is_state (j.after s c) ≡ true
   -- it opens as the state of its head, for every state, and executes each whole entry
   pub opens : (s : List ℕ) (cs : List (List ℕ)) (tail : List ℕ)
-      → j.is_torn (run j s cs) tail ≡ true
-      → j.opened (j.head s ++ (entries j s cs ++ tail))
-      ≡ Some (run j s cs, length (j.head s) + length (entries j s cs))
-  pub follows : (s : List ℕ) (cs : List (List ℕ)) (tail : List ℕ)
-      → j.is_torn (run j s cs) tail ≡ true
-      → j.followed s (entries j s cs ++ tail) ≡ Some (run j s cs, length (entries j s cs))
+      → j.is_state s ≡ true → j.is_torn (trail j (started j s) cs) tail ≡ true
+      → j.opened (j.head s ++ (entries j (started j s) cs ++ tail))
+      ≡ Some (trail j (started j s) cs, length (j.head s) + length (entries j (started j s) cs))
+  pub follows : (p : Spot) (cs : List (List ℕ)) (tail : List ℕ)
+      → j.is_state p.state ≡ true → j.is_torn (trail j p cs) tail ≡ true
+      → j.followed p (entries j p cs ++ tail) ≡ Some (trail j p cs, length (entries j p cs))
   -- nothing is torn, and so is the front of an entry that is not whole
-  pub nothing : (s : List ℕ) → j.is_torn s [] ≡ true
-  pub front : (s c : List ℕ) (k : ℕ) → k < length (j.entry s c)
-      → j.is_torn s (take k (j.entry s c)) ≡ true
+  pub nothing : (p : Spot) → j.is_torn p [] ≡ true
+  pub front : (p : Spot) (c : List ℕ) (k : ℕ) → k < length (j.entry p c)
+      → j.is_torn p (take k (j.entry p c)) ≡ true
   -- and the front of what is torn, with litter after it
-  pub littered : (s tail : List ℕ) (k : ℕ) (litter : List ℕ)
-      → j.is_torn s tail ≡ true → j.is_litter litter ≡ true
-      → j.is_torn s (take k tail ++ litter) ≡ true
+  pub littered : (p : Spot) (tail : List ℕ) (k : ℕ) (litter : List ℕ)
+      → j.is_torn p tail ≡ true → j.is_litter litter ≡ true
+      → j.is_torn p (take k tail ++ litter) ≡ true
   pub clean : j.is_litter [] ≡ true

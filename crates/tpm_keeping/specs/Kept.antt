@@ -1,7 +1,7 @@
 -- What holds at each moment.
 use Rattle.std.specs.Prelude.{◌≡◌, ◌⊎◌, ℕ, Bool, false, true, ◌+◌, ◌<◌, ◌≤◌, List, [], ◌∷◌, ◌++◌, length, take, Some}
 use Rattle.std.specs.List.{AllByRecursion}
-use Rattle.tpm_keeping.specs.Journal.{Journal, run}
+use Rattle.tpm_keeping.specs.Journal.{Journal, Spot, run}
 use Rattle.tpm_keeping.specs.Holder.{Holder, is_always}
 use Rattle.tpm_keeping.specs.World.{Answer, Asks, Event, Shared}
 use Rattle.tpm_keeping.specs.declared.holder.Phase.{Phase}
@@ -27,7 +27,8 @@ Ascend (a ∷ before) =
 pub record IsKept (j : Journal) (w : Shared) : Type 0 where
   -- the journal, where there is one, opens as the device that executed the history
   pub opens : 0 < w.file.number
-      → (taken : ℕ) × (j.opened w.file.now.text ≡ Some (run j w.origin w.history, taken))
+      → (p : Spot) × (taken : ℕ) × (j.opened w.file.now.text ≡ Some (p, taken))
+      × (p.state ≡ run j w.origin w.history)
   -- which has the command of each answer that is not gone, in a place of its own
   pub each : AllByRecursion (λ a. a.is_gone ≡ false → IsTrue j w.origin w.history a) w.answers
   pub once : Ascend w.answers

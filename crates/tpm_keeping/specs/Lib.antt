@@ -4,3 +4,4 @@ pub mod View
 pub mod World
 pub mod Kept
 pub mod Lines
+pub mod Sentence

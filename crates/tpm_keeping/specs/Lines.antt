@@ -1,8 +1,8 @@
 -- A small journal, which shows that one can meet what a keeper needs. A text is a line: each byte two
 -- more than it is, and a 1 at its end. So no line has a zero, and a line without its end is none. A
 -- state is all that was executed.
-use Rattle.std.specs.Prelude.{◌≡◌, ℕ, zero, suc, ◌+◌, Bool, true, false, List, [], ◌∷◌, ◌++◌, length, Option, Some, None}
-use Rattle.tpm_keeping.specs.Journal.{Journal}
+use Rattle.std.specs.Prelude.{ℕ, zero, suc, ◌+◌, Bool, true, false, List, [], ◌∷◌, ◌++◌, length, Option, Some, None}
+use Rattle.tpm_keeping.specs.Journal.{Journal, Spot}
 
 abbrev pub marked : List ℕ → List ℕ
 marked [] = []
@@ -29,10 +29,17 @@ walk state part taken far [] = (state, taken)
 walk state part taken far (suc zero ∷ rest) = walk (state ++ part) [] (suc far) (suc far) rest
 walk state part taken far (b ∷ rest) = walk state (part ++ b ∷ []) taken (suc far) rest
 
-abbrev pub opened_by : Option (List ℕ × List ℕ) → Option (List ℕ × ℕ)
+-- lines are chained to nothing
+abbrev pub spot_at : (chain : ℕ) → List ℕ → Spot
+spot_at chain state = record { state = state; chain = chain }
+
+abbrev pub opened_by : Option (List ℕ × List ℕ) → Option (Spot × ℕ)
 opened_by None = None
 opened_by (Some found) =
-    Some ((walk found.0 [] 0 0 found.1).0, suc (length found.0) + (walk found.0 [] 0 0 found.1).1)
+    Some (
+      spot_at 0 (walk found.0 [] 0 0 found.1).0,
+      suc (length found.0) + (walk found.0 [] 0 0 found.1).1,
+    )
 
 -- no line ends in it
 abbrev pub unended : List ℕ → Bool
@@ -47,13 +54,17 @@ is_zeros (suc b ∷ rest) = false
 
 abbrev pub lines : Journal
 lines = record {
+  is_state = λ s. true;
   after = λ s c. s ++ marked c;
   response = λ s c. s;
   begun = λ seed. Some seed;
-  entry = λ s c. line c;
+  entry = λ p c. line c;
+  link = λ p c. p.chain;
   head = λ s. line s;
+  first = λ s. 0;
   opened = λ text. opened_by (line_at text);
-  followed = λ s text. Some (walk s [] 0 0 text);
-  is_torn = λ s text. unended text;
+  followed = λ p text.
+      Some (spot_at p.chain (walk p.state [] 0 0 text).0, (walk p.state [] 0 0 text).1);
+  is_torn = λ p text. unended text;
   is_litter = λ text. is_zeros text;
 }

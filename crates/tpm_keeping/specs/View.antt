@@ -1,8 +1,8 @@
 -- The keeper of the code, as the definitions see it.
-use Rattle.std.specs.Prelude.{ℕ, List}
 use Rattle.std.specs.Option.{option_map}
 use Rattle.tpm_keeping.specs.Holder.{Holder, Told, sure}
 use Rattle.tpm_keeping.specs.Holder as holder
+use Rattle.tpm_keeping.specs.Journal.{Spot}
 use Rattle.tpm_keeping.specs.declared.keeper.Ask.{Ask}
 use Rattle.tpm_keeping.specs.declared.keeper.Ask.TheVariants as ask
 use Rattle.tpm_keeping.specs.declared.keeper.Got.{Got}
@@ -10,7 +10,7 @@ use Rattle.tpm_keeping.specs.declared.keeper.Got.TheVariants as got
 use Rattle.tpm_keeping.specs.declared.keeper.Keeper.{Keeper}
 use Rattle.tpm_keeping.specs.declared.holder.Phase.TheVariants.{Ended, Locking, Looking, Reading, Putting, Forcing, Making, Naming, Settling, Leaving}
 
-abbrev pub holder_of : {D : Type 0} → (D → List ℕ) → Keeper D → Holder
+abbrev pub holder_of : {D : Type 0} → (D → Spot) → Keeper D → Holder
 holder_of state k = record {
   force = k.force;
   limit = k.limit;

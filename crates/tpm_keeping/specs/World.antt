@@ -20,7 +20,7 @@
 -- network file systems, whose locks and renames are seen late; two hosts on one folder; the lock's
 -- file removed under its holder; anybody else who writes to the folder.
 use Rattle.std.specs.Prelude.{◌≡◌, ℕ, zero, suc, ◌+◌, ◌-◌, ◌<◌, ◌==◌, ◌&&◌, Bool, true, false, cond, List, [], ◌∷◌, ◌++◌, drop, length, max, min, nat_le, take, Option, Some, None}
-use Rattle.tpm_keeping.specs.Journal.{Journal, run, whole_in}
+use Rattle.tpm_keeping.specs.Journal.{Journal, Spot, run, started, whole_in}
 use Rattle.tpm_keeping.specs.Holder.{Holder, Told, Done, Stands, Gone, Bytes, Failed, Starved, asked, is_never, newborn, next_in, rests, sure}
 use Rattle.tpm_keeping.specs.declared.holder.Force.{Force}
 use Rattle.tpm_keeping.specs.declared.holder.Force.TheVariants.{Power, Always}
@@ -165,9 +165,9 @@ abbrev pub lost : Shared → Shared
 lost s = record s { file = record s.file { is_dropped = true } }
 
 -- the new file has the journal's name; the first one that has it says in which state all began
-abbrev pub state_in : Option (List ℕ) → List ℕ
+abbrev pub state_in : Option Spot → List ℕ
 state_in None = []
-state_in (Some s) = s
+state_in (Some p) = p.state
 
 abbrev pub named_from : (origin : List ℕ) → Shared → Holder → Shared
 named_from origin s k = record s {
@@ -292,7 +292,7 @@ left_of j base f c count litter = record {
   before = f.before;
   now = record {
     text = take count c.text ++ litter;
-    commands = whole_in j base c.commands (count - length (j.head base));
+    commands = whole_in j (started j base) c.commands (count - length (j.head base));
   };
   past = [];
   forced = length (take count c.text ++ litter);

@@ -3,7 +3,7 @@
 ghost use Rattle.std.specs.Prelude.{◌≡◌, ◌++◌, ℕ, List, IfOk, OnOk};
 ghost use Rattle.std.specs.Option.{MatchOption};
 ghost use Rattle.std.specs.declared.option.Option.TheVariants.{None, Some};
-ghost use Rattle.tpm_keeping.specs.Journal.{Journal, IsJournal};
+ghost use Rattle.tpm_keeping.specs.Journal.{Journal, IsJournal, Spot, started, stepped};
 
 use std::alloc::Global;
 
@@ -16,8 +16,8 @@ pub trait Device: Drop + Sized {
     /// What its journal is.
     ghost journal: { Journal };
 
-    /// The text that stands for its state.
-    ghost state: { Self → List ℕ };
+    /// The text that stands for its state, and what its next entry is chained to.
+    ghost spot: { Self → Spot };
 
     /// The journal meets what a keeper needs.
     ghost keeps: { IsJournal journal };
@@ -25,18 +25,19 @@ pub trait Device: Drop + Sized {
     /// A device that begins of random bytes or of a text; None where they are none.
     fn begin(alloc: Global, seed: &[u8]) -> Result<Option<Self>, Exhausted>
         ensures { IfOk result (λ begun. MatchOption begun (journal.begun seed.now ≡ None)
-            (λ device. journal.begun seed.now ≡ Some (state device))) };
+            (λ device. journal.begun seed.now ≡ Some (spot device).state)) };
 
     /// The device of a journal, and how many bytes it executed; None where the text is no journal.
     fn open(alloc: Global, text: &[u8]) -> Result<Option<(Self, usize)>, Exhausted>
         ensures { IfOk result (λ opened. MatchOption opened (journal.opened text.now ≡ None)
-            (λ found. journal.opened text.now ≡ Some (state found.0, found.1))) };
+            (λ found. journal.opened text.now ≡ Some (spot found.0, found.1))) };
 
     /// Executes the entries of a text, and tells how many bytes it executed; None where they do not
     /// follow.
-    fn follow(&mut self, text: &[u8]) -> Option<usize>
-        ensures { MatchOption result (journal.followed (state self.old) text.now ≡ None)
-            (λ taken. journal.followed (state self.old) text.now ≡ Some (state self.new, taken)) };
+    fn follow(&mut self, text: &[u8]) -> Result<Option<usize>, Exhausted>
+        ensures { IfOk result (λ followed. MatchOption followed
+            (journal.followed (spot self.old) text.now ≡ None)
+            (λ taken. journal.followed (spot self.old) text.now ≡ Some (spot self.new, taken))) };
 
     /// Executes a command, and appends its entry and its response.
     fn execute(
@@ -45,13 +46,20 @@ pub trait Device: Drop + Sized {
         out: &mut Vec<u8>,
         response: &mut Vec<u8>,
     ) -> Result<(), Exhausted>
-        ensures state { OnOk result (state self.new ≡ journal.after (state self.old) command.now) }
+        ensures spot { OnOk result (spot self.new ≡ stepped journal (spot self.old) command.now) }
         ensures entry { OnOk result (out.new.items
-            ≡ out.old.items ++ journal.entry (state self.old) command.now) }
+            ≡ out.old.items ++ journal.entry (spot self.old) command.now) }
         ensures response { OnOk result (response.new.items
-            ≡ response.old.items ++ journal.response (state self.old) command.now) };
+            ≡ response.old.items ++ journal.response (spot self.old).state command.now) };
 
     /// Appends the text with which a journal begins in this state.
-    fn head(&self, out: &mut Vec<u8>) -> Result<(), Exhausted>
-        ensures { OnOk result (out.new.items ≡ out.old.items ++ journal.head (state self.now)) };
+    fn show(&self, out: &mut Vec<u8>) -> Result<(), Exhausted>
+        ensures { OnOk result (out.new.items
+            ≡ out.old.items ++ journal.head (spot self.now).state) };
+
+    /// Appends this text, and goes on in the journal that begins with it.
+    fn renew(&mut self, out: &mut Vec<u8>) -> Result<(), Exhausted>
+        ensures spot { OnOk result (spot self.new ≡ started journal (spot self.old).state) }
+        ensures head { OnOk result (out.new.items
+            ≡ out.old.items ++ journal.head (spot self.old).state) };
 }

@@ -2,6 +2,7 @@
 
 ghost use Rattle.std.specs.Prelude.{◌≡◌};
 ghost use Rattle.tpm_keeping.specs.Holder.{fault_of};
+ghost use Rattle.tpm_keeping.specs.Sentence.{sentence};
 
 /// When a holder forces what it wrote to the disk.
 #[derive(Clone, Copy, PartialEq, Eq)]
@@ -53,6 +54,29 @@ pub enum Fault {
     Damaged,
     /// Memory was refused, or a number is too large for the machine.
     Memory,
+}
+
+impl Fault {
+    /// What the fault says. A host adds the path, and what the system said.
+    pub fn sentence(self) -> &'static str
+        ensures { result.now ≡ sentence self }
+    {
+        match self {
+            Fault::Idle => "nothing was asked for",
+            Fault::Lock => "the lock cannot be taken",
+            Fault::Look => "the journal cannot be looked at",
+            Fault::Read => "the journal cannot be read",
+            Fault::Write => "the journal cannot be written",
+            Fault::Force => "the journal cannot be forced to the disk",
+            Fault::Make => "the new journal cannot be written",
+            Fault::Name => "the new journal cannot take the old one's place",
+            Fault::Settle => "the folder cannot be forced to the disk",
+            Fault::Absent => "there is no journal",
+            Fault::Unreadable => "what a device was to begin with is no text of one",
+            Fault::Damaged => "the journal is damaged, and stays as it is",
+            Fault::Memory => "there is not enough memory",
+        }
+    }
 }
 
 /// How a call ends.

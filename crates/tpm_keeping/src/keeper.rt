@@ -19,7 +19,8 @@ use std::alloc::Global;
 pub enum Ask {
     /// Nothing: the call has ended. If it is done, the response may go out.
     Nothing(End),
-    /// To take the folder's lock, by an open file of this process's own.
+    /// To take the folder's lock, by an open file of this process's own: where that fails, to close
+    /// it.
     Lock,
     /// To open the file that is named journal, unless it is the one that is open, and to tell its
     /// number and its size.
@@ -78,7 +79,7 @@ pub struct Keeper<D: Device> {
 impl<D: Device> Keeper<D> {
     /// A keeper that has seen nothing. From `limit` bytes on a journal begins anew.
     pub fn new(alloc: Global, force: Force, limit: u64) -> Keeper<D>
-        ensures { holder_of D.state result ≡ newborn force limit }
+        ensures { holder_of D.spot result ≡ newborn force limit }
     {
         Keeper {
             alloc,
@@ -102,7 +103,7 @@ impl<D: Device> Keeper<D> {
 
     /// What the host is to do next.
     pub fn ask(&self) -> Ask
-        ensures { result ≡ ask_of (holder_of D.state self.now) }
+        ensures { result ≡ ask_of (holder_of D.spot self.now) }
     {
         match self.phase {
             Phase::Ended(end) => Ask::Nothing(end),
@@ -123,7 +124,7 @@ impl<D: Device> Keeper<D> {
 
     /// The place from which on this holder has not itself seen the file forced.
     pub(crate) fn sure(&self) -> u64
-        ensures { result ≡ sure (holder_of D.state self.now) }
+        ensures { result ≡ sure (holder_of D.spot self.now) }
     {
         self.place.saturating_sub(self.unsure.len() as u64)
     }
@@ -131,10 +132,10 @@ impl<D: Device> Keeper<D> {
     /// Begins a call. What was left in the middle is dropped: the host that left it, or that is a
     /// fork of one that did, first closes its lock.
     pub fn begin(&mut self, job: Job, command: &[u8]) -> Result<(), Exhausted>
-        ensures ok { OnOk result (holder_of D.state self.new
-            ≡ asked (rests (holder_of D.state self.old)) job command.now) }
-        ensures err { OnErr result (holder_of D.state self.new
-            ≡ rests (holder_of D.state self.old)) }
+        ensures ok { OnOk result (holder_of D.spot self.new
+            ≡ asked (rests (holder_of D.spot self.old)) job command.now) }
+        ensures err { OnErr result (holder_of D.spot self.new
+            ≡ rests (holder_of D.spot self.old)) }
     {
         self.rest();
         let Ok(command) = Vec::from_slice(self.alloc, command) else {
@@ -148,7 +149,7 @@ impl<D: Device> Keeper<D> {
 
     /// Drops all, where something is under way.
     fn rest(&mut self)
-        ensures holder { holder_of D.state self.new ≡ rests (holder_of D.state self.old) }
+        ensures holder { holder_of D.spot self.new ≡ rests (holder_of D.spot self.old) }
         ensures ended { (e : End) × (self.new.phase ≡ Ended e) }
     {
         if let Phase::Ended(_) = self.phase {
@@ -159,7 +160,7 @@ impl<D: Device> Keeper<D> {
 
     /// Knows nothing any more: the next look opens the device from the file.
     fn forget(&mut self, phase: Phase)
-        ensures { holder_of D.state self.new ≡ forgets phase (holder_of D.state self.old) }
+        ensures { holder_of D.spot self.new ≡ forgets phase (holder_of D.spot self.old) }
     {
         *self = Keeper::new(self.alloc, self.force, self.limit);
         self.phase = phase;
@@ -167,17 +168,17 @@ impl<D: Device> Keeper<D> {
 
     /// Ends the call with a fault.
     pub(crate) fn give_up(&mut self, fault: Fault)
-        ensures { holder_of D.state self.new ≡ dropped fault (holder_of D.state self.old) }
+        ensures { holder_of D.spot self.new ≡ dropped fault (holder_of D.spot self.old) }
     {
         self.forget(Phase::Leaving(End::Failed(fault)));
     }
 
     /// Takes what the host did or saw, and goes on. At `Err` the call ends for want of memory.
     pub fn next(&mut self, got: Got<'_>) -> Result<(), Exhausted>
-        ensures ok { OnOk result (holder_of D.state self.new
-            ≡ next_of D.journal (holder_of D.state self.old) (told_of got.entry)) }
-        ensures err { OnErr result (holder_of D.state self.new
-            ≡ next_of D.journal (holder_of D.state self.old) Starved) }
+        ensures ok { OnOk result (holder_of D.spot self.new
+            ≡ next_of D.journal (holder_of D.spot self.old) (told_of got.entry)) }
+        ensures err { OnErr result (holder_of D.spot self.new
+            ≡ next_of D.journal (holder_of D.spot self.old) Starved) }
     {
         match (self.phase, got) {
             (Phase::Ended(_), _) => {}
@@ -206,7 +207,7 @@ impl<D: Device> Keeper<D> {
     /// What follows once the file is as it is to be: the folder is forced, before the first answer
     /// from a file.
     pub(crate) fn settles(&self) -> Phase
-        ensures { result ≡ settles (holder_of D.state self.now) }
+        ensures { result ≡ settles (holder_of D.spot self.now) }
     {
         if self.settled || matches!(self.force, Force::Never) {
             Phase::Leaving(End::Done)

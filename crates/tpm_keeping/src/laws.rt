@@ -48,7 +48,7 @@ pub fn snapshots_are_true()
         → ((happen j events start).holders p).phase ≡ Leaving Done
         → ((happen j events start).holders p).job ≡ Show
         → ((happen j events start).holders p).response ≡ j.head
-            (run j (happen j events start).shared.origin (happen j events start).shared.history) }
+        (run j (happen j events start).shared.origin (happen j events start).shared.history) }
 {}
 
 /// There is a journal that meets what a keeper needs.

@@ -19,10 +19,10 @@ use std::mem;
 impl<D: Device> Keeper<D> {
     /// Goes on with the file that stands there: the one that is known, or another one.
     pub(crate) fn looked(&mut self, file: u64, size: u64) -> Result<(), Exhausted>
-        ensures ok { OnOk result (holder_of D.state self.new
-            ≡ looked D.journal (holder_of D.state self.old) file size) }
-        ensures err { OnErr result (holder_of D.state self.new
-            ≡ dropped Memory (holder_of D.state self.old)) }
+        ensures ok { OnOk result (holder_of D.spot self.new
+            ≡ looked D.journal (holder_of D.spot self.old) file size) }
+        ensures err { OnErr result (holder_of D.spot self.new
+            ≡ dropped Memory (holder_of D.spot self.old)) }
     {
         if self.file != file || size < self.place {
             *self = Keeper {
@@ -40,10 +40,10 @@ impl<D: Device> Keeper<D> {
 
     /// Takes what was read, and goes on.
     pub(crate) fn has_read(&mut self, bytes: &[u8]) -> Result<(), Exhausted>
-        ensures ok { OnOk result (holder_of D.state self.new
-            ≡ has_read D.journal (holder_of D.state self.old) bytes.now) }
-        ensures err { OnErr result (holder_of D.state self.new
-            ≡ dropped Memory (holder_of D.state self.old)) }
+        ensures ok { OnOk result (holder_of D.spot self.new
+            ≡ has_read D.journal (holder_of D.spot self.old) bytes.now) }
+        ensures err { OnErr result (holder_of D.spot self.new
+            ≡ dropped Memory (holder_of D.spot self.old)) }
     {
         if bytes.is_empty() {
             self.give_up(Fault::Read);
@@ -60,10 +60,10 @@ impl<D: Device> Keeper<D> {
 
     /// Reads on, or executes what was read once that is all, and acts.
     fn reads_on(&mut self) -> Result<(), Exhausted>
-        ensures ok { OnOk result (holder_of D.state self.new
-            ≡ reads_on D.journal (holder_of D.state self.old)) }
-        ensures err { OnErr result (holder_of D.state self.new
-            ≡ dropped Memory (holder_of D.state self.old)) }
+        ensures ok { OnOk result (holder_of D.spot self.new
+            ≡ reads_on D.journal (holder_of D.spot self.old)) }
+        ensures err { OnErr result (holder_of D.spot self.new
+            ≡ dropped Memory (holder_of D.spot self.old)) }
     {
         if self.seen < self.size {
             self.phase = Phase::Reading;
@@ -78,15 +78,15 @@ impl<D: Device> Keeper<D> {
 
     /// Executes what was read, and acts. At `Err` the device is nowhere.
     fn finishes(&mut self) -> Result<(), Exhausted>
-        ensures ok { OnOk result (holder_of D.state self.new ≡ finishes D.journal
-            (holder_of D.state self.old)
-            (found D.journal (holder_of D.state self.old).device self.old.read.items)) }
-        ensures err { OnErr result (dropped Memory (holder_of D.state self.new)
-            ≡ dropped Memory (holder_of D.state self.old)) }
+        ensures ok { OnOk result (holder_of D.spot self.new ≡ finishes D.journal
+            (holder_of D.spot self.old)
+            (found D.journal (holder_of D.spot self.old).device self.old.read.items)) }
+        ensures err { OnErr result (dropped Memory (holder_of D.spot self.new)
+            ≡ dropped Memory (holder_of D.spot self.old)) }
     {
         let found = match self.device.take() {
             None => D::open(self.alloc, &self.read)?,
-            Some(mut device) => match device.follow(&self.read) {
+            Some(mut device) => match device.follow(&self.read)? {
                 Some(taken) => Some((device, taken)),
                 None => None,
             },
@@ -102,10 +102,10 @@ impl<D: Device> Keeper<D> {
     /// So much of what was read is executed. A holder that forces before each answer keeps it,
     /// since it has not seen it forced.
     fn caught_up(&mut self, taken: usize) -> Result<(), Exhausted>
-        ensures ok { OnOk result (holder_of D.state self.new
-            ≡ caught_up (holder_of D.state self.old) taken) }
-        ensures err { OnErr result (dropped Memory (holder_of D.state self.new)
-            ≡ dropped Memory (holder_of D.state self.old)) }
+        ensures ok { OnOk result (holder_of D.spot self.new
+            ≡ caught_up (holder_of D.spot self.old) taken) }
+        ensures err { OnErr result (dropped Memory (holder_of D.spot self.new)
+            ≡ dropped Memory (holder_of D.spot self.old)) }
     {
         let Some(place) = self.place.checked_add(taken as u64) else {
             return Err(Exhausted);
@@ -124,11 +124,11 @@ impl<D: Device> Keeper<D> {
     }
 
     /// Does what was asked for with the device that has executed the whole file.
-    fn acts(&mut self, device: D) -> Result<(), Exhausted>
-        ensures ok { OnOk result (holder_of D.state self.new
-            ≡ acts D.journal self.old.job (holder_of D.state self.old) (D.state device)) }
-        ensures err { OnErr result (dropped Memory (holder_of D.state self.new)
-            ≡ dropped Memory (holder_of D.state self.old)) }
+    fn acts(&mut self, mut device: D) -> Result<(), Exhausted>
+        ensures ok { OnOk result (holder_of D.spot self.new
+            ≡ acts D.journal self.old.job (holder_of D.spot self.old) (D.spot device)) }
+        ensures err { OnErr result (dropped Memory (holder_of D.spot self.new)
+            ≡ dropped Memory (holder_of D.spot self.old)) }
     {
         self.out.clear();
         self.response.clear();
@@ -136,13 +136,13 @@ impl<D: Device> Keeper<D> {
             Job::Execute => self.executes(device),
             Job::Leap => self.leaps(device),
             Job::Renew => {
-                device.head(&mut self.out)?;
+                device.renew(&mut self.out)?;
                 self.phase = Phase::Making;
                 self.device = Some(device);
                 Ok(())
             }
             Job::Show => {
-                device.head(&mut self.response)?;
+                device.show(&mut self.response)?;
                 self.shows(device)
             }
             Job::Begin => self.shows(device),
@@ -154,13 +154,13 @@ impl<D: Device> Keeper<D> {
     fn executes(&mut self, mut device: D) -> Result<(), Exhausted>
         requires out { self.old.out.items ≡ [] }
         requires response { self.old.response.items ≡ [] }
-        ensures ok { OnOk result (holder_of D.state self.new ≡ acts D.journal Execute
-            (holder_of D.state self.old) (D.state device)) }
-        ensures err { OnErr result (dropped Memory (holder_of D.state self.new)
-            ≡ dropped Memory (holder_of D.state self.old)) }
+        ensures ok { OnOk result (holder_of D.spot self.new ≡ acts D.journal Execute
+            (holder_of D.spot self.old) (D.spot device)) }
+        ensures err { OnErr result (dropped Memory (holder_of D.spot self.new)
+            ≡ dropped Memory (holder_of D.spot self.old)) }
     {
         if self.limit <= self.place {
-            device.head(&mut self.out)?;
+            device.renew(&mut self.out)?;
             self.phase = Phase::Making;
         } else {
             let Ok(()) = self.out.extend_from_slice(&self.unsure) else {
@@ -177,14 +177,14 @@ impl<D: Device> Keeper<D> {
     fn leaps(&mut self, mut device: D) -> Result<(), Exhausted>
         requires out { self.old.out.items ≡ [] }
         requires response { self.old.response.items ≡ [] }
-        ensures ok { OnOk result (holder_of D.state self.new ≡ acts D.journal Leap
-            (holder_of D.state self.old) (D.state device)) }
-        ensures err { OnErr result (dropped Memory (holder_of D.state self.new)
-            ≡ dropped Memory (holder_of D.state self.old)) }
+        ensures ok { OnOk result (holder_of D.spot self.new ≡ acts D.journal Leap
+            (holder_of D.spot self.old) (D.spot device)) }
+        ensures err { OnErr result (dropped Memory (holder_of D.spot self.new)
+            ≡ dropped Memory (holder_of D.spot self.old)) }
     {
         let mut entry = Vec::new(self.alloc);
         device.execute(&self.command, &mut entry, &mut self.response)?;
-        device.head(&mut self.out)?;
+        device.renew(&mut self.out)?;
         self.phase = Phase::Making;
         self.device = Some(device);
         Ok(())
@@ -194,10 +194,10 @@ impl<D: Device> Keeper<D> {
     /// answer.
     fn shows(&mut self, device: D) -> Result<(), Exhausted>
         requires out { self.old.out.items ≡ [] }
-        ensures ok { OnOk result (holder_of D.state self.new ≡ shows (holder_of D.state self.old)
-            (D.state device) self.old.response.items) }
-        ensures err { OnErr result (dropped Memory (holder_of D.state self.new)
-            ≡ dropped Memory (holder_of D.state self.old)) }
+        ensures ok { OnOk result (holder_of D.spot self.new ≡ shows (holder_of D.spot self.old)
+            (D.spot device) self.old.response.items) }
+        ensures err { OnErr result (dropped Memory (holder_of D.spot self.new)
+            ≡ dropped Memory (holder_of D.spot self.old)) }
     {
         let Ok(()) = self.out.extend_from_slice(&self.unsure) else {
             return Err(Exhausted);
@@ -212,10 +212,10 @@ impl<D: Device> Keeper<D> {
 
     /// There is no journal: one begins, if that is asked for.
     pub(crate) fn begins(&mut self) -> Result<(), Exhausted>
-        ensures ok { OnOk result (holder_of D.state self.new
-            ≡ begins D.journal self.old.job (holder_of D.state self.old)) }
-        ensures err { OnErr result (holder_of D.state self.new
-            ≡ dropped Memory (holder_of D.state self.old)) }
+        ensures ok { OnOk result (holder_of D.spot self.new
+            ≡ begins D.journal self.old.job (holder_of D.spot self.old)) }
+        ensures err { OnErr result (holder_of D.spot self.new
+            ≡ dropped Memory (holder_of D.spot self.old)) }
     {
         let Job::Begin = self.job else {
             self.give_up(Fault::Absent);
@@ -230,18 +230,18 @@ impl<D: Device> Keeper<D> {
 
     /// Makes a device and the text with which its journal begins. At `Err` there is none.
     fn makes(&mut self) -> Result<(), Exhausted>
-        ensures ok { OnOk result (holder_of D.state self.new ≡ begins_of D.journal
-            (holder_of D.state self.old) (D.journal.begun self.old.command.items)) }
-        ensures err { OnErr result (dropped Memory (holder_of D.state self.new)
-            ≡ dropped Memory (holder_of D.state self.old)) }
+        ensures ok { OnOk result (holder_of D.spot self.new ≡ begins_of D.journal
+            (holder_of D.spot self.old) (D.journal.begun self.old.command.items)) }
+        ensures err { OnErr result (dropped Memory (holder_of D.spot self.new)
+            ≡ dropped Memory (holder_of D.spot self.old)) }
     {
         self.out.clear();
         self.response.clear();
-        let Some(device) = D::begin(self.alloc, &self.command)? else {
+        let Some(mut device) = D::begin(self.alloc, &self.command)? else {
             self.give_up(Fault::Unreadable);
             return Ok(());
         };
-        device.head(&mut self.out)?;
+        device.renew(&mut self.out)?;
         self.phase = Phase::Making;
         self.device = Some(device);
         Ok(())
@@ -250,10 +250,10 @@ impl<D: Device> Keeper<D> {
     /// The text is in the file. A holder that forces before each answer keeps it until it is
     /// forced.
     pub(crate) fn has_put(&mut self) -> Result<(), Exhausted>
-        ensures ok { OnOk result (holder_of D.state self.new
-            ≡ has_put (holder_of D.state self.old)) }
-        ensures err { OnErr result (holder_of D.state self.new
-            ≡ dropped Memory (holder_of D.state self.old)) }
+        ensures ok { OnOk result (holder_of D.spot self.new
+            ≡ has_put (holder_of D.spot self.old)) }
+        ensures err { OnErr result (holder_of D.spot self.new
+            ≡ dropped Memory (holder_of D.spot self.old)) }
     {
         let Some(place) = self.sure().checked_add(self.out.len() as u64) else {
             self.give_up(Fault::Memory);
@@ -273,7 +273,7 @@ impl<D: Device> Keeper<D> {
 
     /// The new file is the journal, and this holder has seen it forced.
     pub(crate) fn has_named(&mut self, file: u64)
-        ensures { holder_of D.state self.new ≡ has_named (holder_of D.state self.old) file }
+        ensures { holder_of D.spot self.new ≡ has_named (holder_of D.spot self.old) file }
     {
         self.file = file;
         self.place = self.out.len() as u64;
