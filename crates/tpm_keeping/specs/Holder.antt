@@ -18,7 +18,8 @@ pub record Holder : Type 0 where
   pub phase : Phase
   pub job : Job
   pub command : List ℕ
-  -- the spot of the device in memory; the number of the file that it was read from; how many bytes it executed
+  -- the spot of the device in memory; the number of the file that it was read from; how many of
+  -- its bytes it executed
   pub device : Option Spot
   pub file : ℕ
   pub place : ℕ

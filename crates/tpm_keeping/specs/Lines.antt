@@ -1,6 +1,6 @@
--- A small journal, which shows that one can meet what a keeper needs. A text is a line: each byte two
--- more than it is, and a 1 at its end. So no line has a zero, and a line without its end is none. A
--- state is all that was executed.
+-- A small journal, which shows that one can meet what a keeper needs. A text is a line: each byte
+-- two more than it is, and a 1 at its end. So no line has a zero, and a line without its end is
+-- none. A state is all that was executed.
 use Rattle.std.specs.Prelude.{ℕ, zero, suc, ◌+◌, Bool, true, false, List, [], ◌∷◌, ◌++◌, length, Option, Some, None}
 use Rattle.tpm_keeping.specs.Journal.{Journal, Spot}
 
@@ -22,8 +22,8 @@ line_at (zero ∷ rest) = None
 line_at (suc zero ∷ rest) = Some ([], rest)
 line_at (suc (suc b) ∷ rest) = with_first b (line_at rest)
 
--- Executes lines: `part` is what is read of a line, `taken` how many bytes the lines before it have,
--- and `far` how many were read.
+-- Executes lines: `part` is what is read of a line, `taken` how many bytes the lines before it
+-- have, and `far` how many were read.
 abbrev pub walk : (state part : List ℕ) → (taken far : ℕ) → List ℕ → List ℕ × ℕ
 walk state part taken far [] = (state, taken)
 walk state part taken far (suc zero ∷ rest) = walk (state ++ part) [] (suc far) (suc far) rest

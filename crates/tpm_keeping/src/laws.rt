@@ -30,7 +30,7 @@ pub fn each_call_ends()
 pub fn promises_are_kept()
     ensures { (j : Journal) (start : World) (events : List Event) (e : Event)
         → IsJournal j → IsStart start
-        → KeepsPromises (happen j events start).shared (happens j (happen j events start) e).shared }
+        → let w = happen j events start in KeepsPromises w.shared (happens j w e).shared }
 {}
 
 /// What holds of all commands that were asked for holds of the history: nothing else is in it.

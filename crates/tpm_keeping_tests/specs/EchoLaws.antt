@@ -1,0 +1,63 @@
+-- The journal of the device that echoes meets what a keeper needs.
+use Rattle.std.proofs.Common.{◌≡◌, ℕ, zero, suc, ◌+◌, ◌<◌, Bool, true, false, List, [], ◌∷◌, ◌++◌, length, take, Some, None, Option, refl, sym, ap, ◌∙◌, subst, arith}
+use Rattle.std.proofs.lemmas.List.{append-nil}
+use Rattle.tpm_keeping.specs.Journal.{Journal, IsJournal, Spot, entries, run, started, stepped, trail}
+use Rattle.tpm_keeping_tests.specs.Echo.{echo, followed_at, is_empty, nothing, opened_at}
+
+none : (text : List ℕ) → is_empty text ≡ true → text ≡ []
+none [] is = refl
+none (b ∷ text) is = absurd cc
+
+-- each command leads to nothing
+still : (cs : List (List ℕ)) → trail echo nothing cs ≡ nothing
+still [] = refl
+still (c ∷ cs) = still cs
+
+followed : (p : Spot) (cs : List (List ℕ))
+    → followed_at p (entries echo p cs) ≡ (trail echo p cs, length (entries echo p cs))
+followed p [] = refl
+followed p (c ∷ cs) =
+    ap (λ (q : Spot). (q, suc (length (entries echo nothing cs)))) (sym (still cs))
+
+begun : (s : List ℕ) → is_empty s ≡ true → started echo s ≡ nothing
+begun s is = ap (λ (x : List ℕ). started echo x) (none s is)
+
+short : (k : ℕ) → k < 1 → is_empty (take k (101 ∷ [])) ≡ true
+short zero le = refl
+short (suc k) le = absurd (omega (arith, le))
+
+littered : (tail : List ℕ) (k : ℕ) (litter : List ℕ)
+    → is_empty tail ≡ true → is_empty litter ≡ true → is_empty (take k tail ++ litter) ≡ true
+littered [] zero litter torn is = is
+littered [] (suc k) litter torn is = is
+littered (b ∷ tail) k litter torn is = absurd cc
+
+pub echo_is_a_journal : IsJournal echo
+echo_is_a_journal = record {
+  begins = λ seed s is. begins seed s is;
+  leads = λ s c is. refl;
+  opens = λ s cs tail lives torn. (
+      let all = entries echo (started echo s) cs in
+      let text : all ++ tail ≡ all =
+      ap (λ (x : List ℕ). all ++ x) (none tail torn) ∙ append-nil all in
+      let one : suc (length all) ≡ 1 + length all = omega arith in
+      let end : nothing ≡ trail echo (started echo s) cs =
+      sym (still cs) ∙ ap (λ (p : Spot). trail echo p cs) (sym (begun s lives)) in
+      ap (λ (x : List ℕ). Some (nothing, suc (length x))) text
+      ∙ (ap (λ (n : ℕ). Some (nothing, n)) one ∙ ap (λ (p : Spot). Some (p, 1 + length all)) end)
+      );
+  follows = λ p cs tail lives torn. (
+      let all = entries echo p cs in
+      let text : all ++ tail ≡ all =
+      ap (λ (x : List ℕ). all ++ x) (none tail torn) ∙ append-nil all in
+      ap (λ (x : List ℕ). Some (followed_at p x)) text
+      ∙ ap (λ (r : Spot × ℕ). Some r) (followed p cs)
+      );
+  nothing = λ p. refl;
+  front = λ p c k le. short k le;
+  littered = λ p tail k litter torn is. littered tail k litter torn is;
+  clean = refl;
+}
+  where
+    begins : (seed s : List ℕ) → echo.begun seed ≡ Some s → is_empty s ≡ true
+    begins seed s is = let e : [] ≡ s = cc in ap is_empty (sym e)

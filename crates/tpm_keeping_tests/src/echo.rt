@@ -1,0 +1,58 @@
+//! A device without a state, which answers each command with the command.
+
+ghost use Rattle.std.specs.Prelude.{◌≡◌};
+ghost use Rattle.tpm_keeping_tests.specs.Echo.{echo, nothing};
+ghost use Rattle.tpm_keeping_tests.specs.EchoLaws.{echo_is_a_journal};
+
+use std::alloc::Global;
+use tpm_keeping::device::{Device, Exhausted};
+
+/// Answers each command with the command.
+#[derive(Drop)]
+pub struct Echo;
+
+impl Device for Echo {
+    ghost journal = { echo };
+
+    ghost spot = { λ device. nothing };
+
+    ghost keeps = { echo_is_a_journal };
+
+    fn begin(_alloc: Global, _seed: &[u8]) -> Result<Option<Echo>, Exhausted> {
+        Ok(Some(Echo))
+    }
+
+    fn open(_alloc: Global, text: &[u8]) -> Result<Option<(Echo, usize)>, Exhausted> {
+        if text.is_empty() {
+            return Ok(None);
+        }
+        Ok(Some((Echo, text.len())))
+    }
+
+    fn follow(&mut self, text: &[u8]) -> Result<Option<usize>, Exhausted> {
+        Ok(Some(text.len()))
+    }
+
+    fn execute(
+        &mut self,
+        command: &[u8],
+        out: &mut Vec<u8>,
+        response: &mut Vec<u8>,
+    ) -> Result<(), Exhausted> {
+        let (Ok(()), Ok(())) = (out.push(101), response.extend_from_slice(command)) else {
+            return Err(Exhausted);
+        };
+        Ok(())
+    }
+
+    fn show(&self, out: &mut Vec<u8>) -> Result<(), Exhausted> {
+        let Ok(()) = out.push(104) else {
+            return Err(Exhausted);
+        };
+        Ok(())
+    }
+
+    fn renew(&mut self, out: &mut Vec<u8>) -> Result<(), Exhausted> {
+        self.show(out)
+    }
+}

@@ -1,0 +1,116 @@
+//! A folder in memory, and the host of its keepers.
+
+use std::alloc::{AllocError, Global};
+use std::mem;
+use tpm_keeping::device::Device;
+use tpm_keeping::holder::{End, Job};
+use tpm_keeping::keeper::{Ask, Got, Keeper};
+
+/// A call that is longer than any is.
+const STEPS: u32 = 40;
+
+/// As many bytes as are read at once.
+const PART: usize = 3;
+
+/// The journal, the new file that has no name yet, and a letter for each thing that the host did in
+/// the last call.
+#[derive(Drop)]
+pub struct Folder {
+    pub number: u64,
+    pub journal: Vec<u8>,
+    fresh: Vec<u8>,
+    pub did: Vec<u8>,
+}
+
+fn letter(ask: Ask) -> u8 {
+    match ask {
+        Ask::Nothing(_) => b'-',
+        Ask::Lock => b'L',
+        Ask::Look => b'K',
+        Ask::Read(_) => b'R',
+        Ask::Put { .. } => b'P',
+        Ask::Force => b'F',
+        Ask::Make => b'M',
+        Ask::Name => b'N',
+        Ask::Settle => b'S',
+        Ask::Unlock => b'U',
+    }
+}
+
+impl Folder {
+    /// A folder with nothing in it.
+    pub fn new(alloc: Global) -> Folder {
+        Folder {
+            number: 0,
+            journal: Vec::new(alloc),
+            fresh: Vec::new(alloc),
+            did: Vec::new(alloc),
+        }
+    }
+
+    /// Does what a keeper asks for until the call has ended, and tells whether it is done.
+    pub fn runs<D: Device>(
+        &mut self,
+        keeper: &mut Keeper<D>,
+        job: Job,
+        command: &[u8],
+    ) -> Result<bool, AllocError> {
+        self.did.clear();
+        let _ = keeper.begin(job, command);
+        for _ in 0..STEPS {
+            let ask = keeper.ask();
+            if let Ask::Nothing(end) = ask {
+                return Ok(matches!(end, End::Done));
+            }
+            self.did.push(letter(ask))?;
+            self.does(keeper, ask)?;
+        }
+        Ok(false)
+    }
+
+    /// Does one thing, and tells the keeper.
+    fn does<D: Device>(&mut self, keeper: &mut Keeper<D>, ask: Ask) -> Result<(), AllocError> {
+        match ask {
+            Ask::Read(from) => {
+                self.reads(keeper, from as usize);
+                return Ok(());
+            }
+            Ask::Put { cut, at } => {
+                self.journal.truncate(cut as usize);
+                self.journal.truncate(at as usize);
+                self.journal.extend_from_slice(&keeper.out)?;
+            }
+            Ask::Make => {
+                self.fresh.clear();
+                self.fresh.extend_from_slice(&keeper.out)?;
+            }
+            Ask::Name => {
+                self.number = self.number.wrapping_add(1);
+                mem::swap(&mut self.journal, &mut self.fresh);
+            }
+            _ => {}
+        }
+        let _ = keeper.next(self.tells(ask));
+        Ok(())
+    }
+
+    fn tells(&self, ask: Ask) -> Got<'static> {
+        let stands = matches!(ask, Ask::Look | Ask::Name);
+        if !stands {
+            return Got::Done;
+        }
+        if self.number == 0 {
+            return Got::Gone;
+        }
+        Got::Stands {
+            file: self.number,
+            size: self.journal.len() as u64,
+        }
+    }
+
+    fn reads<D: Device>(&self, keeper: &mut Keeper<D>, from: usize) {
+        let rest = self.journal.get(from..).unwrap_or(&[]);
+        let part = rest.get(..PART).unwrap_or(rest);
+        let _ = keeper.next(Got::Bytes(part));
+    }
+}

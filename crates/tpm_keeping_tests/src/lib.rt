@@ -1,0 +1,12 @@
+#![tactic(auto)]
+
+//! Tests of the keeper of a device for what no clause says: that each call can be done, and by
+//! which asks it is.
+//!
+//! The crate uses `tpm_keeping`, and no crate uses it.
+
+#[cfg(test)]
+mod calls;
+mod echo;
+#[cfg(test)]
+mod folder;
