@@ -62,8 +62,7 @@ rank Settling = 5
 rank (Leaving e) = 6
 rank (Ended e) = 7
 
--- With each answer of the host a call comes further, or has read more: so it ends, and puts one
--- entry at most.
+-- Each answer of the host takes a call further, or it has read more of the file.
 abbrev pub Advances : Holder → Holder → Type 0
 Advances old new =
     (rank old.phase < rank new.phase)

@@ -11,14 +11,16 @@
 -- write and its force, the force says so: that is the holder's `Fails`.
 --
 -- One process has the lock. Processes read less than they asked for, fail in the middle of a write
--- or after it, do what they then report as failed, die at any byte, and fork. A fork has the memory
--- of its parent, and no lock. They force by words of their own.
+-- or after it, finish an operation and still report an error, die at any byte, and fork. A fork has
+-- the memory of its parent, and no lock. Each has a word of force of its own.
 --
--- What is left out: a disk that says forced and has not; file systems that leave a file without
--- bytes and with later ones, or take back one of two renames; a folder whose force fails and then
--- succeeds without the rename; a sector that is torn where bytes stand that were forced before;
--- network file systems, whose locks and renames are seen late; two hosts on one folder; the lock's
--- file removed under its holder; anybody else who writes to the folder.
+-- What is left out: what processes read after a failed force, where the system then shows older
+-- bytes; a crash that mixes blocks of two contents; a disk that says forced and has not; file systems
+-- that leave a file without bytes and with later ones, as ext4 and XFS may, or take back one of two
+-- renames; a folder whose force fails and then succeeds without the rename; a sector that is torn
+-- where bytes stand that were forced before; network file systems, whose locks and renames are seen
+-- late; two hosts on one folder; the lock's file removed under its holder; anybody else who writes to
+-- the folder.
 use Rattle.std.specs.Prelude.{◌≡◌, ℕ, zero, suc, ◌+◌, ◌-◌, ◌<◌, ◌==◌, ◌&&◌, Bool, true, false, cond, List, [], ◌∷◌, ◌++◌, drop, length, max, min, nat_le, take, Option, Some, None}
 use Rattle.tpm_keeping.specs.Journal.{Journal, Spot, run, started, whole_in}
 use Rattle.tpm_keeping.specs.Holder.{Holder, Told, Done, Stands, Gone, Bytes, Failed, Starved, asked, is_never, newborn, next_in, rests, sure}

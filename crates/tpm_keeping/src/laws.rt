@@ -20,8 +20,8 @@ pub fn kept_through_crashes()
         → IsJournal j → IsStart start → IsKept j (happen j events start).shared }
 {}
 
-/// A call ends, and puts one entry at most.
-pub fn each_call_ends()
+/// Each answer of the host takes a call further, or it has read more of the file.
+pub fn calls_advance()
     ensures { (j : Journal) (k : Holder) (told : Told) → rank k.phase < 7
         → Advances k (next_of j k told) }
 {}
