@@ -7,7 +7,7 @@ from __future__ import annotations
 from dataclasses import dataclass
 
 from tpmsim.model import image, state_text
-from tpmsim.model.completion import Completion, Held
+from tpmsim.model.completion import Completion
 from tpmsim.model.machine import Model
 
 
@@ -31,14 +31,7 @@ def opened(text: bytes, start: int = 0) -> Opened:
     if not is_state_text(text):
         return Opened(image.open_image(text), Completion(start))
     device, layer = state_text.open_state(text)
-    return Opened(device, layer_of(layer) if layer else Completion(start), True)
-
-
-def layer_of(told: state_text.Layer) -> Completion:
-    layer = Completion(told.start)
-    layer.count, layer.sessions = told.count, list(told.sessions)
-    layer.objects = [Held(*it) for it in told.objects]
-    return layer
+    return Opened(device, Completion.of(layer) if layer else Completion(start), True)
 
 
 def goes_on(device: Model, text: bytes) -> bool:
