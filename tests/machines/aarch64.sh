@@ -5,7 +5,7 @@ tests=$(cd "$(dirname "$0")/.." && pwd -P)
 needs qemu-aarch64
 top=${tests%/*}
 arm=$top/dist/aarch64/tpmsim
-(cd "$top" && . tools/lib/proved.sh && ship aarch64 && is_proved sources "$(sources_checksum)") ||
+(cd "$top" && . tools/lib/proved.sh && ship aarch64 && is_proved sources "$(sources_checksum tpmsim)") ||
     skip 'there is no program for ARM64 that was made of these sources'
 [ -f /usr/aarch64-linux-gnu/lib/libc.so.6 ] ||
     skip 'there is no C library for ARM64 (Debian: libc6-arm64-cross)'
@@ -41,10 +41,10 @@ done
 echo '== what a machine writes the other one reads'
 printf '%s\n' 'do Startup 0' 'do PCR_Extend 00000008 pw:- sha256:MEASURED' |
     sed "s/MEASURED/$(printf %064d 7)/" >measure
-echo 'do PCR_Read sha256:8' >read
-arm run --state from-arm measure >said && "$program" run --state from-arm read >first &&
-    arm run --state from-arm read | cmp - first && echo 'a device in a folder'
-"$program" run --state from-x86 measure >said && arm run --state from-x86 read | cmp - first && echo 'and back'
+echo 'do PCR_Read sha256:8' >reading
+arm run --state from-arm measure >said && "$program" run --state from-arm reading >first &&
+    arm run --state from-arm reading | cmp - first && echo 'a device in a folder'
+"$program" run --state from-x86 measure >said && arm run --state from-x86 reading | cmp - first && echo 'and back'
 arm run --image image measure >said && "$program" run --image image measure | cmp - said && echo 'an image'
 
 echo '== faults'
