@@ -125,7 +125,7 @@ int main(int count, char **words) {
     struct values values = values_of(words[1]);
     struct kept *kept = opened(FOLDER), *other = opened(FOLDER);
     start(kept);
-    for (uint8_t number = TPMSIM_NO_DEVICE; number <= TPMSIM_OTHERWISE + 1; number++)
+    for (uint8_t number = TPMSIM_NO_DEVICE; number <= TPMSIM_STATE_BODY + 1; number++)
         tell(kept, other, number, &values);
     refuse_execution(kept, TPMSIM_NO_MEMORY, &values);
     refuse_execution(kept, TPMSIM_NO_LOCALITY, &values);
