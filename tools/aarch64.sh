@@ -1,7 +1,7 @@
 #!/bin/sh
 # Makes what dist/aarch64 has for Linux on ARM64: the program, libtpmsim.a, libtpmsim.so.0, and PROVED, which
-# names the kit, and the checksums of the sources and of these three. Each is proved for that machine:
-# the prover's verdict names it.
+# names the kit, and the checksums of the sources and of these three. The two crates are proved for that
+# machine, which the prover's verdict names, over the crates below them as these were proved for x86-64.
 #
 # The crates below both stand built here, as `rt ci` leaves them, with no newer source: tools/build.sh and
 # tools/library.sh make the same for x86-64 first. Needs `rt`, and Debian's gcc-aarch64-linux-gnu.
@@ -27,7 +27,7 @@ fail() {
 # compile_here CRATE FILE: compiles a crate for the other machine, and prints the prover's verdict.
 compile_here() {
     compile "$top" "$1" "$work/$2" --target "$target" --cpu generic >"$log" 2>&1 &&
-        verdict=$(grep -x 'logic=proved .*' "$log") && echo "$1: $verdict"
+        verdict=$(grep -x "logic=proved .* target=$target .*" "$log") && echo "$1: $verdict"
 }
 
 # Compiles the six functions that the kit has for x86-64 alone.

@@ -12,8 +12,8 @@
 set -u
 umask 022
 unset TPMSIM_MACHINE
-if [ "${1:-}" = --machine ]; then
-    TPMSIM_MACHINE=${2:-}
+if [ "$#" -ge 2 ] && [ "$1" = --machine ]; then
+    TPMSIM_MACHINE=$2
     export TPMSIM_MACHINE
     shift 2
 fi
@@ -78,6 +78,9 @@ trap 'rm -rf "$work"' EXIT
 root=$work/root
 architecture=amd64
 multiarch=x86_64-linux-gnu
+case ${1:-} in
+-*) machine= ;;
+esac
 case $machine in
 aarch64) for_aarch64 || fail 'there is no folder for the headers' ;;
 x86_64) ;;
@@ -87,6 +90,8 @@ told=$(git log -1 --format='%ct %an <%ae>' 2>/dev/null) || told='0 tpmsim <tpmsi
 SOURCE_DATE_EPOCH=${SOURCE_DATE_EPOCH:-${told%% *}}
 export SOURCE_DATE_EPOCH
 maintainer=${TPMSIM_MAINTAINER:-${told#* }}
+[ -f "$shipped" ] || fail "there is no $shipped: tools/aarch64.sh makes what is for ARM64"
+is_proved sources "$(sources_checksum tpmsim)" || fail "$shipped was proved of other sources than these"
 running=dist/tpmsim
 [ "$system" != 'Linux aarch64' ] || running=dist/aarch64/tpmsim
 version=$("$running" --version) || fail "$running does not run here"

@@ -11,6 +11,8 @@
 set -u
 cd "$(dirname "$0")/.." || exit 1
 . tools/lib/proved.sh
+# What is made here is for x86-64, whatever machine a package is for.
+ship x86_64
 
 # What is wrong with dist/, a fault a line.
 faults() {
@@ -63,6 +65,10 @@ faults_of_aarch64() (
     is_proved 'library archive' "$(checksum <"$archive")" || echo "$archive is not what $proved names"
     is_proved 'library shared object' "$(checksum <"$shared")" ||
         echo "$shared is not what $proved names"
+    for file in tpmsim.h tpmsim.pc; do
+        cmp -s "library/$file" "$distribution/$file" ||
+            echo "$distribution/$file has other bytes than library/$file"
+    done
 )
 
 kit=$(rt version) || exit 1

@@ -10,6 +10,7 @@ cd "$(dirname "$0")/.." && top=$(pwd -P) || exit 1
 . tools/lib/proved.sh
 . tools/lib/proving.sh
 . tools/lib/compiling.sh
+ship x86_64
 exports=tpmsim_library
 below=$(crates_below "$exports") || exit 1
 work=$(mktemp -d) || exit 1

@@ -6,7 +6,8 @@
 #include <pthread.h>
 #include <sys/mman.h>
 
-enum { STACK_BYTES = 512 * 1024, CLOCK = 1000, WAITED = 250 };
+/* MOST_STACK is what the header says. */
+enum { STACK_BYTES = 512 * 1024, MOST_STACK = 96 * 1024, CLOCK = 1000, WAITED = 250 };
 
 static tpmsim device;
 static uint8_t text[96 * 1024], record[TPMSIM_RECORD_ROOM], random_bytes[256], response[4096];
@@ -76,7 +77,7 @@ static void run(const char *name, void *(*call)(void *), size_t most) {
 static void run_command(const char *name, const uint8_t *buffer, size_t size) {
     command = buffer;
     command_size = size;
-    run(name, execute, 64 * 1024);
+    run(name, execute, MOST_STACK);
 }
 
 static void add_record(void) {
@@ -111,46 +112,46 @@ static void check_checkpoints(void) {
     memset(text, FILLED, sizeof text);
     remember();
     check_small();
-    run("checkpoint", checkpoint, 64 * 1024);
+    run("checkpoint", checkpoint, MOST_STACK);
     show_clock("of a journal", now);
     compare("after a checkpoint");
     run_command("random bytes", GET_RANDOM, sizeof GET_RANDOM);
     add_record();
     remember();
-    run("open a checkpoint", open_journal, 64 * 1024);
+    run("open a checkpoint", open_journal, MOST_STACK);
     printf("%s\n", size_taken == text_size ? "all is taken" : "NOT ALL IS TAKEN");
     compare("what was opened");
     must(tpmsim_restore(&device, state, state_size) == TPMSIM_DONE, "no state is restored");
-    run("checkpoint of what was restored", checkpoint, 64 * 1024);
+    run("checkpoint of what was restored", checkpoint, MOST_STACK);
     show_clock("of what has no journal", now + 1000 * WAITED);
-    run("open it", open_journal, 64 * 1024);
+    run("open it", open_journal, MOST_STACK);
     compare("what was restored");
 }
 
 int main(void) {
     for (size_t i = 0; i < sizeof random_bytes; i++) random_bytes[i] = (uint8_t)i;
     must(tpmsim_manufacture(&device, random_bytes) == TPMSIM_DONE, "no device is made");
-    run("begin", begin, 64 * 1024);
+    run("begin", begin, MOST_STACK);
     run_command("startup", STARTUP, sizeof STARTUP);
     add_record();
-    run("open", open_journal, 64 * 1024);
+    run("open", open_journal, MOST_STACK);
     printf("%s\n", size_taken == text_size ? "all is taken" : "NOT ALL IS TAKEN");
     run_command("random bytes", GET_RANDOM, sizeof GET_RANDOM);
     printf("%zu bytes drawn\n", answered.drawn);
-    run("open before them", open_journal, 64 * 1024);
-    run("follow", follow, 64 * 1024);
+    run("open before them", open_journal, MOST_STACK);
+    run("follow", follow, MOST_STACK);
     printf("%s\n", size_taken == record_size ? "the record is taken" : "THE RECORD IS NOT TAKEN");
     text[text_size - 2] ^= 1;
-    run("open, a byte turned", open_journal, 64 * 1024);
+    run("open, a byte turned", open_journal, MOST_STACK);
     record[record_size - 2] ^= 1;
-    run("follow, a byte turned", follow, 64 * 1024);
+    run("follow, a byte turned", follow, MOST_STACK);
     text[0] ^= 1;
-    run("open, no head", open_journal, 64 * 1024);
+    run("open, no head", open_journal, MOST_STACK);
     completes = 1;
     run_command("with the completing layer", GET_RANDOM, sizeof GET_RANDOM);
     check_checkpoints();
     tpmsim_free(&device);
-    run("follow, no device", follow, 64 * 1024);
+    run("follow, no device", follow, MOST_STACK);
     printf("a checkpoint, no device: %zu bytes\n", tpmsim_journal_checkpoint(&device, now, text, 0));
     return 0;
 }

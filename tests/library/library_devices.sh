@@ -5,7 +5,7 @@ tests=$(cd "$(dirname "$0")/.." && pwd -P)
 . "$tests/common/library.sh"
 needs cc python3
 
-# A call takes at most 64 KB of stack, and the rest is the thread's own and its caller's.
+# These calls take at most 64 KB of stack, and the rest is the thread's own and its caller's.
 stack=$(((64 + 16) * 1024))
 large_stack=$((512 * 1024))
 

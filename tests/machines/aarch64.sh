@@ -6,7 +6,7 @@ needs qemu-aarch64
 top=${tests%/*}
 arm=$top/dist/aarch64/tpmsim
 (cd "$top" && . tools/lib/proved.sh && ship aarch64 && is_proved sources "$(sources_checksum tpmsim)") ||
-    skip 'there is no program for ARM64 that was made of these sources'
+    skip 'dist/aarch64 was proved of other sources than these'
 [ -f /usr/aarch64-linux-gnu/lib/libc.so.6 ] ||
     skip 'there is no C library for ARM64 (Debian: libc6-arm64-cross)'
 

@@ -106,6 +106,8 @@ mkdir "$copy/tools/soak"
 for stub in dist soak/fuzz soak/histories soak/audits; do
     printf '#!/bin/sh\n' >"$copy/tools/$stub.sh"
 done
+mkdir -p "$copy/dist/aarch64"
+: >"$copy/dist/aarch64/PROVED"
 ln -s "$program" "$copy/crates/tpmsim/out/tpmsim.by-rattle"
 for crate in tpmsim tpmsim_lists; do
     echo >"$copy/crates/$crate/stdin"
