@@ -51,8 +51,9 @@ bool resume_device(uint64_t time) {
     return begin_with_head(tpmsim_journal_checkpoint(&device, latest, head, sizeof head));
 }
 
-/* Writes what is to be written of the last command. */
-static bool is_written(void) {
+bool last_was_written(void) { return !is_behind; }
+
+bool write_last(void) {
     is_behind = true;
     if (!write_record(record, record_size)) return false;
     record_size = 0;
@@ -73,7 +74,7 @@ static uint8_t run(const uint8_t *buffer, size_t size, uint8_t locality, uint32_
 
 bool execute(const uint8_t *buffer, size_t size, uint8_t locality, struct response *response) {
     const uint8_t *random = random_bytes();
-    if (random == NULL || (is_behind && !is_written())) return false;
+    if (random == NULL || (is_behind && !write_last())) return false;
     tpmsim_answered answered;
     uint64_t waited = host_clock() - latest;
     uint32_t elapsed = waited < UINT32_MAX ? (uint32_t)waited : UINT32_MAX;
@@ -85,7 +86,7 @@ bool execute(const uint8_t *buffer, size_t size, uint8_t locality, struct respon
     latest += elapsed;
     random_bytes_were_drawn(answered.drawn);
     response->size = answered.size;
-    return is_written();
+    return write_last();
 }
 
 void free_device(void) {

@@ -37,6 +37,12 @@ uint64_t time_of_device(void);
    other command is executed until both are. */
 bool execute(const uint8_t *buffer, size_t size, uint8_t locality, struct response *response);
 
+/* Whether the last command's record and the permanent state are written, as far as they have to be. */
+bool last_was_written(void);
+
+/* Writes what of them is to be written. If it cannot, the reason is reported. */
+bool write_last(void);
+
 /* Takes the power away. */
 void free_device(void);
 

@@ -13,8 +13,8 @@
 enum { PATH_BYTES = 4096, MOST_FILES = 1000 * 1000 };
 
 static int descriptor = -1;
-/* How many bytes the file has, and how many it had before the last text. */
-static off_t present, before;
+/* How many bytes the file has, and how many the texts have that are whole. */
+static off_t present, whole;
 
 void end_record(void) {
     if (descriptor >= 0 && close(descriptor) != 0) report("a record is not closed: %s", strerror(errno));
@@ -42,24 +42,26 @@ bool begin_record(const uint8_t *text, size_t size) {
     end_record();
     if (folder == NULL || *folder == 0) return true;
     descriptor = open_free_name(folder);
-    present = 0;
+    present = whole = 0;
     if (descriptor >= 0) return write_record(text, size);
     report("no record is begun in %s: %s", folder, strerror(errno));
     return false;
 }
 
-/* Takes back what was written of the last text. If that fails nothing is written after it. */
-static void take_back(void) {
-    if (present == before) return;
-    present = before;
-    if (ftruncate(descriptor, before) == 0 && lseek(descriptor, before, SEEK_SET) == before) return;
-    report("the record ends with part of a command: %s", strerror(errno));
-    end_record();
+/* Takes back what was written of a text that is not whole. Until that is done nothing is written after it. */
+static bool take_back(void) {
+    if (present == whole) return true;
+    if (ftruncate(descriptor, whole) != 0 || lseek(descriptor, whole, SEEK_SET) != whole) {
+        report("the record ends with part of a command: %s", strerror(errno));
+        return false;
+    }
+    present = whole;
+    return true;
 }
 
 bool write_record(const uint8_t *text, size_t size) {
     if (descriptor < 0) return true;
-    before = present;
+    if (!take_back()) return false;
     while (size > 0) {
         ssize_t written = write(descriptor, text, size);
         if (written < 0 && errno == EINTR) continue;
@@ -72,5 +74,6 @@ bool write_record(const uint8_t *text, size_t size) {
         size -= (size_t)written;
         present += written;
     }
+    whole = present;
     return true;
 }

@@ -10,7 +10,8 @@
 /* Begins a file with a text, where it is asked for: FOLDER/boot-N.tpm, with the first N that is free. */
 bool begin_record(const uint8_t *text, size_t size);
 
-/* Writes more of it, whole or not at all. */
+/* Writes a further text, whole, or reports why it is not. What was written of that one is taken back, now or
+   by the next call, which fails as long as that does. Without a record there is nothing to write. */
 bool write_record(const uint8_t *text, size_t size);
 
 /* Whether there is one. */

@@ -97,11 +97,17 @@ TPM_RESULT TPMLIB_SetState(enum TPMLIB_StateType st, const unsigned char *buffer
     return result;
 }
 
-/* The volatile state of the device that is on. */
+/* The volatile state of the device that is on. If the last command was not written, swtpm's user may already
+   have an older permanent state: there is no volatile state this time, even if the command is written now. */
 static bool make_present_volatile_state(struct state *state) {
     struct moment moment = {.time = time_of_device(), .was_launched = was_launched()};
-    if (device_is_on()) return make_volatile_state(the_device(), &moment, state);
-    report("there is no volatile state: the power is off");
+    const char *reason = "the power is off";
+    if (device_is_on()) {
+        if (last_was_written()) return make_volatile_state(the_device(), &moment, state);
+        (void)write_last();
+        reason = "the last command was not written; ask again";
+    }
+    report("there is no volatile state: %s", reason);
     return false;
 }
 

@@ -6,6 +6,7 @@
  *   loc N                        what the locality is from now on; `loc none`: none is told
  *   cmd HEX, head HEX            a command; the response, or its first ten bytes
  *   store works|fails, load ..   whether states are written and read from now on
+ *   disk works|fills|breaks      what becomes of a record's texts from now on
  *   save FILE                    TPMLIB_VolatileAll_Store
  *   set|get TYPE FILE, unset TYPE, validate BITS
  *   turn|cut TYPE FILE           sets the state with each byte turned, and each shorter one
@@ -189,6 +190,7 @@ static int drive(char *words[WORDS]) {
     else if (strcmp(name, "head") == 0) command(words[1], 10);
     else if (strcmp(name, "store") == 0) let_stores_fail(strcmp(words[1], "fails") == 0);
     else if (strcmp(name, "load") == 0) let_loads_fail(strcmp(words[1], "fails") == 0);
+    else if (strcmp(name, "disk") == 0) tell_disk(words[1]);
     else if (strcmp(name, "save") == 0) save(words[1]);
     else if (strcmp(name, "set") == 0) set_state(words[1], words[2]);
     else if (strcmp(name, "get") == 0) get_state(words[1], words[2]);

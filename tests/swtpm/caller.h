@@ -56,4 +56,7 @@ void tell_locality(const char *number);
 void let_stores_fail(int fail);
 void let_loads_fail(int fail);
 
+/* Whether a record's disk works from now on, fills as a text is written, or also breaks: nothing is cut. */
+void tell_disk(const char *state);
+
 #endif

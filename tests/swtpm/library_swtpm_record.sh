@@ -99,3 +99,23 @@ done_count=$(grep -vc '^80010000000a00000101$' "$room/given")
 power_on_of boot-1.tpm >image
 "$assemble" run --image image boot-1.tpm >played && head -n "$done_count" "$room/given" | cmp - played &&
     echo 'played by the program they are answered so'
+cd .. || exit 1
+
+label 'a disk that keeps part of a command: no other one is executed until that is cut'
+mkdir parts && cd parts || exit 1
+play <<END
+on
+do Startup 0
+disk breaks
+do PCR_Extend 00000010 pw:- sha256:$one
+do PCR_Read sha256:16
+do PCR_Read sha256:16
+save volatile
+disk fills
+do PCR_Read sha256:16
+disk works
+do PCR_Read sha256:16
+END
+power_on_of boot-1.tpm >image
+"$assemble" run --image image boot-1.tpm
+cd .. || exit 1

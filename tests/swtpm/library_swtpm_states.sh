@@ -137,3 +137,21 @@ on
 do Startup 0
 do NV_Read 01000002 01000002 pw:61 8 0
 END
+
+label 'a device whose permanent state was not stored has no volatile state until it is'
+mkdir behind && cd behind || exit 1
+play <<END
+on
+do Startup 0
+store fails
+do NV_DefineSpace OWNER pw:- 61 01000002000b0004000400000008
+save volatilestate
+get volatile volatilestate
+store works
+save volatilestate
+save volatilestate
+off
+on
+do NV_ReadPublic 01000002
+END
+cd .. || exit 1

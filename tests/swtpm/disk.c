@@ -1,0 +1,28 @@
+/* The disk that a library's record is on. These functions stand before those of the C library. */
+#include "caller.h"
+
+#include <errno.h>
+#include <string.h>
+#include <sys/syscall.h>
+#include <unistd.h>
+
+static int is_full, is_broken;
+
+void tell_disk(const char *state) {
+    is_broken = strcmp(state, "breaks") == 0;
+    is_full = is_broken || strcmp(state, "fills") == 0;
+}
+
+/* A full disk takes all bytes but the last one. What is logged is on no disk. */
+ssize_t write(int descriptor, const void *bytes, size_t size) {
+    size_t taken = is_full && descriptor > STDERR_FILENO ? size - (size > 0) : size;
+    if (taken > 0 || size == 0) return syscall(SYS_write, descriptor, bytes, taken);
+    errno = ENOSPC;
+    return -1;
+}
+
+int ftruncate(int descriptor, off_t size) {
+    if (!is_broken) return (int)syscall(SYS_ftruncate, descriptor, size);
+    errno = EIO;
+    return -1;
+}
