@@ -8,15 +8,16 @@ kit=${rattle%/bin/*}
 glue=${tests%/*}/glue
 flags='-std=c11 -O2 -Wall -Wextra -Werror -Wconversion'
 
-# play NAME RUNNER COMPILER SOURCES..: compiles the calls with one glue, and keeps what they print.
+# play NAME RUNNER COMPILER SOURCES..: compiles the calls with one glue, and keeps what they print. The program's
+# own name, argument 0, is the same with each glue.
 play() {
     name=$1
     runner=$2
     compiler=$3
     shift 3
     # shellcheck disable=SC2086 # they are words
-    "$compiler" $flags -I"$glue" -o "$name" "$tests/glue/glue_calls.c" "$@" &&
-        $runner "./$name" '' four eightish >"$name.said" || echo "$name: status $?"
+    mkdir "$name" && "$compiler" $flags -I"$glue" -o "$name/calls" "$tests/glue/glue_calls.c" "$@" &&
+        (cd "$name" && $runner ./calls '' four eightish) >"$name.said" || echo "$name: status $?"
 }
 
 play kit '' cc "$kit/c/liblibc_c.a" "$kit/c/libos_c.a"

@@ -28,19 +28,23 @@ static void try_sizes(void) {
     }
 }
 
-/* A block that grows, shrinks and cannot grow keeps its front. */
+/* A block that grows, shrinks and cannot grow keeps its front, which is written once. */
 static void try_growing(void) {
-    struct tried block = rattle_alloc(5, 1);
-    memcpy(block.block, "front", 5);
-    static const size_t sizes[] = {5000, 0, 7, 3};
+    static const size_t sizes[] = {1 << 20, 7, 3, 5000, 0, 16};
+    size_t kept = 5;
+    struct tried block = rattle_alloc(kept, 1);
+    memcpy(block.block, "front", kept);
     for (size_t i = 0; i < sizeof sizes / sizeof *sizes; i++) {
-        block = rattle_realloc(block.block, sizes[i] < 5 ? sizes[i] : 5, sizes[i], 1);
+        if (sizes[i] < kept) kept = sizes[i];
+        block = rattle_realloc(block.block, kept, sizes[i], 1);
         print_tried("realloc", block);
-        memcpy(block.block, "front", sizes[i] < 5 ? sizes[i] : 5);
+        printf("of %zu bytes, the first %zu are kept: %d\n", sizes[i], kept,
+               memcmp(block.block, "front", kept) == 0);
     }
-    struct tried none = rattle_realloc(block.block, 3, HUGE_SIZE, 1);
+    memcpy(block.block, "the whole block", 16);
+    struct tried none = rattle_realloc(block.block, 16, HUGE_SIZE, 1);
     print_tried("realloc without memory", none);
-    printf("the block is as it was: %d\n", memcmp(block.block, "fro", 3) == 0);
+    printf("the block is as it was: %d\n", memcmp(block.block, "the whole block", 16) == 0);
     rattle_dealloc(block.block);
 }
 
@@ -57,7 +61,7 @@ static void try_arguments(void) {
     for (size_t number = 0; number < 5; number++)
         for (size_t size = 0; size <= sizeof buffer; size += 4) {
             memset(buffer, '.', sizeof buffer);
-            ssize_t length = number == 0 ? 0 : rattle_arg(number, buffer, size);
+            ssize_t length = rattle_arg(number, buffer, size);
             printf("argument %zu, %zu bytes: %zd %.8s\n", number, size, length, (char *)buffer);
         }
 }
