@@ -91,7 +91,7 @@ class Sweep:
         if found is None:
             return True
         text, rest, output = found
-        return self.judge(path, start.of_image(text), rest, output)
+        return self.judge(path, start.of_text(text), rest, output)
 
 
 def main(program, count, seed="1"):
