@@ -134,7 +134,9 @@ class Completed(unittest.TestCase):
         )
         self.assertTrue(found[2].startswith("The completing layer: object 80000000 is not there."))
         title = "line 17: ContextSave is refused: REFERENCE_H0 (910), by the completing layer"
-        self.assertEqual(next(text.told(saved)), title)
+        said = list(text.told(saved))
+        self.assertEqual(said[0], title)
+        self.assertEqual(sum("object 80000000 is not there" in it for it in said), 1, said)
 
 
 if __name__ == "__main__":

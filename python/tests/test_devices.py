@@ -16,7 +16,8 @@ import unittest
 import tpmsim.device
 from tpmsim.caller import Caller, Refused
 from tpmsim.device import BadImage, ChildDevice, Device, DeviceEnded, KeptDevice, LibraryDevice
-from tpmsim.device import ModelDevice, ServedDevice, SimulatorDevice, StartedSwtpm, Unsupported
+from tpmsim.device import ModelDevice, ServedDevice, SimulatorDevice, StartedSwtpm, SwtpmDevice
+from tpmsim.device import Unsupported
 from tpmsim.device.child import program_found
 from tpmsim.device.library import but_clock
 from tpmsim.model.image import image
@@ -223,6 +224,11 @@ class Devices(unittest.TestCase):
         words = [program_found(), "run", self.folder / "script"]
         done = subprocess.run(words, capture_output=True, text=True, check=True, timeout=60)
         self.assertEqual(done.stdout, "80010000000a00000000\n")
+
+    def test_another_kind_of_snapshot(self):
+        with ModelDevice() as device:
+            text, swtpm = device.snapshot(), SwtpmDevice.__new__(SwtpmDevice)
+        self.assertRaisesRegex(Unsupported, "swtpm restores its own snapshots", swtpm.restore, text)
 
     def test_ended_child(self):
         with ChildDevice() as device, self.assertRaises(Unsupported):

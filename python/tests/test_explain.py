@@ -146,6 +146,8 @@ class CommandLine(unittest.TestCase):
         self.assertEqual((error, status), ("tpmsim-explain: script line 3\n", 2))
         self.assertIn("line 2: Startup is refused: INITIALIZE (100), by check G5", output)
         self.assertEqual(told(self.file("other.tpm", "do Startup 0\n# 00000100\n"))[2], 1)
+        one = told(self.file("one.tpm", "do Startup 0\n# 00000000\n"))[0]
+        self.assertTrue(one.endswith(" 1 answer of the log is the model's.\n"), one)
         for words in (
             "",
             "a b c",
@@ -161,6 +163,9 @@ class CommandLine(unittest.TestCase):
         self.assertEqual(told(self.folder / "none")[2], 2)
         image_file = self.file("image", b"TPMI")
         self.assertEqual(told(bad, "--image", image_file)[1:], ("tpmsim-explain: image Short\n", 2))
+        image_file = self.file("state", b"TPMS")
+        said = "tpmsim-explain: state text Short\n", 2
+        self.assertEqual(told(bad, "--image", image_file)[1:], said)
         output, _, status = told("--help")
         self.assertTrue(output.startswith("Why was this refused?") and status == 0)
 

@@ -267,6 +267,8 @@ class PolicySlips(unittest.TestCase):
             with self.subTest(f"{at} {first[0]}, {second[0]}"):
                 found = case.refused(made)
                 self.assertEqual(sorted(found.slips), sorted([first[0], second[0]]))
+                self.assertEqual(found.words.count("would be"), 1, found.words)
+                self.assertRegex(found.words, r" \w.*, and [wi].*, it would be[.:]")
                 named += 1
         self.assertGreater(named, 45)
 
@@ -304,6 +306,11 @@ class PolicySlips(unittest.TestCase):
         old = link("pcr", lambda case, old: case.hash(old + case.pcr_text(values=case.before[0])))
         words = f"With the PCRs as they were before line {case.line} it would be: PCR 16."
         self.assertIn(words, case.refused(self.turned(case, old)).words)
+        case = Case("both")
+        other = link("pcr", lambda case, old: case.hash(old + case.pcr_text(pcr=17)))
+        turns = other, reordered("pcr", "secret", "code", "value")
+        words = "With PCR 17 instead of PCR 16, and without PolicyNV of line "
+        self.assertIn(words, case.refused(self.turned(case, *turns)).words)
         case = Case("bank")
         bank = link("pcr", lambda case, old: case.hash(old + case.pcr_text(SHA1)))
         found = case.refused(self.turned(case, bank))

@@ -97,6 +97,16 @@ class Heads(unittest.TestCase):
         words = "line 1: the head is damaged: its sums are others"
         self.assertEqual(played(bent)[0].damages, [words])
 
+    def test_a_word_in_hex(self):
+        """A comment with one begins no log; what may be an image or a state text does."""
+        for words in "# state bad", "# state deed", "# image ", "# image of the device":
+            play, events = played("\n".join((words, START, words, RIGHT)).encode())
+            self.assertEqual((codes(events), play.fault), (["", "18b"], ""), words)
+        for words in "# state 54504d53", "# image 54504d49", f"# state {bytes(42).hex()}":
+            play, events = played("\n".join((START, words, RIGHT)).encode())
+            self.assertEqual(len(events), 1, words)
+            self.assertIn("line 2 begins with what is no ", play.fault)
+
 
 def records_of(line):
     (step,) = [it for it in records.steps_of(line.encode()) if isinstance(it, records.Command)]

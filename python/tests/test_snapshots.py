@@ -1,5 +1,6 @@
 """Snapshots, which are state texts: of one device the same from the library and from the model."""
 
+import errno
 import functools
 import pathlib
 import pickle
@@ -8,11 +9,12 @@ import subprocess
 import sys
 import tempfile
 import unittest
+from unittest import mock
 
 import completed_scripts
 from tpmsim.caller import area, BY_VALUE, Caller, Refused
-from tpmsim.device import BadState, ChildDevice, Device, KeptDevice, library, LibraryDevice
-from tpmsim.device import ModelDevice, Snapshot, Transport, Unsupported
+from tpmsim.device import BadState, ChildDevice, Device, DeviceEnded, KeptDevice, library
+from tpmsim.device import LibraryDevice, ModelDevice, Snapshot, Transport, Unsupported
 from tpmsim.explain.of_device import log_of, why_refused
 from tpmsim.explain.play import Play
 from tpmsim.model import state_text
@@ -221,6 +223,44 @@ class InProcess(Told, unittest.TestCase):
         with LibraryDevice(image=file) as device:
             self.assertEqual(device.save(), kept)
 
+    def test_closed(self):
+        """It stays closed."""
+        device = self.enterContext(in_library())
+        taken = device.snapshot()
+        device.close()
+        for act in (
+            *(lambda: device.restore(taken), device.snapshot, device.power_cycle),
+            lambda: device.execute(b""),
+        ):
+            self.assertRaisesRegex(ValueError, "^the device is closed$", act)
+
+    def test_an_image_that_is_not_written(self):
+        """The command was executed and not answered, so that no other one is until `restore`."""
+        file = pathlib.Path(self.enterContext(tempfile.TemporaryDirectory()), "image")
+        tpm = Caller(self.enterContext(LibraryDevice(image=file)))
+        tpm.start_up()
+        taken, before = tpm.device.snapshot(), tpm.device.trace
+        with mock.patch("os.fsync", side_effect=OSError(errno.ENOSPC, "full")):
+            self.assertRaisesRegex(DeviceEnded, "the image is not written", tpm.define, area())
+        for act in tpm.device.snapshot, tpm.device.power_cycle, tpm.start_up:
+            self.assertRaisesRegex(DeviceEnded, "`restore` mends it", act)
+        tpm.device.restore(taken)
+        self.assertEqual((tpm.device.snapshot(), tpm.device.trace), (taken, before))
+        tpm.define(area())
+
+    def test_no_memory(self):
+        """If there is none for another device, this one is as it was; if it is missing later, it is not."""
+        taken, device = self.worked(), self.tpm.device
+        with mock.patch.object(device, "library") as calls:
+            calls.tpmsim_restore.return_value = library.NO_MEMORY
+            self.assertRaises(MemoryError, device.restore, taken)
+        self.assertEqual(device.snapshot(), taken)
+        with mock.patch.object(device, "keep", side_effect=MemoryError):
+            self.assertRaises(MemoryError, device.restore, taken)
+        self.assertRaisesRegex(DeviceEnded, "`restore` mends it", device.snapshot)
+        device.restore(taken)
+        self.assertEqual(device.snapshot(), taken)
+
 
 @NEEDS_LIBRARY
 class OverKeptState(Snapshots, unittest.TestCase):
@@ -247,8 +287,9 @@ class OverKeptState(Snapshots, unittest.TestCase):
 
 @NEEDS_LIBRARY
 class Completed(unittest.TestCase):
-    """Commands at random with the completing layer, which is in the text."""
+    """Commands at random with the completing layer, which is in the text. The host's clock stands still."""
 
+    @mock.patch("time.time_ns", lambda: 10**18)
     def test_commands_at_random(self):
         for seed in range(SEEDS):
             with self.subTest(seed=seed), tempfile.TemporaryDirectory() as folder:
@@ -267,24 +308,23 @@ class Completed(unittest.TestCase):
         self.goes_on(device, taken, chance)
 
     def goes_on(self, device, taken, chance):
-        """Another device, which is restored, answers what this one does."""
+        """Another device, which is restored, answers what this one does, and is the same after it."""
         rest = chance.randrange(2**32)
         with tempfile.TemporaryDirectory() as folder:
             with KeptDevice(folder, forces=False, completes=True) as other:
                 other.restore(bytes(taken))
                 self.assertEqual(other.snapshot(), taken)
-                answered = [
-                    [(it.response[6:10]) for it in self.executed(each, rest)]
-                    for each in (device, other)
-                ]
-        self.assertEqual(*answered)
+                first, second = (self.executed(it, rest) for it in (device, other))
+                self.assertEqual(first, second)
+                self.assertEqual(device.snapshot(), other.snapshot())
 
     @staticmethod
     def executed(device, seed):
-        """What a device is told at random from here on."""
+        """What a device answers to what it is told at random from here on, by the same random bytes."""
         first = len(device.events)
-        completed_scripts.play(device, random.Random(seed), COMMANDS)
-        return [it for it in device.events[first:] if not isinstance(it, str)]
+        with mock.patch("os.urandom", random.Random(seed).randbytes):
+            completed_scripts.play(device, random.Random(seed), COMMANDS)
+        return [it.response for it in device.events[first:] if not isinstance(it, str)]
 
 
 class Explained(unittest.TestCase):

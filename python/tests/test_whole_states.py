@@ -121,14 +121,16 @@ class Explained(unittest.TestCase):
 
     def test_heads_that_are_damaged(self):
         text = gone_on(CODE).text
-        for bent in (
-            text.replace(b"journal 2", b"journal 1", 1),
-            text.replace(b"5450", b"5550", 1),
+        head = "line 1: the head is damaged: "
+        for good, bent, damage, fault in (
+            (b"journal 2", b"journal 1", "it holds a state text", ""),
+            (b"5450", b"5550", "its sums are others", "line 1 begins with what is no image: Magic"),
         ):
             play = Play()
-            list(play.events(bent))
-            self.assertTrue(play.damages or play.fault)
-        self.assertTrue(list(records.steps_of(text[: text.index(b"\n")]))[0].line)
+            list(play.events(text.replace(good, bent, 1)))
+            self.assertEqual((play.damages, play.fault), ([head + damage], fault))
+        steps = list(records.steps_of(text[: text.index(b"\n")]))
+        self.assertEqual(steps, [records.BadHead(2)])
 
 
 class Judged(unittest.TestCase):

@@ -98,20 +98,25 @@ class Played:
 
 
 def within_writing():
-    """A handler's fault while an image is written is not one of the image, which is written later."""
+    """A handler's fault while an image is written is not one of the image. The command was executed."""
     image = pathlib.Path("image")
     with LibraryDevice(image) as device:
         tpm = Caller(device)
         tpm.start_up()
-        before = image.read_bytes()
+        before, taken = image.read_bytes(), device.snapshot()
         with mock.patch("os.fsync", side_effect=TimeoutError("a test's own")):
             try:
                 tpm.define(area())
             except (DeviceEnded, TimeoutError) as fault:
                 print(f"library, an image: {type(fault).__name__}: {fault}")
         print("library, the image is as it was:", image.read_bytes() == before)
-        tpm.call("ReadClock")
-        print("library, the next command writes it:", image.read_bytes() != before)
+        try:
+            tpm.call("ReadClock")
+        except DeviceEnded as fault:
+            print(f"library, the next command: {fault}")
+        device.restore(taken)
+        tpm.define(area())
+        print("library, once it is restored a command writes it:", image.read_bytes() != before)
 
 
 for name, made, step in (

@@ -21,9 +21,9 @@ from tests.images import state_bodies, worked_state
 
 MOST_BYTES, RANDOM = 36_323, bytes(range(256))
 
-# What a call reports: 13 to 18 are the faults of a text.
-DONE, FIRST_FAULT = 0, 13
-FAULTS = "Short", "Magic", "Version", "Length", "Digest", "Body"
+# What a call reports.
+FAULTS = {0: None}
+FAULTS |= dict(enumerate(("Short", "Magic", "Version", "Length", "Digest", "Body"), 13))
 
 # The lowest bit, the highest one, and by one in the direction that is not the lowest bit's.
 WAYS = (
@@ -52,7 +52,7 @@ class Library:
         """The fault of a text; the device is the one of a text without a fault."""
         size = ctypes.c_size_t(len(text))
         told = self.calls.tpmsim_restore(ctypes.byref(self.holder), text, size)
-        return None if told == DONE else FAULTS[told - FIRST_FAULT]
+        return FAULTS.get(told, f"number {told}")
 
 
 def with_layer(text: bytes) -> bytes:

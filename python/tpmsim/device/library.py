@@ -12,7 +12,7 @@ from typing import Callable
 import tpmsim
 from tpmsim.device.base import BadImage, BadState, DeviceEnded, Executed
 from tpmsim.device.folder import opened, OWNER_ALONE
-from tpmsim.device.told import Device, Path, RANDOM_BYTES
+from tpmsim.device.told import Device, NothingReplaced, Path, RANDOM_BYTES
 from tpmsim.model.image import BODY_AT, DIGEST_AT_END, HIERARCHIES
 
 # The seed and the proof of a hierarchy; what is between its authorization values and the clock: one
@@ -276,14 +276,19 @@ class LibraryDevice(Device):
             raise MemoryError
         self.keep()
 
-    def state(self) -> bytes:
-        text = written(self.library.tpmsim_snapshot, self.handle)
-        if not text:
+    def look_open(self) -> None:
+        """ValueError after `close`, too."""
+        self.look()
+        if not self.holder:
             raise ValueError("the device is closed")
-        return text
+
+    def state(self) -> bytes:
+        if not self.holder:
+            raise ValueError("the device is closed")
+        return written(self.library.tpmsim_snapshot, self.handle)
 
     def restore(self, snapshot: object) -> None:
-        self.look()
+        self.look_open()
         super().restore(snapshot)
 
     def resume(self, text: bytes) -> None:
@@ -291,19 +296,21 @@ class LibraryDevice(Device):
         if told in STATE_FAULTS:
             raise BadState(STATE_FAULTS[told])
         if told:
-            raise MemoryError
+            raise NothingReplaced
         self.keep()
 
     def answer(self, buffer: bytes, locality: int, elapsed: int, random: bytes) -> Executed:
-        self.look()
+        self.look_open()
         event = locality, elapsed, random, self.room, self.at_answered
-        if self.library.tpmsim_execute(self.handle, buffer, len(buffer), *event):
-            raise ValueError("the device is closed")
+        self.to_its_end(lambda: self.executed(buffer, event))
         answered = self.answered
         response = ctypes.string_at(self.room, answered.size)
-        self.keep()
         told = random[: answered.drawn], CHECKS[answered.check], answered.code
         return Executed(buffer, response, locality, elapsed, *told)
+
+    def executed(self, buffer: bytes, event: tuple[object, ...]) -> None:
+        self.library.tpmsim_execute(self.handle, buffer, len(buffer), *event)
+        self.keep()
 
     def keep(self) -> None:
         """Writes the image where more than the clock has changed; DeviceEnded where it cannot."""
@@ -316,9 +323,11 @@ class LibraryDevice(Device):
                 raise DeviceEnded(f"the image is not written: {fault}") from None
 
     def cycle(self) -> None:
-        self.look()
-        if self.library.tpmsim_power_cycle(self.handle):
-            raise ValueError("the device is closed")
+        self.look_open()
+        self.to_its_end(self.cycled)
+
+    def cycled(self) -> None:
+        self.library.tpmsim_power_cycle(self.handle)
         self.keep()
 
     def save(self) -> bytes:

@@ -6,7 +6,7 @@ import tempfile
 import time
 from typing import Iterable, Self
 
-from tpmsim.device.base import DeviceEnded
+from tpmsim.device.base import DeviceEnded, Unsupported
 from tpmsim.device.in_step import InStep
 from tpmsim.device.served import Address, Connection, LocatedDevice
 from tpmsim.standard import CC, frames, handle_kinds, number, RH_PLATFORM, SHA1, SHA256
@@ -94,7 +94,8 @@ class SwtpmDevice(InStep, LocatedDevice):
         return self.at, tuple(self.events), blobs
 
     def restore(self, snapshot: object) -> None:
-        assert isinstance(snapshot, tuple)
+        if not isinstance(snapshot, tuple):
+            raise Unsupported("swtpm restores its own snapshots, and no state text")
         place, events, blobs = snapshot
         self.whole(lambda: self.begin_again(blobs))
         self.at, self.events = place, list(events)

@@ -21,6 +21,10 @@ Path = str | os.PathLike[str]
 Done = TypeVar("Done")
 
 
+class NothingReplaced(MemoryError):
+    """There is no memory for the device of a state text, and the one before is as it was."""
+
+
 class Device(Transport):
     """A fresh device whose power is just on, or that of an image, which is kept in its file: in this
     process where the library is found, and else in a child process. Its seeds and its random bytes
@@ -97,8 +101,8 @@ class Device(Transport):
         raise NotImplementedError
 
     def resume(self, text: bytes) -> None:
-        """Puts the device of a state text in place of this one; BadState of another text, and then
-        the device is as it was.
+        """Puts the device of a state text in place of this one. BadState of another text, Unsupported
+        and NothingReplaced leave the device as it was.
         """
         raise NotImplementedError
 
@@ -209,7 +213,7 @@ class Device(Transport):
         was_whole, self.is_whole = self.is_whole, False
         try:
             self.resume(told)
-        except (BadState, MemoryError, Unsupported):
+        except (BadState, NothingReplaced, Unsupported):
             self.is_whole = was_whole
             raise
         self.begun, self.events = bytes(told), []
@@ -261,6 +265,8 @@ class ModelDevice(Device):
             self.model, layer = state_text.open_state(text)
         except images.Fault as fault:
             raise BadState(str(fault)) from None
+        except MemoryError:
+            raise NothingReplaced from None
         self.layer = layer or Layer()
 
     def answer(self, buffer: bytes, locality: int, elapsed: int, random: bytes) -> Executed:

@@ -34,6 +34,7 @@ from dataclasses import dataclass
 from tpmsim.explain import page, text
 from tpmsim.explain.play import Event, Play
 from tpmsim.model.image import Fault
+from tpmsim.records import is_state_text
 
 
 def called(installed: str, here: str) -> str:
@@ -108,7 +109,8 @@ def explain(asked: Asked, counts: text.Counts) -> tuple[str, Play]:
     try:
         play = Play(image, answers, asked.at, asked.form == "html")
     except Fault as fault:
-        raise Usage(f"image {fault}") from None
+        word = "state text" if is_state_text(image or b"") else "image"
+        raise Usage(f"{word} {fault}") from None
     play.tried = asked.tried
     if asked.form == "html":
         return page.of_log(asked.log, play, log, counts), play

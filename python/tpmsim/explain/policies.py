@@ -153,11 +153,24 @@ def from_outside(use: Use, steps: Sequence[Step], wanted: bytes, found: Reason) 
         )
         return f"No slip that is known makes it: {tried}."
     found.slips += [name for name, _ in told]
-    words = " ".join(it for _, it in told)
-    turned = search.turned
+    words, turned = together([it for _, it in told]), search.turned
     if turned is None or turned.banks is None:
-        return words
-    return f"{words}: {moved(use, steps[turned.place], turned.banks, found)}"
+        return f"{words}."
+    joined = ": " if words.endswith(MAKES_IT) else ". The PCRs differ: "
+    return words + joined + moved(use, steps[turned.place], turned.banks, found)
+
+
+MAKES_IT = " it would be"
+
+
+def together(told: Sequence[str]) -> str:
+    """The sentence of a slip, or one of two that are both needed, but its full stop."""
+    if len(told) == 1:
+        return told[0].removesuffix(".")
+    slips, _, rests = zip(*(it.rpartition(MAKES_IT) for it in told))
+    first, second = (it.removesuffix(",") for it in slips)
+    rest = "".join(it.removesuffix(".") for it in rests)
+    return f"{first}, and {second[0].lower()}{second[1:]},{MAKES_IT}{rest}"
 
 
 # How many commands that wrote PCRs are named.

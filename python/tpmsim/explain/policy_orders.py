@@ -66,7 +66,7 @@ def twice(items: Items) -> Iterator[Arranged]:
     for at, it in enumerate(items):
         words = f"With {it.words} twice it would be."
         yield (*items[:at], it, *items[at:]), ("assertion twice", words)
-    words = "It would be if it began with nothing; it begins with zeros, as many as a digest has."
+    words = "If it began with nothing instead of zeros, as many as a digest has, it would be."
     yield (NOTHING, *items), ("policy digest without its zeros", words)
 
 

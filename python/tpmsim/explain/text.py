@@ -6,7 +6,7 @@ from typing import Any, Iterable, Iterator
 
 from tpmsim.explain.dissection import Field
 from tpmsim.explain.play import Event, Play
-from tpmsim.explain.reason import Fact, Reason
+from tpmsim.explain.reason import Fact, OfLayer, Reason
 from tpmsim.explain.words import plural, size_words
 from tpmsim.standard.command_names import command_name
 
@@ -54,7 +54,8 @@ class Counts:
             return f"The log's answers and the model's differ in the lines {lines}{more}."
         if not self.answers:
             return "The log has no answers to compare."
-        return f"{plural(self.answers, 'answer')} of the log are the model's."
+        are = "is" if self.answers == 1 else "are"
+        return f"{plural(self.answers, 'answer')} of the log {are} the model's."
 
 
 def name_of(event: Event) -> str:
@@ -104,7 +105,8 @@ def differences(event: Event) -> Iterator[str]:
 def reasons(event: Event) -> Iterator[str]:
     if event.reason is not None:
         yield f"line {event.line}: {title(event)}"
-        yield from layer_words(event)
+        is_said = isinstance(event.reason, OfLayer)
+        yield from wrapped(own_words(event)) if is_said else layer_words(event)
         yield from of_reason(event.reason)
     for note in event.notes:
         yield f"line {event.line}: {name_of(event)}, worth a look"

@@ -6,9 +6,13 @@ from typing import Iterator
 
 from tpmsim.records.marks import HEAD, Mark, MARK
 
-# A head as a journal has it, and the start as Python's devices and pytest report it.
+# The start as Python's devices and pytest report it: what follows begins with a magic, or has as many
+# digits as the shortest image and state text. A word of a comment that happens to be hex is neither.
+REPORTED = re.compile(rb"^# (image|state) (?=54504d|[0-9a-f]{84})", re.MULTILINE)
+
+# A head as a journal has it, or such a start.
 # What a crash left of a journal has no newline before the head of the next one.
-HEADS = re.compile(HEAD.pattern + rb"(?=\n)|^# (image|state) (?=[0-9a-f]*$)", re.MULTILINE)
+HEADS = re.compile(HEAD.pattern + rb"(?=\n)|" + REPORTED.pattern, re.MULTILINE)
 LINES_OF_HEAD, LINES_OF_ENTRY = 2, 5
 BEGUN = re.compile(rb"#( ([0-9a-f]+( [0-9a-f]*)?)?)?")
 LINE_OF_MARK = re.compile(rb"^" + MARK.pattern + rb"\n", re.MULTILINE)

@@ -12,7 +12,7 @@ from tpmsim.model.player import BadLine, LINE_BYTES, LINES, RANDOM_BYTES, Words
 from tpmsim.records.drawn import drawn_of
 from tpmsim.records.marks import HeadMark, Mark, OFFSET_BASIS, sum_from
 from tpmsim.records.opened import is_state_text
-from tpmsim.records.parts import Part, parts_of
+from tpmsim.records.parts import Part, parts_of, REPORTED
 
 # An answer in a comment: a trace, which may have the time of day before it, a code or a response.
 TRACE = r"\S+ L\d \+\d+ \S+ [0-9a-f]{8}"
@@ -24,9 +24,6 @@ COMPLETED = "completed"
 
 # What makes an answer be read after its command, where it stands first in a log.
 COMMANDS = b"cmd", b"do "
-
-# How the start of a device in Python is reported.
-REPORTED = re.compile(rb"# (image|state) ")
 
 DAMAGED_HEAD = "the head is damaged: its sums are others"
 OTHER_KIND = "the head is damaged: it holds {}"
