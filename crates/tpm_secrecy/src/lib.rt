@@ -3,9 +3,9 @@
 //! What the answers of a device tell of what it keeps secret.
 //!
 //! Secret are data of NV indices, the data that objects seal, HMAC keys, and authorization values.
-//! The laws compare two devices that are equal once their secrets are erased. The laws are of the definitions of tpm_step, over any record: each is the contract
-//! of a function that does nothing. They hold of what tpm_machine executes, since each call
-//! executes an event as the step defines it.
+//! The laws compare two devices that are equal once their secrets are erased. They are of the
+//! definitions of tpm_step, over any record: each is the contract of a function that does nothing.
+//! They hold of what tpm_machine executes, since each call executes an event as the step defines it.
 
 ghost use Rattle.tpm_secrecy.specs.SealedData.{DiskKeyStaysSecret, SealedDataNeedPolicy};
 ghost use Rattle.tpm_secrecy.specs.SealedData.{SealedDataStayUntilRead};
