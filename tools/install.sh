@@ -11,8 +11,8 @@
 #     TPMSIM_MACHINE  the machine that all is for, x86_64 or aarch64; this one
 #     FUNCTIONS  the folder of zsh's functions in PREFIX; share/zsh/site-functions
 #
-# The modules for libtss2 and for swtpm are made where the headers are there that they need, and are
-# left out with a line else. Without DESTDIR it has root's ldconfig tell the loader of the libraries, and
+# The modules for libtss2 and for swtpm, and tpmsim-simulator, are made where the headers are there that
+# they need, and are left out with a line else. Without DESTDIR it has root's ldconfig tell the loader of the libraries, and
 # says what a user sets to find what neither the loader nor python3 finds. Needs python3.
 set -u
 umask 022
@@ -88,6 +88,12 @@ put_modules() {
         done
     else
         echo "$0: there is no module for libtss2, whose header libtss2-dev has" >&2
+    fi
+    if echo '#include <stdlib.h>' | "${CC:-cc}" -fsyntax-only -x c - >"$work/header" 2>&1; then
+        tools/interop/attached_simulator.sh "$work/simulator" || exit 1
+        put 755 "$work/simulator/tpmsim-simulator" bin/tpmsim-simulator
+    else
+        echo "$0: there is no tpmsim-simulator, which needs gcc and libc6-dev" >&2
     fi
     if has_header libtpms/tpm_library.h; then
         tools/interop/attached_swtpm.sh "$work/swtpm" || exit 1

@@ -2,16 +2,16 @@
 
 import atexit
 import contextlib
-import multiprocessing
 import os
 import signal
 import subprocess
-import sys
+import shutil
 import tempfile
+import unittest
 
-import tpmsim.simulator
-
-FORKS = multiprocessing.get_context("fork")
+# What tests/python/python.sh has built, or what is installed.
+SIMULATOR = os.environ.get("TPMSIM_SIMULATOR") or shutil.which("tpmsim-simulator")
+NEEDS_SIMULATOR = unittest.skipUnless(SIMULATOR, "there is no tpmsim-simulator")
 
 
 def folder_of_compiled():
@@ -51,29 +51,5 @@ def address_from(output):
 
 def simulator(*words):
     """A server of Microsoft's protocol, and its address."""
-    program = sys.executable, "-m", "tpmsim.simulator", "--port", "0", *words
+    program = SIMULATOR, "--port", "0", *words
     return running(*program, ready=lambda process: address_from(process.stdout))
-
-
-@contextlib.contextmanager
-def forked_simulator(*words):
-    """The same of a process that is forked, and so has all modules from its beginning."""
-    reads, writes = os.pipe()
-    process = FORKS.Process(target=serve, args=(words, writes))
-    process.start()
-    os.close(writes)
-    try:
-        with open(reads, encoding="ascii") as output:
-            yield address_from(output)
-    finally:
-        process.terminate()
-        process.join(60)
-        check_ending(process.exitcode, words)
-        process.close()
-
-
-def serve(words, writes):
-    """What the program of the server does, which prints into a pipe."""
-    sys.argv[1:] = ["--port", "0", *words]
-    sys.stdout = open(writes, "w", encoding="ascii")
-    sys.exit(tpmsim.simulator.main())

@@ -4,12 +4,11 @@ import os
 import pathlib
 import shutil
 import subprocess
-import sys
 import tempfile
 import time
 import unittest
 
-import tpmsim
+from programs import NEEDS_SIMULATOR, simulator
 from tpmsim.caller import area, BY_VALUE, Caller, Refused
 from tpmsim.device import ChildDevice, KeptDevice, library, LibraryDevice, ModelDevice, ServedDevice
 from tpmsim.device import SimulatorDevice, StartedSwtpm
@@ -102,15 +101,10 @@ class Reasons(unittest.TestCase):
     def test_on_a_socket(self):
         self.assert_explained(self.served())
 
+    @NEEDS_SIMULATOR
     def test_at_a_simulator(self):
-        words = [sys.executable, "-m", "tpmsim.simulator", "--port", "0", "--image", "image"]
-        given = {**os.environ, "PYTHONPATH": str(pathlib.Path(tpmsim.__file__).parents[1])}
-        pipe = subprocess.PIPE
-        process = subprocess.Popen(words, cwd=self.folder, env=given, stdout=pipe, text=True)
-        self.enterContext(process)
-        self.addCleanup(process.kill)
-        host, port = process.stdout.readline().split()
-        self.assert_explained(SimulatorDevice(host, int(port)))
+        image = str(pathlib.Path(self.folder) / "image")
+        self.assert_explained(SimulatorDevice(*self.enterContext(simulator("--image", image))))
 
     @unittest.skipUnless(shutil.which("swtpm"), "there is no swtpm")
     def test_of_another_maker(self):

@@ -25,7 +25,7 @@ from tpmsim.model.machine import Model
 from tpmsim.model.player import played
 from tpmsim.model.protection import Lockout
 from tpmsim.standard import RH_OWNER
-from programs import forked_simulator, running
+from programs import NEEDS_SIMULATOR, running, simulator
 from twenty import TwentyTests
 
 SEED = b"seed"
@@ -111,11 +111,12 @@ class OverKeptState(TwentyTests, unittest.TestCase):
         return KeptDevice(self.enterContext(tempfile.TemporaryDirectory()))
 
 
+@NEEDS_SIMULATOR
 class OverSimulator(TwentyTests, unittest.TestCase):
     lacks = {"test_lockout": HOSTS_TIME, "test_snapshot": NO_SNAPSHOTS}
 
     def device(self):
-        return SimulatorDevice(*self.enterContext(forked_simulator()))
+        return SimulatorDevice(*self.enterContext(simulator()))
 
 
 def differs(test):

@@ -5,12 +5,11 @@ import select
 import shutil
 import socket
 import subprocess
-import sys
 import tempfile
 import time
 import unittest
 
-from programs import forked_simulator, simulator
+from programs import NEEDS_SIMULATOR, SIMULATOR, simulator
 from tpmsim.caller import Caller
 from tpmsim.device import SimulatorDevice
 from tpmsim.standard import number
@@ -34,11 +33,12 @@ def request(buffer, locality=0):
     return SEND_COMMAND + number(locality, 1) + number(len(buffer), 4) + buffer
 
 
+@NEEDS_SIMULATOR
 class Simulator(unittest.TestCase):
     def setUp(self):
         self.folder = pathlib.Path(self.enterContext(tempfile.TemporaryDirectory()))
         image = str(self.folder / "image")
-        self.address = self.enterContext(forked_simulator("--image", image))
+        self.address = self.enterContext(simulator("--image", image))
 
     def client(self):
         return self.enterContext(SimulatorDevice(*self.address))
@@ -138,15 +138,28 @@ class Simulator(unittest.TestCase):
         self.assertEqual(len(done.stdout), 16)
 
 
+@NEEDS_SIMULATOR
 class Words(unittest.TestCase):
     def test_wrong_words(self):
         for *words, status in (
             ("--bind", "", 2),
             ("--bind", "localhost", 2),
             ("--port", "65535", 2),
+            ("--devices", "0", 2),
+            ("--seed", "5", 2),
+            ("--clock", "none", 2),
+            ("--image", "one", "--devices", "2", 2),
+            ("--state", "one", "--image", "two", 2),
+            ("--force", "always", 2),
+            ("more", 2),
             ("--image", "/nowhere/image", 3),
+            ("--state", "/nowhere/folder", 3),
+            ("--record", "/nowhere", 3),
+            ("--bind", "192.0.2.1", 3),
         ):
-            program = [sys.executable, "-m", "tpmsim.simulator", *words]
-            done = subprocess.run(program, capture_output=True, text=True, timeout=60)
-            self.assertEqual((done.returncode, done.stdout), (status, ""))
-            self.assertTrue(done.stderr)
+            with self.subTest(words=words):
+                done = subprocess.run(
+                    [SIMULATOR, *words], capture_output=True, text=True, timeout=60
+                )
+                self.assertEqual((done.returncode, done.stdout), (status, ""))
+                self.assertTrue(done.stderr)

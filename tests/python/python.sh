@@ -4,6 +4,12 @@ tests=$(cd "$(dirname "$0")/.." && pwd -P)
 . "$tests/common/cases.sh"
 needs python3
 
+# The server of Microsoft's protocol is in C: its tests are skipped if there is no compiler.
+if is_there cc && is_there nm; then
+    TPMSIM_SIMULATOR=$room/simulator/tpmsim-simulator
+    "${tests%/*}/tools/interop/attached_simulator.sh" "$room/simulator" || exit 1
+    export TPMSIM_SIMULATOR
+fi
 status=0
 TPMSIM=$program python3 -W error::ResourceWarning -m unittest discover -s "${tests%/*}/python/tests" -t "${tests%/*}/python/tests" 2>"$room/error" || status=$?
 if [ "$status" -eq 0 ]; then

@@ -1,5 +1,5 @@
 #!/bin/sh
-# Uses a device behind tpmsim.simulator of python/ with the tools of IBM's TSS (Debian: tss2), by the protocol
+# Uses a device behind tpmsim-simulator with the tools of IBM's TSS (Debian: tss2), by the protocol
 # that they speak by default, Microsoft's, and says of each whether it did what was asked: the start,
 # PCRs, sessions that encrypt by AES and by XOR, the four kinds of NV index, policies, sealed primary objects,
 # lockout, Clear. Not part of the gate. It installs nothing, and leaves nothing behind.
@@ -107,7 +107,8 @@ echo secret >secret
 port=${PORT:-24331}
 export TPM_INTERFACE_TYPE=socsim TPM_SERVER_NAME=127.0.0.1 TPM_DATA_DIR=. TPM_ENCRYPT_SESSIONS=0
 export TPM_COMMAND_PORT="$port" TPM_PLATFORM_PORT="$((port + 1))"
-PYTHONPATH=$top/python python3 -m tpmsim.simulator --port "$port" --image image >served &
+"$top/tools/interop/attached_simulator.sh" made || exit 1
+made/tpmsim-simulator --port "$port" --image image >served &
 server=$!
 until [ -s served ]; do
     kill -0 "$server" || exit 1

@@ -93,7 +93,11 @@ def first_of(script: bytes) -> records.Begin | None:
 
 
 def has_answers(script: bytes) -> bool:
-    """Whether a log says what its first command was answered, as a journal does."""
+    """Whether a log says what its first command was answered, as a journal does. One with a head and no
+    command has no answer to say.
+    """
     commands = (it for it in records.steps_of(script) if isinstance(it, records.Command))
     first = next(commands, None)
-    return first is not None and (first.mark is not None or bool(first.said))
+    if first is None:
+        return first_of(script) is not None
+    return first.mark is not None or bool(first.said)

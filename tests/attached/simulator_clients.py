@@ -1,6 +1,6 @@
-"""More clients of the simulator's server than it has descriptors for:
+"""More clients of tpmsim-simulator than it has descriptors for:
 
-    tools/python.sh tests/python/simulator_clients.py
+    tools/python.sh tests/attached/simulator_clients.py SIMULATOR
 
 The server may open few files. Clients that say nothing take all of them; then those that were there are
 served, a change is in the image, the ones too many are refused, and new ones are served once others end.
@@ -28,7 +28,7 @@ def limit():
 
 def served():
     """The server, and its address."""
-    words = [sys.executable, "-S", "-m", "tpmsim.simulator", "--port", "0", "--image", IMAGE]
+    words = [sys.argv[1], "--port", "0", "--image", IMAGE]
     process = subprocess.Popen(words, stdout=subprocess.PIPE, preexec_fn=limit, text=True)
     host, port = process.stdout.readline().split()
     return process, (host, int(port))

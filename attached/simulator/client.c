@@ -1,0 +1,137 @@
+#define _GNU_SOURCE
+#include "client.h"
+#include <errno.h>
+#include <netinet/in.h>
+#include <netinet/tcp.h>
+#include <stdlib.h>
+#include <string.h>
+#include <sys/socket.h>
+#include <unistd.h>
+
+/* What a client has while a request or its answer is on the way. */
+struct traffic {
+    size_t came;
+    size_t sent;
+    uint8_t request[REQUEST_MOST];
+    struct answer answer;
+};
+
+struct client {
+    int socket;
+    struct board *board;
+    bool is_of_platform;
+    /* What is done once the answer is taken. */
+    enum outcome next;
+    /* NULL for an idle client. */
+    struct traffic *traffic;
+};
+
+struct client *client_of(int socket, struct board *board, bool is_of_platform) {
+    struct client *client = malloc(sizeof *client);
+    int on = 1;
+    if (!client) return NULL;
+    *client = (struct client){.socket = socket, .board = board, .is_of_platform = is_of_platform};
+    setsockopt(socket, IPPROTO_TCP, TCP_NODELAY, &on, sizeof on);
+    return client;
+}
+
+int client_socket(const struct client *client) { return client->socket; }
+
+bool client_writes(const struct client *client) {
+    return client->traffic && client->traffic->sent < client->traffic->answer.size;
+}
+
+static bool is_later(int error) { return error == EAGAIN || error == EWOULDBLOCK; }
+
+/* Says at once that bytes have come. Clients send a request in pieces, and their hosts wait with each
+   for the word on the one before, which a host else puts off for 40 ms. */
+static void acknowledge(const struct client *client) {
+    int on = 1;
+    setsockopt(client->socket, IPPROTO_TCP, TCP_QUICKACK, &on, sizeof on);
+}
+
+/* Writes what is left of the answer. GOES_ON: all of it is taken, or the rest is for later. */
+static enum outcome write_answer(struct client *client) {
+    struct traffic *traffic = client->traffic;
+    while (traffic->sent < traffic->answer.size) {
+        ssize_t moved = send(client->socket, traffic->answer.bytes + traffic->sent,
+                             traffic->answer.size - traffic->sent, MSG_NOSIGNAL);
+        if (moved < 0 && errno == EINTR) continue;
+        if (moved < 0) return is_later(errno) ? GOES_ON : ENDS;
+        traffic->sent += (size_t)moved;
+    }
+    return client->next;
+}
+
+/* Does the request at the front, if it is whole, and begins to write its answer. */
+static enum outcome do_request(struct client *client, bool *is_done, struct reason *reason) {
+    struct traffic *traffic = client->traffic;
+    size_t size = request_size(traffic->request, traffic->came, client->is_of_platform);
+    *is_done = size <= traffic->came;
+    if (!*is_done) return GOES_ON;
+    traffic->sent = 0;
+    client->next = request_do(client->board, traffic->request, client->is_of_platform,
+                              &traffic->answer, reason);
+    if (client->next == FAILS) return FAILS;
+    traffic->came -= size;
+    memmove(traffic->request, traffic->request + size, traffic->came);
+    return write_answer(client);
+}
+
+/* Does all whole requests, as far as their answers are taken. */
+static enum outcome do_requests(struct client *client, struct reason *reason) {
+    enum outcome outcome = GOES_ON;
+    for (bool is_done = true; is_done && outcome == GOES_ON && !client_writes(client);)
+        outcome = do_request(client, &is_done, reason);
+    return outcome;
+}
+
+/* Reads once. ENDS: there is nothing more, or a fault. */
+static enum outcome read_some(struct client *client) {
+    struct traffic *traffic = client->traffic;
+    ssize_t moved = recv(client->socket, traffic->request + traffic->came,
+                         REQUEST_MOST - traffic->came, 0);
+    if (moved < 0) return is_later(errno) || errno == EINTR ? GOES_ON : ENDS;
+    traffic->came += (size_t)moved;
+    acknowledge(client);
+    return moved == 0 ? ENDS : GOES_ON;
+}
+
+static bool begin_traffic(struct client *client) {
+    if (!client->traffic) {
+        client->traffic = malloc(sizeof *client->traffic);
+        if (client->traffic) client->traffic->came = client->traffic->sent = client->traffic->answer.size = 0;
+    }
+    return client->traffic != NULL;
+}
+
+/* Frees what an idle client has no use for. Commands and answers may have secrets. */
+static void end_traffic(struct client *client) {
+    if (client->traffic) explicit_bzero(client->traffic, sizeof *client->traffic);
+    free(client->traffic);
+    client->traffic = NULL;
+}
+
+enum outcome client_go_on(struct client *client, struct reason *reason) {
+    if (!begin_traffic(client)) return ENDS;
+    enum outcome outcome = client_writes(client) ? write_answer(client) : read_some(client);
+    if (outcome == GOES_ON && !client_writes(client)) outcome = do_requests(client, reason);
+    if (outcome == GOES_ON && !client_writes(client) && client->traffic->came == 0) end_traffic(client);
+    return outcome;
+}
+
+/* Reads what has come and is not wanted: a socket that is closed before tells its client of a fault,
+   and the last answer may be lost. */
+static void read_rest(const struct client *client) {
+    enum { PARTS = 16 };
+    uint8_t unwanted[4096];
+    for (int i = 0; i < PARTS; i++)
+        if (recv(client->socket, unwanted, sizeof unwanted, 0) <= 0) return;
+}
+
+void client_end(struct client *client) {
+    end_traffic(client);
+    read_rest(client);
+    close(client->socket);
+    free(client);
+}

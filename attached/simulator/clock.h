@@ -1,0 +1,19 @@
+/* The time that a device in memory is told, in milliseconds since 1970: that of the host as the
+   simulator began, and, unless it stands still, what passed since by a clock that never goes back. */
+#ifndef CLOCK_H
+#define CLOCK_H
+#include <stdbool.h>
+#include <stdint.h>
+
+struct clock {
+    uint64_t began_ms;
+    uint64_t began_passed_ms;
+    bool is_still;
+};
+
+/* False if the host's clocks cannot be read. */
+bool clock_begin(struct clock *clock, bool is_still);
+
+uint64_t clock_now(const struct clock *clock);
+
+#endif

@@ -1,0 +1,174 @@
+#define _GNU_SOURCE
+#include "device.h"
+#include "clock.h"
+#include "image.h"
+#include "image_file.h"
+#include "random.h"
+#include "record_file.h"
+#include "told.h"
+#include <limits.h>
+#include <stdio.h>
+#include <stdlib.h>
+#include <string.h>
+#include <sys/stat.h>
+
+struct device {
+    /* The device in a folder; NULL: it is in memory, and what follows is its own. */
+    struct kept *kept;
+    tpmsim handle;
+    struct clock clock;
+    struct random random;
+    struct record_file record;
+    struct image_file image;
+    bool has_image;
+    bool completes;
+    uint8_t entry[TPMSIM_RECORD_ROOM];
+};
+
+static bool refuse_device(const char *said, struct reason *reason) {
+    return refuse(reason, "the device", NULL, said, 0);
+}
+
+/* ---- in memory */
+
+static bool renew_random(struct device *device, struct reason *reason) {
+    return random_renew(&device->random) ||
+           refuse_device("needs random bytes, and the system gives none", reason);
+}
+
+static bool manufacture(struct device *device, struct reason *reason) {
+    if (!renew_random(device, reason)) return false;
+    uint8_t told = tpmsim_manufacture(&device->handle, device->random.bytes);
+    return told == TPMSIM_DONE || refuse_device(told_words(told), reason);
+}
+
+/* Writes the image, where there is a file for it. */
+static bool keep(struct device *device, bool always, struct reason *reason) {
+    return !device->has_image || image_file_keep(&device->image, &device->handle, always, reason);
+}
+
+/* Cycles the power: a journal begins, and its record, if one is asked for. */
+static bool cycle(struct device *device, struct reason *reason) {
+    uint64_t now_ms = clock_now(&device->clock);
+    size_t size = tpmsim_journal_begin(&device->handle, now_ms, device->entry, 0);
+    uint8_t *head = malloc(size);
+    if (!head) return refuse_device(told_words(TPMSIM_NO_MEMORY), reason);
+    tpmsim_journal_begin(&device->handle, now_ms, head, size);
+    bool is_done = record_file_begin(&device->record, head, size, reason) &&
+                   keep(device, false, reason);
+    explicit_bzero(head, size);
+    free(head);
+    return is_done;
+}
+
+static bool open_image(struct device *device, const char *path, struct reason *reason) {
+    bool is_there = false;
+    device->has_image = true;
+    if (!image_file_open(&device->image, path, &is_there, reason)) return false;
+    return is_there ? image_open(&device->handle, path, reason) : manufacture(device, reason);
+}
+
+static bool open_in_memory(struct device *device, const struct options *options, unsigned number,
+                           struct reason *reason) {
+    random_begin(&device->random, options->seed, options->seed_size, number);
+    if (!clock_begin(&device->clock, options->is_timeless))
+        return refuse_device("needs the host's clock, which cannot be read or is before 1970", reason);
+    bool is_open = options->image ? open_image(device, options->image, reason)
+                                  : manufacture(device, reason);
+    return is_open && cycle(device, reason);
+}
+
+static bool execute_in_memory(struct device *device, const uint8_t *buffer, size_t size,
+                              uint8_t locality, struct response *response, struct reason *reason) {
+    tpmsim_answered answered;
+    size_t entry_size;
+    if (!renew_random(device, reason)) return false;
+    uint8_t told = tpmsim_journal_execute(&device->handle, buffer, size, locality,
+                                          clock_now(&device->clock), device->completes,
+                                          device->random.bytes, response->bytes, &answered,
+                                          device->entry, &entry_size);
+    if (told != TPMSIM_DONE) return refuse_device(told_words(told), reason);
+    response->size = answered.size;
+    return record_file_add(&device->record, device->entry, entry_size, reason) &&
+           keep(device, false, reason);
+}
+
+static bool close_in_memory(struct device *device, struct reason *reason) {
+    bool is_open = device->handle.private_ != NULL;
+    bool is_kept = !is_open || keep(device, true, reason);
+    if (device->has_image) image_file_close(&device->image);
+    record_file_end(&device->record);
+    tpmsim_free(&device->handle);
+    return is_kept;
+}
+
+/* ---- in a folder */
+
+static void tell_line(const char *sentence) {
+    fprintf(stderr, "tpmsim-simulator: %s\n", sentence);
+}
+
+/* The folder of a device: the one that was named, or one of several within it. */
+static bool name_folder(const struct options *options, unsigned number, char folder[PATH_MAX],
+                        struct reason *reason) {
+    int size = options->devices == 1 ? snprintf(folder, PATH_MAX, "%s", options->folder)
+                                     : snprintf(folder, PATH_MAX, "%s/%u", options->folder, number);
+    return (size > 0 && size < PATH_MAX) || refuse(reason, options->folder, NULL, "is too long", 0);
+}
+
+static bool open_in_folder(struct device *device, const struct options *options, unsigned number,
+                           struct reason *reason) {
+    char folder[PATH_MAX];
+    if (!name_folder(options, number, folder, reason)) return false;
+    if (options->devices > 1) mkdir(options->folder, 0700);
+    struct kept_options asked = {.folder = folder,
+                                 .random = options->seed,
+                                 .random_size = options->seed_size,
+                                 .force = options->force,
+                                 .completes = options->completes,
+                                 .tell = tell_line};
+    device->kept = kept_open(&asked, reason);
+    return device->kept != NULL;
+}
+
+/* ---- either */
+
+struct device *device_open(const struct options *options, unsigned number, struct reason *reason) {
+    struct device *device = calloc(1, sizeof *device);
+    if (!device) {
+        refuse_device(told_words(TPMSIM_NO_MEMORY), reason);
+        return NULL;
+    }
+    device->completes = options->completes;
+    device->record = record_file_of(options->record);
+    if (options->folder ? open_in_folder(device, options, number, reason)
+                        : open_in_memory(device, options, number, reason))
+        return device;
+    struct reason unused;
+    device_close(device, &unused);
+    return NULL;
+}
+
+bool device_execute(struct device *device, const uint8_t *buffer, size_t size, uint8_t locality,
+                    struct response *response, struct reason *reason) {
+    tpmsim_answered answered;
+    if (!device->kept)
+        return execute_in_memory(device, buffer, size, locality, response, reason);
+    bool is_done = kept_execute(device->kept, buffer, size, locality, response->bytes, &answered,
+                                reason);
+    response->size = is_done ? answered.size : 0;
+    return is_done;
+}
+
+bool device_cycle_power(struct device *device, struct reason *reason) {
+    return device->kept ? kept_power(device->kept, reason) : cycle(device, reason);
+}
+
+bool device_close(struct device *device, struct reason *reason) {
+    if (!device) return true;
+    bool is_closed = device->kept ? true : close_in_memory(device, reason);
+    kept_close(device->kept);
+    explicit_bzero(device, sizeof *device);
+    free(device);
+    return is_closed;
+}

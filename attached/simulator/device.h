@@ -1,0 +1,35 @@
+/* One device of the simulator: in memory, where it may keep its image in a file and record what it
+   executes; or kept in a folder. */
+#ifndef DEVICE_H
+#define DEVICE_H
+#include "options.h"
+#include "reason.h"
+#include <stdbool.h>
+#include <stddef.h>
+#include <stdint.h>
+
+enum { COMMAND_MOST = 4096, RESPONSE_MOST = 4096 };
+
+struct response {
+    size_t size;
+    uint8_t bytes[RESPONSE_MOST];
+};
+
+struct device;
+
+/* Opens the device of this number, 0 and more. NULL with the reason. The options lie there as long as
+   the device does. */
+struct device *device_open(const struct options *options, unsigned number, struct reason *reason);
+
+/* Executes a command from a locality of 0 to 4. What has to be kept of it is kept when this returns.
+   False with the reason: there is no response. */
+bool device_execute(struct device *device, const uint8_t *buffer, size_t size, uint8_t locality,
+                    struct response *response, struct reason *reason);
+
+/* Takes power away from the device and gives it back. False with the reason. */
+bool device_cycle_power(struct device *device, struct reason *reason);
+
+/* Ends the device, which may be NULL; its image has its clock then. False with the reason. */
+bool device_close(struct device *device, struct reason *reason);
+
+#endif

@@ -1,0 +1,123 @@
+#define _GNU_SOURCE
+#include "listeners.h"
+#include <arpa/inet.h>
+#include <errno.h>
+#include <stdio.h>
+#include <stdlib.h>
+#include <string.h>
+#include <sys/socket.h>
+#include <unistd.h>
+
+/* Clients that wait to be accepted, and how often two free ports are looked for. */
+enum { MOST_WAITING = 100, TRIES = 100 };
+
+union address {
+    struct sockaddr any;
+    struct sockaddr_in four;
+    struct sockaddr_in6 six;
+};
+
+static socklen_t address_of(const char *text, uint16_t port, union address *address) {
+    memset(address, 0, sizeof *address);
+    if (inet_pton(AF_INET, text, &address->four.sin_addr) == 1) {
+        address->four.sin_family = AF_INET;
+        address->four.sin_port = htons(port);
+        return sizeof address->four;
+    }
+    inet_pton(AF_INET6, text, &address->six.sin6_addr);
+    address->six.sin6_family = AF_INET6;
+    address->six.sin6_port = htons(port);
+    return sizeof address->six;
+}
+
+/* Both kinds of addresses have the port at one place. */
+static uint16_t port_of(const union address *address) {
+    return ntohs(address->any.sa_family == AF_INET ? address->four.sin_port : address->six.sin6_port);
+}
+
+/* A socket that listens; -1 with errno. `port` becomes the one that it has. */
+static int listen_at(const char *text, uint16_t *port) {
+    union address address;
+    socklen_t size = address_of(text, *port, &address);
+    int on = 1;
+    int made = socket(address.any.sa_family, SOCK_STREAM | SOCK_CLOEXEC | SOCK_NONBLOCK, 0);
+    if (made < 0) return -1;
+    setsockopt(made, SOL_SOCKET, SO_REUSEADDR, &on, sizeof on);
+    if (bind(made, &address.any, size) == 0 && listen(made, MOST_WAITING) == 0 &&
+        getsockname(made, &address.any, &size) == 0) {
+        *port = port_of(&address);
+        return made;
+    }
+    int error = errno;
+    close(made);
+    errno = error;
+    return -1;
+}
+
+/* Two sockets at ports that follow each other. False with errno. */
+static bool listen_at_two(const char *text, uint16_t port, int sockets[2]) {
+    uint16_t first = port;
+    sockets[0] = listen_at(text, &first);
+    if (sockets[0] < 0) return false;
+    uint16_t second = (uint16_t)(first + 1);
+    sockets[1] = first == UINT16_MAX ? -1 : listen_at(text, &second);
+    if (sockets[1] >= 0) return true;
+    int error = errno;
+    close(sockets[0]);
+    sockets[0] = -1;
+    errno = error;
+    return false;
+}
+
+/* The same, where port 0 is two that are free. */
+static bool open_pair(const char *text, uint16_t port, int sockets[2]) {
+    int tries = port == 0 ? TRIES : 1;
+    while (tries-- > 0)
+        if (listen_at_two(text, port, sockets)) return true;
+    return false;
+}
+
+bool listeners_open(struct listeners *listeners, const struct options *options,
+                    struct reason *reason) {
+    listeners->count = 2 * (size_t)options->devices;
+    listeners->sockets = malloc(listeners->count * sizeof *listeners->sockets);
+    if (!listeners->sockets) {
+        listeners->count = 0;
+        return refuse(reason, "the simulator", NULL, "needs memory that is not there", 0);
+    }
+    for (size_t i = 0; i < listeners->count; i++) listeners->sockets[i] = -1;
+    for (size_t i = 0; i < listeners->count; i += 2) {
+        uint16_t port = options->port == 0 ? 0 : (uint16_t)(options->port + i);
+        if (open_pair(options->address, port, listeners->sockets + i)) continue;
+        char said[64];
+        snprintf(said, sizeof said, "is not listened at, port %u or the next", port);
+        return refuse(reason, options->address, NULL, said, errno);
+    }
+    return true;
+}
+
+static bool tell_one(int listener) {
+    union address address;
+    socklen_t size = sizeof address;
+    char text[INET6_ADDRSTRLEN];
+    if (getsockname(listener, &address.any, &size) != 0) return false;
+    const void *number = address.any.sa_family == AF_INET ? (const void *)&address.four.sin_addr
+                                                          : (const void *)&address.six.sin6_addr;
+    return inet_ntop(address.any.sa_family, number, text, sizeof text) &&
+           printf("%s %u\n", text, port_of(&address)) > 0;
+}
+
+bool listeners_tell(const struct listeners *listeners, struct reason *reason) {
+    bool is_told = true;
+    for (size_t i = 0; i < listeners->count; i += 2)
+        is_told = is_told && tell_one(listeners->sockets[i]);
+    return (is_told && fflush(stdout) == 0) ||
+           refuse(reason, "standard output", NULL, "cannot be written", errno);
+}
+
+void listeners_close(struct listeners *listeners) {
+    for (size_t i = 0; i < listeners->count; i++)
+        if (listeners->sockets[i] >= 0) close(listeners->sockets[i]);
+    free(listeners->sockets);
+    *listeners = (struct listeners){0};
+}

@@ -1,0 +1,65 @@
+/* tpmsim-simulator: devices by the protocol of Microsoft's simulator. */
+#define _GNU_SOURCE
+#include "board.h"
+#include "listeners.h"
+#include "options.h"
+#include "server.h"
+#include <stdio.h>
+#include <stdlib.h>
+
+enum { GOOD = 0, WRONG_WORDS = 2, FAULT = 3 };
+
+static bool open_devices(struct board *boards, const struct options *options,
+                         struct reason *reason) {
+    for (unsigned i = 0; i < options->devices; i++) {
+        boards[i].device = device_open(options, i, reason);
+        if (!boards[i].device) return false;
+    }
+    return true;
+}
+
+/* Ends all devices. False with the reason of the first that cannot be kept. */
+static bool close_devices(struct board *boards, unsigned count, struct reason *reason) {
+    bool is_done = true;
+    struct reason other;
+    for (unsigned i = 0; i < count; i++) {
+        is_done = device_close(boards[i].device, is_done ? reason : &other) && is_done;
+        boards[i].device = NULL;
+    }
+    return is_done;
+}
+
+/* Serves until the end, and then ends the devices, before the clients hear of it. */
+static bool serve(struct board *boards, const struct options *options,
+                  const struct listeners *listeners, struct reason *reason) {
+    struct server *server = server_of(listeners, boards, reason);
+    struct reason other;
+    bool is_done = server && listeners_tell(listeners, reason) && server_run(server, reason);
+    is_done = close_devices(boards, options->devices, is_done ? reason : &other) && is_done;
+    server_end(server);
+    return is_done;
+}
+
+static bool run(const struct options *options, struct reason *reason) {
+    struct listeners listeners = {0};
+    struct board *boards = calloc(options->devices, sizeof *boards);
+    if (!boards) return refuse(reason, "the simulator", NULL, "needs memory that is not there", 0);
+    bool is_done = open_devices(boards, options, reason) &&
+                   listeners_open(&listeners, options, reason) && server_take_signals(reason) &&
+                   serve(boards, options, &listeners, reason);
+    struct reason unused;
+    close_devices(boards, options->devices, &unused);
+    listeners_close(&listeners);
+    free(boards);
+    return is_done;
+}
+
+int main(int count, char **words) {
+    static struct options options;
+    struct reason reason;
+    enum options_read read = options_read(&options, count, words);
+    if (read != OPTIONS_GOOD) return read == OPTIONS_SHOWN ? GOOD : WRONG_WORDS;
+    if (run(&options, &reason)) return GOOD;
+    fprintf(stderr, "tpmsim-simulator: %s\n", reason.text);
+    return FAULT;
+}

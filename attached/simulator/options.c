@@ -1,0 +1,151 @@
+#define _GNU_SOURCE
+#include "options.h"
+#include <arpa/inet.h>
+#include <getopt.h>
+#include <stdio.h>
+#include <stdlib.h>
+#include <string.h>
+#include <sys/socket.h>
+
+enum word { PORT = 1, BIND, STATE, IMAGE, RECORD, SEED, FORCE, CLOCK, DEVICES, COMPLETE, HELP, VERSION };
+
+static const struct option WORDS[] = {
+    {"port", required_argument, NULL, PORT},       {"bind", required_argument, NULL, BIND},
+    {"state", required_argument, NULL, STATE},     {"image", required_argument, NULL, IMAGE},
+    {"record", required_argument, NULL, RECORD},   {"seed", required_argument, NULL, SEED},
+    {"force", required_argument, NULL, FORCE},     {"clock", required_argument, NULL, CLOCK},
+    {"devices", required_argument, NULL, DEVICES}, {"complete", no_argument, NULL, COMPLETE},
+    {"help", no_argument, NULL, HELP},             {"version", no_argument, NULL, VERSION},
+    {NULL, 0, NULL, 0}};
+
+static const char HELP_TEXT[] =
+    "tpmsim-simulator serves a TPM by the protocol of Microsoft's simulator, which libtss2's mssim,\n"
+    "IBM's TSS and others speak: commands at a port, and the platform's signals at the next one.\n"
+    "It prints the address and the port of each device as soon as it serves.\n"
+    "\n"
+    "  --port N          the port of commands; 2321. 0: two ports that are free\n"
+    "  --bind ADDRESS    an address, by its numbers; 127.0.0.1\n"
+    "  --state DIR       the device is kept in this folder, as tpmsim run --state has it\n"
+    "  --force WORD      when the folder is forced to the disk: power, always or never; power\n"
+    "  --image FILE      the device keeps its image in this file\n"
+    "  --record DIR      each time of power is recorded as a journal, DIR/boot-N.tpm\n"
+    "  --seed HEX        1 to 256 bytes of which all random ones are made, for runs that repeat\n"
+    "  --clock WORD      the time of a device in memory: host, or commands, where it stands still\n"
+    "  --complete        the completing layer answers what the device lacks\n"
+    "  --devices K       K devices, each with two ports of its own; 1\n"
+    "  --help, --version\n"
+    "\n"
+    "Without --state and --image the device ends with the simulator. SIGTERM, SIGINT and a client's\n"
+    "request to stop end it. The status is 2 for wrong words, and 3 if it cannot listen, or if the\n"
+    "device cannot be had or kept.\n";
+
+/* Says what is wrong with the words. */
+static enum options_read wrong(const char *said) {
+    fprintf(stderr, "tpmsim-simulator: %s\n", said);
+    return OPTIONS_WRONG;
+}
+
+/* Reads a decimal number of digits alone. */
+static bool read_number(const char *text, unsigned long most, unsigned long *number) {
+    char *end;
+    if (*text < '0' || *text > '9' || strlen(text) > 9) return false;
+    *number = strtoul(text, &end, 10);
+    return !*end && *number <= most;
+}
+
+static bool is_address(const char *text) {
+    unsigned char room[sizeof(struct in6_addr)];
+    return inet_pton(AF_INET, text, room) == 1 || inet_pton(AF_INET6, text, room) == 1;
+}
+
+/* The value of a digit of hex in either case; 16 if it is none. */
+static unsigned digit_of(char digit) {
+    static const char DIGITS[] = "0123456789abcdef0123456789ABCDEF";
+    const char *found = digit ? strchr(DIGITS, digit) : NULL;
+    return found ? (unsigned)(found - DIGITS) % 16 : 16;
+}
+
+static bool read_seed(struct options *options, const char *text) {
+    size_t size = strlen(text);
+    if (size == 0 || size % 2 || size / 2 > SEED_BYTES) return false;
+    for (size_t i = 0; i < size / 2; i++) {
+        unsigned high = digit_of(text[2 * i]), low = digit_of(text[2 * i + 1]);
+        if (high > 15 || low > 15) return false;
+        options->seed[i] = (uint8_t)(high << 4 | low);
+    }
+    options->seed_size = size / 2;
+    return true;
+}
+
+static bool read_force(struct options *options, const char *text) {
+    static const char *const names[] = {"power", "never", "always"};
+    static const enum kept_force forces[] = {KEPT_FORCE_POWER, KEPT_FORCE_NEVER, KEPT_FORCE_ALWAYS};
+    for (size_t i = 0; i < sizeof forces / sizeof *forces; i++) {
+        if (strcmp(text, names[i]) != 0) continue;
+        options->force = forces[i];
+        return true;
+    }
+    return false;
+}
+
+static bool read_clock(struct options *options, const char *text) {
+    options->is_timeless = strcmp(text, "commands") == 0;
+    return options->is_timeless || strcmp(text, "host") == 0;
+}
+
+/* Reads the value of a word. */
+static bool read_value(struct options *options, enum word word, const char *text) {
+    unsigned long number = 0;
+    bool is_good = true;
+    switch (word) {
+    case PORT:
+        is_good = read_number(text, UINT16_MAX - 1, &number);
+        options->port = (uint16_t)number;
+        return is_good;
+    case DEVICES:
+        is_good = read_number(text, MOST_DEVICES, &number) && number > 0;
+        options->devices = (unsigned)number;
+        return is_good;
+    case BIND: options->address = text; return is_address(text);
+    case STATE: options->folder = text; return *text != 0;
+    case IMAGE: options->image = text; return *text != 0;
+    case RECORD: options->record = text; return *text != 0;
+    case SEED: return read_seed(options, text);
+    case FORCE: return read_force(options, text);
+    case CLOCK: return read_clock(options, text);
+    default: options->completes = true; return true;
+    }
+}
+
+/* What does not go together, or NULL. */
+static const char *clash_in(const struct options *options, bool has_force) {
+    if (options->folder && (options->image || options->record || options->is_timeless))
+        return "--state goes without --image, --record and --clock commands";
+    if (has_force && !options->folder) return "--force is of use beside --state alone";
+    if (options->devices > 1 && options->image) return "--image has the state of one device";
+    if (options->port + 2 * (options->devices - 1) > UINT16_MAX - 1)
+        return "there are not as many ports after --port";
+    return NULL;
+}
+
+enum options_read options_read(struct options *options, int count, char **words) {
+    bool has_force = false;
+    int word;
+    *options = (struct options){.port = 2321, .address = "127.0.0.1", .devices = 1};
+    while ((word = getopt_long(count, words, "", WORDS, NULL)) != -1) {
+        if (word == HELP) fputs(HELP_TEXT, stdout);
+        if (word == VERSION)
+            printf("tpmsim-simulator %u.%u.%u\n", TPMSIM_VERSION_NUMBER >> 16,
+                   TPMSIM_VERSION_NUMBER >> 8 & 255, TPMSIM_VERSION_NUMBER & 255);
+        if (word == HELP || word == VERSION) return OPTIONS_SHOWN;
+        if (word == '?') return OPTIONS_WRONG;
+        if (!read_value(options, (enum word)word, optarg)) {
+            fprintf(stderr, "tpmsim-simulator: a wrong value: %s\n", optarg);
+            return OPTIONS_WRONG;
+        }
+        has_force = has_force || word == FORCE;
+    }
+    if (optind < count) return wrong("there are words that belong to no option; --help shows all");
+    const char *clash = clash_in(options, has_force);
+    return clash ? wrong(clash) : OPTIONS_GOOD;
+}

@@ -1,0 +1,157 @@
+#include "requests.h"
+#include <string.h>
+
+/* The requests of commands, by their numbers; and those of the platform. */
+enum command_request {
+    HASH_START = 5,
+    HASH_DATA = 6,
+    HASH_END = 7,
+    SEND_COMMAND = 8,
+    HANDSHAKE = 15,
+    SET_ALTERNATIVE_RESULT = 16
+};
+enum platform_request {
+    POWER_ON = 1,
+    POWER_OFF = 2,
+    PRESENCE_ON = 3,
+    PRESENCE_OFF = 4,
+    CANCEL_ON = 9,
+    CANCEL_OFF = 10,
+    NV_ON = 11,
+    NV_OFF = 12,
+    KEY_CACHE_ON = 13,
+    KEY_CACHE_OFF = 14,
+    RESET = 17,
+    RESTART = 18
+};
+/* Those of both ports. */
+enum either_request { SESSION_END = 20, STOP = 21 };
+
+/* The version that a handshake tells; and its features: commands go as they are, and there is a
+   platform. */
+enum { VERSION = 1, FEATURES = 5 };
+
+/* The numbers that end answers. */
+enum { DONE = 0, UNKNOWN = 1 };
+
+enum { NUMBER = 4, LOCALITY_AT = NUMBER, COMMAND_SIZE_AT = NUMBER + 1, COMMAND_AT = COMMAND_SIZE_AT + NUMBER };
+enum { DATA_SIZE_AT = NUMBER, DATA_AT = DATA_SIZE_AT + NUMBER, COMMAND_HEAD = 10 };
+
+static uint32_t number_at(const uint8_t *bytes) {
+    return (uint32_t)bytes[0] << 24 | (uint32_t)bytes[1] << 16 | (uint32_t)bytes[2] << 8 | bytes[3];
+}
+
+static void add_number(struct answer *answer, uint32_t number) {
+    for (int shift = 24; shift >= 0; shift -= 8) answer->bytes[answer->size++] = (uint8_t)(number >> shift);
+}
+
+static enum outcome done(struct answer *answer) {
+    add_number(answer, DONE);
+    return GOES_ON;
+}
+
+/* The end of a request whose size is told at a place. What is too long is not read: of a command its
+   head, of data nothing. */
+static size_t sized_end(const uint8_t *bytes, size_t size, size_t size_at, size_t most_head) {
+    size_t start = size_at + NUMBER;
+    if (size < start) return start;
+    uint32_t told = number_at(bytes + size_at);
+    return start + (told > COMMAND_MOST ? most_head : told);
+}
+
+size_t request_size(const uint8_t *bytes, size_t size, bool is_of_platform) {
+    if (size < NUMBER || is_of_platform) return NUMBER;
+    switch (number_at(bytes)) {
+    case SEND_COMMAND: return sized_end(bytes, size, COMMAND_SIZE_AT, COMMAND_HEAD);
+    case HASH_DATA: return sized_end(bytes, size, DATA_SIZE_AT, 0);
+    case HANDSHAKE:
+    case SET_ALTERNATIVE_RESULT: return 2 * NUMBER;
+    default: return NUMBER;
+    }
+}
+
+/* Executes a command. One that is too long is told its size, and ends the connection. */
+static enum outcome send_command(struct board *board, const uint8_t *bytes, struct answer *answer,
+                                 struct reason *reason) {
+    struct response response;
+    uint32_t size = number_at(bytes + COMMAND_SIZE_AT);
+    bool is_too_long = size > COMMAND_MOST;
+    if (!board_execute(board, bytes + COMMAND_AT, is_too_long ? COMMAND_HEAD : size,
+                       bytes[LOCALITY_AT], &response, reason))
+        return FAILS;
+    add_number(answer, (uint32_t)response.size);
+    memcpy(answer->bytes + answer->size, response.bytes, response.size);
+    answer->size += response.size;
+    done(answer);
+    return is_too_long ? ENDS : GOES_ON;
+}
+
+/* A client of version 0 is none. */
+static enum outcome handshake(const uint8_t *bytes, struct answer *answer) {
+    add_number(answer, VERSION);
+    add_number(answer, FEATURES);
+    done(answer);
+    return number_at(bytes + NUMBER) == 0 ? ENDS : GOES_ON;
+}
+
+static enum outcome hash_data(struct board *board, const uint8_t *bytes, struct answer *answer) {
+    uint32_t size = number_at(bytes + DATA_SIZE_AT);
+    if (size <= COMMAND_MOST) board_add_to_launch(board, bytes + DATA_AT, size);
+    done(answer);
+    return size <= COMMAND_MOST ? GOES_ON : ENDS;
+}
+
+static enum outcome unknown(struct answer *answer) {
+    add_number(answer, UNKNOWN);
+    return ENDS;
+}
+
+static enum outcome done_if(bool is_done, struct answer *answer) {
+    return is_done ? done(answer) : FAILS;
+}
+
+static enum outcome do_command(struct board *board, uint32_t request, const uint8_t *bytes,
+                               struct answer *answer, struct reason *reason) {
+    switch (request) {
+    case SEND_COMMAND: return send_command(board, bytes, answer, reason);
+    case HANDSHAKE: return handshake(bytes, answer);
+    case SET_ALTERNATIVE_RESULT: return done(answer);
+    case HASH_START: return done_if(board_begin_launch(board, reason), answer);
+    case HASH_DATA: return hash_data(board, bytes, answer);
+    case HASH_END: return done_if(board_end_launch(board, reason), answer);
+    default: return unknown(answer);
+    }
+}
+
+/* Physical presence, cancelling, NV and the cache of keys are what the device need not be told. */
+static enum outcome do_platform(struct board *board, uint32_t request, struct answer *answer,
+                                struct reason *reason) {
+    switch (request) {
+    case POWER_ON: return done_if(board_power_on(board, reason), answer);
+    case POWER_OFF: board_power_off(board); return done(answer);
+    case RESET:
+    case RESTART: return done_if(board_reset(board, reason), answer);
+    case PRESENCE_ON:
+    case PRESENCE_OFF:
+    case CANCEL_ON:
+    case CANCEL_OFF:
+    case NV_ON:
+    case NV_OFF:
+    case KEY_CACHE_ON:
+    case KEY_CACHE_OFF: return done(answer);
+    default: return unknown(answer);
+    }
+}
+
+enum outcome request_do(struct board *board, const uint8_t *bytes, bool is_of_platform,
+                        struct answer *answer, struct reason *reason) {
+    uint32_t request = number_at(bytes);
+    answer->size = 0;
+    if (request == SESSION_END) return ENDS;
+    if (request == STOP) {
+        done(answer);
+        return STOPS;
+    }
+    return is_of_platform ? do_platform(board, request, answer, reason)
+                          : do_command(board, request, bytes, answer, reason);
+}

@@ -1,0 +1,211 @@
+#define _GNU_SOURCE
+#include "server.h"
+#include "client.h"
+#include <errno.h>
+#include <signal.h>
+#include <stdlib.h>
+#include <sys/epoll.h>
+#include <sys/resource.h>
+#include <sys/socket.h>
+#include <unistd.h>
+
+/* Descriptors that are left to the devices; for how long no client is accepted after the system refuses
+   one; and how many sockets are served in one turn. */
+enum { FILES_LEFT = 8, MILLISECONDS_TO_NEXT_TRY = 1000, MOST_IN_A_TURN = 64 };
+
+/* What an event is of: a listener, by its number, or a client. */
+struct source {
+    struct client *client;
+    size_t number;
+    /* What is waited for of the client. */
+    uint32_t events;
+};
+
+struct server {
+    const struct listeners *listeners;
+    struct board *boards;
+    int epoll;
+    struct source *of_listeners;
+    /* Those of the clients, each by its number. */
+    struct source **of_clients;
+    size_t count;
+    size_t room;
+    /* No client is accepted for a while. */
+    bool is_full;
+};
+
+static volatile sig_atomic_t is_over;
+static sigset_t signals_before;
+
+static void end_by_signal(int number) {
+    (void)number;
+    is_over = 1;
+}
+
+bool server_take_signals(struct reason *reason) {
+    struct sigaction action = {.sa_handler = end_by_signal};
+    sigset_t taken;
+    sigemptyset(&taken);
+    sigaddset(&taken, SIGTERM);
+    sigaddset(&taken, SIGINT);
+    return (sigprocmask(SIG_BLOCK, &taken, &signals_before) == 0 &&
+            sigaction(SIGTERM, &action, NULL) == 0 && sigaction(SIGINT, &action, NULL) == 0) ||
+           refuse(reason, "the simulator", NULL, "cannot take signals", errno);
+}
+
+static bool watch(const struct server *server, int how, int socket, uint32_t events,
+                  struct source *source) {
+    struct epoll_event event = {.events = events, .data.ptr = source};
+    return epoll_ctl(server->epoll, how, socket, &event) == 0;
+}
+
+/* ---- clients that come and go */
+
+/* Has memory for one client more. */
+static bool has_room(struct server *server) {
+    if (server->count < server->room) return true;
+    size_t room = server->room ? 2 * server->room : 16;
+    struct source **sources = realloc(server->of_clients, room * sizeof(struct source *));
+    if (!sources) return false;
+    server->of_clients = sources;
+    server->room = room;
+    return true;
+}
+
+/* A new descriptor has the lowest number that is free, so it tells how few are left. */
+static bool is_one_too_many(int socket) {
+    struct rlimit most;
+    return getrlimit(RLIMIT_NOFILE, &most) == 0 && most.rlim_cur != RLIM_INFINITY &&
+           (rlim_t)socket + FILES_LEFT >= most.rlim_cur;
+}
+
+/* Makes a client of a socket, and waits for what it sends. */
+static bool add_client(struct server *server, int socket, size_t listener) {
+    struct source *source = has_room(server) ? malloc(sizeof *source) : NULL;
+    if (!source) return false;
+    *source = (struct source){.number = server->count, .events = EPOLLIN};
+    if (watch(server, EPOLL_CTL_ADD, socket, EPOLLIN, source))
+        source->client = client_of(socket, &server->boards[listener / 2], listener % 2 == 1);
+    if (!source->client) {
+        free(source);
+        return false;
+    }
+    server->of_clients[server->count++] = source;
+    return true;
+}
+
+/* The last client takes the number of the one that goes. */
+static void remove_client(struct server *server, struct source *source) {
+    struct source *last = server->of_clients[--server->count];
+    server->of_clients[source->number] = last;
+    last->number = source->number;
+    client_end(source->client);
+    free(source);
+}
+
+/* Waits for what the client has to do next. */
+static bool wait_for(const struct server *server, struct source *source) {
+    uint32_t events = client_writes(source->client) ? EPOLLOUT : EPOLLIN;
+    if (events == source->events) return true;
+    source->events = events;
+    return watch(server, EPOLL_CTL_MOD, client_socket(source->client), events, source);
+}
+
+/* One that stops the simulator stays until its end. */
+static enum outcome serve_client(struct server *server, struct source *source,
+                                 struct reason *reason) {
+    enum outcome outcome = client_go_on(source->client, reason);
+    if (outcome == GOES_ON && !wait_for(server, source)) outcome = ENDS;
+    if (outcome == ENDS || outcome == FAILS) remove_client(server, source);
+    return outcome;
+}
+
+/* ---- listeners */
+
+/* Whether the fault of an accept is of that client alone, and others can come. */
+static bool is_of_client(int error) {
+    return error == EINTR || error == ECONNABORTED || error == EAGAIN || error == EWOULDBLOCK;
+}
+
+static void accept_client(struct server *server, size_t listener) {
+    int socket =
+        accept4(server->listeners->sockets[listener], NULL, NULL, SOCK_NONBLOCK | SOCK_CLOEXEC);
+    if (socket >= 0) {
+        if (is_one_too_many(socket) || !add_client(server, socket, listener)) close(socket);
+    } else if (!is_of_client(errno)) {
+        server->is_full = true;
+    }
+}
+
+/* Waits for clients at all ports, or for none. */
+static bool wait_for_clients(struct server *server, int how, uint32_t events) {
+    for (size_t i = 0; i < server->listeners->count; i++) {
+        server->of_listeners[i] = (struct source){.number = i};
+        if (!watch(server, how, server->listeners->sockets[i], events, &server->of_listeners[i]))
+            return false;
+    }
+    return true;
+}
+
+/* ---- turns */
+
+static enum outcome serve_source(struct server *server, struct source *source,
+                                 struct reason *reason) {
+    if (source->client) return serve_client(server, source, reason);
+    accept_client(server, source->number);
+    return GOES_ON;
+}
+
+static enum outcome fail(const char *said, struct reason *reason) {
+    refuse(reason, "the simulator", NULL, said, errno);
+    return FAILS;
+}
+
+/* One turn: waits, and serves whom it finds. */
+static enum outcome turn(struct server *server, struct reason *reason) {
+    struct epoll_event events[MOST_IN_A_TURN];
+    bool was_full = server->is_full;
+    if (was_full && !wait_for_clients(server, EPOLL_CTL_MOD, 0)) return fail("cannot pause", reason);
+    int found = epoll_pwait(server->epoll, events, MOST_IN_A_TURN,
+                            was_full ? MILLISECONDS_TO_NEXT_TRY : -1, &signals_before);
+    if (found < 0 && errno != EINTR) return fail("cannot wait for clients", reason);
+    enum outcome outcome = GOES_ON;
+    for (int i = 0; i < found && outcome < STOPS; i++)
+        outcome = serve_source(server, events[i].data.ptr, reason);
+    if (was_full) {
+        server->is_full = false;
+        if (!wait_for_clients(server, EPOLL_CTL_MOD, EPOLLIN)) return fail("cannot go on", reason);
+    }
+    return outcome;
+}
+
+struct server *server_of(const struct listeners *listeners, struct board *boards,
+                         struct reason *reason) {
+    struct server *server = calloc(1, sizeof *server);
+    if (server) {
+        *server = (struct server){.listeners = listeners, .boards = boards};
+        server->epoll = epoll_create1(EPOLL_CLOEXEC);
+        server->of_listeners = calloc(listeners->count, sizeof *server->of_listeners);
+        if (server->epoll >= 0 && server->of_listeners &&
+            wait_for_clients(server, EPOLL_CTL_ADD, EPOLLIN))
+            return server;
+    }
+    refuse(reason, "the simulator", NULL, "cannot wait for clients", errno);
+    server_end(server);
+    return NULL;
+}
+
+bool server_run(struct server *server, struct reason *reason) {
+    enum outcome outcome = GOES_ON;
+    while (!is_over && outcome < STOPS) outcome = turn(server, reason);
+    return outcome != FAILS;
+}
+
+void server_end(struct server *server) {
+    if (!server) return;
+    while (server->count > 0) remove_client(server, server->of_clients[server->count - 1]);
+    if (server->epoll >= 0) close(server->epoll);
+    free(server->of_clients);
+    free(server->of_listeners);
+    free(server);
+}

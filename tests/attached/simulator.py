@@ -1,0 +1,202 @@
+"""What tpmsim-simulator keeps, records and repeats, its devices, and clients that are no good:
+
+    tools/python.sh tests/attached/simulator.py SIMULATOR
+"""
+
+import contextlib
+import pathlib
+import random
+import signal
+import socket
+import subprocess
+import sys
+import tempfile
+
+from tpmsim.caller import area, Caller
+from tpmsim.device import KeptDevice, SimulatorDevice
+from tpmsim.device.base import DeviceEnded
+from tpmsim.standard import number
+
+PROGRAM, SECONDS, INDEX = sys.argv[1], 30, 0x0100_0001
+AUDIT = pathlib.Path(__file__).parents[2] / "tools" / "audit.py"
+SEND_COMMAND, STOP, HASH_START, HASH_DATA, HASH_END = 8, 21, 5, 6, 7
+POWER_ON, POWER_OFF, RESET = 1, 2, 17
+GET_RANDOM = bytes.fromhex("80010000000c0000017b0010")
+# PCR 17 after a launch of abc, by sha1sum and sha256sum: of zeros and of the digest of abc.
+LAUNCHED = [
+    "ccd5bd41458de644ac34a2478b58ff819bef5acf",
+    "589f9ffed4c477966bfb8d41f37895b08c69047df8f911d6f3b57fbe08faee8d",
+]
+
+
+class Served:
+    """A simulator that serves, and the addresses of its devices."""
+
+    def __init__(self, *words: object, devices: int = 1) -> None:
+        given = [PROGRAM, "--port", "0", *map(str, words)]
+        self.process = subprocess.Popen(given, stdout=subprocess.PIPE, text=True)
+        assert self.process.stdout is not None
+        lines = [self.process.stdout.readline().split() for _ in range(devices)]
+        self.addresses = [(host, int(port)) for host, port in lines]
+
+    def client(self, device: int = 0) -> Caller:
+        """A client of a device, after TPM2_Startup."""
+        caller = Caller(SimulatorDevice(*self.addresses[device], SECONDS))
+        caller.start_up()
+        return caller
+
+    def stream(self, port: int = 0) -> socket.socket:
+        host, first = self.addresses[0]
+        return socket.create_connection((host, first + port), SECONDS)
+
+    def asks(self, port: int, *requests: bytes) -> bytes:
+        """What requests of a new connection are answered, until a last one ends it."""
+        with self.stream(port) as stream:
+            stream.sendall(b"".join(requests) + number(20, 4))
+            return b"".join(iter(lambda: stream.recv(4096), b""))
+
+    def end(self, number_of_signal: int = signal.SIGTERM) -> int:
+        self.process.send_signal(number_of_signal)
+        return self.process.wait(SECONDS)
+
+    def __enter__(self) -> "Served":
+        return self
+
+    def __exit__(self, *fault: object) -> None:
+        self.process.kill()
+        self.process.wait(SECONDS)
+
+
+def drawn(tpm: Caller) -> str:
+    return tpm.call("GetRandom", bytesRequested=8)["randomBytes"].hex()
+
+
+def has_index(tpm: Caller) -> bool:
+    handles = tpm.call("GetCapability", capability=1, property=INDEX, propertyCount=1)
+    return number(INDEX, 4) in handles["capabilityData"].data
+
+
+def keeps(*words: object) -> None:
+    """An index that is defined in one run is there in the next, after SIGTERM, SIGKILL and STOP."""
+    with Served(*words) as served:
+        served.client().define(area(index=INDEX))
+        print("ends with", served.end())
+    for last in (signal.SIGKILL, signal.SIGINT):
+        with Served(*words) as served:
+            print("is there:", has_index(served.client()), "ends with", served.end(last))
+    with Served(*words) as served:
+        print("stops:", served.asks(1, number(STOP, 4)).hex(), served.process.wait(SECONDS))
+
+
+def refused(*words: str) -> str:
+    """The status and the line of a simulator that does not serve."""
+    done = subprocess.run([PROGRAM, "--port", "0", *words], capture_output=True, text=True)
+    return f"{done.returncode} {done.stderr.strip()}"
+
+
+def kept_in_an_image() -> None:
+    print("an image:")
+    keeps("--image", "image")
+    with Served("--image", "image"):
+        print("a second one:", refused("--image", "image"))
+    pathlib.Path("image").write_bytes(b"no image")
+    print("no image:", refused("--image", "image"))
+    print("stays as it is:", pathlib.Path("image").read_bytes() == b"no image")
+
+
+def kept_in_a_folder() -> None:
+    """Which another process uses at the same time."""
+    print("a folder:")
+    keeps("--state", "folder", "--force", "always")
+    with Served("--state", "folder") as served, KeptDevice("folder") as device:
+        tpm, other = served.client(), Caller(device)
+        tpm.call("PCR_Extend", 10, digests=[(0x000B, bytes(32))])
+        one, two = (it.send(it.read_pcr(10))["pcrValues"] for it in (tpm, other))
+        print("both are one device:", one == two and one != [bytes(20), bytes(32)])
+
+
+def recorded() -> None:
+    """Each time of power is a journal, which agrees with itself."""
+    pathlib.Path("records").mkdir()
+    with Served("--record", "records", "--seed", "0b") as served:
+        served.client().define(area(index=INDEX))
+        served.asks(1, number(RESET, 4))
+        served.client()
+        served.end()
+    for path in sorted(pathlib.Path("records").iterdir()):
+        judged = subprocess.run([sys.executable, AUDIT, path], stdout=subprocess.DEVNULL)
+        mode = oct(path.stat().st_mode & 0o777)
+        print(path.name, mode, "agrees with itself:", judged.returncode == 0)
+
+
+def repeated() -> None:
+    """Of a seed runs repeat, and nonces do not; without one both are new."""
+    for words in (["--seed", "00ff", "--clock", "commands"], []):
+        draws = []
+        for _ in range(2):
+            with Served(*words) as served:
+                tpm = served.client()
+                draws.append((drawn(tpm), drawn(tpm), tpm.call("ReadClock")["currentTime"].time))
+        print(words, "repeats:", draws[0][:2] == draws[1][:2], "draws twice:", draws[0][0] == draws[0][1])
+        if words:
+            print("its time stands still:", draws[0][2] == draws[1][2] == 0)
+
+
+def several() -> None:
+    """Each device has two ports, a state and random bytes of its own."""
+    with Served("--devices", 3, "--state", "several", "--seed", "01", devices=3) as served:
+        tpms = [served.client(device) for device in range(3)]
+        tpms[1].define(area(index=INDEX))
+        print("devices:", len(set(served.addresses)), [has_index(it) for it in tpms])
+    with Served("--devices", 2, "--seed", "01", devices=2) as served:
+        print("draw otherwise:", drawn(served.client(0)) != drawn(served.client(1)))
+
+
+def launched() -> None:
+    with Served() as served:
+        tpm = served.client()
+        data = number(HASH_DATA, 4) + number(3, 4) + b"abc"
+        served.asks(0, number(HASH_START, 4), data, number(HASH_END, 4))
+        values = tpm.send(tpm.read_pcr(17))["pcrValues"]
+        print("a launch:", [it.hex() for it in values] == LAUNCHED)
+        served.asks(1, number(POWER_OFF, 4))
+        off = served.asks(0, number(SEND_COMMAND, 4) + b"\0" + number(12, 4) + GET_RANDOM)
+        print("without power:", off.hex())
+
+
+def hostile() -> None:
+    """Clients that send anything, in pieces or half, change nothing for one that does not."""
+    draw = random.Random(7)
+    with Served() as served, contextlib.ExitStack() as held:
+        tpm = served.client()
+        for _ in range(300):
+            stream = held.enter_context(served.stream(draw.randrange(2)))
+            text = draw.choice((draw.randbytes(draw.randrange(64)), number(8, 4) + bytes(9000)))
+            stop = number(STOP, 4)
+            with contextlib.suppress(OSError):
+                stream.sendall(text.replace(stop, bytes(4))[: draw.randrange(len(text) + 1)])
+            if draw.randrange(2):
+                stream.close()
+        print("still answers:", len(drawn(tpm)))
+        # One that was turned off by chance is turned on.
+        print("serves on:", served.asks(1, number(POWER_ON, 4)).hex(), served.process.poll())
+
+
+def main() -> None:
+    with tempfile.TemporaryDirectory() as folder, contextlib.chdir(folder):
+        for act in (
+            kept_in_an_image,
+            kept_in_a_folder,
+            recorded,
+            repeated,
+            several,
+            launched,
+            hostile,
+        ):
+            try:
+                act()
+            except (DeviceEnded, OSError) as fault:
+                print(f"{act.__name__}: {type(fault).__name__}: {fault}")
+
+
+main()

@@ -1,0 +1,8 @@
+# tpmsim-simulator, as `simulator`, over the archive that the test is given. A test reads this file behind
+# cases.sh and library.sh.
+# shellcheck shell=sh disable=SC2034,SC2154 # library.sh has `archive`
+needs cc nm strip
+nm --defined-only "$archive" 2>/dev/null | grep -q ' tpmsim_journal_open$' ||
+    skip 'the archive has no calls for journals'
+TPMSIM_ARCHIVE=$archive "$tests/../tools/interop/attached_simulator.sh" "$room/simulator" || exit 1
+simulator=$room/simulator/tpmsim-simulator
