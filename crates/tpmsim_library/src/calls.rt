@@ -16,6 +16,7 @@ ghost use Rattle.tpm_image_text.specs.declared.fault.ImageFault.{ImageFault as F
 ghost use Rattle.tpm_image_text.specs.declared.version.Version.{Version};
 ghost use Rattle.tpm_image_text.specs.declared.version.Version.TheVariants.{Two};
 ghost use Rattle.tpm_machine.specs.Drawn.{drawn_by};
+ghost use Rattle.tpm_journal.specs.State.{journal_of};
 ghost use Rattle.tpm_record.specs.IsRecord.{IsRecord};
 ghost use Rattle.tpm_record.specs.Record.{Record, manufactured};
 ghost use Rattle.tpm_step.specs.Events.{Cycled, Given};
@@ -45,7 +46,8 @@ pub extern "C" fn tpmsim_version() -> u32
 #[unsafe(no_mangle)]
 pub extern "C" fn tpmsim_manufacture(alloc: Global, holder: &mut Holder, random: &[u8; 256]) -> u8
     ensures made { result ≡ done → (device : Device) × (holder.new.device ≡ Some device)
-        × (record_of device ≡ manufactured random.now) × Follows (record_of device) [] }
+        × (record_of device ≡ manufactured random.now) × Follows (record_of device) []
+        × (device.journal ≡ journal_of 0 0) }
     ensures refused { result ≢ done
         → (result ≡ no_memory) × (holder.new.device ≡ holder.old.device) }
 {
@@ -76,7 +78,8 @@ pub extern "C" fn tpmsim_execute(
         × After Follows (record_of before) (Given buffer.now locality elapsed_ms random.now)
         (command_seen response.new answered.new after)
         × (answered.new.drawn ≡ drawn_by (record_of before)
-        (Given buffer.now locality elapsed_ms random.now) answered.new.check) }
+        (Given buffer.now locality elapsed_ms random.now) answered.new.check)
+        × (after.journal ≡ before.journal) }
     ensures rest { result ≡ done
         → drop answered.new.size response.new ≡ drop answered.new.size response.old }
     ensures refused { result ≢ done → (holder.new.device ≡ holder.old.device)
@@ -103,7 +106,8 @@ pub extern "C" fn tpmsim_power_cycle(alloc: Global, holder: &mut Holder) -> u8
     ensures executes { MatchOption holder.old.device (holder.new.device ≡ None) (λ before.
         (after : Device) × (holder.new.device ≡ Some after)
         × Executes false (record_of before) Cycled (cycle_seen after)
-        × After Follows (record_of before) Cycled (cycle_seen after)) }
+        × After Follows (record_of before) Cycled (cycle_seen after)
+        × (after.journal ≡ before.journal)) }
     ensures told { MatchOption holder.old.device (result ≡ no_device) (λ before. result ≡ done) }
 {
     let Some(mut device) = holder.take(alloc) else {
@@ -157,6 +161,8 @@ pub extern "C" fn tpmsim_open(alloc: Global, holder: &mut Holder, image: &[u8]) 
         → IsRecord r → Follows r history → IsImage version (kept_of r) image.now
         → (device : Device) × (holder.new.device ≡ Some device)
         × Follows (record_of device) (PowerCycled ∷ history) }
+    ensures journal { result ≡ done → (device : Device) × (holder.new.device ≡ Some device)
+        × (device.journal ≡ journal_of 0 0) }
 {
     match Device::open(alloc, image) {
         Ok(device) => {

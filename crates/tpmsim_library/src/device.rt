@@ -18,6 +18,7 @@ ghost use Rattle.tpm_step.specs.Events.{Cycled, plain_event};
 ghost use Rattle.tpm_step.specs.Execution.{Executes};
 ghost use Rattle.tpm_completion.specs.Execution.{CompletesIf};
 ghost use Rattle.tpm_journal.specs.Replay.{Replays};
+ghost use Rattle.tpm_journal.specs.State.{journal_of};
 ghost use Rattle.tpm_journal_text.specs.Head.{head_text};
 ghost use Rattle.tpm_journal_text.specs.declared.head.HeadKind.TheVariants.{Image};
 ghost use Rattle.tpm_types.specs.Locality.{locality_number};
@@ -68,10 +69,12 @@ pub struct Answered {
 }
 
 impl Device {
-    /// A new device, whose secrets are these random bytes; None where memory is refused.
+    /// A new device, whose secrets are these random bytes, and no journal; None if memory is
+    /// refused.
     pub fn manufacture(alloc: Global, random: &[u8; 256]) -> Option<Box<Device>>
         ensures state { IfSome result (λ b. record_of b.value ≡ manufactured random.now) }
         ensures history { IfSome result (λ b. Follows (record_of b.value) []) }
+        ensures journal { IfSome result (λ b. b.value.journal ≡ journal_of 0 0) }
     {
         let Ok(machine) = Machine::manufacture(alloc, random) else {
             return None;
@@ -95,6 +98,7 @@ impl Device {
         ensures history { (version : Version) (r : Record) (history : History) → IsRecord r
             → Follows r history → IsImage version (kept_of r) image.now
             → IfOk result (λ b. Follows (record_of b.value) (PowerCycled ∷ history)) }
+        ensures journal { IfOk result (λ b. b.value.journal ≡ journal_of 0 0) }
     {
         let Some(mut device) = Device::manufacture(alloc, &[0; 256]) else {
             return Err(fault_of(alloc, image));
@@ -111,6 +115,7 @@ impl Device {
             (command_seen response.new result self.new) }
         ensures drawn { result.drawn
             ≡ drawn_by (record_of self.old) (plain_event event.now) result.check }
+        ensures journal { self.new.journal ≡ self.old.journal }
         ensures rest { drop result.size response.new ≡ drop result.size response.old }
     {
         self.machine.execute_into(event, &mut self.outcome);
@@ -136,6 +141,7 @@ impl Device {
     pub fn cycle_power(&mut self)
         ensures executes { Executes false (record_of self.old) Cycled (cycle_seen self.new) }
         ensures history { After Follows (record_of self.old) Cycled (cycle_seen self.new) }
+        ensures journal { self.new.journal ≡ self.old.journal }
     {
         self.machine
             .execute_into(&Event::PowerCycle, &mut self.outcome);

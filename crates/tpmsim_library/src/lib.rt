@@ -6,9 +6,9 @@
 //! it. `library/tpmsim.h` declares the exports for C, and says what a caller owes.
 //!
 //! A [`Holder`](holder::Holder) is one pointer, which is null where it has no device, so that
-//! memory of zeros is a holder. Each call takes every holder, and answers a [number](told): where
-//! that is not 0, nothing was done, and the holder is as it was. All that a caller owes is that the
-//! buffers lie where the call is told.
+//! memory of zeros is a holder. Each call takes every holder, and returns a [number](told). If that
+//! is not 0, nothing was done, and the holder is as it was; only `tpmsim_journal_follow` has executed
+//! the records before the fault. All that a caller owes is that the buffers lie where the call is told.
 //!
 //! The contracts say of a command and of a power cycle what tpm_machine says, of an image what
 //! tpm_image says, and of a state text what tpm_snapshot says. No contract can say that memory is
