@@ -66,6 +66,7 @@ OTHERS = (
     ("integrity", "objects.md#integrity", "TPM2_Load refuses", 1),
     ("tries", "lockout.md#failed-tries", "While failedTries", 1),
     ("lockoutAuth", "lockout.md#lockoutauth", "A wrong try at", 2),
+    ("guesses", "lockout.md#guesses-that-are-not-tries", "Only comparisons count", 2),
     ("entry", "sessions.md#an-entry-in-a-command", "Where the key is empty", 2),
     ("nonces", "sessions.md#a-refusal", "Once a buffer", 1),
     ("encryption", "parameter_encryption.md#parameter-encryption", "authValue is that of", 1),

@@ -7,6 +7,7 @@ from tpmsim import records
 from tpmsim.audit.ground import Grounds
 from tpmsim.audit.lines import CounterLines, PcrLines, Repeats, ValueLines
 from tpmsim.audit.log import Disagreement, Log
+from tpmsim.audit.offline import OfflineGuesses
 from tpmsim.audit.policy_lines import Policies
 from tpmsim.audit.session_lines import SessionLines
 from tpmsim.audit.start import Start
@@ -53,7 +54,9 @@ class Auditor:
         self.repeats, self.refusals = Repeats(self.sessions), Refusals()
         self.grounds = Grounds(history, self.sessions, self.pcrs, self.values)
         self.policies = Policies(policy_files, self.entities, self.grounds)
-        self.uses = Uses(*(self.grounds, self.entities, self.guesses, self.repeats, self.policies))
+        self.offline = OfflineGuesses(self.sessions)
+        noting = self.guesses, self.repeats, self.policies, self.offline
+        self.uses = Uses(self.grounds, self.entities, *noting)
 
     def read(self, script: bytes) -> None:
         """Judges all lines of a script; the first Disagreement ends it."""
@@ -192,10 +195,11 @@ def report(auditor: Auditor) -> Iterator[str]:
         words = f"{counted(auditor.cut.size, 'byte')} of a record that is not whole are left out"
         yield f"Script line {auditor.cut.line}: {words}."
     given = [auditor.policies.report()] if auditor.policies.all else []
+    offline = [auditor.offline.report()] if auditor.offline.told else []
     for part in (
         *(auditor.pcrs.report(), auditor.sessions.report(), auditor.uses.report()),
         *(auditor.refusals.report(), *given, auditor.repeats.report()),
-        *(auditor.counters.report(), auditor.guesses.report(auditor.last)),
+        *(auditor.counters.report(), auditor.guesses.report(auditor.last), *offline),
     ):
         yield ""
         yield from part

@@ -51,7 +51,7 @@ class Begun:
     """A session: the line that started it, how its bind entity is protected, the line of its first
     TPM2_PolicyPCR and what was asserted since its policy began, what happened to it, a text a line,
     and which commands were accepted with an hmac of it. One that a state text has was begun in no line;
-    `before` is the digest that its policy had there.
+    `before` is the digest that its policy had there. `bound` is its bind entity in words.
     """
 
     line: int
@@ -62,6 +62,7 @@ class Begun:
     told: list[str] = field(default_factory=list)
     accepted: dict[bytes, tuple[int, bytes]] = field(default_factory=dict)
     before: bytes = b""
+    bound: str = "an entity"
 
     def tell(self, line: int, words: str) -> None:
         self.told.append(f"    {f'line {line}' if line else 'before the log'}: {words}")
@@ -141,7 +142,9 @@ class SessionLines:
                 self.live[use.handle].restart()
 
     def start(self, seen: Seen) -> None:
-        self.begin(seen.accepted.handle, Begun(seen.line, seen.views[1].protection))
+        bind = seen.views[1]
+        begun = Begun(seen.line, bind.protection, bound=handle_words(bind.handle))
+        self.begin(seen.accepted.handle, begun)
 
     def begin(self, handle: int, begun: Begun) -> None:
         session = self.history.sessions.live[handle]

@@ -6,6 +6,7 @@ from typing import Iterator
 from tpmsim.audit.ground import Finding, Grounds, Use
 from tpmsim.audit.lines import Repeats
 from tpmsim.audit.log import Disagreement, section
+from tpmsim.audit.offline import OfflineGuesses
 from tpmsim.audit.policy_lines import Policies
 from tpmsim.audit.session_lines import SessionLines
 from tpmsim.audit.watch import Entities, Seen
@@ -111,9 +112,10 @@ class Uses:
         guesses: Guesses,
         repeats: Repeats,
         policies: Policies,
+        offline: OfflineGuesses,
     ) -> None:
         self.grounds, self.entities, self.guesses = grounds, entities, guesses
-        self.repeats, self.policies = repeats, policies
+        self.repeats, self.policies, self.offline = repeats, policies, offline
         self.allowed = self.refused = self.others = 0
 
     def accept(self, seen: Seen) -> None:
@@ -127,6 +129,7 @@ class Uses:
                 title = self.grounds.title(use)
                 raise Disagreement(f"entry {use.place}, {title}, has no ground: {wrong[0]}")
             self.repeats.note(use)
+            self.offline.note(use)
             if use.handle is None:
                 self.others += 1
             else:

@@ -2,7 +2,7 @@
 
 from typing import Iterator
 
-from tpmsim.explain import ingredients
+from tpmsim.explain import ingredients, unshown
 from tpmsim.explain.reason import Reason, Scene
 from tpmsim.explain.words import bytes_words, handle_words, plural, printable
 from tpmsim.standard import CC, Fields, nv, RS_PW, trimmed
@@ -19,7 +19,10 @@ def note(rule: str, slip: str, words: str) -> Reason:
 
 def before(scene: Scene) -> list[Reason]:
     """Those of a command whose entries were let in, before its effect."""
-    return [*garbage(scene), *zeros(scene), *nonces(scene), *unwritten(scene)]
+    return [
+        *(*garbage(scene), *zeros(scene), *nonces(scene), *unwritten(scene)),
+        *offline_guesses(scene),
+    ]
 
 
 def garbage(scene: Scene) -> Iterator[Reason]:
@@ -82,6 +85,21 @@ def unwritten(scene: Scene) -> Iterator[Reason]:
             "first write makes it another Name, and the digest does not fit then."
         )
         yield note("name of an index", "index without WRITTEN in a policy", words)
+
+
+def offline_guesses(scene: Scene) -> Iterator[Reason]:
+    """Encryption by a value of which the entry needed no knowledge."""
+    for place, entry, _ in scene.command.places:
+        use = ingredients.use_of(scene, place)
+        if use is None or not unshown.encrypts(entry.attributes):
+            continue
+        if use.has_unshown_binding:
+            bound = handle_words(use.begun.bind) if use.begun else "an entity"
+            words = unshown.of_binding(place, entry.attributes, bound)
+            yield note("guesses", "guesses of a bound value need no try", words)
+        if use.has_unshown_value:
+            words = unshown.of_used(place, entry.attributes, handle_words(use.authorized))
+            yield note("guesses", "guesses of a used value need no try", words)
 
 
 def after(scene: Scene) -> Iterator[Reason]:

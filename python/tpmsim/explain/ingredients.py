@@ -107,6 +107,25 @@ class Use:
         names = [it.value for it in self.scene.past.names.get(self.handle, [])]
         return self.begun.bind == self.handle or self.session.bind in names
 
+    @property
+    def is_bound_now(self) -> bool:
+        """Whether its session is bound to what it authorizes, with the value of now."""
+        return self.handle is not None and self.scene.model.is_bound(self.session, self.handle)
+
+    @property
+    def has_unshown_binding(self) -> bool:
+        """Whether a bound value is in the session's key, and the entry has a password in place of an
+        HMAC by that key.
+        """
+        is_told = self.is_policy and self.entry.demand == policy.PASSWORD
+        return is_told and bool(self.session.bind_auth) and not self.is_bound_now
+
+    @property
+    def has_unshown_value(self) -> bool:
+        """Whether what it authorizes has a value, and a policy asks for no knowledge of it."""
+        is_asked = self.takes_value or self.is_bound_now
+        return self.handle is not None and bool(self.auth_value) and not is_asked
+
     def right(self) -> Ingredients:
         model, command, algorithm = self.scene.model, self.command, self.session.algorithm
         value = self.auth_value if self.takes_value else b""
