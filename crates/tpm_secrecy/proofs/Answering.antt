@@ -31,12 +31,12 @@ use Rattle.tpm_types.specs.declared.handle.Handle.{Handle}
 use Rattle.tpm_types.specs.declared.session_type.SessionType.{SessionType}
 use Rattle.tpm_types_command.specs.AuthEntry.{Entry}
 use Rattle.tpm_types_command.specs.Command.{Whole}
+use Rattle.tpm_row_secrecy.proofs.Each.{changed_at_each, chosen, places, without_number_each}
+use Rattle.tpm_row_secrecy.proofs.Entities.{session_at_bare, value_bare}
+use Rattle.tpm_row_secrecy.specs.Secrecy.{CoversKeys, Secrecy, bare_session, has_secret_key, has_secret_value, without_secrets}
 use Rattle.tpm_secrecy.proofs.Authorizing.{neither, not_second, seen_session, session_shown, used_same}
-use Rattle.tpm_secrecy.proofs.Each.{changed_at_each, chosen, places, without_number_each}
-use Rattle.tpm_secrecy.proofs.Entities.{session_at_bare, value_bare}
 use Rattle.tpm_secrecy.proofs.Granted.{session_unused}
 use Rattle.tpm_secrecy.specs.Guesses.{NoneUses, demands_value, is_hmac_session, session_uses, uses_encryption, uses_secret}
-use Rattle.tpm_secrecy.specs.Secrecy.{CoversKeys, Secrecy, bare_session, has_secret_key, has_secret_value, without_secrets}
 use Rattle.tpm_step.specs.declared.direction.Direction.TheVariants as direction
 use Rattle.tpm_types.specs.declared.session_type.SessionType.TheVariants as type
 

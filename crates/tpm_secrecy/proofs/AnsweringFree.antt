@@ -38,13 +38,13 @@ use Rattle.tpm_types.specs.declared.refused.Refused.{Refused}
 use Rattle.tpm_types_command.specs.AuthEntry.{Entry}
 use Rattle.tpm_types_command.specs.Command.{Whole}
 use Rattle.tpm_types_nv.specs.NvAttributes.{has}
+use Rattle.tpm_row_secrecy.proofs.Each.{places}
+use Rattle.tpm_row_secrecy.specs.Secrecy.{Secrecy, has_secret_key, has_secret_value}
 use Rattle.tpm_secrecy.proofs.Authorizing.{neither, not_second}
-use Rattle.tpm_secrecy.proofs.Each.{places}
 use Rattle.tpm_secrecy.proofs.Granted.{comparison_gives, password_gives, weaker}
 use Rattle.tpm_secrecy.proofs.KeptSessions.{RowKeeps, SessionsKeep, rolled_starts, sessions_keep, start_of_session, starts_at}
 use Rattle.tpm_secrecy.proofs.KeptValues.{FirstStays, StaysOpen, first_stays}
 use Rattle.tpm_secrecy.specs.Guesses.{NoneUses, authorizes_secret, demands_value, is_hmac_session, session_uses, uses_by, uses_encryption}
-use Rattle.tpm_secrecy.specs.Secrecy.{Secrecy, has_secret_key, has_secret_value}
 use Rattle.tpm_types.specs.declared.handle.SessionKind.TheVariants as kind
 use Rattle.tpm_commands.specs.declared.command_code.CommandCode.TheVariants as command
 

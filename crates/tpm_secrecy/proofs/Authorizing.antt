@@ -37,10 +37,10 @@ use Rattle.tpm_types.specs.declared.refused.Refused.{Refused}
 use Rattle.tpm_types.specs.declared.session_type.SessionType.{SessionType}
 use Rattle.tpm_types_command.specs.AuthEntry.{Entry}
 use Rattle.tpm_types_command.specs.Command.{Whole}
-use Rattle.tpm_secrecy.proofs.Bare.{unless_open}
-use Rattle.tpm_secrecy.proofs.Entities.{available_bare, key_covered, name_bare, policy_bare, protection_bare, session_at_bare, value_bare, written_bare}
+use Rattle.tpm_row_secrecy.proofs.Bare.{unless_open}
+use Rattle.tpm_row_secrecy.proofs.Entities.{available_bare, key_covered, name_bare, policy_bare, protection_bare, session_at_bare, value_bare, written_bare}
+use Rattle.tpm_row_secrecy.specs.Secrecy.{CoversKeys, Secrecy, bare_binding, bare_session, has_secret_key, has_secret_value, without_secrets}
 use Rattle.tpm_secrecy.specs.Guesses.{BindingHolds, is_demanding, is_hmac_session, session_uses, uses_encryption}
-use Rattle.tpm_secrecy.specs.Secrecy.{CoversKeys, Secrecy, bare_binding, bare_session, has_secret_key, has_secret_value, without_secrets}
 use Rattle.tpm_policy.specs.declared.state.Demand.TheVariants as demand
 use Rattle.tpm_session.specs.declared.session.Protection.TheVariants as protection
 use Rattle.tpm_types.specs.declared.check.Check.TheVariants as check

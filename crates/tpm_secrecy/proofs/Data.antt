@@ -29,10 +29,10 @@ use Rattle.tpm_types.specs.declared.refused.Refused.{Refused}
 use Rattle.tpm_types_command.specs.AuthEntry.{Entry}
 use Rattle.tpm_types_command.specs.Command.{Whole}
 use Rattle.tpm_types_object.specs.declared.public.Public.{Public}
+use Rattle.tpm_row_secrecy.specs.Reads.{reads_secret}
+use Rattle.tpm_row_secrecy.specs.Secrecy.{CoversKeys, DifferInSecrets, Secrecy, entity_has_secret_value, has_secret_key, of_data}
 use Rattle.tpm_secrecy.proofs.Stepping.{authorized_same, general_same, reads_both, requests_same, runs_on, told_nothing}
 use Rattle.tpm_secrecy.specs.Guesses.{BindingHolds, BindingsHold, GuessesFail, NoneUses, authorizes_secret, demand_uses, demands_value, guesses_by, is_hmac_session, session_guesses, session_uses, uses_by, uses_encryption}
-use Rattle.tpm_secrecy.specs.Reads.{reads_secret}
-use Rattle.tpm_secrecy.specs.Secrecy.{CoversKeys, DifferInSecrets, Secrecy, entity_has_secret_value, has_secret_key, of_data}
 use Rattle.tpm_secrecy.specs.Tells.{EventKeepsSecrets, EventTellsNothing, KeepsSecrets, ReadOnBoth, RunTellsNothing, TellsNothing, command_reads, decoded_reads, granted_reads, is_reading}
 use Rattle.tpm_types.specs.declared.handle.SessionKind.TheVariants as kind
 

@@ -21,8 +21,8 @@ use Rattle.tpm_step.specs.PolicyUses.{HasPcrsNow, IsMetBy, PolicyUse, ShowsAuthV
 use Rattle.tpm_types.proofs.Named.{none}
 use Rattle.tpm_types.specs.declared.pcr_selection.BankSelection.{BankSelection}
 use Rattle.tpm_types_object.specs.declared.public.Public.{Public}
-use Rattle.tpm_secrecy.proofs.SealedData.{all_stay}
-use Rattle.tpm_secrecy.specs.SealedData.{DiskKeyStaysSecret, IsDiskKey, OpensDiskKey, ReadsSealed, disk_policy}
+use Rattle.tpm_secrecy.proofs.SealedData.{all_stay, history_followed}
+use Rattle.tpm_secrecy.specs.SealedData.{DiskKeyStaysSecret, FollowedDiskKeyStaysSecret, IsDiskKey, OpensDiskKey, ReadsSealed, disk_policy}
 use Rattle.tpm_types_object.specs.declared.object_attributes.ObjectAttribute.TheVariants as attribute
 
 module _ (public : Public) (selection : List BankSelection) (values name reference : List ℕ) where
@@ -90,8 +90,12 @@ module _ (public : Public) (selection : List BankSelection) (values name referen
       reads_public reads.public (key.one reads.public reads.secret) key.no_sign key.no_user_with_auth key.auth_policy
       history c reads.viewed reads.code reads.policy
 
+pub followed_disk_key_stays_secret : FollowedDiskKeyStaysSecret
+followed_disk_key_stays_secret public objects selection values name reference key can old history follows executions new led none =
+    all_stay objects can (OpensDiskKey public selection values name reference)
+    (λ past c reads. reading_opens public selection values name reference objects key past c reads)
+    old history follows executions new led none
+
 pub disk_key_stays_secret : DiskKeyStaysSecret
 disk_key_stays_secret public objects selection values name reference key can random before old leads executions new led none =
-    all_stay objects can random (OpensDiskKey public selection values name reference)
-    (λ past r led_to event x executes c is reads. reading_opens public selection values name reference objects key (history_after [] past) c reads)
-    before old leads executions new led none
+    followed_disk_key_stays_secret public objects selection values name reference key can old (history_after [] before) (history_followed can random before old leads) executions new led none

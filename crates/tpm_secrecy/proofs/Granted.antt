@@ -25,10 +25,10 @@ use Rattle.tpm_types.specs.declared.refused.Refused.{Refused}
 use Rattle.tpm_types.specs.declared.session_type.SessionType.{SessionType}
 use Rattle.tpm_types_command.specs.AuthEntry.{Entry}
 use Rattle.tpm_types_command.specs.Command.{Whole}
+use Rattle.tpm_row_secrecy.proofs.Each.{each}
+use Rattle.tpm_row_secrecy.specs.Secrecy.{Secrecy}
 use Rattle.tpm_secrecy.proofs.Authorizing.{neither}
-use Rattle.tpm_secrecy.proofs.Each.{each}
 use Rattle.tpm_secrecy.specs.Guesses.{GuessesFail, NoneUses, authorizes_secret, demand_uses, guesses_by, is_guess, session_guesses, session_uses, uses_by, uses_secret}
-use Rattle.tpm_secrecy.specs.Secrecy.{Secrecy}
 use Rattle.tpm_types.specs.declared.handle.SessionKind.TheVariants as kind
 use Rattle.tpm_types.specs.declared.session_type.SessionType.TheVariants as type
 

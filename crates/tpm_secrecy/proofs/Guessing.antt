@@ -26,11 +26,11 @@ use Rattle.tpm_types.specs.declared.handle.SessionKind.{SessionKind}
 use Rattle.tpm_types.specs.declared.refused.Refused.{Refused}
 use Rattle.tpm_types_command.specs.AuthEntry.{Entry}
 use Rattle.tpm_types_command.specs.Command.{Whole}
+use Rattle.tpm_row_secrecy.proofs.Bare.{key_still_secret}
+use Rattle.tpm_row_secrecy.proofs.Entities.{available_bare, protection_bare, secret_value_bare, session_at_bare, value_bare}
+use Rattle.tpm_row_secrecy.specs.Secrecy.{CoversKeys, Secrecy, bare_session, has_secret_key, without_secrets}
 use Rattle.tpm_secrecy.proofs.Authorizing.{all_own_same, comparison_same, demanded_same, then_same, wrong_comparison, wrong_same}
-use Rattle.tpm_secrecy.proofs.Bare.{key_still_secret}
-use Rattle.tpm_secrecy.proofs.Entities.{available_bare, protection_bare, secret_value_bare, session_at_bare, value_bare}
 use Rattle.tpm_secrecy.specs.Guesses.{BindingHolds, BindingsHold, GuessesFail, authorizes_secret, demand_uses, demands_value, guesses_by, is_guess, is_hmac_session, session_guesses, session_uses, uses_encryption}
-use Rattle.tpm_secrecy.specs.Secrecy.{CoversKeys, Secrecy, bare_session, has_secret_key, without_secrets}
 use Rattle.tpm_types.specs.declared.check.Check.TheVariants as check
 use Rattle.tpm_types.specs.declared.handle.SessionKind.TheVariants as kind
 use Rattle.tpm_types.specs.declared.rc.Place.TheVariants as place

@@ -56,8 +56,8 @@ use Rattle.tpm_types.specs.Limits.{data_limit}
 use Rattle.tpm_types.specs.Rc.{plain}
 use Rattle.tpm_types.specs.declared.handle.Handle.{Handle}
 use Rattle.tpm_types.specs.declared.refused.Refused.{Refused}
+use Rattle.tpm_row_secrecy.specs.Secrecy.{Secrecy, entity_has_secret_value, has_secret_value}
 use Rattle.tpm_secrecy.proofs.Authorizing.{neither}
-use Rattle.tpm_secrecy.specs.Secrecy.{Secrecy, entity_has_secret_value, has_secret_value}
 use Rattle.tpm_commands.specs.declared.command_code.CommandCode.TheVariants as command
 use Rattle.tpm_commands.specs.declared.shape.HandleKind.TheVariants as handle_kind
 use Rattle.tpm_commands.specs.Part as part

@@ -1,16 +1,3 @@
-pub mod Each
-pub mod Bare
-pub mod Entities
-pub mod Alike
-pub mod Changes
-pub mod Steps
-pub mod DeviceRows
-pub mod SessionRows
-pub mod PolicyRows
-pub mod ObjectRows
-pub mod IndexRows
-pub mod CapabilityRows
-pub mod Table
 pub mod Authorizing
 pub mod Guessing
 pub mod Granted
@@ -20,6 +7,7 @@ pub mod Data
 pub mod Reading
 pub mod SealedData
 pub mod DiskKey
+pub mod AnyDevice
 pub mod FewGuesses
 pub mod KeptValues
 pub mod KeptSessions

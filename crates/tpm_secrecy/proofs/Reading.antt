@@ -30,9 +30,9 @@ use Rattle.tpm_types.specs.Rc.{at, plain}
 use Rattle.tpm_types.specs.declared.handle.Handle.{Handle}
 use Rattle.tpm_types.specs.declared.refused.Refused.{Refused}
 use Rattle.tpm_types_object.specs.declared.public.Public.{Public}
-use Rattle.tpm_secrecy.specs.Reads.{handle_passes, is_secret_counter, is_secret_index, names_index, names_policy_session, names_secret_object, reads_secret}
+use Rattle.tpm_row_secrecy.specs.Reads.{handle_passes, is_secret_counter, is_secret_index, names_index, names_policy_session, names_secret_object, reads_secret}
+use Rattle.tpm_row_secrecy.specs.Secrecy.{Secrecy, has_secret_data}
 use Rattle.tpm_secrecy.specs.SealedData.{sealed}
-use Rattle.tpm_secrecy.specs.Secrecy.{Secrecy, has_secret_data}
 use Rattle.tpm_commands.specs.declared.command_code.CommandCode.TheVariants as command
 use Rattle.tpm_commands.specs.declared.shape.HandleKind.TheVariants as handle_kind
 use Rattle.tpm_types.specs.declared.action_check.ActionCheck.TheVariants as action
@@ -154,11 +154,15 @@ not_of_index t kind =
       | inr is ↦ ap (λ (n : ℕ). n == 0x01) (eqb-true t 0x81 is)
     ]
 
+pub object_entity : (r : Record) (handle : Handle) (o : Object) → is_of_kind handle_kind.Object handle ≡ true → object_of r handle ≡ Some o → entity_at r handle ≡ AnObject o
+unfolding entity_at
+object_entity r handle o kind found =
+    ap (λ (b : Bool). cond b (option_map_or AnIndex (index_of r handle) Permanent) (option_map_or AnObject (object_of r handle) Permanent)) (not_of_index (handle_type handle) kind)
+    ∙ ap (λ (x : Option Object). option_map_or AnObject x Permanent) found
+
 pub object_viewed : (r : Record) (handle : Handle) (o : Object) → is_of_kind handle_kind.Object handle ≡ true → object_of r handle ≡ Some o → view_of r handle ≡ OfObject o.public
-unfolding view_of entity_at
-object_viewed r handle o kind found =
-    ap (λ (b : Bool). entity_view handle (cond b (option_map_or AnIndex (index_of r handle) Permanent) (option_map_or AnObject (object_of r handle) Permanent))) (not_of_index (handle_type handle) kind)
-    ∙ ap (λ (x : Option Object). entity_view handle (option_map_or AnObject x Permanent)) found
+unfolding view_of
+object_viewed r handle o kind found = ap (entity_view handle) (object_entity r handle o kind found)
 
 -- ---- its handle is an object's, and is authorized
 

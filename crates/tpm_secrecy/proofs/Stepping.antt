@@ -20,6 +20,7 @@ use Rattle.tpm_record.specs.rows.Request.{Request}
 use Rattle.tpm_record.specs.rows.Rows.{Success}
 use Rattle.tpm_step.proofs.Binding.{ok_bind}
 use Rattle.tpm_step.proofs.rows.Acceptance.{accepted_is}
+use Rattle.tpm_step.proofs.rows.Table.{row_tells}
 use Rattle.tpm_step.specs.Answer.{Answered, answer_to, written_of}
 use Rattle.tpm_step.specs.Events.{Cycled, Given, PlainEvent}
 use Rattle.tpm_step.specs.General.{body_of, general, in_command, in_header, present_handle_at}
@@ -33,19 +34,20 @@ use Rattle.tpm_types.specs.declared.refused.Refused.{Refused}
 use Rattle.tpm_types_command.specs.Command.{Whole}
 use Rattle.tpm_types_command.specs.Header.{header_at}
 use Rattle.tpm_types_command.specs.declared.header.Header.{Header}
-use Rattle.tpm_secrecy.proofs.Alike.{Alike, alike_after, alike_end, alike_err, alike_step_is, outcome}
+use Rattle.tpm_row_secrecy.proofs.Alike.{alike_after, alike_end, alike_err, alike_step_is}
+use Rattle.tpm_row_secrecy.proofs.Bare.{cycled_bare, record_again}
+use Rattle.tpm_row_secrecy.proofs.Entities.{present_bare}
+use Rattle.tpm_row_secrecy.proofs.ReadAlike.{reads_same}
+use Rattle.tpm_row_secrecy.proofs.Steps.{change_same}
+use Rattle.tpm_row_secrecy.specs.Alike.{Alike, Same, bare_success, outcome}
+use Rattle.tpm_row_secrecy.specs.Reads.{reads_secret}
+use Rattle.tpm_row_secrecy.specs.Secrecy.{CoversKeys, DifferInSecrets, Secrecy, without_secrets}
 use Rattle.tpm_secrecy.proofs.Answering.{answer_same, request_same}
 use Rattle.tpm_secrecy.proofs.AnsweringFree.{answer_free, answering}
 use Rattle.tpm_secrecy.proofs.Authorizing.{then_same}
-use Rattle.tpm_secrecy.proofs.Bare.{cycled_bare, record_again}
-use Rattle.tpm_secrecy.proofs.Entities.{present_bare}
 use Rattle.tpm_secrecy.proofs.Granted.{granted_free}
 use Rattle.tpm_secrecy.proofs.Guessing.{doubted_authorization, doubted_is}
-use Rattle.tpm_secrecy.proofs.Steps.{Same, bare_success, change_same}
-use Rattle.tpm_secrecy.proofs.Table.{reads_same, row_tells}
 use Rattle.tpm_secrecy.specs.Guesses.{BindingsHold, GuessesFail, NoneUses}
-use Rattle.tpm_secrecy.specs.Reads.{reads_secret}
-use Rattle.tpm_secrecy.specs.Secrecy.{CoversKeys, DifferInSecrets, Secrecy, without_secrets}
 use Rattle.tpm_secrecy.specs.Tells.{Attempts, EventKeepsSecrets, KeepsSecrets, RunOfWrongGuessesTellsNothing, RunsAlike, TellsNothing, WrongGuessesTellNothing, answers_to, granted_reads}
 
 -- the texts of a command are read alike, if each of them is
@@ -111,9 +113,9 @@ module _ (s : Secrecy) (covers : CoversKeys s) where
 
     rows_alike : (c : CommandCode) (q : Request) → reads_secret s r c q ≡ false → Same s (row_of r c q) (row_of t c q)
     rows_alike c q free = record {
-      is = sym (row_tells s r q covers c free).is
+      is = sym (row_tells s covers r c q free).is
           ∙ ap (λ (x : Record). outcome (bare_success s) (row_of x c q)) differ
-          ∙ (row_tells s t q covers c (sym (reads_both c q) ∙ free)).is;
+          ∙ (row_tells s covers t c q (sym (reads_both c q) ∙ free)).is;
     }
 
     abbrev accepted_by : Whole → List (Option Grant) → Request → Result Success Refused → Result Accepted Refused

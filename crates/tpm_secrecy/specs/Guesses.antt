@@ -21,7 +21,7 @@ use Rattle.tpm_types.specs.declared.refused.Refused.{Refused}
 use Rattle.tpm_types.specs.declared.session_type.SessionType.{SessionType}
 use Rattle.tpm_types_command.specs.AuthEntry.{Entry}
 use Rattle.tpm_types_command.specs.Command.{Whole}
-use Rattle.tpm_secrecy.specs.Secrecy.{Secrecy, has_secret_key, has_secret_value}
+use Rattle.tpm_row_secrecy.specs.Secrecy.{Secrecy, has_secret_key, has_secret_value}
 use Rattle.tpm_policy.specs.declared.state.Demand.TheVariants as demand
 use Rattle.tpm_types.specs.declared.handle.SessionKind.TheVariants as kind
 use Rattle.tpm_types.specs.declared.session_type.SessionType.TheVariants as type

@@ -1,5 +1,4 @@
-pub mod Secrecy
-pub mod Reads
 pub mod Guesses
 pub mod Tells
 pub mod SealedData
+pub mod AnyDevice

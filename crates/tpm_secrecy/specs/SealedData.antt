@@ -13,6 +13,7 @@ use Rattle.tpm_step.specs.AssertedBy.{ShowsSecret}
 use Rattle.tpm_step.specs.Events.{PlainEvent}
 use Rattle.tpm_step.specs.Execution.{Executes}
 use Rattle.tpm_step.specs.Executions.{Execution, Leads, history_after, with_execution}
+use Rattle.tpm_step.specs.Follows.{Follows}
 use Rattle.tpm_step.specs.History.{AcceptedCommand, Done, History, recorded}
 use Rattle.tpm_step.specs.PolicyReviews.{HavePcrValues, IsUsedBySession, by_pcrs}
 use Rattle.tpm_step.specs.PolicyUses.{IsMetBy, ShowsAuthValue}
@@ -21,7 +22,7 @@ use Rattle.tpm_step.specs.View.{OfObject}
 use Rattle.tpm_types.specs.declared.pcr_selection.BankSelection.{BankSelection}
 use Rattle.tpm_types_object.specs.ObjectAttributes.{has}
 use Rattle.tpm_types_object.specs.declared.public.Public.{Public}
-use Rattle.tpm_secrecy.specs.Secrecy.{DifferInSecrets, Secrecy, of_data}
+use Rattle.tpm_row_secrecy.specs.Secrecy.{DifferInSecrets, Secrecy, of_data}
 use Rattle.tpm_secrecy.specs.Tells.{TellsNothing}
 use Rattle.tpm_types_object.specs.declared.object_attributes.ObjectAttribute.TheVariants as attribute
 use Rattle.tpm_commands.specs.declared.command_code.CommandCode.TheVariants as command
@@ -56,6 +57,16 @@ abbrev pub TellsNothingSealed : (Public → Bool) → Bool → Record → PlainE
 TellsNothingSealed objects can old event x =
     (other : Record) → DifferInSecrets (sealed objects) old other
     → (y : Stepped) × Steps can other event y × TellsNothing (sealed objects) x y
+
+-- On a device that follows a history each execution tells nothing of what is sealed, or is recorded
+-- as an accepted command that reads it.
+abbrev pub FollowedDataNeedPolicy : Type 0
+FollowedDataNeedPolicy =
+    (objects : Public → Bool) (can : Bool) (old : Record) (history : History)
+    → Follows old history → (event : PlainEvent) (x : Stepped) → Executes can old event x
+    → TellsNothingSealed objects can old event x
+    ⊎ (c : AcceptedCommand) × (recorded old event x.row.check history ≡ Done c ∷ history)
+    × ReadsSealed objects history c
 
 -- Whatever was executed on a device since it was manufactured: each execution tells nothing of what
 -- is sealed, or is recorded as an accepted command that reads it.
@@ -93,6 +104,15 @@ abbrev pub StaySealed : (Public → Bool) → Bool → Record → List Execution
 StaySealed objects can old executions new =
     (other : Record) → DifferInSecrets (sealed objects) old other
     → LeadsAlike objects can other executions new
+
+-- On a device that follows a history: until a command is accepted that reads what is sealed,
+-- executions tell nothing of it.
+abbrev pub FollowedDataStayUntilRead : Type 0
+FollowedDataStayUntilRead =
+    (objects : Public → Bool) (can : Bool) (old : Record) (history : History)
+    → Follows old history → (executions : List Execution) (new : Record)
+    → Leads can old executions new → NoneIs (ReadsSealed objects) history executions
+    → StaySealed objects can old executions new
 
 -- On a device with any history since it was manufactured: until a command is accepted that reads
 -- what is sealed, executions tell nothing of it.
@@ -140,6 +160,19 @@ pub record IsDiskKey (public : Public) (objects : Public → Bool) (selection : 
         ≡ policy_digest public.name_alg
         (disk_policy public.name_alg selection values name reference)
     pub one : (other : Public) → objects other ≡ true → other ≡ public
+
+-- On a device that follows a history: until a command is accepted for which the PCRs have their
+-- values and the PIN is given, or the recovery secret is, or the hash is broken, nothing tells the
+-- disk's key.
+abbrev pub FollowedDiskKeyStaysSecret : Type 0
+FollowedDiskKeyStaysSecret =
+    (public : Public) (objects : Public → Bool) (selection : List BankSelection)
+    (values name reference : List ℕ)
+    → IsDiskKey public objects selection values name reference
+    → (can : Bool) (old : Record) (history : History) → Follows old history
+    → (executions : List Execution) (new : Record) → Leads can old executions new
+    → NoneIs (OpensDiskKey public selection values name reference) history executions
+    → StaySealed objects can old executions new
 
 -- Whatever was executed on a device since it was manufactured: until a command is accepted for
 -- which the PCRs have their values and the PIN is given, or the recovery secret is, or the hash is

@@ -15,9 +15,9 @@ use Rattle.tpm_step.specs.declared.refused_command.RefusedCommand.{RefusedComman
 use Rattle.tpm_types.specs.declared.refused.Refused.{Refused}
 use Rattle.tpm_types_command.specs.Command.{Whole}
 use Rattle.tpm_types_object.specs.declared.public.Public.{Public}
+use Rattle.tpm_row_secrecy.specs.Reads.{reads_secret}
+use Rattle.tpm_row_secrecy.specs.Secrecy.{CoversKeys, DifferInSecrets, Secrecy, of_data}
 use Rattle.tpm_secrecy.specs.Guesses.{BindingsHold, GuessesFail}
-use Rattle.tpm_secrecy.specs.Reads.{reads_secret}
-use Rattle.tpm_secrecy.specs.Secrecy.{CoversKeys, DifferInSecrets, Secrecy, of_data}
 
 -- ---- an event
 

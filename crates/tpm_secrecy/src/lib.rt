@@ -7,7 +7,10 @@
 //! definitions of tpm_step, over any record: each is the contract of a function that does nothing.
 //! They hold of what tpm_machine executes, since each call executes an event as the step defines it.
 
-ghost use Rattle.tpm_secrecy.specs.SealedData.{DiskKeyStaysSecret, SealedDataNeedPolicy};
+ghost use Rattle.tpm_secrecy.specs.AnyDevice.{SealedDataNeedDigest};
+ghost use Rattle.tpm_secrecy.specs.SealedData.{DiskKeyStaysSecret, FollowedDataNeedPolicy};
+ghost use Rattle.tpm_secrecy.specs.SealedData.{FollowedDataStayUntilRead, FollowedDiskKeyStaysSecret};
+ghost use Rattle.tpm_secrecy.specs.SealedData.{SealedDataNeedPolicy};
 ghost use Rattle.tpm_secrecy.specs.SealedData.{SealedDataStayUntilRead};
 ghost use Rattle.tpm_secrecy.specs.Tells.{EventTellsNothing, ReadOnBoth, RunTellsNothing};
 ghost use Rattle.tpm_secrecy.specs.Tells.{RunOfWrongGuessesTellsNothing, WrongTriesAreFew};
@@ -34,6 +37,25 @@ pub fn sealed_data_laws()
     ensures each { SealedDataNeedPolicy }
     ensures until_read { SealedDataStayUntilRead }
     ensures disk_key { DiskKeyStaysSecret }
+{}
+
+/// The same of every device that follows a history: a manufactured one, one that is opened from an
+/// image, a state text or a journal of a device with a history, and one that is served over
+/// connections. The policy is met by that history.
+#[inline(always)]
+pub fn followed_data_laws()
+    ensures each { FollowedDataNeedPolicy }
+    ensures until_read { FollowedDataStayUntilRead }
+    ensures disk_key { FollowedDiskKeyStaysSecret }
+{}
+
+/// On any device, also one that was opened from an image of which nobody knows the history: an
+/// execution tells nothing of what objects seal, or of their keys, or it is an accepted TPM2_Unseal
+/// or TPM2_HMAC of such an object. An object without userWithAuth is then used by a policy session
+/// whose policyDigest is the object's authPolicy.
+#[inline(always)]
+pub fn any_device_laws()
+    ensures { SealedDataNeedDigest }
 {}
 
 /// Where two devices differ in authorization values and other secrets alone, an event tells nothing

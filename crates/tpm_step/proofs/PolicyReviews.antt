@@ -95,7 +95,7 @@ follows_so history c place hash policy P Q so by = record {
 -- ---- objects
 
 module _ (history : History) (c : AcceptedCommand) (meet : UsesMeetPolicies history c) where
-  object_needs : (place : ℕ) (public : Public) (policy : PolicyExpression) → UsesObject c place public policy → IsPolicyExpression public.name_alg policy → IsUsedBySession history c place public.name_alg policy (λ u. IsMet (IsMetBy u) policy)
+  pub object_needs : (place : ℕ) (public : Public) (policy : PolicyExpression) → UsesObject c place public policy → IsPolicyExpression public.name_alg policy → IsUsedBySession history c place public.name_alg policy (λ u. IsMet (IsMetBy u) policy)
   object_needs place public policy uses is =
       by_policy history c place uses.handle public.name_alg policy uses.used
       (ap (λ (found : Option View). option_map_or (allows means.AuthValue (nv_use_at c.command.code place)) found false) uses.viewed ∙ uses.no_user_with_auth)

@@ -99,7 +99,7 @@ one_bit n i is = by (bit_at n i) (bit_at-lt n i) is
 
 -- ---- the policy of an entity
 
-hash_one : (a b : HashAlg) → (hash_number a == hash_number b) ≡ true → a ≡ b
+pub hash_one : (a b : HashAlg) → (hash_number a == hash_number b) ≡ true → a ≡ b
 hash_one alg.Sha1 alg.Sha1 is = refl
 hash_one alg.Sha1 alg.Sha256 is = absurd cc
 hash_one alg.Sha256 alg.Sha1 is = absurd cc

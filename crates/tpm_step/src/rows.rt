@@ -25,6 +25,9 @@ ghost use Rattle.tpm_auth.specs.Grant.{authorize, grants_pass};
 ghost use Rattle.tpm_auth.specs.declared.session_grant.Grant.{Grant};
 ghost use Rattle.tpm_record.specs.rows.Draws.{draw_limit};
 ghost use Rattle.tpm_record.specs.rows.Request.{Request, first_handle, second_handle};
+ghost use Rattle.tpm_row_secrecy.specs.Alike.{Same};
+ghost use Rattle.tpm_row_secrecy.specs.Reads.{reads_secret};
+ghost use Rattle.tpm_row_secrecy.specs.Secrecy.{CoversKeys, Secrecy, without_secrets};
 ghost use Rattle.tpm_step.specs.Answer.{Written, answer_to};
 ghost use Rattle.tpm_step.specs.Events.{PlainEvent, IsEvent};
 ghost use Rattle.tpm_step.specs.Execution.{Executes};
@@ -106,6 +109,17 @@ pub fn used_session_laws()
     ensures { (r : Record) (c : Whole) (locality : ℕ) (random : List ℕ) (a : Accepted)
         → (shape_of c.code).forbids_sessions ≡ false → acceptance r c locality random ≡ Ok a
         → HaveSessions a.success.after c.entries }
+{}
+
+/// A row tells nothing of what is secret, unless its command reads it: on the device and on the
+/// device without its secrets it is refused alike, or answers the same, and leaves the same but for
+/// what is secret.
+#[inline(always)]
+#[tactic(auto, using(crate::proofs::rows::Table::row_tells))]
+pub fn row_secrecy_laws()
+    ensures { (s : Secrecy) → CoversKeys s → (r : Record) (c : CommandCode) (q : Request)
+        → reads_secret s r c q ≡ false
+        → Same s (row_of (without_secrets s r) c q) (row_of r c q) }
 {}
 
 /// A row refuses no handle where the handles fit the rules of its command's shape. A row says what

@@ -15,6 +15,7 @@ use Rattle.tpm_step.proofs.Binding.{err_bind}
 use Rattle.tpm_step.proofs.rows.Order.{ordered_steps}
 use Rattle.tpm_step.proofs.rows.PlainSteps.{plain_steps}
 use Rattle.tpm_step.proofs.rows.Successes.{in_place_steps}
+use Rattle.tpm_row_secrecy.proofs.CapabilityRows as capability_secrets
 
 late_capability : (Fit : Type 0) (number : ℕ) → Late Fit (capability_of number)
 late_capability Fit number = grind arith
@@ -48,4 +49,5 @@ get_capability_laws = record {
   success = λ r q. search in_place_steps depth 12;
   order = λ r q. search (ordered_steps, late_capability, late_told) depth 16;
   plain = λ r q. search (plain_steps, plain_capability, plain_told) depth 16;
+  tells = λ s covers r q free. capability_secrets.get_capability_tells s r q;
 }

@@ -82,6 +82,8 @@ use Rattle.tpm_record.specs.Hierarchy.{cleared_hierarchies}
 use Rattle.tpm_record.specs.rows.Refusals.{action_refusal, or_refusal}
 use Rattle.tpm_record.specs.rows.Rows.{all_read}
 use Rattle.tpm_actions_device.specs.Clear.{clear_row, cleared_fixed}
+use Rattle.tpm_row_secrecy.proofs.DeviceRows as device_secrets
+use Rattle.tpm_row_secrecy.proofs.SessionRows as session_secrets
 
 -- ---- a startup and a shutdown
 
@@ -114,6 +116,7 @@ startup_laws = record {
       (secrets_few start, λ apart. absurd cc)));
   order = λ r q. search (ordered_steps, late_start) depth 16;
   plain = λ r q. search (plain_steps, plain_start) depth 16;
+  tells = λ s covers r q free. device_secrets.startup_tells s r q;
 }
 
 pub shutdown_laws : RowLaws command.Shutdown shutdown_row
@@ -122,6 +125,7 @@ shutdown_laws = record {
   success = λ r q. search in_place_steps depth 12;
   order = λ r q. search ordered_steps depth 16;
   plain = λ r q. search plain_steps depth 16;
+  tells = λ s covers r q free. device_secrets.shutdown_tells s r q;
 }
 
 pub self_test_laws : RowLaws command.SelfTest self_test_row
@@ -130,6 +134,7 @@ self_test_laws = record {
   success = λ r q. search in_place_steps depth 12;
   order = λ r q. search ordered_steps depth 16;
   plain = λ r q. search plain_steps depth 16;
+  tells = λ s covers r q free. device_secrets.self_test_tells s r q;
 }
 
 -- ---- clocks and random bytes
@@ -140,6 +145,7 @@ read_clock_laws = record {
   success = λ r q. search in_place_steps depth 12;
   order = λ r q. search ordered_steps depth 16;
   plain = λ r q. search plain_steps depth 16;
+  tells = λ s covers r q free. device_secrets.read_clock_tells s r q;
 }
 
 random_few : (requested : ℕ) → min requested 32 ≤ 96
@@ -154,6 +160,7 @@ get_random_laws = record {
       (random_few requested, λ apart. drawn_as_read (λ n. min n 32) (bytes_requested q.parameters) requested is));
   order = λ r q. search ordered_steps depth 16;
   plain = λ r q. search plain_steps depth 16;
+  tells = λ s covers r q free. device_secrets.get_random_tells s r q;
 }
 
 -- ---- PCRs
@@ -164,6 +171,7 @@ pcr_read_laws = record {
   success = λ r q. search in_place_steps depth 12;
   order = λ r q. search ordered_steps depth 16;
   plain = λ r q. search plain_steps depth 16;
+  tells = λ s covers r q free. device_secrets.pcr_read_tells s r q;
 }
 
 pub pcr_extend_laws : RowLaws command.PcrExtend pcr_extend_row
@@ -172,6 +180,7 @@ pcr_extend_laws = record {
   success = λ r q. search in_place_steps depth 12;
   order = λ r q. search ordered_steps depth 16;
   plain = λ r q. search plain_steps depth 16;
+  tells = λ s covers r q free. device_secrets.pcr_extend_tells s r q;
 }
 
 pub pcr_event_laws : RowLaws command.PcrEvent pcr_event_row
@@ -180,6 +189,7 @@ pcr_event_laws = record {
   success = λ r q. search in_place_steps depth 12;
   order = λ r q. search ordered_steps depth 16;
   plain = λ r q. search plain_steps depth 16;
+  tells = λ s covers r q free. device_secrets.pcr_event_tells s r q;
 }
 
 pub pcr_reset_laws : RowLaws command.PcrReset pcr_reset_row
@@ -188,6 +198,7 @@ pcr_reset_laws = record {
   success = λ r q. search in_place_steps depth 12;
   order = λ r q. search ordered_steps depth 16;
   plain = λ r q. search plain_steps depth 16;
+  tells = λ s covers r q free. device_secrets.pcr_reset_tells s r q;
 }
 
 -- ---- hierarchies, and what protects against dictionary attacks
@@ -198,6 +209,7 @@ clear_control_laws = record {
   success = λ r q. search in_place_steps depth 12;
   order = λ r q. search ordered_steps depth 16;
   plain = λ r q. search plain_steps depth 16;
+  tells = λ s covers r q free. device_secrets.clear_control_tells s r q;
 }
 
 -- another authorization value changes no seed and no proof
@@ -218,6 +230,7 @@ hierarchy_change_auth_laws = record {
   success = λ r q. search (in_place_steps, auth_keeps) depth 12;
   order = λ r q. search ordered_steps depth 16;
   plain = λ r q. search plain_steps depth 16;
+  tells = λ s covers r q free. device_secrets.hierarchy_change_auth_tells s r q;
 }
 
 pub dictionary_attack_lock_reset_laws : RowLaws command.DictionaryAttackLockReset dictionary_attack_lock_reset_row
@@ -226,6 +239,7 @@ dictionary_attack_lock_reset_laws = record {
   success = λ r q. search in_place_steps depth 12;
   order = λ r q. search ordered_steps depth 16;
   plain = λ r q. search plain_steps depth 16;
+  tells = λ s covers r q free. device_secrets.dictionary_attack_lock_reset_tells s r q;
 }
 
 pub dictionary_attack_parameters_laws : RowLaws command.DictionaryAttackParameters dictionary_attack_parameters_row
@@ -234,6 +248,7 @@ dictionary_attack_parameters_laws = record {
   success = λ r q. search in_place_steps depth 12;
   order = λ r q. search ordered_steps depth 16;
   plain = λ r q. search plain_steps depth 16;
+  tells = λ s covers r q free. device_secrets.dictionary_attack_parameters_tells s r q;
 }
 
 -- ---- a session starts
@@ -282,6 +297,7 @@ start_auth_session_laws = record {
       }))));
   order = λ r q. search ordered_steps depth 16;
   plain = λ r q. search plain_steps depth 16;
+  tells = λ s covers r q free. session_secrets.start_auth_session_tells s covers r q;
 }
 
 -- ---- a session or an object is flushed
@@ -326,6 +342,7 @@ flush_context_laws = record {
   success = λ r q. search (rules, ok_bind, flushed_success) depth 12;
   order = λ r q. search ordered_steps depth 16;
   plain = λ r q. search plain_steps depth 16;
+  tells = λ s covers r q free. session_secrets.flush_context_tells s r q;
 }
 
 -- ---- TPM2_Clear
@@ -370,4 +387,5 @@ clear_laws = record {
       (all_drawn, λ apart. refl))));
   order = λ r q. search (ordered_steps, late_counted) depth 16;
   plain = λ r q. search (plain_steps, plain_update) depth 16;
+  tells = λ s covers r q free. device_secrets.clear_tells s r q;
 }

@@ -71,6 +71,7 @@ use Rattle.tpm_step.proofs.rows.Readings.{all_read_outcome, only_read, outcome, 
 use Rattle.tpm_step.proofs.rows.Readings.{read_one, trimmed_read}
 use Rattle.tpm_step.proofs.rows.Successes.{GrowsNothing, beside_sessions, in_place_steps}
 use Rattle.tpm_step.proofs.rows.Successes.{none_drawn}
+use Rattle.tpm_row_secrecy.proofs.IndexRows as index_secrets
 
 -- ---- how the rows of NV indices refuse
 
@@ -206,6 +207,7 @@ nv_define_space_laws = record {
       }) (refl, refl) (none_drawn, λ apart. refl))))));
   order = λ r q. search (behind_first, behind_reading, define_reads, rules, err_bind, err_if, late_definition) depth 16;
   plain = λ r q. search index_plain depth 16;
+  tells = λ s covers r q free. index_secrets.nv_define_space_tells s r q;
 }
 
 undefined_grows : (r : Record) (h : Handle) → Grows false r (record r { nv = without_index r.nv h })
@@ -222,6 +224,7 @@ nv_undefine_space_laws = record {
       (record { handle = target.handle; named = named; is = refl }) (refl, refl) (none_drawn, λ apart. refl))));
   order = λ r q. search index_orders depth 16;
   plain = λ r q. search index_plain depth 16;
+  tells = λ s covers r q free. index_secrets.nv_undefine_space_tells s r q;
 }
 
 -- ---- an index is changed
@@ -247,6 +250,7 @@ nv_write_laws = record {
   success = λ r q. search changed_steps depth 12;
   order = λ r q. search index_orders depth 16;
   plain = λ r q. search index_plain depth 16;
+  tells = λ s covers r q free. index_secrets.nv_write_tells s r q;
 }
 
 pub nv_set_bits_laws : RowLaws command.NvSetBits nv_set_bits_row
@@ -255,6 +259,7 @@ nv_set_bits_laws = record {
   success = λ r q. search changed_steps depth 12;
   order = λ r q. search index_orders depth 16;
   plain = λ r q. search index_plain depth 16;
+  tells = λ s covers r q free. index_secrets.nv_set_bits_tells s r q;
 }
 
 pub nv_extend_laws : RowLaws command.NvExtend nv_extend_row
@@ -263,6 +268,7 @@ nv_extend_laws = record {
   success = λ r q. search changed_steps depth 12;
   order = λ r q. search index_orders depth 16;
   plain = λ r q. search index_plain depth 16;
+  tells = λ s covers r q free. index_secrets.nv_extend_tells s r q;
 }
 
 pub nv_write_lock_laws : RowLaws command.NvWriteLock nv_write_lock_row
@@ -271,6 +277,7 @@ nv_write_lock_laws = record {
   success = λ r q. search changed_steps depth 12;
   order = λ r q. search index_orders depth 16;
   plain = λ r q. search index_plain depth 16;
+  tells = λ s covers r q free. index_secrets.nv_write_lock_tells s r q;
 }
 
 pub nv_read_lock_laws : RowLaws command.NvReadLock nv_read_lock_row
@@ -279,6 +286,7 @@ nv_read_lock_laws = record {
   success = λ r q. search changed_steps depth 12;
   order = λ r q. search index_orders depth 16;
   plain = λ r q. search index_plain depth 16;
+  tells = λ s covers r q free. index_secrets.nv_read_lock_tells s r q;
 }
 
 pub nv_increment_laws : RowLaws command.NvIncrement nv_increment_row
@@ -292,6 +300,7 @@ nv_increment_laws = record {
       (λ old new grows. grows) (refl, refl) (none_drawn, λ apart. refl) (counts_so q r.nv target.handle named))));
   order = λ r q. search index_orders depth 16;
   plain = λ r q. search index_plain depth 16;
+  tells = λ s covers r q free. index_secrets.nv_increment_tells s r q free;
 }
 
 -- the row of TPM2_NV_ChangeAuth, whose only handle is nvIndex, refuses in order
@@ -315,6 +324,7 @@ nv_change_auth_laws = record {
   success = λ r q. search changed_steps depth 12;
   order = λ r q. change_auth_orders r q;
   plain = λ r q. search index_plain depth 16;
+  tells = λ s covers r q free. index_secrets.nv_change_auth_tells s r q;
 }
 
 -- ---- an index is read
@@ -325,6 +335,7 @@ nv_read_laws = record {
   success = λ r q. search in_place_steps depth 12;
   order = λ r q. search index_orders depth 16;
   plain = λ r q. search index_plain depth 16;
+  tells = λ s covers r q free. index_secrets.nv_read_tells s r q free;
 }
 
 nv_public_orders : (r : Record) (q : Request)
@@ -341,4 +352,5 @@ nv_read_public_laws = record {
   success = λ r q. search in_place_steps depth 12;
   order = λ r q. nv_public_orders r q;
   plain = λ r q. search index_plain depth 16;
+  tells = λ s covers r q free. index_secrets.nv_read_public_tells s r q;
 }

@@ -73,6 +73,7 @@ use Rattle.tpm_step.proofs.rows.PlainSteps.{plain_steps}
 use Rattle.tpm_step.proofs.rows.SizedParts.{digest_few}
 use Rattle.tpm_step.proofs.rows.Successes.{GrowsByOne, beside_sessions, drawn_as_read, in_place}
 use Rattle.tpm_step.proofs.rows.Successes.{in_place_steps, none_drawn}
+use Rattle.tpm_row_secrecy.proofs.ObjectRows as object_secrets
 
 -- ---- how the rows of objects refuse
 
@@ -182,6 +183,7 @@ create_laws = record {
       )))))));
   order = λ r q. search object_orders depth 16;
   plain = λ r q. search object_plain depth 16;
+  tells = λ s covers r q free. object_secrets.create_tells s r q;
 }
 
 -- ---- an object takes a place
@@ -216,6 +218,7 @@ create_primary_laws = record {
       (none_drawn, λ apart. refl)))))));
   order = λ r q. search object_orders depth 16;
   plain = λ r q. search object_plain depth 16;
+  tells = λ s covers r q free. object_secrets.create_primary_tells s r q;
 }
 
 pub load_laws : RowLaws command.Load load_row
@@ -233,6 +236,7 @@ load_laws = record {
       (none_drawn, λ apart. refl))))))));
   order = λ r q. search object_orders depth 16;
   plain = λ r q. search object_plain depth 16;
+  tells = λ s covers r q free. object_secrets.load_tells s r q;
 }
 
 evicted_grows : (r : Record) (h : Handle) (o : Object) (wanted : Handle) → loaded_at r h ≡ Ok o
@@ -266,6 +270,7 @@ evict_control_laws = record {
       beside_sessions command.EvictControl r q _ refl refl grows refl (refl, refl) (none_drawn, λ apart. refl)))))));
   order = λ r q. search object_orders depth 16;
   plain = λ r q. search object_plain depth 16;
+  tells = λ s covers r q free. object_secrets.evict_control_tells s r q;
 }
 
 -- ---- an object is used
@@ -276,6 +281,7 @@ hmac_laws = record {
   success = λ r q. search in_place_steps depth 12;
   order = λ r q. search object_orders depth 16;
   plain = λ r q. search object_plain depth 16;
+  tells = λ s covers r q free. object_secrets.hmac_tells s r q free;
 }
 
 pub read_public_laws : RowLaws command.ReadPublic read_public_row
@@ -284,6 +290,7 @@ read_public_laws = record {
   success = λ r q. search in_place_steps depth 12;
   order = λ r q. search object_orders depth 16;
   plain = λ r q. search object_plain depth 16;
+  tells = λ s covers r q free. object_secrets.read_public_tells s r q;
 }
 
 pub unseal_laws : RowLaws command.Unseal unseal_row
@@ -292,4 +299,5 @@ unseal_laws = record {
   success = λ r q. search in_place_steps depth 12;
   order = λ r q. search object_orders depth 16;
   plain = λ r q. search object_plain depth 16;
+  tells = λ s covers r q free. object_secrets.unseal_tells s r q free;
 }

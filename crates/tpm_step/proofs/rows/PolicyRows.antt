@@ -49,6 +49,7 @@ use Rattle.tpm_step.proofs.rows.PlainSteps.{plain_steps}
 use Rattle.tpm_step.proofs.rows.SessionPlaces.{policy_all, policy_same, policy_stays}
 use Rattle.tpm_policy.proofs.Sizes.{asserted_sized, starting_sized}
 use Rattle.tpm_step.proofs.rows.Successes.{GrowsNothing, in_place_steps, none_drawn}
+use Rattle.tpm_row_secrecy.proofs.PolicyRows as policy_secrets
 
 -- ---- how the rows of policies refuse
 
@@ -137,6 +138,7 @@ policy_pcr_laws = record {
   success = λ r q. search assertion_successes depth 12;
   order = λ r q. search policy_orders depth 16;
   plain = λ r q. search plain_steps depth 16;
+  tells = λ s covers r q free. policy_secrets.policy_pcr_tells s r q;
 }
 
 pub policy_or_laws : RowLaws command.PolicyOr (assertion_row command.PolicyOr)
@@ -145,6 +147,7 @@ policy_or_laws = record {
   success = λ r q. search assertion_successes depth 12;
   order = λ r q. search policy_orders depth 16;
   plain = λ r q. search plain_steps depth 16;
+  tells = λ s covers r q free. policy_secrets.policy_or_tells s r q;
 }
 
 pub policy_auth_value_laws : RowLaws command.PolicyAuthValue (assertion_row command.PolicyAuthValue)
@@ -153,6 +156,7 @@ policy_auth_value_laws = record {
   success = λ r q. search assertion_successes depth 12;
   order = λ r q. search policy_orders depth 16;
   plain = λ r q. search plain_steps depth 16;
+  tells = λ s covers r q free. policy_secrets.policy_auth_value_tells s r q;
 }
 
 pub policy_password_laws : RowLaws command.PolicyPassword (assertion_row command.PolicyPassword)
@@ -161,6 +165,7 @@ policy_password_laws = record {
   success = λ r q. search assertion_successes depth 12;
   order = λ r q. search policy_orders depth 16;
   plain = λ r q. search plain_steps depth 16;
+  tells = λ s covers r q free. policy_secrets.policy_password_tells s r q;
 }
 
 pub policy_command_code_laws : RowLaws command.PolicyCommandCode (assertion_row command.PolicyCommandCode)
@@ -169,6 +174,7 @@ policy_command_code_laws = record {
   success = λ r q. search assertion_successes depth 12;
   order = λ r q. search policy_orders depth 16;
   plain = λ r q. search plain_steps depth 16;
+  tells = λ s covers r q free. policy_secrets.policy_command_code_tells s r q;
 }
 
 pub policy_cp_hash_laws : RowLaws command.PolicyCpHash (assertion_row command.PolicyCpHash)
@@ -177,6 +183,7 @@ policy_cp_hash_laws = record {
   success = λ r q. search assertion_successes depth 12;
   order = λ r q. search policy_orders depth 16;
   plain = λ r q. search plain_steps depth 16;
+  tells = λ s covers r q free. policy_secrets.policy_cp_hash_tells s r q;
 }
 
 pub policy_nv_written_laws : RowLaws command.PolicyNvWritten (assertion_row command.PolicyNvWritten)
@@ -185,6 +192,7 @@ policy_nv_written_laws = record {
   success = λ r q. search assertion_successes depth 12;
   order = λ r q. search policy_orders depth 16;
   plain = λ r q. search plain_steps depth 16;
+  tells = λ s covers r q free. policy_secrets.policy_nv_written_tells s r q;
 }
 
 pub policy_locality_laws : RowLaws command.PolicyLocality (assertion_row command.PolicyLocality)
@@ -193,6 +201,7 @@ policy_locality_laws = record {
   success = λ r q. search assertion_successes depth 12;
   order = λ r q. search policy_orders depth 16;
   plain = λ r q. search plain_steps depth 16;
+  tells = λ s covers r q free. policy_secrets.policy_locality_tells s r q;
 }
 
 pub policy_secret_laws : RowLaws command.PolicySecret (assertion_row command.PolicySecret)
@@ -201,6 +210,7 @@ policy_secret_laws = record {
   success = λ r q. search assertion_successes depth 12;
   order = λ r q. search policy_orders depth 16;
   plain = λ r q. search plain_steps depth 16;
+  tells = λ s covers r q free. policy_secrets.policy_secret_tells s r q;
 }
 
 pub policy_nv_laws : RowLaws command.PolicyNv (assertion_row command.PolicyNv)
@@ -209,6 +219,7 @@ policy_nv_laws = record {
   success = λ r q. search assertion_successes depth 12;
   order = λ r q. search policy_orders depth 16;
   plain = λ r q. search plain_steps depth 16;
+  tells = λ s covers r q free. policy_secrets.policy_nv_tells s r q free;
 }
 
 -- ---- other rows of policies
@@ -219,6 +230,7 @@ policy_get_digest_laws = record {
   success = λ r q. search in_place_steps depth 12;
   order = λ r q. search policy_orders depth 16;
   plain = λ r q. search plain_steps depth 16;
+  tells = λ s covers r q free. policy_secrets.policy_get_digest_tells s r q;
 }
 
 pub policy_restart_laws : RowLaws command.PolicyRestart policy_restart_row
@@ -232,4 +244,5 @@ policy_restart_laws = record {
       (policy_keeps r handle s (starting s.hash) (some_is _ _ s is) (starting_sized s.hash)))));
   order = λ r q. search policy_orders depth 16;
   plain = λ r q. search plain_steps depth 16;
+  tells = λ s covers r q free. policy_secrets.policy_restart_tells s r q;
 }

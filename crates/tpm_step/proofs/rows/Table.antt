@@ -7,6 +7,9 @@ use Rattle.tpm_commands.specs.declared.command_code.CommandCode.TheVariants as c
 use Rattle.tpm_record.specs.Record.{Record}
 use Rattle.tpm_record.specs.rows.Request.{Request}
 use Rattle.tpm_record.specs.rows.Rows.{Success}
+use Rattle.tpm_row_secrecy.specs.Alike.{Same}
+use Rattle.tpm_row_secrecy.specs.Reads.{reads_secret}
+use Rattle.tpm_row_secrecy.specs.Secrecy.{CoversKeys, Secrecy, without_secrets}
 use Rattle.tpm_step.specs.General.{is_startup}
 use Rattle.tpm_step.specs.Table.{row_of}
 use Rattle.tpm_step.specs.rows.Draws.{draws_of}
@@ -142,3 +145,9 @@ row_passes r c q fit =
 pub row_wants : (r : Record) (c : CommandCode) (q : Request) → Passes check.Memory (row_of r c q)
 row_wants r c q =
     in_order_wants _ _ _ (spelled_faults 1 (shape_of c).parameters q.parameters) ((laws_of c).order r q).order
+
+-- ---- what each row tells
+
+pub row_tells : (s : Secrecy) → CoversKeys s → (r : Record) (c : CommandCode) (q : Request)
+    → reads_secret s r c q ≡ false → Same s (row_of (without_secrets s r) c q) (row_of r c q)
+row_tells s covers r c q free = (laws_of c).tells s covers r q free

@@ -6,6 +6,9 @@ use Rattle.tpm_commands.specs.declared.command_code.CommandCode.{CommandCode}
 use Rattle.tpm_record.specs.Record.{Record}
 use Rattle.tpm_record.specs.rows.Request.{Request}
 use Rattle.tpm_record.specs.rows.Rows.{Success}
+use Rattle.tpm_row_secrecy.specs.Alike.{Same}
+use Rattle.tpm_row_secrecy.specs.Reads.{reads_secret}
+use Rattle.tpm_row_secrecy.specs.Secrecy.{CoversKeys, Secrecy, without_secrets}
 use Rattle.tpm_step.specs.rows.Draws.{DrawsAsSaid}
 use Rattle.tpm_step.specs.rows.Footprint.{Touches}
 use Rattle.tpm_step.specs.rows.IndexChanges.{ChangesIndices}
@@ -27,11 +30,14 @@ pub record SuccessLaws (c : CommandCode) (r : Record) (q : Request) (s : Success
   pub stays : (shape_of c).forbids_sessions ≡ false → SessionsStay r s.after
   pub sized : 32 ≤ length q.random → AreSized r → AreSized s.after
 
--- Each success of a row has these laws; and its refusals come in order, and count nothing against
--- dictionary attacks.
+-- Each success of a row has these laws; its refusals come in order, and count nothing against
+-- dictionary attacks; and unless the command reads what is secret, the row comes to the same on the
+-- device and on the device without its secrets.
 pub record RowLaws (c : CommandCode) (row : Record → Request → Result Success Refused)
     : Type 0 where
   pub success : (r : Record) (q : Request) → IfOk (row r q) (SuccessLaws c r q)
   pub order : (r : Record) (q : Request)
       → Orders r (shape_of c).handles q.handles (shape_of c).parameters q.parameters (row r q)
   pub plain : (r : Record) (q : Request) → Plain (row r q)
+  pub tells : (s : Secrecy) → CoversKeys s → (r : Record) (q : Request)
+      → reads_secret s r c q ≡ false → Same s (row (without_secrets s r) q) (row r q)

@@ -20,21 +20,13 @@ use Rattle.tpm_session.specs.declared.session.Session.{Session}
 use Rattle.tpm_types.specs.declared.handle.Handle.{Handle}
 use Rattle.tpm_types.specs.declared.refused.Refused.{Refused}
 use Rattle.tpm_types_nv.specs.declared.nv_attributes.NvAttributes.{NvAttributes}
-use Rattle.tpm_secrecy.proofs.Alike.{Alike, alike_after, alike_both, alike_end, alike_found, alike_refusal, alike_step, alike_step_is}
-use Rattle.tpm_secrecy.proofs.Bare.{record_again, with_nv}
-use Rattle.tpm_secrecy.proofs.Changes.{NvAlike}
-use Rattle.tpm_secrecy.proofs.Each.{places}
-use Rattle.tpm_secrecy.proofs.Entities.{index_at_bare, object_of_bare, session_at_bare}
-use Rattle.tpm_secrecy.specs.Secrecy.{Secrecy, bare_index, bare_nv, bare_object, bare_session, without_secrets}
-
--- a success without the secrets of the record after it
-abbrev pub bare_success : Secrecy → Success → Success
-bare_success s x = record { answer = x.answer; after = without_secrets s x.after }
-
--- Two rows are refused alike, or answer the same, and leave two records that differ in what is
--- secret alone.
-abbrev pub Same : Secrecy → Result Success Refused → Result Success Refused → Type 0
-Same s x y = Alike (bare_success s) x y
+use Rattle.tpm_row_secrecy.proofs.Alike.{alike_after, alike_both, alike_end, alike_found, alike_refusal, alike_step, alike_step_is}
+use Rattle.tpm_row_secrecy.proofs.Bare.{record_again, with_nv}
+use Rattle.tpm_row_secrecy.proofs.Changes.{NvAlike}
+use Rattle.tpm_row_secrecy.proofs.Each.{places}
+use Rattle.tpm_row_secrecy.proofs.Entities.{index_at_bare, object_of_bare, session_at_bare}
+use Rattle.tpm_row_secrecy.specs.Alike.{Same, bare_success}
+use Rattle.tpm_row_secrecy.specs.Secrecy.{Secrecy, bare_index, bare_nv, bare_object, bare_session, without_secrets}
 
 -- ---- ends
 

@@ -16,7 +16,7 @@ use Rattle.tpm_types.specs.SessionType.{is_trial}
 use Rattle.tpm_types.specs.declared.handle.Handle.{Handle}
 use Rattle.tpm_types.specs.declared.refused.Refused.{Refused}
 use Rattle.tpm_types_nv.specs.NvAttributes.{is_of}
-use Rattle.tpm_secrecy.specs.Secrecy.{Secrecy, has_secret_data}
+use Rattle.tpm_row_secrecy.specs.Secrecy.{Secrecy, has_secret_data}
 use Rattle.tpm_commands.specs.declared.command_code.CommandCode.TheVariants as command
 use Rattle.tpm_types_nv.specs.declared.nv_type.NvType.TheVariants as type
 

@@ -1,4 +1,4 @@
--- Two results that are alike: the same refusal, or two successes of which the same is seen.
+-- How steps keep two results alike.
 use Rattle.std.proofs.Common.{ap, refl, subst, sym, ◌∙◌}
 use Rattle.std.proofs.lemmas.Bool.{false≢true}
 use Rattle.std.specs.Prelude.{Bool, Err, None, Ok, Option, Result, Some, false, is_ok, ok_or, option_map, true, ◌&&◌, ◌≡◌}
@@ -6,13 +6,7 @@ use Rattle.tpm_bytes.specs.Reading.{or_fault, ◌>>=◌}
 use Rattle.tpm_containers.specs.Slots.{free}
 use Rattle.tpm_record.specs.rows.Refusals.{or_refusal}
 use Rattle.tpm_types.specs.declared.refused.Refused.{Refused}
-
-abbrev pub outcome : {A B E : Type 0} → (A → B) → Result A E → Result B E
-outcome see (Ok a) = Ok (see a)
-outcome see (Err e) = Err e
-
-pub record Alike {A B E : Type 0} (see : A → B) (x y : Result A E) : Type 0 where
-  pub is : outcome see x ≡ outcome see y
+use Rattle.tpm_row_secrecy.specs.Alike.{Alike, outcome}
 
 pub alike_end : {A B E : Type 0} (see : A → B) (a b : A) → see a ≡ see b → Alike {E = E} see (Ok a) (Ok b)
 alike_end {B = B} {E = E} see a b same = record { is = ap (λ (x : B). let r : Result B E = Ok x in r) same }

@@ -26,10 +26,11 @@ use Rattle.tpm_session.specs.declared.session.Session.{Session}
 use Rattle.tpm_types.specs.Handle.{numbered}
 use Rattle.tpm_types.specs.Limits.{object_limit, session_limit}
 use Rattle.tpm_types.specs.declared.refused.Refused.{Refused}
-use Rattle.tpm_secrecy.proofs.Each.{each, is_some_of, place_of_each}
-use Rattle.tpm_secrecy.proofs.Entities.{object_at_bare}
-use Rattle.tpm_secrecy.proofs.Steps.{Same, same_both, same_step, same_unchanged}
-use Rattle.tpm_secrecy.specs.Secrecy.{Secrecy, bare_index, bare_object, bare_session, without_secrets}
+use Rattle.tpm_row_secrecy.proofs.Each.{each, is_some_of, place_of_each}
+use Rattle.tpm_row_secrecy.proofs.Entities.{object_at_bare}
+use Rattle.tpm_row_secrecy.proofs.Steps.{same_both, same_step, same_unchanged}
+use Rattle.tpm_row_secrecy.specs.Alike.{Same}
+use Rattle.tpm_row_secrecy.specs.Secrecy.{Secrecy, bare_index, bare_object, bare_session, without_secrets}
 use Rattle.tpm_actions_capability.specs.declared.get_capability.Capability.TheVariants as capability
 use Rattle.tpm_actions_capability.specs.declared.element.Telling.TheVariants as tell
 
@@ -48,7 +49,7 @@ module _ (s : Secrecy) (r : Record) where
       by [] = refl
       by (e ∷ es) = ap (λ (x : List Element). by_itself e.0 ∷ x) (by es)
 
-  session_same : (place : ℕ) → session_element (without_secrets s r) place ≡ session_element r place
+  pub session_same : (place : ℕ) → session_element (without_secrets s r) place ≡ session_element r place
   session_same place =
       ap (λ (found : Option Session). listed found) (place_of_each (bare_session s) r.sessions place) ∙ by (at_place r.sessions place)
     where
@@ -59,12 +60,12 @@ module _ (s : Secrecy) (r : Record) where
       by None = refl
       by (Some x) = refl
 
-  object_same : (place : ℕ) → object_element (without_secrets s r) place ≡ object_element r place
+  pub object_same : (place : ℕ) → object_element (without_secrets s r) place ≡ object_element r place
   object_same place =
       ap (λ (b : Bool). if_there b (by_itself (number_of 0x80 place)))
       (ap is_some (object_at_bare s r.objects (numbered (number_of 0x80 place))) ∙ is_some_of (bare_object s) (object_at r.objects (numbered (number_of 0x80 place))))
 
-  of_places : (one other : ℕ → List Element) → ((place : ℕ) → one place ≡ other place) → (ns : List ℕ) → flat_map one ns ≡ flat_map other ns
+  pub of_places : (one other : ℕ → List Element) → ((place : ℕ) → one place ≡ other place) → (ns : List ℕ) → flat_map one ns ≡ flat_map other ns
   of_places one other same [] = refl
   of_places one other same (n ∷ ns) =
       ap (λ (x : List Element). x ++ flat_map one ns) (same n)

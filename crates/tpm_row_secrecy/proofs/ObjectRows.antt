@@ -1,6 +1,6 @@
 -- The rows of objects tell nothing of what is secret, but for an accepted TPM2_Unseal or TPM2_HMAC.
 use Rattle.std.proofs.Common.{ap, refl, subst, sym, ◌∙◌}
-use Rattle.std.proofs.lemmas.Bool.{false≢true}
+use Rattle.std.proofs.lemmas.Bool.{false≢true, not-false}
 use Rattle.std.specs.Option.{option_map_or}
 use Rattle.std.specs.Prelude.{Bool, List, None, Ok, Option, Result, Some, cond, false, is_ok, is_some, length, nat_le, not, ok_or, true, ℕ, ◌&&◌, ◌++◌, ◌+◌, ◌==◌, ◌≡◌}
 use Rattle.tpm_actions_object.specs.Checks.{given_passes, public_passes}
@@ -14,6 +14,7 @@ use Rattle.tpm_actions_object.specs.Loaded.{is_fixed, loaded_at, parent_passes, 
 use Rattle.tpm_actions_object.specs.ReadPublic.{read_public_row}
 use Rattle.tpm_actions_object.specs.Unseal.{unseal_row}
 use Rattle.tpm_actions_object.specs.declared.creation.Parent.{Parent}
+use Rattle.tpm_bytes.proofs.Fields.{passed}
 use Rattle.tpm_bytes.specs.Reading.{refused_if, ◌>>=◌}
 use Rattle.tpm_bytes.specs.Writing.{sized_text}
 use Rattle.tpm_containers.specs.Slots.{free}
@@ -35,7 +36,6 @@ use Rattle.tpm_record.specs.rows.Answer.{AnswerParts, SizedFirst, nothing}
 use Rattle.tpm_record.specs.rows.Refusals.{action_refusal, handle_refusal}
 use Rattle.tpm_record.specs.rows.Request.{Request, first_handle, second_handle}
 use Rattle.tpm_record.specs.rows.Rows.{Success, all_read, only, unchanged}
-use Rattle.tpm_step.proofs.Binding.{asked}
 use Rattle.tpm_types.specs.Handle.{is_persistent, platform_handle}
 use Rattle.tpm_types.specs.Limits.{persistent_limit}
 use Rattle.tpm_types.specs.PersistentHandle.{persistent_handle_at}
@@ -48,13 +48,14 @@ use Rattle.tpm_types_object.specs.ObjectAttributes.{has}
 use Rattle.tpm_types_object.specs.Public.{public_text}
 use Rattle.tpm_types_object.specs.declared.public.Public.{Public}
 use Rattle.tpm_types_object.specs.declared.sensitive.Sensitive.{Sensitive}
-use Rattle.tpm_secrecy.proofs.Alike.{Alike, alike_after, alike_both, alike_end, alike_found, alike_step, alike_step_is, either_free, refused_alike, success}
-use Rattle.tpm_secrecy.proofs.Bare.{object_again, unless_open, with_objects, with_persistent_objects}
-use Rattle.tpm_secrecy.proofs.Each.{each, is_some_of, length_each, lowest_free_each, places, set_same, with_key_same, without_key_same}
-use Rattle.tpm_secrecy.proofs.Entities.{object_of_bare, persistent_at_bare}
-use Rattle.tpm_secrecy.proofs.Steps.{Same, bare_success, same_both, same_end, same_object, same_step, same_unchanged}
-use Rattle.tpm_secrecy.specs.Reads.{handle_passes, names_secret_object, reads_secret}
-use Rattle.tpm_secrecy.specs.Secrecy.{Secrecy, bare_hierarchies, bare_object, has_secret_data, unless, without_secrets}
+use Rattle.tpm_row_secrecy.proofs.Alike.{alike_after, alike_both, alike_end, alike_found, alike_step, alike_step_is, either_free, refused_alike, success}
+use Rattle.tpm_row_secrecy.proofs.Bare.{object_again, unless_open, with_objects, with_persistent_objects}
+use Rattle.tpm_row_secrecy.proofs.Each.{each, is_some_of, length_each, lowest_free_each, places, set_same, with_key_same, without_key_same}
+use Rattle.tpm_row_secrecy.proofs.Entities.{object_of_bare, persistent_at_bare}
+use Rattle.tpm_row_secrecy.proofs.Steps.{same_both, same_end, same_object, same_step, same_unchanged}
+use Rattle.tpm_row_secrecy.specs.Alike.{Alike, Same, bare_success}
+use Rattle.tpm_row_secrecy.specs.Reads.{handle_passes, names_secret_object, reads_secret}
+use Rattle.tpm_row_secrecy.specs.Secrecy.{Secrecy, bare_hierarchies, bare_object, has_secret_data, unless, without_secrets}
 use Rattle.tpm_commands.specs.declared.command_code.CommandCode.TheVariants as command
 use Rattle.tpm_types.specs.declared.action_check.ActionCheck.TheVariants as action
 use Rattle.tpm_types.specs.declared.rc.ResponseCode.TheVariants as code
@@ -86,7 +87,7 @@ module _ (s : Secrecy) (r : Record) (q : Request) where
   with_parent : (o : Object) (f g : Object → Result Success Refused) → Same s (f (other_value o)) (g o) → Same s (parent_passes (bare_object s o) >>= λ a1. f (bare_object s o)) (parent_passes o >>= λ a1. g o)
   with_parent o f g more =
       alike_step_is (bare_success s) (parent_passes o) _ _ (λ a1 is.
-      subst (λ (x : Object). Same s (f x) (g o)) (sym (parent_bare o (asked _ _ a1 is))) more)
+      subst (λ (x : Object). Same s (f x) (g o)) (sym (parent_bare o (not-false _ (passed _ _ a1 is)))) more)
 
   -- ---- objects are read
 

@@ -20,12 +20,13 @@ use Rattle.tpm_nv.specs.declared.fault.WriteFault.{WriteFault}
 use Rattle.tpm_types.specs.declared.handle.Handle.{Handle}
 use Rattle.tpm_types_nv.specs.NvAttributes.{has, is_of}
 use Rattle.tpm_types_nv.specs.declared.nv_attributes.NvAttribute.{NvAttribute}
-use Rattle.tpm_secrecy.proofs.Alike.{Alike, alike_end, alike_found, alike_step, either_free, success}
-use Rattle.tpm_secrecy.proofs.Bare.{index_again, unless_again, unless_open}
-use Rattle.tpm_secrecy.proofs.Each.{all_changed_same, changed_key_same, each, is_some_of, kept_same, length_each, with_key_same, without_key_same}
-use Rattle.tpm_secrecy.proofs.Entities.{index_at_bare}
-use Rattle.tpm_secrecy.specs.Reads.{is_secret_counter, is_secret_index}
-use Rattle.tpm_secrecy.specs.Secrecy.{Secrecy, bare_index, bare_nv, unless}
+use Rattle.tpm_row_secrecy.proofs.Alike.{alike_end, alike_found, alike_step, either_free, success}
+use Rattle.tpm_row_secrecy.proofs.Bare.{index_again, unless_again, unless_open}
+use Rattle.tpm_row_secrecy.proofs.Each.{all_changed_same, changed_key_same, each, is_some_of, kept_same, length_each, with_key_same, without_key_same}
+use Rattle.tpm_row_secrecy.proofs.Entities.{index_at_bare}
+use Rattle.tpm_row_secrecy.specs.Alike.{Alike}
+use Rattle.tpm_row_secrecy.specs.Reads.{is_secret_counter, is_secret_index}
+use Rattle.tpm_row_secrecy.specs.Secrecy.{Secrecy, bare_index, bare_nv, unless}
 use Rattle.tpm_nv.specs.declared.fault.ReadFault.TheVariants as read_fault
 use Rattle.tpm_nv.specs.declared.fault.WriteFault.TheVariants as write_fault
 use Rattle.tpm_nv.specs.declared.fault.LockFault.TheVariants as lock_fault

@@ -37,12 +37,13 @@ use Rattle.tpm_types.specs.Limits.{data_limit}
 use Rattle.tpm_types.specs.Rc.{plain}
 use Rattle.tpm_types.specs.declared.handle.Handle.{Handle}
 use Rattle.tpm_types.specs.declared.refused.Refused.{Refused}
-use Rattle.tpm_secrecy.proofs.Alike.{Alike, alike_after, alike_both, alike_end, alike_fault, alike_step, either_free, refused_alike, success}
-use Rattle.tpm_secrecy.proofs.Bare.{with_nv}
-use Rattle.tpm_secrecy.proofs.Changes.{NvAlike, auth_alike, bits_alike, extended_alike, incremented_alike, is_there_bare, read_locked_alike, read_refused_alike, read_shown, room_bare, with_index_same, without_index_same, write_locked_alike, written_alike}
-use Rattle.tpm_secrecy.proofs.Steps.{Same, bare_success, same_both, same_changed, same_end, same_index, same_step, same_target, same_target_is, same_unchanged, target_bare}
-use Rattle.tpm_secrecy.specs.Reads.{handle_passes, is_secret_counter, is_secret_index, names_index, reads_secret}
-use Rattle.tpm_secrecy.specs.Secrecy.{Secrecy, bare_nv, without_secrets}
+use Rattle.tpm_row_secrecy.proofs.Alike.{alike_after, alike_both, alike_end, alike_fault, alike_step, either_free, refused_alike, success}
+use Rattle.tpm_row_secrecy.proofs.Bare.{with_nv}
+use Rattle.tpm_row_secrecy.proofs.Changes.{NvAlike, auth_alike, bits_alike, extended_alike, incremented_alike, is_there_bare, read_locked_alike, read_refused_alike, read_shown, room_bare, with_index_same, without_index_same, write_locked_alike, written_alike}
+use Rattle.tpm_row_secrecy.proofs.Steps.{same_both, same_changed, same_end, same_index, same_step, same_target, same_target_is, same_unchanged, target_bare}
+use Rattle.tpm_row_secrecy.specs.Alike.{Alike, Same, bare_success}
+use Rattle.tpm_row_secrecy.specs.Reads.{handle_passes, is_secret_counter, is_secret_index, names_index, reads_secret}
+use Rattle.tpm_row_secrecy.specs.Secrecy.{Secrecy, bare_nv, without_secrets}
 use Rattle.tpm_commands.specs.declared.command_code.CommandCode.TheVariants as command
 use Rattle.tpm_types.specs.declared.action_check.ActionCheck.TheVariants as action
 use Rattle.tpm_types.specs.declared.rc.ResponseCode.TheVariants as code

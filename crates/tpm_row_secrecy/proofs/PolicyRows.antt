@@ -37,14 +37,15 @@ use Rattle.tpm_types.specs.YesNo.{yes_no_at}
 use Rattle.tpm_types.specs.declared.action_fault.ActionFault.{ActionFault}
 use Rattle.tpm_types.specs.declared.handle.Handle.{Handle}
 use Rattle.tpm_types.specs.declared.refused.Refused.{Refused}
-use Rattle.tpm_secrecy.proofs.Alike.{alike_after, alike_both, alike_end, alike_found, alike_nested, alike_step_is, either_free}
-use Rattle.tpm_secrecy.proofs.Bare.{sessions_again, with_sessions}
-use Rattle.tpm_secrecy.proofs.Changes.{read_shown}
-use Rattle.tpm_secrecy.proofs.Each.{changed_at_each, places}
-use Rattle.tpm_secrecy.proofs.Entities.{name_bare, session_at_bare}
-use Rattle.tpm_secrecy.proofs.Steps.{Same, bare_success, same_end, same_session, same_step, same_target_is, same_unchanged}
-use Rattle.tpm_secrecy.specs.Reads.{handle_passes, is_secret_index, names_index, names_policy_session, reads_secret}
-use Rattle.tpm_secrecy.specs.Secrecy.{Secrecy, bare_session, without_secrets}
+use Rattle.tpm_row_secrecy.proofs.Alike.{alike_after, alike_both, alike_end, alike_found, alike_nested, alike_step_is, either_free}
+use Rattle.tpm_row_secrecy.proofs.Bare.{sessions_again, with_sessions}
+use Rattle.tpm_row_secrecy.proofs.Changes.{read_shown}
+use Rattle.tpm_row_secrecy.proofs.Each.{changed_at_each, places}
+use Rattle.tpm_row_secrecy.proofs.Entities.{name_bare, session_at_bare}
+use Rattle.tpm_row_secrecy.proofs.Steps.{same_end, same_session, same_step, same_target_is, same_unchanged}
+use Rattle.tpm_row_secrecy.specs.Alike.{Same, bare_success}
+use Rattle.tpm_row_secrecy.specs.Reads.{handle_passes, is_secret_index, names_index, names_policy_session, reads_secret}
+use Rattle.tpm_row_secrecy.specs.Secrecy.{Secrecy, bare_session, without_secrets}
 use Rattle.tpm_commands.specs.declared.command_code.CommandCode.TheVariants as command
 use Rattle.tpm_types.specs.declared.action_check.ActionCheck.TheVariants as action
 use Rattle.tpm_types.specs.declared.rc.ResponseCode.TheVariants as code

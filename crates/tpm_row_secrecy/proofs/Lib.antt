@@ -1,0 +1,13 @@
+pub mod Each
+pub mod Bare
+pub mod Entities
+pub mod Alike
+pub mod Changes
+pub mod Steps
+pub mod DeviceRows
+pub mod SessionRows
+pub mod PolicyRows
+pub mod ObjectRows
+pub mod IndexRows
+pub mod CapabilityRows
+pub mod ReadAlike

@@ -1,0 +1,24 @@
+-- When two rows tell the same: they are refused alike, or answer the same, and leave two records
+-- that differ in what is secret alone.
+use Rattle.std.specs.Prelude.{Err, Ok, Result, ◌≡◌}
+use Rattle.tpm_record.specs.rows.Rows.{Success}
+use Rattle.tpm_types.specs.declared.refused.Refused.{Refused}
+use Rattle.tpm_row_secrecy.specs.Secrecy.{Secrecy, without_secrets}
+
+-- a result, with what is seen of its success
+abbrev pub outcome : {A B E : Type 0} → (A → B) → Result A E → Result B E
+outcome see (Ok a) = Ok (see a)
+outcome see (Err e) = Err e
+
+-- Two results are the same refusal, or two successes of which the same is seen.
+pub record Alike {A B E : Type 0} (see : A → B) (x y : Result A E) : Type 0 where
+  pub is : outcome see x ≡ outcome see y
+
+-- a success without the secrets of the record after it
+abbrev pub bare_success : Secrecy → Success → Success
+bare_success s x = record { answer = x.answer; after = without_secrets s x.after }
+
+-- Two rows are refused alike, or answer the same, and leave two records that differ in what is
+-- secret alone.
+abbrev pub Same : Secrecy → Result Success Refused → Result Success Refused → Type 0
+Same s x y = Alike (bare_success s) x y

@@ -1,0 +1,3 @@
+pub mod Secrecy
+pub mod Reads
+pub mod Alike

@@ -1,0 +1,67 @@
+-- What leaves a device whose history nobody knows, say one that was opened from an image, of the
+-- data that objects seal, and of HMAC keys. TPM 2.0 Library, Part 1, section 19.7 (enhanced
+-- authorization), and Part 3, sections 12.7 and 15.5.
+use Rattle.std.specs.Prelude.{Bool, List, Ok, Some, false, if◌then◌else◌, slice_get, true, ℕ, ◌≡◌, ◌⊎◌}
+use Rattle.tpm_mac.specs.declared.algorithm.HashAlg.{HashAlg}
+use Rattle.tpm_object.specs.Object.{is_keyed_hash}
+use Rattle.tpm_object.specs.declared.object.Object.{Object}
+use Rattle.tpm_record.specs.Entity.{object_of}
+use Rattle.tpm_record.specs.Record.{Record}
+use Rattle.tpm_record.specs.Tick.{ticked}
+use Rattle.tpm_session.specs.Sessions.{session_at}
+use Rattle.tpm_session.specs.declared.session.Session.{Session}
+use Rattle.tpm_step.specs.Events.{Cycled, Given, PlainEvent}
+use Rattle.tpm_step.specs.Execution.{Executes}
+use Rattle.tpm_step.specs.Step.{Accepted, Stepped, accepted}
+use Rattle.tpm_types.specs.declared.handle.Handle.{Handle}
+use Rattle.tpm_types_command.specs.AuthEntry.{Entry}
+use Rattle.tpm_types_command.specs.Command.{Whole}
+use Rattle.tpm_types_object.specs.ObjectAttributes.{has}
+use Rattle.tpm_types_object.specs.declared.public.Public.{Public}
+use Rattle.tpm_secrecy.specs.SealedData.{TellsNothingSealed}
+use Rattle.tpm_types_object.specs.declared.object_attributes.ObjectAttribute.TheVariants as attribute
+use Rattle.tpm_commands.specs.declared.command_code.CommandCode.TheVariants as command
+use Rattle.tpm_types.specs.declared.session_type.SessionType.TheVariants as type
+
+-- The first entry of a command names a policy session of a device, with this hash and this
+-- policyDigest.
+pub record HasDigest (r : Record) (c : Whole) (hash : HashAlg) (digest : List ℕ) : Type 0 where
+  pub entry : Entry
+  pub given : slice_get c.entries 0 ≡ Some entry
+  pub session : Session
+  pub there : session_at r.sessions entry.session ≡ Some session
+  pub kind : session.kind ≡ type.Policy
+  pub session_hash : session.hash ≡ hash
+  pub policy : session.policy.digest ≡ digest
+
+-- A command is accepted, and reads what an object holds that has one of these public areas: it is
+-- TPM2_HMAC, where the object signs, and otherwise TPM2_Unseal. Where the object has no
+-- userWithAuth, a policy session authorized it whose policyDigest is the object's authPolicy.
+pub record AcceptsReading (objects : Public → Bool) (r : Record) (buffer : List ℕ) (locality : ℕ)
+    (random : List ℕ) : Type 0
+  where
+    pub done : Accepted
+    pub is : accepted r buffer locality random ≡ Ok done
+    pub handle : Handle
+    pub first : slice_get done.command.handles 0 ≡ Some handle
+    pub object : Object
+    pub found : object_of r handle ≡ Some object
+    pub keyed_hash : is_keyed_hash object.public ≡ true
+    pub secret : objects object.public ≡ true
+    pub code : done.command.code
+        ≡ (if has object.public.attributes attribute.Sign then command.Hmac else command.Unseal)
+    pub policy : has object.public.attributes attribute.UserWithAuth ≡ false
+        → HasDigest r done.command object.public.name_alg object.public.auth_policy
+
+abbrev pub IsAcceptedReading : (Public → Bool) → Record → PlainEvent → Type 0
+IsAcceptedReading objects r (Given buffer locality elapsed random) =
+    AcceptsReading objects (ticked r elapsed) buffer locality random
+IsAcceptedReading objects r Cycled = ⊥
+
+-- On any device, also one whose history nobody knows: an execution tells nothing of what is sealed,
+-- or is an accepted command that reads it. What its policy session asserted is not said.
+abbrev pub SealedDataNeedDigest : Type 0
+SealedDataNeedDigest =
+    (objects : Public → Bool) (can : Bool) (old : Record) (event : PlainEvent) (x : Stepped)
+    → Executes can old event x
+    → TellsNothingSealed objects can old event x ⊎ IsAcceptedReading objects old event
