@@ -1,10 +1,11 @@
--- One holder of a kept device: what it knows, and where it goes.
-use Rattle.std.specs.Prelude.{ℕ, ◌+◌, ◌-◌, ◌==◌, ◌&&◌, ◌||◌, Bool, true, false, cond, List, [], ◌++◌, length, nat_le, take, Option, Some, None}
+-- One holder of a kept device: what it knows, and where it goes. A holder is a process; its keeper,
+-- which decides this, is `Keeper` of the code, and this record is what the definitions see of it.
+use Rattle.std.specs.Prelude.{ℕ, ◌+◌, ◌-◌, ◌/◌, ◌==◌, ◌&&◌, ◌||◌, Bool, true, false, cond, List, [], ◌++◌, length, nat_le, take, Option, Some, None}
 use Rattle.tpm_keeping.specs.Journal.{Journal, Spot, started, stepped}
 use Rattle.tpm_keeping.specs.declared.holder.Force.{Force}
 use Rattle.tpm_keeping.specs.declared.holder.Force.TheVariants.{Never, Always}
 use Rattle.tpm_keeping.specs.declared.holder.Job.{Job}
-use Rattle.tpm_keeping.specs.declared.holder.Job.TheVariants.{Execute, Leap, Renew, Show, Begin}
+use Rattle.tpm_keeping.specs.declared.holder.Job.TheVariants.{Execute, Renew, Show, Begin}
 use Rattle.tpm_keeping.specs.declared.holder.Fault.{Fault}
 use Rattle.tpm_keeping.specs.declared.holder.Fault.TheVariants as fault
 use Rattle.tpm_keeping.specs.declared.holder.End.TheVariants as ending
@@ -123,20 +124,49 @@ sure k = k.place - length k.unsure
 abbrev pub settles : Holder → Phase
 settles k = cond (k.settled || is_never k.force) (Leaving ending.Done) Settling
 
--- What is put is all that the holder has not seen forced, and the entry.
-abbrev pub executes : Journal → Holder → (p : Spot) → (grown : Bool) → Holder
-executes j k p true = record k {
+-- A journal has grown where it has reached the limit, and twice what it would begin with now.
+abbrev pub is_grown : Journal → Holder → (p : Spot) → Bool
+is_grown j k p = nat_le k.limit k.place && nat_le (length (j.head p.state)) (k.place / 2)
+
+-- A command that has an entry. What is put is all that the holder has not seen forced, and the
+-- entry; or a new journal, where the old one has grown.
+abbrev pub enters : Journal → Holder → (p : Spot) → (grown : Bool) → Holder
+enters j k p true = record k {
   phase = Making;
   device = Some (stepped j (started j p.state) k.command);
   out = j.head p.state ++ j.entry (started j p.state) k.command;
   response = j.response p.state k.command;
 }
-executes j k p false = record k {
+enters j k p false = record k {
   phase = Putting;
   device = Some (stepped j p k.command);
   out = k.unsure ++ j.entry p k.command;
   response = j.response p.state k.command;
 }
+
+-- A command that has none. The state after it begins a new journal.
+abbrev pub leaps : Journal → Holder → (p : Spot) → Holder
+leaps j k p = record k {
+  phase = Making;
+  device = Some (started j (j.after p.state k.command));
+  out = j.head (j.after p.state k.command);
+  response = j.response p.state k.command;
+}
+
+-- What is no command is refused, and nothing is changed.
+abbrev pub refuses : Holder → (p : Spot) → Holder
+refuses k p = record k {
+  phase = Leaving (ending.Failed fault.NoCommand);
+  device = Some p;
+  out = [];
+  response = [];
+}
+
+abbrev pub executes : Journal → Holder → (p : Spot) → Holder
+executes j k p =
+    cond (j.is_command k.command)
+    (cond (j.is_entered k.command) (enters j k p (is_grown j k p)) (leaps j k p))
+    (refuses k p)
 
 abbrev pub shows : Holder → (p : Spot) → (response : List ℕ) → Holder
 shows k p response = record k {
@@ -148,13 +178,7 @@ shows k p response = record k {
 
 -- the device has executed the whole file
 abbrev pub acts : Journal → Job → Holder → (p : Spot) → Holder
-acts j Execute k p = executes j k p (nat_le k.limit k.place)
-acts j Leap k p = record k {
-  phase = Making;
-  device = Some (started j (j.after p.state k.command));
-  out = j.head (j.after p.state k.command);
-  response = j.response p.state k.command;
-}
+acts j Execute k p = executes j k p
 acts j Renew k p = record k {
   phase = Making;
   device = Some (started j p.state);

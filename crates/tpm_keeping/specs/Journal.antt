@@ -1,7 +1,9 @@
 -- A journal, as a keeper knows it. A state is a text that stands for a whole device. A command is a
--- text of all that it depends on: its bytes, locality, time and random bytes. A power cycle is one,
--- and so is the restoring of a snapshot.
+-- text of all that it depends on: its bytes, locality, time and random bytes. Most commands have an
+-- entry. A power cycle has none, nor has the restoring of a snapshot: the state after it begins a
+-- new journal.
 use Rattle.std.specs.Prelude.{◌≡◌, ℕ, ◌+◌, ◌-◌, ◌<◌, Bool, true, cond, List, [], ◌∷◌, ◌++◌, length, nat_le, take, Option, Some}
+use Rattle.std.specs.List.{AllByRecursion}
 
 -- A spot in a journal: the state after an entry, and what the next entry is chained to, as a sum.
 pub record Spot : Type 0 where
@@ -11,6 +13,9 @@ pub record Spot : Type 0 where
 pub record Journal : Type 0 where
   -- whether a text is one of a state
   pub is_state : List ℕ → Bool
+  -- whether a text is one of a command, and whether it is a command that has an entry
+  pub is_command : List ℕ → Bool
+  pub is_entered : List ℕ → Bool
   -- the state after a command, and its response
   pub after : List ℕ → List ℕ → List ℕ
   pub response : List ℕ → List ℕ → List ℕ
@@ -22,6 +27,8 @@ pub record Journal : Type 0 where
   -- the text with which a journal begins in a state, and what its first entry is chained to
   pub head : List ℕ → List ℕ
   pub first : List ℕ → ℕ
+  -- the spot after a text that is a head: of these, or of another kind, which nobody writes now
+  pub after_head : List ℕ → Option Spot
   -- the spot to which a text leads, by itself or from a spot, and how many of its bytes
   pub opened : List ℕ → Option (Spot × ℕ)
   pub followed : Spot → List ℕ → Option (Spot × ℕ)
@@ -59,22 +66,30 @@ whole_in j p (c ∷ cs) count =
     (c ∷ whole_in j (stepped j p c) cs (count - length (j.entry p c)))
     []
 
+-- each of these commands has an entry
+abbrev pub Entered : Journal → List (List ℕ) → Type 0
+Entered j cs = AllByRecursion (λ c. j.is_entered c ≡ true) cs
+
 -- What a journal has to meet.
 pub record IsJournal (j : Journal) : Type 0 where
   -- a device begins in a state, and a command leads to one
   pub begins : (seed s : List ℕ) → j.begun seed ≡ Some s → j.is_state s ≡ true
   pub leads : (s c : List ℕ) → j.is_state s ≡ true → j.is_state (j.after s c) ≡ true
-  -- it opens as the state of its head, for every state, and executes each whole entry
-  pub opens : (s : List ℕ) (cs : List (List ℕ)) (tail : List ℕ)
-      → j.is_state s ≡ true → j.is_torn (trail j (started j s) cs) tail ≡ true
-      → j.opened (j.head s ++ (entries j (started j s) cs ++ tail))
-      ≡ Some (trail j (started j s) cs, length (j.head s) + length (entries j (started j s) cs))
+  -- what is written as the head of a state is one
+  pub heads : (s : List ℕ) → j.is_state s ≡ true → j.after_head (j.head s) ≡ Some (started j s)
+  -- a journal opens at the spot after its head, and executes each whole entry
+  pub opens : (head : List ℕ) (p : Spot) (cs : List (List ℕ)) (tail : List ℕ)
+      → j.after_head head ≡ Some p → j.is_state p.state ≡ true → Entered j cs
+      → j.is_torn (trail j p cs) tail ≡ true
+      → j.opened (head ++ (entries j p cs ++ tail))
+      ≡ Some (trail j p cs, length head + length (entries j p cs))
   pub follows : (p : Spot) (cs : List (List ℕ)) (tail : List ℕ)
-      → j.is_state p.state ≡ true → j.is_torn (trail j p cs) tail ≡ true
+      → j.is_state p.state ≡ true → Entered j cs → j.is_torn (trail j p cs) tail ≡ true
       → j.followed p (entries j p cs ++ tail) ≡ Some (trail j p cs, length (entries j p cs))
   -- nothing is torn, and so is the front of an entry that is not whole
   pub nothing : (p : Spot) → j.is_torn p [] ≡ true
-  pub front : (p : Spot) (c : List ℕ) (k : ℕ) → k < length (j.entry p c)
+  pub front : (p : Spot) (c : List ℕ) (k : ℕ)
+      → j.is_state p.state ≡ true → j.is_entered c ≡ true → k < length (j.entry p c)
       → j.is_torn p (take k (j.entry p c)) ≡ true
   -- and the front of what is torn, with litter after it
   pub littered : (p : Spot) (tail : List ℕ) (k : ℕ) (litter : List ℕ)

@@ -1,6 +1,7 @@
 -- A small journal, which shows that one can meet what a keeper needs. A text is a line: each byte
 -- two more than it is, and a 1 at its end. So no line has a zero, and a line without its end is
--- none. A state is all that was executed.
+-- none. A state is all that was executed. A command that begins with a zero has no entry, and no
+-- bytes are no command.
 use Rattle.std.specs.Prelude.{ℕ, zero, suc, ◌+◌, Bool, true, false, List, [], ◌∷◌, ◌++◌, length, Option, Some, None}
 use Rattle.tpm_keeping.specs.Journal.{Journal, Spot}
 
@@ -41,11 +42,29 @@ opened_by (Some found) =
       suc (length found.0) + (walk found.0 [] 0 0 found.1).1,
     )
 
+-- a head is a line, and nothing after it
+abbrev pub spot_if_all : (state rest : List ℕ) → Option Spot
+spot_if_all state [] = Some (spot_at 0 state)
+spot_if_all state (b ∷ rest) = None
+
+abbrev pub headed_by : Option (List ℕ × List ℕ) → Option Spot
+headed_by None = None
+headed_by (Some found) = spot_if_all found.0 found.1
+
 -- no line ends in it
 abbrev pub unended : List ℕ → Bool
 unended [] = true
 unended (suc zero ∷ rest) = false
 unended (b ∷ rest) = unended rest
+
+abbrev pub is_some : List ℕ → Bool
+is_some [] = false
+is_some (b ∷ rest) = true
+
+abbrev pub begins_above_zero : List ℕ → Bool
+begins_above_zero [] = false
+begins_above_zero (zero ∷ rest) = false
+begins_above_zero (suc b ∷ rest) = true
 
 abbrev pub is_zeros : List ℕ → Bool
 is_zeros [] = true
@@ -55,6 +74,8 @@ is_zeros (suc b ∷ rest) = false
 abbrev pub lines : Journal
 lines = record {
   is_state = λ s. true;
+  is_command = λ c. is_some c;
+  is_entered = λ c. begins_above_zero c;
   after = λ s c. s ++ marked c;
   response = λ s c. s;
   begun = λ seed. Some seed;
@@ -62,6 +83,7 @@ lines = record {
   link = λ p c. p.chain;
   head = λ s. line s;
   first = λ s. 0;
+  after_head = λ text. headed_by (line_at text);
   opened = λ text. opened_by (line_at text);
   followed = λ p text.
       Some (spot_at p.chain (walk p.state [] 0 0 text).0, (walk p.state [] 0 0 text).1);

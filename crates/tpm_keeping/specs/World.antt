@@ -21,13 +21,13 @@
 -- where bytes stand that were forced before; network file systems, whose locks and renames are seen
 -- late; two hosts on one folder; the lock's file removed under its holder; anybody else who writes to
 -- the folder.
-use Rattle.std.specs.Prelude.{◌≡◌, ℕ, zero, suc, ◌+◌, ◌-◌, ◌<◌, ◌==◌, ◌&&◌, Bool, true, false, cond, List, [], ◌∷◌, ◌++◌, drop, length, max, min, nat_le, take, Option, Some, None}
-use Rattle.tpm_keeping.specs.Journal.{Journal, Spot, run, started, whole_in}
+use Rattle.std.specs.Prelude.{◌≡◌, ℕ, zero, suc, ◌+◌, ◌-◌, ◌<◌, ◌≤◌, ◌==◌, ◌&&◌, Bool, true, false, cond, List, [], ◌∷◌, ◌++◌, drop, length, max, min, nat_le, take, Option, Some, None}
+use Rattle.tpm_keeping.specs.Journal.{Entered, Journal, Spot, entries, run, started, trail, whole_in}
 use Rattle.tpm_keeping.specs.Holder.{Holder, Told, Done, Stands, Gone, Bytes, Failed, Starved, asked, is_never, newborn, next_in, rests, sure}
 use Rattle.tpm_keeping.specs.declared.holder.Force.{Force}
 use Rattle.tpm_keeping.specs.declared.holder.Force.TheVariants.{Power, Always}
 use Rattle.tpm_keeping.specs.declared.holder.Job.{Job}
-use Rattle.tpm_keeping.specs.declared.holder.Job.TheVariants.{Execute, Leap, Renew}
+use Rattle.tpm_keeping.specs.declared.holder.Job.TheVariants.{Execute, Renew}
 use Rattle.tpm_keeping.specs.declared.holder.End.{End}
 use Rattle.tpm_keeping.specs.declared.holder.End.TheVariants as ending
 use Rattle.tpm_keeping.specs.declared.holder.Phase.{Phase}
@@ -41,6 +41,9 @@ pub record Content : Type 0 where
 -- A file. Its number is 0 where there is none, and no other has it ever.
 pub record File : Type 0 where
   pub number : ℕ
+  -- its head, and the spot after it
+  pub head : List ℕ
+  pub start : Spot
   -- the commands before its first entry
   pub before : List (List ℕ)
   pub now : Content
@@ -120,40 +123,45 @@ with_holder s holders p k = record { shared = s; holders = λ q. cond (q == p) k
 abbrev pub written : (text : List ℕ) → (at : ℕ) → (bytes : List ℕ) → List ℕ
 written text at bytes = take at text ++ (bytes ++ drop (at + length bytes) text)
 
--- the commands whose entries a job appends; those that lead to the state in which its new journal
--- begins, and those whose entries it has
-abbrev pub adds : Job → List ℕ → List (List ℕ)
-adds Execute c = c ∷ []
-adds job c = []
+-- the commands whose entries a job appends, to the journal or to a new one; and those that lead to
+-- the state in which its new journal begins
+abbrev pub adds : Journal → Job → List ℕ → List (List ℕ)
+adds j Execute c = cond (j.is_entered c) (c ∷ []) []
+adds j job c = []
 
-abbrev pub leads : Job → List ℕ → List (List ℕ)
-leads Leap c = c ∷ []
-leads job c = []
+abbrev pub leads : Journal → Job → List ℕ → List (List ℕ)
+leads j Execute c = cond (j.is_entered c) [] (c ∷ [])
+leads j job c = []
 
 -- so much of a holder's text is put: what is behind the executed bytes is cut first
-abbrev pub put_more : Holder → (count : ℕ) → List (List ℕ)
-put_more k count = cond (nat_le (length k.out) count) (adds k.job k.command) []
+abbrev pub put_more : Journal → Holder → (count : ℕ) → List (List ℕ)
+put_more j k count = cond (nat_le (length k.out) count) (adds j k.job k.command) []
 
 -- what was dropped is written again, where all from the forced bytes on is
 abbrev pub put_dropped : File → Holder → (count : ℕ) → Bool
 put_dropped f k count =
     cond (nat_le (length k.out) count && nat_le (sure k) (min f.forced k.place)) false f.is_dropped
 
-abbrev pub put_on : File → Holder → (count : ℕ) → File
-put_on f k count = record {
+abbrev pub put_on : Journal → File → Holder → (count : ℕ) → File
+put_on j f k count = record {
   number = f.number;
+  head = f.head;
+  start = f.start;
   before = f.before;
   now = record {
     text = written (take k.place f.now.text) (sure k) (take count k.out);
-    commands = f.now.commands ++ put_more k count;
+    commands = f.now.commands ++ put_more j k count;
   };
   past = f.now ∷ f.past;
   forced = min f.forced k.place;
   is_dropped = put_dropped f k count;
 }
 
-abbrev pub put : Shared → Holder → (count : ℕ) → Shared
-put s k count = record s { file = put_on s.file k count; history = s.history ++ put_more k count }
+abbrev pub put : Journal → Shared → Holder → (count : ℕ) → Shared
+put j s k count = record s {
+  file = put_on j s.file k count;
+  history = s.history ++ put_more j k count;
+}
 
 -- all bytes are on the disk, but where some were dropped
 abbrev pub forced : File → File
@@ -171,36 +179,41 @@ abbrev pub state_in : Option Spot → List ℕ
 state_in None = []
 state_in (Some p) = p.state
 
-abbrev pub named_from : (origin : List ℕ) → Shared → Holder → Shared
-named_from origin s k = record s {
-  origin = origin;
-  file = record {
-    number = s.next;
-    before = s.history ++ leads k.job k.command;
-    now = record { text = s.fresh; commands = adds k.job k.command };
-    past = [];
-    forced = s.fresh_forced;
-    is_dropped = false;
-  };
-  older = s.file ∷ s.older;
-  next = s.next + 1;
-  history = (s.history ++ leads k.job k.command) ++ adds k.job k.command;
-}
+abbrev pub named_from : Journal → (origin : List ℕ) → Shared → Holder → Shared
+named_from j origin s k =
+    let before = s.history ++ leads j k.job k.command in
+    let base = run j origin before in
+    record s {
+      origin = origin;
+      file = record {
+        number = s.next;
+        head = j.head base;
+        start = started j base;
+        before = before;
+        now = record { text = s.fresh; commands = adds j k.job k.command };
+        past = [];
+        forced = s.fresh_forced;
+        is_dropped = false;
+      };
+      older = s.file ∷ s.older;
+      next = s.next + 1;
+      history = before ++ adds j k.job k.command;
+    }
 
-abbrev pub named : Shared → Holder → Shared
-named s k = named_from (cond (s.file.number == 0) (state_in k.device) s.origin) s k
+abbrev pub named : Journal → Shared → Holder → Shared
+named j s k = named_from j (cond (s.file.number == 0) (state_in k.device) s.origin) s k
 
 -- what is done of what a holder is to do
-abbrev pub does : Phase → Shared → Holder → Effect → Shared
-does Putting s k (Part count) = put s k count
-does Putting s k All = put s k (length k.out)
-does Forcing s k (Part count) = lost s
-does Forcing s k All = record s { file = forced s.file }
-does Making s k (Part count) = record s { fresh = take count k.out; fresh_forced = 0 }
-does Making s k All = record s { fresh = k.out; fresh_forced = length k.out }
-does Naming s k All = named s k
-does Settling s k All = record s { older = [] }
-does phase s k effect = s
+abbrev pub does : Journal → Phase → Shared → Holder → Effect → Shared
+does j Putting s k (Part count) = put j s k count
+does j Putting s k All = put j s k (length k.out)
+does j Forcing s k (Part count) = lost s
+does j Forcing s k All = record s { file = forced s.file }
+does j Making s k (Part count) = record s { fresh = take count k.out; fresh_forced = 0 }
+does j Making s k All = record s { fresh = k.out; fresh_forced = length k.out }
+does j Naming s k All = named j s k
+does j Settling s k All = record s { older = [] }
+does j phase s k effect = s
 
 -- what the host then tells
 abbrev pub tells : Phase → Shared → Holder → (more : ℕ) → Told
@@ -223,24 +236,23 @@ answer_of s k = record {
 
 abbrev pub with_answer : Job → Shared → Holder → List Answer
 with_answer Execute s k = answer_of s k ∷ s.answers
-with_answer Leap s k = answer_of s k ∷ s.answers
 with_answer job s k = s.answers
 
-abbrev pub promise : Force → Job → Shared → ℕ
-promise Always job s = length s.history
-promise Power Leap s = length s.history
-promise Power Renew s = length s.history
-promise force job s = s.promised
+abbrev pub promise : Journal → Force → Job → (command : List ℕ) → Shared → ℕ
+promise j Always job c s = length s.history
+promise j Power Execute c s = cond (j.is_entered c) s.promised (length s.history)
+promise j Power Renew c s = length s.history
+promise j force job c s = s.promised
 
 -- the lock is given back
-abbrev pub left : End → Shared → Holder → Shared
-left ending.Done s k = record s {
+abbrev pub left : Journal → End → Shared → Holder → Shared
+left j ending.Done s k = record s {
   locked = false;
-  promised = promise k.force k.job s;
+  promised = promise j k.force k.job k.command s;
   lasting = cond (is_never k.force) s.lasting true;
   answers = with_answer k.job s k;
 }
-left (ending.Failed f) s k = record s { locked = false }
+left j (ending.Failed f) s k = record s { locked = false }
 
 -- ---- one event
 
@@ -251,17 +263,17 @@ does_in j Locking w p k more =
     (with_holder (record w.shared { locked = true; locker = p }) w.holders p
     (next_in j Locking k Done))
 does_in j (Leaving e) w p k more =
-    with_holder (left e w.shared k) w.holders p (next_in j (Leaving e) k Done)
+    with_holder (left j e w.shared k) w.holders p (next_in j (Leaving e) k Done)
 does_in j phase w p k more =
-    let s = does phase w.shared k All in
+    let s = does j phase w.shared k All in
     with_holder s w.holders p (next_in j phase k (tells phase s k more))
 
 abbrev pub fails_in : Journal → Phase → World → (p : ℕ) → Holder → Effect → Told → World
 fails_in j (Ended e) w p k effect told = w
 fails_in j (Leaving e) w p k effect told =
-    with_holder (left e w.shared k) w.holders p (next_in j (Leaving e) k told)
+    with_holder (left j e w.shared k) w.holders p (next_in j (Leaving e) k told)
 fails_in j phase w p k effect told =
-    with_holder (does phase w.shared k effect) w.holders p (next_in j phase k told)
+    with_holder (does j phase w.shared k effect) w.holders p (next_in j phase k told)
 
 -- a process that died has no lock
 abbrev pub freed : Shared → ℕ → Shared
@@ -287,14 +299,15 @@ abbrev pub litter_of : Journal → List ℕ → List ℕ
 litter_of j litter = cond (j.is_litter litter) litter []
 
 -- what is left of a file: so many bytes of a content, and litter
-abbrev pub left_of : Journal → (base : List ℕ) → File → Content → (count : ℕ)
-    → (litter : List ℕ) → File
-left_of j base f c count litter = record {
+abbrev pub left_of : Journal → File → Content → (count : ℕ) → (litter : List ℕ) → File
+left_of j f c count litter = record {
   number = f.number;
+  head = f.head;
+  start = f.start;
   before = f.before;
   now = record {
     text = take count c.text ++ litter;
-    commands = whole_in j (started j base) c.commands (count - length (j.head base));
+    commands = whole_in j f.start c.commands (count - length f.head);
   };
   past = [];
   forced = length (take count c.text ++ litter);
@@ -321,9 +334,8 @@ stands f s = record s {
 abbrev pub crashed_to : Journal → Shared → File → (content far : ℕ) → (litter : List ℕ)
     → Shared
 crashed_to j s f content far litter =
-    let base = run j s.origin f.before in
     let content = content_at f.now f.past content in
-    stands (left_of j base f content (max f.forced far) (litter_of j litter)) s
+    stands (left_of j f content (max f.forced far) (litter_of j litter)) s
 
 abbrev pub crashed : Journal → Shared → (file content far : ℕ) → (litter : List ℕ) → Shared
 crashed j s file content far litter =
@@ -340,7 +352,7 @@ happens j w (Does p more) = does_in j (w.holders p).phase w p (w.holders p) more
 happens j w (Fails p effect starved) =
     fails_in j (w.holders p).phase w p (w.holders p) effect (cond starved Starved Failed)
 happens j w (Dies p effect) =
-    with_holder (freed (does (w.holders p).phase w.shared (w.holders p) effect) p) w.holders p
+    with_holder (freed (does j (w.holders p).phase w.shared (w.holders p) effect) p) w.holders p
     (newborn (w.holders p).force (w.holders p).limit)
 happens j w (Forks p child) = with_holder w.shared w.holders child (rests (w.holders p))
 happens j w Drops =
@@ -354,17 +366,28 @@ abbrev pub happen : Journal → List Event → World → World
 happen j [] w = w
 happen j (e ∷ es) w = happen j es (happens j w e)
 
--- an empty folder, and processes that have done nothing yet
-pub record IsStart (w : World) : Type 0 where
-  pub number : w.shared.file.number ≡ 0
+-- There is no journal; or one is there, forced, with whole entries and perhaps what is torn.
+pub record IsFound (j : Journal) (f : File) : Type 0 where
+  pub after : j.after_head f.head ≡ Some f.start
+  pub lives : j.is_state f.start.state ≡ true
+  pub entered : Entered j f.now.commands
+  pub tail : List ℕ
+  pub torn : j.is_torn (trail j f.start f.now.commands) tail ≡ true
+  pub text : f.now.text ≡ f.head ++ (entries j f.start f.now.commands ++ tail)
+  pub forced : f.forced ≡ length f.now.text
+
+-- A folder with a journal or none, and processes that have done nothing yet. The history begins with
+-- the commands whose entries the journal has.
+pub record IsStart (j : Journal) (w : World) : Type 0 where
+  pub found : 0 < w.shared.file.number → IsFound j w.shared.file × (w.shared.origin ≡ w.shared.file.start.state)
+  pub none : w.shared.file.number ≡ 0 → w.shared.file.now.commands ≡ []
+  pub history : w.shared.history ≡ w.shared.file.now.commands
   pub before : w.shared.file.before ≡ []
-  pub commands : w.shared.file.now.commands ≡ []
   pub past : w.shared.file.past ≡ []
   pub older : w.shared.older ≡ []
-  pub next : 0 < w.shared.next
+  pub next : w.shared.file.number < w.shared.next
   pub unlocked : w.shared.locked ≡ false
-  pub history : w.shared.history ≡ []
-  pub promised : w.shared.promised ≡ 0
-  pub lasting : w.shared.lasting ≡ false
+  pub promised : w.shared.promised ≤ length w.shared.history
+  pub lasting : w.shared.lasting ≡ true → 0 < w.shared.file.number
   pub answers : w.shared.answers ≡ []
   pub holders : (p : ℕ) → w.holders p ≡ newborn (w.holders p).force (w.holders p).limit

@@ -1,6 +1,6 @@
 //! What a keeper asks of the device that it keeps and of its journal.
 
-ghost use Rattle.std.specs.Prelude.{◌≡◌, ◌++◌, ℕ, List, IfOk, OnOk};
+ghost use Rattle.std.specs.Prelude.{◌≡◌, ◌++◌, ℕ, List, IfOk, OnOk, false, true};
 ghost use Rattle.std.specs.Option.{MatchOption};
 ghost use Rattle.std.specs.declared.option.Option.TheVariants.{None, Some};
 ghost use Rattle.tpm_keeping.specs.Journal.{Journal, IsJournal, Spot, started, stepped};
@@ -39,16 +39,35 @@ pub trait Device: Drop + Sized {
             (journal.followed (spot self.old) text.now ≡ None)
             (λ taken. journal.followed (spot self.old) text.now ≡ Some (spot self.new, taken))) };
 
-    /// Executes a command, and appends its entry and its response.
+    /// Whether a text is one of a command.
+    fn is_command(command: &[u8]) -> bool
+        ensures { result ≡ journal.is_command command.now };
+
+    /// Whether a text is one of a command that has an entry.
+    fn is_entered(command: &[u8]) -> bool
+        ensures { result ≡ journal.is_entered command.now };
+
+    /// Executes a command that has an entry, and appends the entry and the response.
     fn execute(
         &mut self,
         command: &[u8],
         out: &mut Vec<u8>,
         response: &mut Vec<u8>,
     ) -> Result<(), Exhausted>
+        requires { journal.is_entered command.now ≡ true }
         ensures spot { OnOk result (spot self.new ≡ stepped journal (spot self.old) command.now) }
         ensures entry { OnOk result (out.new.items
             ≡ out.old.items ++ journal.entry (spot self.old) command.now) }
+        ensures response { OnOk result (response.new.items
+            ≡ response.old.items ++ journal.response (spot self.old).state command.now) };
+
+    /// Executes a command that has no entry, and appends the response. What the next entry is
+    /// chained to is not said: `renew` is called before there is one.
+    fn leap(&mut self, command: &[u8], response: &mut Vec<u8>) -> Result<(), Exhausted>
+        requires command { journal.is_command command.now ≡ true }
+        requires unentered { journal.is_entered command.now ≡ false }
+        ensures state { OnOk result ((spot self.new).state
+            ≡ journal.after (spot self.old).state command.now) }
         ensures response { OnOk result (response.new.items
             ≡ response.old.items ++ journal.response (spot self.old).state command.now) };
 

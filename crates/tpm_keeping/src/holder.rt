@@ -19,11 +19,9 @@ pub enum Force {
 #[derive(Clone, Copy, PartialEq, Eq)]
 pub enum Job {
     /// To execute a command. Its entry is appended, or begins a new journal where the old one has
-    /// grown past the limit.
+    /// grown. The state after a command without an entry, as a power cycle or the restoring of a
+    /// snapshot, begins a new journal.
     Execute,
-    /// To execute what no entry is to tell, as a power cycle or the restoring of a snapshot: the
-    /// state after it begins a new journal.
-    Leap,
     /// To begin the journal anew in the same state: a checkpoint.
     Renew,
     /// To give the text of the state: a snapshot.
@@ -50,6 +48,8 @@ pub enum Fault {
     Absent,
     /// A device was to begin of what is no text of one.
     Unreadable,
+    /// What was to be executed is no command.
+    NoCommand,
     /// What the file holds is no journal.
     Damaged,
     /// Memory was refused, or a number is too large for the machine.
@@ -73,6 +73,7 @@ impl Fault {
             Fault::Settle => "the folder cannot be forced to the disk",
             Fault::Absent => "there is no journal",
             Fault::Unreadable => "what a device was to begin with is no text of one",
+            Fault::NoCommand => "what was to be executed is no command",
             Fault::Damaged => "the journal is damaged, and stays as it is",
             Fault::Memory => "there is not enough memory",
         }

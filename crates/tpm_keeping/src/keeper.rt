@@ -58,22 +58,22 @@ pub enum Got<'a> {
 /// The keeper of a device.
 #[derive(Drop)]
 pub struct Keeper<D: Device> {
-    pub alloc: Global,
-    pub force: Force,
-    pub limit: u64,
-    pub phase: Phase,
-    pub job: Job,
-    pub command: Vec<u8>,
-    pub device: Option<D>,
-    pub file: u64,
-    pub place: u64,
-    pub unsure: Vec<u8>,
-    pub size: u64,
-    pub seen: u64,
-    pub read: Vec<u8>,
-    pub settled: bool,
-    pub out: Vec<u8>,
-    pub response: Vec<u8>,
+    pub(crate) alloc: Global,
+    pub(crate) force: Force,
+    pub(crate) limit: u64,
+    pub(crate) phase: Phase,
+    pub(crate) job: Job,
+    pub(crate) command: Vec<u8>,
+    pub(crate) device: Option<D>,
+    pub(crate) file: u64,
+    pub(crate) place: u64,
+    pub(crate) unsure: Vec<u8>,
+    pub(crate) size: u64,
+    pub(crate) seen: u64,
+    pub(crate) read: Vec<u8>,
+    pub(crate) settled: bool,
+    pub(crate) out: Vec<u8>,
+    pub(crate) response: Vec<u8>,
 }
 
 impl<D: Device> Keeper<D> {
@@ -120,6 +120,20 @@ impl<D: Device> Keeper<D> {
             Phase::Settling => Ask::Settle,
             Phase::Leaving(_) => Ask::Unlock,
         }
+    }
+
+    /// What the host is to write at a `Put` or a `Make`.
+    pub fn out(&self) -> &[u8]
+        ensures { result.now ≡ self.now.out.items }
+    {
+        &self.out
+    }
+
+    /// The response of the last call, if that is done.
+    pub fn response(&self) -> &[u8]
+        ensures { result.now ≡ self.now.response.items }
+    {
+        &self.response
     }
 
     /// The place from which on this holder has not itself seen the file forced.

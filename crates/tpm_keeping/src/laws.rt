@@ -17,7 +17,7 @@ ghost use Rattle.tpm_keeping.specs.declared.holder.Phase.TheVariants.{Leaving};
 /// answer is of it, and what each holder promised by its word is there.
 pub fn kept_through_crashes()
     ensures { (j : Journal) (start : World) (events : List Event)
-        → IsJournal j → IsStart start → IsKept j (happen j events start).shared }
+        → IsJournal j → IsStart j start → IsKept j (happen j events start).shared }
 {}
 
 /// Each answer of the host takes a call further, or it has read more of the file.
@@ -29,14 +29,16 @@ pub fn calls_advance()
 /// What was promised stays the beginning of the history, whatever happens next.
 pub fn promises_are_kept()
     ensures { (j : Journal) (start : World) (events : List Event) (e : Event)
-        → IsJournal j → IsStart start
+        → IsJournal j → IsStart j start
         → let w = happen j events start in KeepsPromises w.shared (happens j w e).shared }
 {}
 
-/// What holds of all commands that were asked for holds of the history: nothing else is in it.
+/// What holds of all commands that the journal had and of all that were asked for holds of the
+/// history: nothing else is in it.
 pub fn only_what_was_asked()
     ensures { (j : Journal) (start : World) (events : List Event) (test : List ℕ → Bool)
-        → IsJournal j → IsStart start → Pass test events
+        → IsJournal j → IsStart j start → AllByRecursion (λ c. test c ≡ true) start.shared.history
+        → Pass test events
         → AllByRecursion (λ c. test c ≡ true) (happen j events start).shared.history }
 {}
 
@@ -44,7 +46,7 @@ pub fn only_what_was_asked()
 /// history has left the device.
 pub fn snapshots_are_true()
     ensures { (j : Journal) (start : World) (events : List Event) (p : ℕ)
-        → IsJournal j → IsStart start
+        → IsJournal j → IsStart j start
         → ((happen j events start).holders p).phase ≡ Leaving Done
         → ((happen j events start).holders p).job ≡ Show
         → ((happen j events start).holders p).response ≡ j.head

@@ -1,14 +1,13 @@
 //! The steps of a keeper: what it makes of what its host did or saw.
 
 ghost use Rattle.std.specs.Prelude.{◌≡◌, ◌+◌, ◌++◌, ℕ, List, [], IfOk, OnErr, OnOk, length};
-ghost use Rattle.std.specs.Prelude.{take};
+ghost use Rattle.std.specs.Prelude.{false, take, true};
 ghost use Rattle.std.specs.declared.option.Option.TheVariants.{None, Some};
-ghost use Rattle.tpm_keeping.specs.Holder.{acts, begins, caught_up, dropped, executes, finishes};
-ghost use Rattle.tpm_keeping.specs.Holder.{found, has_named, has_put, has_read, looked, reads_on};
-ghost use Rattle.tpm_keeping.specs.Holder.{settles, shows};
+ghost use Rattle.tpm_keeping.specs.Holder.{acts, begins, caught_up, dropped, enters, executes, finishes};
+ghost use Rattle.tpm_keeping.specs.Holder.{found, has_named, has_put, has_read, is_grown, leaps, looked};
+ghost use Rattle.tpm_keeping.specs.Holder.{reads_on, settles, shows};
 ghost use Rattle.tpm_keeping.specs.Holder.{begins_of};
 ghost use Rattle.tpm_keeping.specs.declared.holder.Fault.TheVariants.{Memory};
-ghost use Rattle.tpm_keeping.specs.declared.holder.Job.TheVariants.{Execute, Leap};
 ghost use Rattle.tpm_keeping.specs.View.{holder_of};
 
 use crate::device::{Device, Exhausted};
@@ -134,7 +133,6 @@ impl<D: Device> Keeper<D> {
         self.response.clear();
         match self.job {
             Job::Execute => self.executes(device),
-            Job::Leap => self.leaps(device),
             Job::Renew => {
                 device.renew(&mut self.out)?;
                 self.phase = Phase::Making;
@@ -149,17 +147,54 @@ impl<D: Device> Keeper<D> {
         }
     }
 
-    /// Executes the command. Its entry follows all that the holder has not seen forced, or begins a
-    /// new journal.
-    fn executes(&mut self, mut device: D) -> Result<(), Exhausted>
+    /// Executes the command, where it is one.
+    fn executes(&mut self, device: D) -> Result<(), Exhausted>
         requires out { self.old.out.items ≡ [] }
         requires response { self.old.response.items ≡ [] }
-        ensures ok { OnOk result (holder_of D.spot self.new ≡ acts D.journal Execute
+        ensures ok { OnOk result (holder_of D.spot self.new ≡ executes D.journal
             (holder_of D.spot self.old) (D.spot device)) }
         ensures err { OnErr result (dropped Memory (holder_of D.spot self.new)
             ≡ dropped Memory (holder_of D.spot self.old)) }
     {
-        if self.limit <= self.place {
+        if !D::is_command(&self.command) {
+            self.phase = Phase::Leaving(End::Failed(Fault::NoCommand));
+            self.device = Some(device);
+            return Ok(());
+        }
+        if D::is_entered(&self.command) {
+            self.enters(device)
+        } else {
+            self.leaps(device)
+        }
+    }
+
+    /// Whether the journal has grown: it has reached the limit, and twice what it would begin with
+    /// now.
+    fn is_grown(&self, device: &D) -> Result<bool, Exhausted>
+        ensures { IfOk result (λ grown. grown ≡ is_grown D.journal (holder_of D.spot self.now)
+            (D.spot device.now)) }
+    {
+        if self.place < self.limit {
+            return Ok(false);
+        }
+        let mut head = Vec::new(self.alloc);
+        device.show(&mut head)?;
+        Ok(head.len() as u64 <= self.place / 2)
+    }
+
+    /// Executes a command that has an entry. The entry follows all that the holder has not seen
+    /// forced, or begins a new journal.
+    fn enters(&mut self, mut device: D) -> Result<(), Exhausted>
+        requires out { self.old.out.items ≡ [] }
+        requires response { self.old.response.items ≡ [] }
+        requires entered { D.journal.is_entered self.old.command.items ≡ true }
+        ensures ok { OnOk result (holder_of D.spot self.new ≡ enters D.journal
+            (holder_of D.spot self.old) (D.spot device)
+            (is_grown D.journal (holder_of D.spot self.old) (D.spot device))) }
+        ensures err { OnErr result (dropped Memory (holder_of D.spot self.new)
+            ≡ dropped Memory (holder_of D.spot self.old)) }
+    {
+        if self.is_grown(&device)? {
             device.renew(&mut self.out)?;
             self.phase = Phase::Making;
         } else {
@@ -173,17 +208,18 @@ impl<D: Device> Keeper<D> {
         Ok(())
     }
 
-    /// Executes the command. The state after it begins a new journal.
+    /// Executes a command that has no entry. The state after it begins a new journal.
     fn leaps(&mut self, mut device: D) -> Result<(), Exhausted>
         requires out { self.old.out.items ≡ [] }
         requires response { self.old.response.items ≡ [] }
-        ensures ok { OnOk result (holder_of D.spot self.new ≡ acts D.journal Leap
+        requires command { D.journal.is_command self.old.command.items ≡ true }
+        requires unentered { D.journal.is_entered self.old.command.items ≡ false }
+        ensures ok { OnOk result (holder_of D.spot self.new ≡ leaps D.journal
             (holder_of D.spot self.old) (D.spot device)) }
         ensures err { OnErr result (dropped Memory (holder_of D.spot self.new)
             ≡ dropped Memory (holder_of D.spot self.old)) }
     {
-        let mut entry = Vec::new(self.alloc);
-        device.execute(&self.command, &mut entry, &mut self.response)?;
+        device.leap(&self.command, &mut self.response)?;
         device.renew(&mut self.out)?;
         self.phase = Phase::Making;
         self.device = Some(device);
