@@ -3,15 +3,15 @@ use Rattle.std.proofs.Common.{◌≡◌, ℕ, ◌+◌, ◌==◌, Bool, true, fal
 use Rattle.std.specs.List.{AllByRecursion}
 use Rattle.std.specs.Prelude.{nat_le, ◌||◌}
 use Rattle.tpm_keeping.specs.Journal.{Journal, IsJournal, Spot}
-use Rattle.tpm_keeping.specs.Holder.{Holder, Told, Done, Stands, Gone, Bytes, Failed, Starved, acts, asked_in, begins, begins_of, caught_up, executes, finishes, found, goes, is_always, is_never, knows_file, looked, newborn, next_in, reads_on, rests_in, settles}
+use Rattle.tpm_keeping.specs.Holder.{Holder, Told, Done, Stands, Gone, Bytes, Failed, Starved, acts, asked_in, begins, begins_of, caught_up, enters, executes, finishes, found, goes, is_always, is_grown, is_never, knows_file, leaps, looked, newborn, next_in, reads_on, refuses, rests_in, settles}
 use Rattle.tpm_keeping.specs.World.{Effect, Part, All, Event, Starts, Asks, Does, Fails, Dies, Forks, Drops, Crashes, IsStart, Shared, World, adds, leads, does, does_in, fails_in, freed, happen, happens, left, lost, put_more, starts_in, tells, with_holder}
 use Rattle.tpm_keeping.specs.Kept.{Pass}
 use Rattle.tpm_keeping.proofs.Invariant.{Fine}
 use Rattle.tpm_keeping.proofs.Promises.{crash_is_front}
-use Rattle.tpm_keeping.proofs.Runs.{begun, step}
+use Rattle.tpm_keeping.proofs.Runs.{start_is_fine, step}
 use Rattle.tpm_keeping.specs.declared.holder.Force.{Force}
 use Rattle.tpm_keeping.specs.declared.holder.Job.{Job}
-use Rattle.tpm_keeping.specs.declared.holder.Job.TheVariants.{Execute, Leap, Renew, Show, Begin}
+use Rattle.tpm_keeping.specs.declared.holder.Job.TheVariants.{Execute, Renew, Show, Begin}
 use Rattle.tpm_keeping.specs.declared.holder.End.{End}
 use Rattle.tpm_keeping.specs.declared.holder.End.TheVariants as ending
 use Rattle.tpm_keeping.specs.declared.holder.Phase.{Phase}
@@ -38,13 +38,20 @@ chosen test c false x y hx hy = hy
 settles_fair : (test : List ℕ → Bool) (k : Holder) → test k.command ≡ true → Fair test (settles k) k.command
 settles_fair test k ok = chosen test k.command (k.settled || is_never k.force) (Leaving ending.Done) Settling tt ok
 
-executes_fair : (test : List ℕ → Bool) (j : Journal) (k : Holder) (s : Spot) (b : Bool) → test k.command ≡ true → IsFair test (executes j k s b)
-executes_fair test j k s true ok = ok
-executes_fair test j k s false ok = ok
+enters_fair : (test : List ℕ → Bool) (j : Journal) (k : Holder) (s : Spot) (b : Bool) → test k.command ≡ true → IsFair test (enters j k s b)
+enters_fair test j k s true ok = ok
+enters_fair test j k s false ok = ok
+
+executes_fair : (test : List ℕ → Bool) (j : Journal) (k : Holder) (s : Spot) → test k.command ≡ true → IsFair test (executes j k s)
+executes_fair test j k s ok = by (j.is_command k.command) (j.is_entered k.command)
+  where
+    by : (a b : Bool) → IsFair test (cond a (cond b (enters j k s (is_grown j k s)) (leaps j k s)) (refuses k s))
+    by false b = tt
+    by true true = enters_fair test j k s (is_grown j k s) ok
+    by true false = ok
 
 acts_fair : (job : Job) (test : List ℕ → Bool) (j : Journal) (k : Holder) (s : Spot) → test k.command ≡ true → IsFair test (acts j job k s)
-acts_fair Execute test j k s ok = executes_fair test j k s (nat_le k.limit k.place) ok
-acts_fair Leap test j k s ok = ok
+acts_fair Execute test j k s ok = executes_fair test j k s ok
 acts_fair Renew test j k s ok = ok
 acts_fair Show test j k s ok = chosen test k.command (is_always k.force) Putting (settles k) ok (settles_fair test k ok)
 acts_fair Begin test j k s ok = chosen test k.command (is_always k.force) Putting (settles k) ok (settles_fair test k ok)
@@ -75,7 +82,6 @@ begins_fair Begin test j k ok = by (j.begun k.command)
     by None = tt
     by (Some s) = ok
 begins_fair Execute test j k ok = tt
-begins_fair Leap test j k ok = tt
 begins_fair Renew test j k ok = tt
 begins_fair Show test j k ok = tt
 
@@ -115,44 +121,50 @@ front_passes : (test : List ℕ → Bool) (cs ds : List (List ℕ)) → Passing 
 front_passes test [] ds h = tt
 front_passes test (c ∷ cs) ds h = (h.0, front_passes test cs ds h.1)
 
-adds_pass : (job : Job) (test : List ℕ → Bool) (c : List ℕ) → test c ≡ true → Passing test (adds job c)
-adds_pass Execute test c ok = (ok, tt)
-adds_pass Leap test c ok = tt
-adds_pass Renew test c ok = tt
-adds_pass Show test c ok = tt
-adds_pass Begin test c ok = tt
+one_passes : (test : List ℕ → Bool) (c : List ℕ) (b : Bool) → test c ≡ true → Passing test (cond b (c ∷ []) [])
+one_passes test c true ok = (ok, tt)
+one_passes test c false ok = tt
 
-leads_pass : (job : Job) (test : List ℕ → Bool) (c : List ℕ) → test c ≡ true → Passing test (leads job c)
-leads_pass Leap test c ok = (ok, tt)
-leads_pass Execute test c ok = tt
-leads_pass Renew test c ok = tt
-leads_pass Show test c ok = tt
-leads_pass Begin test c ok = tt
+other_passes : (test : List ℕ → Bool) (c : List ℕ) (b : Bool) → test c ≡ true → Passing test (cond b [] (c ∷ []))
+other_passes test c true ok = tt
+other_passes test c false ok = (ok, tt)
 
-put_passes : (test : List ℕ → Bool) (s : Shared) (k : Holder) (count : ℕ) → test k.command ≡ true → Passing test s.history → Passing test (s.history ++ put_more k count)
-put_passes test s k count ok h = both_pass test s.history (put_more k count) h (by (nat_le (length k.out) count))
+adds_pass : (job : Job) (test : List ℕ → Bool) (j : Journal) (c : List ℕ) → test c ≡ true → Passing test (adds j job c)
+adds_pass Execute test j c ok = one_passes test c (j.is_entered c) ok
+adds_pass Renew test j c ok = tt
+adds_pass Show test j c ok = tt
+adds_pass Begin test j c ok = tt
+
+leads_pass : (job : Job) (test : List ℕ → Bool) (j : Journal) (c : List ℕ) → test c ≡ true → Passing test (leads j job c)
+leads_pass Execute test j c ok = other_passes test c (j.is_entered c) ok
+leads_pass Renew test j c ok = tt
+leads_pass Show test j c ok = tt
+leads_pass Begin test j c ok = tt
+
+put_passes : (test : List ℕ → Bool) (j : Journal) (s : Shared) (k : Holder) (count : ℕ) → test k.command ≡ true → Passing test s.history → Passing test (s.history ++ put_more j k count)
+put_passes test j s k count ok h = both_pass test s.history (put_more j k count) h (by (nat_le (length k.out) count))
   where
-    by : (b : Bool) → Passing test (cond b (adds k.job k.command) [])
-    by true = adds_pass k.job test k.command ok
+    by : (b : Bool) → Passing test (cond b (adds j k.job k.command) [])
+    by true = adds_pass k.job test j k.command ok
     by false = tt
 
-does_passes : (phase : Phase) (effect : Effect) (test : List ℕ → Bool) (s : Shared) (k : Holder) → Fair test phase k.command → Passing test s.history
-    → Passing test (does phase s k effect).history
-does_passes Putting (Part count) test s k ok h = put_passes test s k count ok h
-does_passes Putting All test s k ok h = put_passes test s k (length k.out) ok h
-does_passes Forcing (Part count) test s k ok h = h
-does_passes Forcing All test s k ok h = h
-does_passes Making (Part count) test s k ok h = h
-does_passes Making All test s k ok h = h
-does_passes Naming All test s k ok h =
-    both_pass test (s.history ++ leads k.job k.command) (adds k.job k.command)
-    (both_pass test s.history (leads k.job k.command) h (leads_pass k.job test k.command ok)) (adds_pass k.job test k.command ok)
-does_passes Settling All test s k ok h = h
-does_passes phase effect test s k ok h = h
+does_passes : (phase : Phase) (effect : Effect) (test : List ℕ → Bool) (j : Journal) (s : Shared) (k : Holder) → Fair test phase k.command → Passing test s.history
+    → Passing test (does j phase s k effect).history
+does_passes Putting (Part count) test j s k ok h = put_passes test j s k count ok h
+does_passes Putting All test j s k ok h = put_passes test j s k (length k.out) ok h
+does_passes Forcing (Part count) test j s k ok h = h
+does_passes Forcing All test j s k ok h = h
+does_passes Making (Part count) test j s k ok h = h
+does_passes Making All test j s k ok h = h
+does_passes Naming All test j s k ok h =
+    both_pass test (s.history ++ leads j k.job k.command) (adds j k.job k.command)
+    (both_pass test s.history (leads j k.job k.command) h (leads_pass k.job test j k.command ok)) (adds_pass k.job test j k.command ok)
+does_passes Settling All test j s k ok h = h
+does_passes phase effect test j s k ok h = h
 
-left_passes : (e : End) (test : List ℕ → Bool) (s : Shared) (k : Holder) → Passing test s.history → Passing test (left e s k).history
-left_passes ending.Done test s k h = h
-left_passes (ending.Failed f) test s k h = h
+left_passes : (e : End) (test : List ℕ → Bool) (j : Journal) (s : Shared) (k : Holder) → Passing test s.history → Passing test (left j e s k).history
+left_passes ending.Done test j s k h = h
+left_passes (ending.Failed f) test j s k h = h
 
 -- ---- a run
 
@@ -175,10 +187,10 @@ choice test false v w hv hw = hw
 -- a step that is not about the lock
 moves_fair : (phase : Phase) (effect : Effect) (told : Told) (test : List ℕ → Bool) (j : Journal) (w : World) (p : ℕ) → AllFair test w → (w.holders p).phase ≡ phase
     → Fair test phase (w.holders p).command
-    → AllFair test (with_holder (does phase w.shared (w.holders p) effect) w.holders p (next_in j phase (w.holders p) told))
+    → AllFair test (with_holder (does j phase w.shared (w.holders p) effect) w.holders p (next_in j phase (w.holders p) told))
 moves_fair phase effect told test j w p h is ok =
     let k = w.holders p in
-    with_fair test w (does phase w.shared k effect) p (next_in j phase k told) h (does_passes phase effect test w.shared k ok h.history) (next_fair phase told test j k is ok)
+    with_fair test w (does j phase w.shared k effect) p (next_in j phase k told) h (does_passes phase effect test j w.shared k ok h.history) (next_fair phase told test j k is ok)
 
 does_fair : (phase : Phase) (test : List ℕ → Bool) (j : Journal) (w : World) (p more : ℕ) → AllFair test w → (w.holders p).phase ≡ phase → Fair test phase (w.holders p).command
     → AllFair test (does_in j phase w p (w.holders p) more)
@@ -188,20 +200,20 @@ does_fair Locking test j w p more h is ok =
     let new = with_holder s w.holders p (next_in j Locking (w.holders p) Done) in
     choice test w.shared.locked w new h (with_fair test w s p (next_in j Locking (w.holders p) Done) h h.history ok)
 does_fair (Leaving e) test j w p more h is ok =
-    with_fair test w (left e w.shared (w.holders p)) p (next_in j (Leaving e) (w.holders p) Done) h (left_passes e test w.shared (w.holders p) h.history) tt
+    with_fair test w (left j e w.shared (w.holders p)) p (next_in j (Leaving e) (w.holders p) Done) h (left_passes e test j w.shared (w.holders p) h.history) tt
 does_fair Looking test j w p more h is ok = moves_fair Looking All (tells Looking w.shared (w.holders p) more) test j w p h is ok
 does_fair Reading test j w p more h is ok = moves_fair Reading All (tells Reading w.shared (w.holders p) more) test j w p h is ok
 does_fair Putting test j w p more h is ok = moves_fair Putting All Done test j w p h is ok
 does_fair Forcing test j w p more h is ok = moves_fair Forcing All Done test j w p h is ok
 does_fair Making test j w p more h is ok = moves_fair Making All Done test j w p h is ok
-does_fair Naming test j w p more h is ok = moves_fair Naming All (tells Naming (does Naming w.shared (w.holders p) All) (w.holders p) more) test j w p h is ok
+does_fair Naming test j w p more h is ok = moves_fair Naming All (tells Naming (does j Naming w.shared (w.holders p) All) (w.holders p) more) test j w p h is ok
 does_fair Settling test j w p more h is ok = moves_fair Settling All Done test j w p h is ok
 
 fails_fair : (phase : Phase) (effect : Effect) (told : Told) (test : List ℕ → Bool) (j : Journal) (w : World) (p : ℕ) → AllFair test w → (w.holders p).phase ≡ phase
     → Fair test phase (w.holders p).command → AllFair test (fails_in j phase w p (w.holders p) effect told)
 fails_fair (Ended e) effect told test j w p h is ok = h
 fails_fair (Leaving e) effect told test j w p h is ok =
-    with_fair test w (left e w.shared (w.holders p)) p (next_in j (Leaving e) (w.holders p) told) h (left_passes e test w.shared (w.holders p) h.history) tt
+    with_fair test w (left j e w.shared (w.holders p)) p (next_in j (Leaving e) (w.holders p) told) h (left_passes e test j w.shared (w.holders p) h.history) tt
 fails_fair Locking effect told test j w p h is ok = moves_fair Locking effect told test j w p h is ok
 fails_fair Looking effect told test j w p h is ok = moves_fair Looking effect told test j w p h is ok
 fails_fair Reading effect told test j w p h is ok = moves_fair Reading effect told test j w p h is ok
@@ -232,7 +244,7 @@ event_fair test j w (Does p more) fine ok h = does_fair (w.holders p).phase test
 event_fair test j w (Fails p effect starved) fine ok h = fails_fair (w.holders p).phase effect (cond starved Starved Failed) test j w p h refl (h.holders p)
 event_fair test j w (Dies p effect) fine ok h =
     let k = w.holders p in
-    with_fair test w (freed (does k.phase w.shared k effect) p) p (newborn k.force k.limit) h (does_passes k.phase effect test w.shared k (h.holders p) h.history) tt
+    with_fair test w (freed (does j k.phase w.shared k effect) p) p (newborn k.force k.limit) h (does_passes k.phase effect test j w.shared k (h.holders p) h.history) tt
 event_fair test j w (Forks p child) fine ok h =
     with_fair test w w.shared child (rests_in (w.holders p).phase (w.holders p)) h h.history (rests_fair (w.holders p).phase test (w.holders p) (h.holders p))
 event_fair test j w Drops fine ok h =
@@ -244,27 +256,27 @@ event_fair test j w (Crashes file content far litter) fine ok h =
       holders = λ q. tt;
     }
 
-one_passes : (test : List ℕ → Bool) (e : Event) (es : List Event) → Pass test (e ∷ es) → Pass test (e ∷ []) × Pass test es
-one_passes test (Asks p job command) es ok = ((ok.0, tt), ok.1)
-one_passes test (Starts p force limit) es ok = (tt, ok)
-one_passes test (Does p more) es ok = (tt, ok)
-one_passes test (Fails p effect starved) es ok = (tt, ok)
-one_passes test (Dies p effect) es ok = (tt, ok)
-one_passes test (Forks p child) es ok = (tt, ok)
-one_passes test Drops es ok = (tt, ok)
-one_passes test (Crashes file content far litter) es ok = (tt, ok)
+event_passes : (test : List ℕ → Bool) (e : Event) (es : List Event) → Pass test (e ∷ es) → Pass test (e ∷ []) × Pass test es
+event_passes test (Asks p job command) es ok = ((ok.0, tt), ok.1)
+event_passes test (Starts p force limit) es ok = (tt, ok)
+event_passes test (Does p more) es ok = (tt, ok)
+event_passes test (Fails p effect starved) es ok = (tt, ok)
+event_passes test (Dies p effect) es ok = (tt, ok)
+event_passes test (Forks p child) es ok = (tt, ok)
+event_passes test Drops es ok = (tt, ok)
+event_passes test (Crashes file content far litter) es ok = (tt, ok)
 
 run_fair : (test : List ℕ → Bool) (j : Journal) (es : List Event) (w : World) → IsJournal j → Fine j w → Pass test es → AllFair test w → AllFair test (happen j es w)
 run_fair test j [] w laws fine ok h = h
 run_fair test j (e ∷ es) w laws fine ok h =
-    let x = one_passes test e es ok in
+    let x = event_passes test e es ok in
     run_fair test j es (happens j w e) laws (step j w e laws fine) x.1 (event_fair test j w e fine x.0 h)
 
-pub only_what_was_asked : (j : Journal) (start : World) (events : List Event) (test : List ℕ → Bool) → IsJournal j → IsStart start → Pass test events
-    → AllByRecursion (λ c. test c ≡ true) (happen j events start).shared.history
-only_what_was_asked j start events test laws h ok =
+pub only_what_was_asked : (j : Journal) (start : World) (events : List Event) (test : List ℕ → Bool) → IsJournal j → IsStart j start
+    → AllByRecursion (λ c. test c ≡ true) start.shared.history → Pass test events → AllByRecursion (λ c. test c ≡ true) (happen j events start).shared.history
+only_what_was_asked j start events test laws h was ok =
     let fair : AllFair test start = record {
-      history = subst (Passing test) (sym h.history) tt;
+      history = was;
       holders = λ p. subst (λ (k : Holder). IsFair test k) (sym (h.holders p)) tt;
     } in
-    (run_fair test j events start laws (begun j start h) ok fair).history
+    (run_fair test j events start laws (start_is_fine j start h) ok fair).history

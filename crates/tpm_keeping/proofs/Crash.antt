@@ -4,11 +4,11 @@ use Rattle.std.specs.List.{AllByRecursion}
 use Rattle.std.specs.Prelude.{nat_le}
 use Rattle.std.proofs.lemmas.Bool.Decides.{nat_tests}
 use Rattle.std.proofs.lemmas.List.{append-nil}
-use Rattle.tpm_keeping.specs.Journal.{Journal, IsJournal, entries, started, trail, whole_in}
+use Rattle.tpm_keeping.specs.Journal.{Entered, Journal, IsJournal, Spot, entries, trail, whole_in}
 use Rattle.tpm_keeping.specs.World.{Answer, Content, File, Shared, content_at, crashed, crashed_to, file_at, left_of, litter_of, within}
 use Rattle.tpm_keeping.specs.Kept.{Ascend, IsTrue}
-use Rattle.tpm_keeping.proofs.Entries.{whole, front_past, is_cut, is_front, keeps_sure}
-use Rattle.tpm_keeping.proofs.Invariant.{Each, IsContent, IsFile, IsText, Safe, Still, base_of}
+use Rattle.tpm_keeping.proofs.Entries.{whole, front_past, is_cut, is_front, keeps_sure, trail_lives, whole_in_entered}
+use Rattle.tpm_keeping.proofs.Invariant.{Each, IsContent, IsFile, IsText, Safe, Still}
 
 -- ---- the answers
 
@@ -88,35 +88,35 @@ is_litter j litter laws = by (j.is_litter litter) refl
     by false is = laws.clean
 
 -- the text that is left of a content
-left_text : (j : Journal) (base : List ℕ) (f : File) (c : Content) (count : ℕ) (litter : List ℕ) → IsJournal j → j.is_litter litter ≡ true → IsText j base c
-    → length (j.head base) ≤ count → IsText j base (left_of j base f c count litter).now
-left_text j base f c count litter laws ok t le =
-    let head = j.head base in
+left_text : (j : Journal) (f : File) (c : Content) (count : ℕ) (litter : List ℕ) → IsJournal j → j.is_state f.start.state ≡ true → Entered j c.commands
+    → j.is_litter litter ≡ true → IsText j f.head f.start c → length f.head ≤ count → IsText j f.head f.start (left_of j f c count litter).now
+left_text j f c count litter laws lives entered ok t le =
+    let head = f.head in
     let m = count - length head in
-    let all = entries j (started j base) c.commands in
-    let cut = is_cut j (started j base) c.commands t.tail m litter laws ok t.torn in
-    let inside = whole_in j (started j base) c.commands m in
+    let all = entries j f.start c.commands in
+    let cut = is_cut j f.start c.commands t.tail m litter laws lives entered ok t.torn in
+    let inside = whole_in j f.start c.commands m in
     record {
       tail = cut.left;
       is = ap (λ (x : List ℕ). take count x ++ litter) (t.is ∙ append_assoc head all t.tail)
           ∙ (ap (λ (x : List ℕ). x ++ litter) (front_past head (all ++ t.tail) count le)
           ∙ (append_assoc head (take m (all ++ t.tail)) litter
-          ∙ (ap (λ (x : List ℕ). head ++ x) cut.is ∙ sym (append_assoc head (entries j (started j base) inside) cut.left))));
+          ∙ (ap (λ (x : List ℕ). head ++ x) cut.is ∙ sym (append_assoc head (entries j f.start inside) cut.left))));
       torn = cut.torn;
     }
 
 -- how many commands are left, at least
-left_sure : (j : Journal) (base : List ℕ) (surely rest : List (List ℕ)) (c : Content) (count : ℕ) → c.commands ≡ surely ++ rest → length (whole j base surely) ≤ count
-    → length surely ≤ length (whole_in j (started j base) c.commands (count - length (j.head base)))
-left_sure j base surely rest c count has le =
-    let m = count - length (j.head base) in
-    let size = length-append (j.head base) (entries j (started j base) surely) in
-    let kept = keeps_sure j (started j base) surely rest m (omega (arith, le, size)) in
-    let others = whole_in j (trail j (started j base) surely) rest (m - length (entries j (started j base) surely)) in
-    omega (arith, ap (λ (x : List (List ℕ)). length (whole_in j (started j base) x m)) has, ap length kept, length-append surely others)
+left_sure : (j : Journal) (head : List ℕ) (start : Spot) (surely rest : List (List ℕ)) (c : Content) (count : ℕ) → c.commands ≡ surely ++ rest
+    → length (whole j head start surely) ≤ count → length surely ≤ length (whole_in j start c.commands (count - length head))
+left_sure j head start surely rest c count has le =
+    let m = count - length head in
+    let size = length-append head (entries j start surely) in
+    let kept = keeps_sure j start surely rest m (omega (arith, le, size)) in
+    let others = whole_in j (trail j start surely) rest (m - length (entries j start surely)) in
+    omega (arith, ap (λ (x : List (List ℕ)). length (whole_in j start x m)) has, ap length kept, length-append surely others)
 
-none_in : (j : Journal) (base : List ℕ) (cs : List (List ℕ)) (count : ℕ) → cs ≡ [] → whole_in j (started j base) cs count ≡ []
-none_in j base cs count none = ap (λ (x : List (List ℕ)). whole_in j (started j base) x count) none
+none_in : (j : Journal) (start : Spot) (cs : List (List ℕ)) (count : ℕ) → cs ≡ [] → whole_in j start cs count ≡ []
+none_in j start cs count none = ap (λ (x : List (List ℕ)). whole_in j start x count) none
 
 -- what was promised is among them
 kept_in : (s : Shared) (f : File) (inside surely rest commands : List (List ℕ)) → s.promised ≤ length f.before + length surely
@@ -135,21 +135,20 @@ kept_in s f inside surely rest commands kept has sure empty = by (f.number == 0)
 crash_to : (j : Journal) (s : Shared) (f : File) (content far : ℕ) (litter : List ℕ) → IsJournal j → Still j s
     → IsFile j s.origin s.history s.promised s.lasting s.next f → Still j (crashed_to j s f content far litter)
 crash_to j s f content far litter laws still h =
-    let base = base_of j s.origin f in
     let c = content_at f.now f.past content in
     let count = max f.forced far in
     let junk = litter_of j litter in
-    let is = content_there (IsContent j base f.number s.history f.before h.surely) f.now f.past content h.now h.past in
-    let m = count - length (j.head base) in
-    let inside = whole_in j (started j base) c.commands m in
-    let front = is_front j (started j base) c.commands m in
-    let left = left_of j base f c count junk in
-    let size : length (j.head base) ≤ length (whole j base h.surely) = omega (arith, length-append (j.head base) (entries j (started j base) h.surely)) in
+    let is = content_there (IsContent j f.head f.start f.number s.history f.before h.surely) f.now f.past content h.now h.past in
+    let m = count - length f.head in
+    let inside = whole_in j f.start c.commands m in
+    let front = is_front j f.start c.commands m in
+    let left = left_of j f c count junk in
+    let size : length f.head ≤ length (whole j f.head f.start h.surely) = omega (arith, length-append f.head (entries j f.start h.surely)) in
     let sure : 0 < f.number → length h.surely ≤ length inside = λ named.
-    left_sure j base h.surely is.rest c count is.has (omega (arith, h.enough named)) in
-    let text : 0 < f.number → IsText j base left.now = λ named.
-    left_text j base f c count junk laws (is_litter j litter laws) (is.text named) (omega (arith, h.enough named, size)) in
-    let none : f.number ≡ 0 → inside ≡ [] = λ unnamed. none_in j base c.commands m (is.empty unnamed) in
+    left_sure j f.head f.start h.surely is.rest c count is.has (omega (arith, h.enough named)) in
+    let text : 0 < f.number → IsText j f.head f.start left.now = λ named.
+    left_text j f c count junk laws (h.headed named).lives is.entered (is_litter j litter laws) (is.text named) (omega (arith, h.enough named, size)) in
+    let none : f.number ≡ 0 → inside ≡ [] = λ unnamed. none_in j f.start c.commands m (is.empty unnamed) in
     let history : s.history ≡ (f.before ++ inside) ++ (front.more ++ is.more) =
     is.of
     ∙ (ap (λ (x : List (List ℕ)). f.before ++ (x ++ is.more)) front.is
@@ -162,18 +161,19 @@ crash_to j s f content far litter laws still h =
         surely = inside;
         enough = λ named. (
             let t = text named in
-            omega (arith, ap length t.is, length-append (whole j base inside) t.tail)
+            omega (arith, ap length t.is, length-append (whole j f.head f.start inside) t.tail)
             );
         kept = kept;
         lasts = h.lasts;
         below = h.below;
         unnamed = h.unnamed;
-        lives = h.lives;
+        headed = h.headed;
         now = record {
           rest = [];
           has = sym (append-nil inside);
           more = [];
           of = ap (λ (x : List (List ℕ)). f.before ++ x) (sym (append-nil inside));
+          entered = whole_in_entered j f.start c.commands m is.entered;
           text = text;
           empty = none;
         };

@@ -1,14 +1,27 @@
 -- Entries one after another, and what is left of them up to a byte.
-use Rattle.std.proofs.Common.{◌≡◌, ℕ, ◌+◌, ◌-◌, ◌<◌, ◌≤◌, Bool, true, false, List, [], ◌∷◌, ◌++◌, length, take, refl, sym, ap, ◌∙◌, arith, append_assoc, length-append}
+use Rattle.std.proofs.Common.{◌≡◌, ℕ, ◌+◌, ◌-◌, ◌<◌, ◌≤◌, Bool, true, false, List, [], ◌∷◌, ◌++◌, length, take, refl, sym, ap, ◌∙◌, subst, arith, append_assoc, length-append}
 use Rattle.std.specs.Prelude.{nat_le}
 use Rattle.std.proofs.lemmas.Bool.Decides.{nat_tests}
 use Rattle.std.proofs.lemmas.Grind.{common_steps}
 use Rattle.std.proofs.lemmas.List.{take_all, take-append-le}
 use Rattle.std.proofs.Math.Seq.{take-append-add}
-use Rattle.tpm_keeping.specs.Journal.{Journal, IsJournal, Spot, entries, run, started, stepped, trail, whole_in}
+use Rattle.tpm_keeping.specs.Journal.{Entered, Journal, IsJournal, Spot, entries, run, stepped, trail, whole_in}
 
-abbrev pub whole : Journal → List ℕ → List (List ℕ) → List ℕ
-whole j base cs = j.head base ++ entries j (started j base) cs
+-- a head, and the entries of commands after it
+abbrev pub whole : Journal → (head : List ℕ) → Spot → List (List ℕ) → List ℕ
+whole j head p cs = head ++ entries j p cs
+
+pub entered_both : (j : Journal) (cs ds : List (List ℕ)) → Entered j cs → Entered j ds → Entered j (cs ++ ds)
+entered_both j [] ds h more = more
+entered_both j (c ∷ cs) ds h more = (h.0, entered_both j cs ds h.1 more)
+
+pub entered_first : (j : Journal) (cs ds : List (List ℕ)) → Entered j (cs ++ ds) → Entered j cs
+entered_first j [] ds h = tt
+entered_first j (c ∷ cs) ds h = (h.0, entered_first j cs ds h.1)
+
+pub entered_last : (j : Journal) (cs ds : List (List ℕ)) → Entered j (cs ++ ds) → Entered j ds
+entered_last j [] ds h = h
+entered_last j (c ∷ cs) ds h = entered_last j cs ds h.1
 
 pub run_both : (j : Journal) (s : List ℕ) (cs ds : List (List ℕ)) → run j s (cs ++ ds) ≡ run j (run j s cs) ds
 run_both j s [] ds = refl
@@ -40,15 +53,15 @@ entries_both j p (c ∷ cs) ds =
     ap (λ (t : List ℕ). j.entry p c ++ t) (entries_both j (stepped j p c) cs ds)
     ∙ sym (append_assoc (j.entry p c) rest (entries j (trail j (stepped j p c) cs) ds))
 
-pub whole_both : (j : Journal) (s : List ℕ) (cs ds : List (List ℕ))
-    → whole j s (cs ++ ds) ≡ whole j s cs ++ entries j (trail j (started j s) cs) ds
-whole_both j s cs ds =
-    ap (λ (t : List ℕ). j.head s ++ t) (entries_both j (started j s) cs ds)
-    ∙ sym (append_assoc (j.head s) (entries j (started j s) cs) (entries j (trail j (started j s) cs) ds))
+pub whole_both : (j : Journal) (head : List ℕ) (p : Spot) (cs ds : List (List ℕ))
+    → whole j head p (cs ++ ds) ≡ whole j head p cs ++ entries j (trail j p cs) ds
+whole_both j head p cs ds =
+    ap (λ (t : List ℕ). head ++ t) (entries_both j p cs ds)
+    ∙ sym (append_assoc head (entries j p cs) (entries j (trail j p cs) ds))
 
-pub whole_length : (j : Journal) (s : List ℕ) (cs ds : List (List ℕ)) → length (whole j s cs) ≤ length (whole j s (cs ++ ds))
-whole_length j s cs ds =
-    omega (arith, ap length (whole_both j s cs ds), length-append (whole j s cs) (entries j (trail j (started j s) cs) ds))
+pub whole_length : (j : Journal) (head : List ℕ) (p : Spot) (cs ds : List (List ℕ)) → length (whole j head p cs) ≤ length (whole j head p (cs ++ ds))
+whole_length j head p cs ds =
+    omega (arith, ap length (whole_both j head p cs ds), length-append (whole j head p cs) (entries j (trail j p cs) ds))
 
 -- ---- a front
 
@@ -67,9 +80,9 @@ pub record IsCut (j : Journal) (s : Spot) (cs : List (List ℕ)) (tail : List �
   pub torn : j.is_torn (trail j s (whole_in j s cs count)) left ≡ true
 
 cut_one : (j : Journal) (s : Spot) (c : List ℕ) (cs : List (List ℕ)) (tail : List ℕ) (count : ℕ) (litter : List ℕ) → IsJournal j
-    → j.is_litter litter ≡ true → (b : Bool) → nat_le (length (j.entry s c)) count ≡ b
+    → j.is_state s.state ≡ true → j.is_entered c ≡ true → j.is_litter litter ≡ true → (b : Bool) → nat_le (length (j.entry s c)) count ≡ b
     → IsCut j (stepped j s c) cs tail (count - length (j.entry s c)) litter → IsCut j s (c ∷ cs) tail count litter
-cut_one j s c cs tail count litter laws ok true is h =
+cut_one j s c cs tail count litter laws lives entered ok true is h =
     let e = j.entry s c in
     let m = count - length e in
     let rest = entries j (stepped j s c) cs in
@@ -87,7 +100,7 @@ cut_one j s c cs tail count litter laws ok true is h =
       is = text ∙ ap (λ (ds : List (List ℕ)). entries j s ds ++ h.left) (sym all);
       torn = ap (λ (ds : List (List ℕ)). j.is_torn (trail j s ds) h.left) all ∙ h.torn;
     }
-cut_one j s c cs tail count litter laws ok false is h =
+cut_one j s c cs tail count litter laws lives entered ok false is h =
     let e = j.entry s c in
     let rest = entries j (stepped j s c) cs in
     let short : count < length e = grind (arith, nat_tests) in
@@ -96,7 +109,7 @@ cut_one j s c cs tail count litter laws ok false is h =
     ap (take count) (append_assoc e rest tail) ∙ take-append-le count e (rest ++ tail) (omega arith) in
     let torn : j.is_torn s (take count e ++ litter) ≡ true =
     ap (λ (t : List ℕ). j.is_torn s (t ++ litter)) (sym (front_twice count e))
-    ∙ laws.littered s (take count e) count litter (laws.front s c count short) ok in
+    ∙ laws.littered s (take count e) count litter (laws.front s c count lives entered short) ok in
     record {
       left = take count e ++ litter;
       is = ap (λ (t : List ℕ). t ++ litter) text
@@ -105,15 +118,15 @@ cut_one j s c cs tail count litter laws ok false is h =
     }
 
 pub is_cut : (j : Journal) (s : Spot) (cs : List (List ℕ)) (tail : List ℕ) (count : ℕ) (litter : List ℕ) → IsJournal j
-    → j.is_litter litter ≡ true → j.is_torn (trail j s cs) tail ≡ true → IsCut j s cs tail count litter
-is_cut j s [] tail count litter laws ok torn = record {
+    → j.is_state s.state ≡ true → Entered j cs → j.is_litter litter ≡ true → j.is_torn (trail j s cs) tail ≡ true → IsCut j s cs tail count litter
+is_cut j s [] tail count litter laws lives entered ok torn = record {
   left = take count tail ++ litter;
   is = refl;
   torn = laws.littered s tail count litter torn ok;
 }
-is_cut j s (c ∷ cs) tail count litter laws ok torn =
-    let rest = is_cut j (stepped j s c) cs tail (count - length (j.entry s c)) litter laws ok torn in
-    cut_one j s c cs tail count litter laws ok (nat_le (length (j.entry s c)) count) refl rest
+is_cut j s (c ∷ cs) tail count litter laws lives entered ok torn =
+    let rest = is_cut j (stepped j s c) cs tail (count - length (j.entry s c)) litter laws (laws.leads s.state c lives) entered.1 ok torn in
+    cut_one j s c cs tail count litter laws lives entered.0 ok (nat_le (length (j.entry s c)) count) refl rest
 
 -- these are the first of all
 pub record IsFront (cs all : List (List ℕ)) : Type 0 where
@@ -137,6 +150,11 @@ is_front j s [] count = record { more = []; is = refl }
 is_front j s (c ∷ cs) count =
     front_one j s c cs count (nat_le (length (j.entry s c)) count) refl
     (is_front j (stepped j s c) cs (count - length (j.entry s c)))
+
+pub whole_in_entered : (j : Journal) (s : Spot) (cs : List (List ℕ)) (count : ℕ) → Entered j cs → Entered j (whole_in j s cs count)
+whole_in_entered j s cs count entered =
+    let front = is_front j s cs count in
+    entered_first j (whole_in j s cs count) front.more (subst (Entered j) front.is entered)
 
 -- the entries that end before the byte are among them
 pub keeps_sure : (j : Journal) (s : Spot) (surely rest : List (List ℕ)) (count : ℕ) → length (entries j s surely) ≤ count

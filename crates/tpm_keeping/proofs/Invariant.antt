@@ -1,7 +1,7 @@
 -- What is so at each moment of the folder and of each holder.
-use Rattle.std.proofs.Common.{◌≡◌, ◌⊎◌, ℕ, ◌+◌, ◌<◌, ◌≤◌, Bool, true, false, List, [], ◌∷◌, ◌++◌, length, take, drop, Some, None, Option}
+use Rattle.std.proofs.Common.{◌≡◌, ◌⊎◌, ℕ, ◌+◌, ◌<◌, ◌≤◌, Bool, true, false, cond, List, [], ◌∷◌, ◌++◌, length, take, drop, Some, None, Option}
 use Rattle.std.specs.List.{AllByRecursion}
-use Rattle.tpm_keeping.specs.Journal.{Journal, Spot, entries, run, started, trail}
+use Rattle.tpm_keeping.specs.Journal.{Entered, Journal, Spot, entries, run, started, trail}
 use Rattle.tpm_keeping.specs.Holder.{Holder, is_always, is_never}
 use Rattle.tpm_keeping.specs.World.{Answer, Content, File, Shared, World, adds, leads}
 use Rattle.tpm_keeping.specs.Kept.{Ascend, IsTrue}
@@ -9,52 +9,56 @@ use Rattle.tpm_keeping.proofs.Entries.{whole}
 use Rattle.tpm_keeping.specs.declared.holder.Force.{Force}
 use Rattle.tpm_keeping.specs.declared.holder.Force.TheVariants.{Power, Always}
 use Rattle.tpm_keeping.specs.declared.holder.Job.{Job}
-use Rattle.tpm_keeping.specs.declared.holder.Job.TheVariants.{Execute, Leap, Renew, Show, Begin}
+use Rattle.tpm_keeping.specs.declared.holder.Job.TheVariants.{Execute, Renew, Show, Begin}
 use Rattle.tpm_keeping.specs.declared.holder.End.TheVariants as ending
 use Rattle.tpm_keeping.specs.declared.holder.Phase.{Phase}
 use Rattle.tpm_keeping.specs.declared.holder.Phase.TheVariants.{Ended, Locking, Looking, Reading, Putting, Forcing, Making, Naming, Settling, Leaving}
 
 -- ---- the folder
 
-abbrev pub base_of : Journal → List ℕ → File → List ℕ
-base_of j origin f = run j origin f.before
-
--- the bytes of all whole entries of a file
-abbrev pub body : Journal → List ℕ → File → List ℕ
-body j origin f = whole j (base_of j origin f) f.now.commands
+-- the bytes of its head and of all whole entries
+abbrev pub body : Journal → File → List ℕ
+body j f = whole j f.head f.start f.now.commands
 
 -- the spot after them, and its state
-abbrev pub spot_of : Journal → List ℕ → File → Spot
-spot_of j origin f = trail j (started j (base_of j origin f)) f.now.commands
+abbrev pub spot_of : Journal → File → Spot
+spot_of j f = trail j f.start f.now.commands
 
-abbrev pub state_of : Journal → List ℕ → File → List ℕ
-state_of j origin f = (spot_of j origin f).state
+abbrev pub state_of : Journal → File → List ℕ
+state_of j f = (spot_of j f).state
 
-pub record IsText (j : Journal) (base : List ℕ) (c : Content) : Type 0 where
+pub record IsText (j : Journal) (head : List ℕ) (start : Spot) (c : Content) : Type 0 where
   pub tail : List ℕ
-  pub is : c.text ≡ whole j base c.commands ++ tail
-  pub torn : j.is_torn (trail j (started j base) c.commands) tail ≡ true
+  pub is : c.text ≡ whole j head start c.commands ++ tail
+  pub torn : j.is_torn (trail j start c.commands) tail ≡ true
 
 -- one content of a file, of whose commands the first are surely on the disk
-pub record IsContent (j : Journal) (base : List ℕ) (number : ℕ) (history before surely : List (List ℕ)) (c : Content) : Type 0 where
+pub record IsContent (j : Journal) (head : List ℕ) (start : Spot) (number : ℕ) (history before surely : List (List ℕ)) (c : Content) : Type 0 where
   pub rest : List (List ℕ)
   pub has : c.commands ≡ surely ++ rest
   pub more : List (List ℕ)
   pub of : history ≡ before ++ (c.commands ++ more)
-  pub text : 0 < number → IsText j base c
+  pub entered : Entered j c.commands
+  pub text : 0 < number → IsText j head start c
   pub empty : number ≡ 0 → c.commands ≡ []
+
+-- a head, after the commands before it
+pub record IsHeaded (j : Journal) (origin head : List ℕ) (start : Spot) (before : List (List ℕ)) : Type 0 where
+  pub after : j.after_head head ≡ Some start
+  pub lives : j.is_state start.state ≡ true
+  pub state : start.state ≡ run j origin before
 
 -- Whatever a crash leaves of the file: it is a journal that has all that was promised.
 pub record IsFile (j : Journal) (origin : List ℕ) (history : List (List ℕ)) (promised : ℕ) (lasting : Bool) (next : ℕ) (f : File) : Type 0 where
   pub surely : List (List ℕ)
-  pub enough : 0 < f.number → length (whole j (base_of j origin f) surely) ≤ f.forced
+  pub enough : 0 < f.number → length (whole j f.head f.start surely) ≤ f.forced
   pub kept : promised ≤ length f.before + length surely
   pub lasts : lasting ≡ true → 0 < f.number
   pub below : f.number < next
   pub unnamed : f.number ≡ 0 → f.before ≡ []
-  pub lives : 0 < f.number → j.is_state (base_of j origin f) ≡ true
-  pub now : IsContent j (base_of j origin f) f.number history f.before surely f.now
-  pub past : AllByRecursion (IsContent j (base_of j origin f) f.number history f.before surely) f.past
+  pub headed : 0 < f.number → IsHeaded j origin f.head f.start f.before
+  pub now : IsContent j f.head f.start f.number history f.before surely f.now
+  pub past : AllByRecursion (IsContent j f.head f.start f.number history f.before surely) f.past
 
 abbrev pub Each : Journal → List ℕ → List (List ℕ) → List Answer → Type 0
 Each j origin history answers = AllByRecursion (λ a. a.is_gone ≡ false → IsTrue j origin history a) answers
@@ -99,38 +103,37 @@ sight s = record {
 
 -- a spot that has executed the first of these commands, up to a place in the file; what the holder
 -- has seen forced is forced
-pub record IsAt (j : Journal) (base : List ℕ) (cs : List (List ℕ)) (forced : ℕ) (force : Force) (spot : Spot) (place : ℕ) (unsure : List ℕ) : Type 0 where
+pub record IsAt (j : Journal) (head : List ℕ) (start : Spot) (cs : List (List ℕ)) (forced : ℕ) (force : Force) (spot : Spot) (place : ℕ) (unsure : List ℕ) : Type 0 where
   pub done : List (List ℕ)
   pub ahead : List (List ℕ)
   pub parts : cs ≡ done ++ ahead
-  pub is : spot ≡ trail j (started j base) done
+  pub is : spot ≡ trail j start done
   pub front : List ℕ
-  pub text : whole j base done ≡ front ++ unsure
-  pub reached : place ≡ length (whole j base done)
+  pub text : whole j head start done ≡ front ++ unsure
+  pub reached : place ≡ length (whole j head start done)
   pub sure : is_always force ≡ true → length front ≤ forced
 
 -- what a holder has in memory is of the file, if that is still the one that it knows
-pub record Knows (j : Journal) (origin : List ℕ) (f : File) (force : Force) (file : ℕ) (device : Option Spot) (place : ℕ) (unsure : List ℕ) : Type 0 where
+pub record Knows (j : Journal) (f : File) (force : Force) (file : ℕ) (device : Option Spot) (place : ℕ) (unsure : List ℕ) : Type 0 where
   pub at : (s : Spot) → device ≡ Some s → file ≡ f.number
-      → IsAt j (base_of j origin f) f.now.commands f.forced force s place unsure
+      → IsAt j f.head f.start f.now.commands f.forced force s place unsure
   pub empty : device ≡ None → (place ≡ 0) × (unsure ≡ [])
 
 abbrev pub KnowsOf : Journal → Sight → Holder → Type 0
-KnowsOf j v k = Knows j v.origin v.file k.force k.file k.device k.place k.unsure
+KnowsOf j v k = Knows j v.file k.force k.file k.device k.place k.unsure
 
 -- it has executed the whole file
-pub record HasAll (j : Journal) (origin : List ℕ) (f : File) (force : Force) (file place : ℕ) (unsure : List ℕ) : Type 0 where
+pub record HasAll (j : Journal) (f : File) (force : Force) (file place : ℕ) (unsure : List ℕ) : Type 0 where
   pub same : file ≡ f.number
   pub named : 0 < f.number
   pub front : List ℕ
-  pub text : body j origin f ≡ front ++ unsure
-  pub reached : place ≡ length (body j origin f)
+  pub text : body j f ≡ front ++ unsure
+  pub reached : place ≡ length (body j f)
   pub sure : is_always force ≡ true → length front ≤ f.forced
 
 -- the response is that of the job, in this state
 abbrev pub Gives : Job → Journal → (state command response : List ℕ) → Type 0
 Gives Execute j state c response = response ≡ j.response state c
-Gives Leap j state c response = response ≡ j.response state c
 Gives Show j state c response = response ≡ j.head state
 Gives job j state c response = Unit {0}
 
@@ -143,7 +146,6 @@ pub record IsLast (j : Journal) (origin : List ℕ) (history : List (List ℕ)) 
 
 abbrev pub LastIf : Job → Journal → (origin : List ℕ) → (history : List (List ℕ)) → List Answer → (command response : List ℕ) → Type 0
 LastIf Execute j origin history answers c response = IsLast j origin history answers c response
-LastIf Leap j origin history answers c response = IsLast j origin history answers c response
 LastIf Show j origin history answers c response = response ≡ j.head (run j origin history)
 LastIf job j origin history answers c response = Unit {0}
 
@@ -157,35 +159,39 @@ pub record IsReading (j : Journal) (v : Sight) (k : Holder) : Type 0 where
   pub read : take (length k.read) (drop k.place v.file.now.text) ≡ k.read
 
 -- with this word, what is done then is promised
-abbrev pub promises : Force → Job → Bool
-promises Always job = true
-promises Power Leap = true
-promises Power Renew = true
-promises force job = false
+abbrev pub promises : Journal → Force → Job → (command : List ℕ) → Bool
+promises j Always job c = true
+promises j Power Execute c = cond (j.is_entered c) false true
+promises j Power Renew c = true
+promises j force job c = false
 
 -- it is to put its command's entry, if it has one, after all that it has not seen forced
-pub record Puts (j : Journal) (origin : List ℕ) (f : File) (job : Job) (k : Holder) : Type 0 where
-  pub all : HasAll j origin f k.force k.file k.place k.unsure
-  pub quiet : promises Power job ≡ false
-  pub has : k.device ≡ Some (trail j (spot_of j origin f) (adds job k.command))
-  pub out : k.out ≡ k.unsure ++ entries j (spot_of j origin f) (adds job k.command)
-  pub gives : Gives job j (state_of j origin f) k.command k.response
+pub record Puts (j : Journal) (f : File) (job : Job) (k : Holder) : Type 0 where
+  pub all : HasAll j f k.force k.file k.place k.unsure
+  pub quiet : promises j Power job k.command ≡ false
+  pub has : k.device ≡ Some (trail j (spot_of j f) (adds j job k.command))
+  pub out : k.out ≡ k.unsure ++ entries j (spot_of j f) (adds j job k.command)
+  pub gives : Gives job j (state_of j f) k.command k.response
 
 -- it has executed the file, and its command is in it
 pub record Stays (j : Journal) (origin : List ℕ) (f : File) (history : List (List ℕ)) (answers : List Answer) (force : Force) (file : ℕ) (device : Option Spot) (place : ℕ) (unsure : List ℕ) (job : Job) (command response : List ℕ) : Type 0 where
-  pub all : HasAll j origin f force file place unsure
-  pub has : device ≡ Some (spot_of j origin f)
+  pub all : HasAll j f force file place unsure
+  pub has : device ≡ Some (spot_of j f)
   pub last : LastIf job j origin history answers command response
 
 abbrev pub StaysOf : Journal → Sight → Holder → Type 0
 StaysOf j v k = Stays j v.origin v.file v.history v.answers k.force k.file k.device k.place k.unsure k.job k.command k.response
 
+-- the text of a journal that begins in a state
+abbrev pub begun : Journal → List ℕ → List (List ℕ) → List ℕ
+begun j state cs = whole j (j.head state) (started j state) cs
+
 -- it begins a journal after the one that is there
-pub record Follows (j : Journal) (origin : List ℕ) (f : File) (job : Job) (command : List ℕ) (device : Option Spot) (out response : List ℕ) : Type 0 where
+pub record Follows (j : Journal) (f : File) (job : Job) (command : List ℕ) (device : Option Spot) (out response : List ℕ) : Type 0 where
   pub named : 0 < f.number
-  pub has : device ≡ Some (trail j (started j (run j (state_of j origin f) (leads job command))) (adds job command))
-  pub text : out ≡ whole j (run j (state_of j origin f) (leads job command)) (adds job command)
-  pub gives : Gives job j (state_of j origin f) command response
+  pub has : device ≡ Some (trail j (started j (run j (state_of j f) (leads j job command))) (adds j job command))
+  pub text : out ≡ begun j (run j (state_of j f) (leads j job command)) (adds j job command)
+  pub gives : Gives job j (state_of j f) command response
 
 -- or the first one
 pub record Founds (j : Journal) (f : File) (job : Job) (device : Option Spot) (out : List ℕ) : Type 0 where
@@ -198,16 +204,16 @@ pub record Founds (j : Journal) (f : File) (job : Job) (device : Option Spot) (o
 
 abbrev pub Makes : Journal → Sight → Holder → Type 0
 Makes j v k =
-    Follows j v.origin v.file k.job k.command k.device k.out k.response ⊎ Founds j v.file k.job k.device k.out
+    Follows j v.file k.job k.command k.device k.out k.response ⊎ Founds j v.file k.job k.device k.out
 
 -- all entries of the file are on the disk
-pub record IsForced (j : Journal) (origin : List ℕ) (f : File) : Type 0 where
-  pub all : length (body j origin f) ≤ f.forced
+pub record IsForced (j : Journal) (f : File) : Type 0 where
+  pub all : length (body j f) ≤ f.forced
   pub past : f.past ≡ []
 
 pub record IsDone (j : Journal) (v : Sight) (k : Holder) : Type 0 where
   pub stays : StaysOf j v k
-  pub forced : promises k.force k.job ≡ true → IsForced j v.origin v.file
+  pub forced : promises j k.force k.job k.command ≡ true → IsForced j v.file
   pub settled : is_never k.force ≡ false → v.older ≡ []
 
 -- what is so in a phase
@@ -216,11 +222,11 @@ In (Ended e) j v k = KnowsOf j v k
 In Locking j v k = KnowsOf j v k
 In Looking j v k = KnowsOf j v k
 In Reading j v k = IsReading j v k
-In Putting j v k = Puts j v.origin v.file k.job k
+In Putting j v k = Puts j v.file k.job k
 In Forcing j v k = StaysOf j v k × (is_always k.force ≡ true) × (v.file.is_dropped ≡ false)
 In Making j v k = Makes j v k
 In Naming j v k = Makes j v k × (v.fresh ≡ k.out) × (length k.out ≤ v.fresh_forced)
-In Settling j v k = StaysOf j v k × (promises k.force k.job ≡ true → IsForced j v.origin v.file)
+In Settling j v k = StaysOf j v k × (promises j k.force k.job k.command ≡ true → IsForced j v.file)
 In (Leaving ending.Done) j v k = IsDone j v k
 In (Leaving (ending.Failed f)) j v k = KnowsOf j v k
 

@@ -1,8 +1,8 @@
 -- The journal of lines meets what a keeper needs.
-use Rattle.std.proofs.Common.{◌≡◌, ℕ, zero, suc, ◌+◌, ◌<◌, true, List, [], ◌∷◌, ◌++◌, length, take, Some, refl, sym, ap, ◌∙◌, arith, append_assoc, length-append}
+use Rattle.std.proofs.Common.{◌≡◌, ℕ, zero, suc, ◌+◌, ◌<◌, true, List, [], ◌∷◌, ◌++◌, length, take, Option, Some, None, refl, sym, ap, ◌∙◌, arith, append_assoc, length-append}
 use Rattle.std.proofs.lemmas.List.{append-nil}
-use Rattle.tpm_keeping.specs.Journal.{IsJournal, Spot, entries, started, stepped, trail}
-use Rattle.tpm_keeping.specs.Lines.{is_zeros, line, line_at, lines, marked, opened_by, spot_at, unended, walk, with_first}
+use Rattle.tpm_keeping.specs.Journal.{IsJournal, Spot, entries, stepped, trail}
+use Rattle.tpm_keeping.specs.Lines.{headed_by, is_zeros, line, line_at, lines, marked, opened_by, spot_at, spot_if_all, unended, walk, with_first}
 
 line_again : (s rest : List ℕ) → line_at (line s ++ rest) ≡ Some (s, rest)
 line_again [] rest = refl
@@ -65,28 +65,73 @@ cut_unended (zero ∷ tail) (suc k) litter torn is = cut_unended tail k litter t
 cut_unended (suc zero ∷ tail) (suc k) litter torn is = absurd cc
 cut_unended (suc (suc b) ∷ tail) (suc k) litter torn is = cut_unended tail k litter torn is
 
+-- ---- heads
+
+some_is : (a b : List ℕ × List ℕ) → Some a ≡ Some b → a ≡ b
+some_is a b is = cc
+
+-- what is before the end of a line, and after it
+with_first_is : (b : ℕ) (o : Option (List ℕ × List ℕ)) (s rest : List ℕ) → with_first b o ≡ Some (s, rest)
+    → (part : List ℕ) × (s ≡ b ∷ part) × (o ≡ Some (part, rest))
+with_first_is b None s rest is = absurd cc
+with_first_is b (Some found) s rest is =
+    let same = some_is (b ∷ found.0, found.1) (s, rest) is in
+    (found.0, sym (ap (λ (x : List ℕ × List ℕ). x.0) same), ap (λ (x : List ℕ). Some (found.0, x)) (ap (λ (x : List ℕ × List ℕ). x.1) same))
+
+-- a text in which the first line ends at its end is that line
+all_line : (text s : List ℕ) → line_at text ≡ Some (s, []) → text ≡ line s
+all_line [] s is = absurd cc
+all_line (zero ∷ text) s is = absurd cc
+all_line (suc zero ∷ text) s is =
+    let same = some_is ([], text) (s, []) is in
+    ap (λ (x : List ℕ). 1 ∷ x) (ap (λ (x : List ℕ × List ℕ). x.1) same) ∙ ap line (ap (λ (x : List ℕ × List ℕ). x.0) same)
+all_line (suc (suc b) ∷ text) s is =
+    let rest = with_first_is b (line_at text) s [] is in
+    ap (λ (x : List ℕ). suc (suc b) ∷ x) (all_line text rest.0 rest.2) ∙ ap line (sym rest.1)
+
+-- a head is the line of its state
+head_is : (o : Option (List ℕ × List ℕ)) (p : Spot) → headed_by o ≡ Some p → (o ≡ Some (p.state, [])) × (spot_at 0 p.state ≡ p)
+head_is None p is = absurd cc
+head_is (Some found) p is = by found.1 refl is
+  where
+    by : (rest : List ℕ) → found.1 ≡ rest → spot_if_all found.0 rest ≡ Some p → (Some found ≡ Some (p.state, [])) × (spot_at 0 p.state ≡ p)
+    by [] none is =
+        let same : spot_at 0 found.0 ≡ p = cc in
+        let state : found.0 ≡ p.state = ap (λ (q : Spot). q.state) same in
+        (ap (λ (x : List ℕ). Some (found.0, x)) none ∙ ap (λ (x : List ℕ). Some (x, [])) state, ap (spot_at 0) (sym state) ∙ same)
+    by (b ∷ rest) some is = absurd cc
+
 pub lines_are_a_journal : IsJournal lines
 lines_are_a_journal = record {
   begins = λ seed s is. refl;
   leads = λ s c is. refl;
-  opens = λ s cs tail lives torn. (
-      let p = started lines s in
+  heads = λ s is. (
+      let all = line_again s [] in
+      ap headed_by (ap line_at (sym (append-nil (line s))) ∙ all)
+      );
+  opens = λ head p cs tail after lives entered torn. (
+      let is = head_is (line_at head) p after in
+      let s = p.state in
+      let line' : head ≡ line s = all_line head s is.0 in
       let n = length (entries lines p cs) in
       let all = walk_all cs p tail 0 torn in
-      let size : suc (length s) + (0 + n) ≡ length (line s) + n = omega (arith, line_size s) in
-      ap opened_by (line_again s (entries lines p cs ++ tail))
+      let size : suc (length s) + (0 + n) ≡ length head + n = omega (arith, line_size s, ap length line') in
+      let chain : 0 ≡ p.chain = ap (λ (q : Spot). q.chain) is.1 in
+      let end : spot_at 0 (trail lines p cs).state ≡ trail lines p cs = ap (λ (m : ℕ). spot_at m (trail lines p cs).state) chain ∙ same_chain p cs in
+      ap (λ (x : List ℕ). opened_by (line_at (x ++ (entries lines p cs ++ tail)))) line'
+      ∙ (ap opened_by (line_again s (entries lines p cs ++ tail))
       ∙ (ap (λ (r : List ℕ × ℕ). Some (spot_at 0 r.0, suc (length s) + r.1)) all
-      ∙ (ap (λ (q : Spot). Some (q, suc (length s) + (0 + n))) (same_chain p cs)
-      ∙ ap (λ (m : ℕ). Some (trail lines p cs, m)) size))
+      ∙ (ap (λ (q : Spot). Some (q, suc (length s) + (0 + n))) end
+      ∙ ap (λ (m : ℕ). Some (trail lines p cs, m)) size)))
       );
-  follows = λ p cs tail lives torn. (
+  follows = λ p cs tail lives entered torn. (
       let n = length (entries lines p cs) in
       let same : 0 + n ≡ n = omega arith in
       ap (λ (r : List ℕ × ℕ). Some (spot_at p.chain r.0, r.1)) (walk_all cs p tail 0 torn)
       ∙ (ap (λ (q : Spot). Some (q, 0 + n)) (same_chain p cs) ∙ ap (λ (m : ℕ). Some (trail lines p cs, m)) same)
       );
   nothing = λ s. refl;
-  front = λ s c k le. front_unended c k le;
+  front = λ s c k lives entered le. front_unended c k le;
   littered = λ s tail k litter torn is. cut_unended tail k litter torn is;
   clean = refl;
 }

@@ -9,7 +9,7 @@ use Rattle.tpm_keeping.specs.Journal.{Journal, IsJournal, Spot, entries, run, st
 use Rattle.tpm_keeping.specs.Holder.{Holder, Stands, Gone, begins, begins_of, dropped, has_named, has_put, has_read, is_always, is_never, knows_file, looked, newborn, next_in, reads_on, settles, sure}
 use Rattle.tpm_keeping.specs.World.{Answer, Effect, Part, All, File, Shared, World, adds, leads, does, forced, named, named_from, put, put_dropped, put_more, state_in, tells, with_holder}
 use Rattle.tpm_keeping.proofs.Entries.{trail_both, whole, run_both, whole_both}
-use Rattle.tpm_keeping.proofs.Invariant.{spot_of, Calm, Each, Fine, Fits, Follows, Founds, Gives, HasAll, In, IsLast, IsReading, Knows, KnowsOf, LastIf, Makes, Puts, Sight, StaysOf, Still, base_of, body, holds, promises, sight, state_of}
+use Rattle.tpm_keeping.proofs.Invariant.{spot_of, Calm, Each, Fine, Fits, Follows, Founds, Gives, HasAll, In, IsLast, IsReading, Knows, KnowsOf, LastIf, Makes, Puts, Sight, StaysOf, Still, begun, body, holds, promises, sight, state_of}
 use Rattle.tpm_keeping.proofs.Folder.{Grows, Moves, body_in, drop_moves, force_moves, fresh_moves, named_moves, put_moves, same_moves, settle_moves, state_is, unnamed_history}
 use Rattle.tpm_keeping.proofs.Reading.{quietly, reads_on_fits, settles_fits}
 use Rattle.tpm_keeping.specs.declared.holder.Fault.{Fault}
@@ -17,14 +17,14 @@ use Rattle.tpm_keeping.specs.declared.holder.Fault.TheVariants as fault
 use Rattle.tpm_keeping.specs.declared.holder.Force.{Force}
 use Rattle.tpm_keeping.specs.declared.holder.Force.TheVariants.{Power}
 use Rattle.tpm_keeping.specs.declared.holder.Job.{Job}
-use Rattle.tpm_keeping.specs.declared.holder.Job.TheVariants.{Execute, Leap, Renew, Show, Begin}
+use Rattle.tpm_keeping.specs.declared.holder.Job.TheVariants.{Execute, Renew, Show, Begin}
 use Rattle.tpm_keeping.specs.declared.holder.End.TheVariants as ending
 use Rattle.tpm_keeping.specs.declared.holder.Phase.{Phase}
 use Rattle.tpm_keeping.specs.declared.holder.Phase.TheVariants.{Ended, Locking, Looking, Reading, Putting, Forcing, Making, Naming, Settling, Leaving}
 
 -- ---- the folder
 
-pub does_moves : (phase : Phase) (effect : Effect) (j : Journal) (s : Shared) (k : Holder) → IsJournal j → Still j s → In phase j (sight s) k → Moves j s (does phase s k effect)
+pub does_moves : (phase : Phase) (effect : Effect) (j : Journal) (s : Shared) (k : Holder) → IsJournal j → Still j s → In phase j (sight s) k → Moves j s (does j phase s k effect)
 does_moves Putting (Part count) j s k laws still now = put_moves j s k count laws still now
 does_moves Putting All j s k laws still now = put_moves j s k (length k.out) laws still now
 does_moves Forcing (Part count) j s k laws still now = drop_moves j s still
@@ -36,16 +36,16 @@ does_moves Settling All j s k laws still now = settle_moves j s still
 does_moves phase effect j s k laws still now = same_moves j s still
 
 -- and nobody's lock is touched
-pub same_lock : (phase : Phase) (effect : Effect) (s : Shared) (k : Holder) → ((does phase s k effect).locked ≡ s.locked) × ((does phase s k effect).locker ≡ s.locker)
-same_lock Putting (Part count) s k = (refl, refl)
-same_lock Putting All s k = (refl, refl)
-same_lock Forcing (Part count) s k = (refl, refl)
-same_lock Forcing All s k = (refl, refl)
-same_lock Making (Part count) s k = (refl, refl)
-same_lock Making All s k = (refl, refl)
-same_lock Naming All s k = (refl, refl)
-same_lock Settling All s k = (refl, refl)
-same_lock phase effect s k = (refl, refl)
+pub same_lock : (j : Journal) (phase : Phase) (effect : Effect) (s : Shared) (k : Holder) → ((does j phase s k effect).locked ≡ s.locked) × ((does j phase s k effect).locker ≡ s.locker)
+same_lock j Putting (Part count) s k = (refl, refl)
+same_lock j Putting All s k = (refl, refl)
+same_lock j Forcing (Part count) s k = (refl, refl)
+same_lock j Forcing All s k = (refl, refl)
+same_lock j Making (Part count) s k = (refl, refl)
+same_lock j Making All s k = (refl, refl)
+same_lock j Naming All s k = (refl, refl)
+same_lock j Settling All s k = (refl, refl)
+same_lock j phase effect s k = (refl, refl)
 
 -- ---- the others
 
@@ -106,16 +106,16 @@ beside j w p new h fits = update j w w.shared p new h.still (λ q _. h.holders q
 
 -- ---- who knows nothing
 
-pub knows_nothing : (j : Journal) (origin : List ℕ) (f : File) (force : Force) → Knows j origin f force 0 None 0 []
-knows_nothing j origin f force = record { at = λ d none _. absurd cc; empty = λ _. (refl, refl) }
+pub knows_nothing : (j : Journal) (f : File) (force : Force) → Knows j f force 0 None 0 []
+knows_nothing j f force = record { at = λ d none _. absurd cc; empty = λ _. (refl, refl) }
 
 pub newborn_fits : (j : Journal) (s : Shared) (p : ℕ) (force : Force) (limit : ℕ) → 0 < s.next → Fits j s p (newborn force limit)
 newborn_fits j s p force limit next =
-    record { lock = λ off. absurd cc; now = knows_nothing j s.origin s.file force; below = next; calm = λ e. absurd cc }
+    record { lock = λ off. absurd cc; now = knows_nothing j s.file force; below = next; calm = λ e. absurd cc }
 
 pub dropped_fits : (j : Journal) (s : Shared) (p : ℕ) (k : Holder) (f : Fault) → 0 < s.next → (s.locked ≡ true) × (s.locker ≡ p) → Fits j s p (dropped f k)
 dropped_fits j s p k f next lock =
-    record { lock = λ _. lock; now = knows_nothing j s.origin s.file k.force; below = next; calm = λ e. absurd cc }
+    record { lock = λ _. lock; now = knows_nothing j s.file k.force; below = next; calm = λ e. absurd cc }
 
 -- ---- looking
 
@@ -132,7 +132,6 @@ begins_fits Begin j s p k laws is none next lock below calm = by (j.begun k.comm
       calm = calm;
     }
 begins_fits Execute j s p k laws is none next lock below calm = dropped_fits j s p k fault.Absent next lock
-begins_fits Leap j s p k laws is none next lock below calm = dropped_fits j s p k fault.Absent next lock
 begins_fits Renew j s p k laws is none next lock below calm = dropped_fits j s p k fault.Absent next lock
 begins_fits Show j s p k laws is none next lock below calm = dropped_fits j s p k fault.Absent next lock
 
@@ -227,23 +226,25 @@ last_one j s state c response history before still same is at gives = record {
       (omega (arith, ap length is, ap length same, length-append before (c ∷ []))) still.each;
 }
 
-last_put : (job : Job) (j : Journal) (s : Shared) (c response : List ℕ) → Still j s → promises Power job ≡ false → Gives job j (state_of j s.origin s.file) c response
-    → LastIf job j s.origin (s.history ++ adds job c) s.answers c response
-last_put Execute j s c response still quiet gives =
-    last_one j s (state_of j s.origin s.file) c response (s.history ++ c ∷ []) s.history still refl refl (state_is j s still) gives
-last_put Leap j s c response still quiet gives = absurd cc
-last_put Renew j s c response still quiet gives = tt
-last_put Show j s c response still quiet gives =
-    gives ∙ ap j.head (state_is j s still ∙ ap (run j s.origin) (sym (append-nil s.history)))
-last_put Begin j s c response still quiet gives = tt
+last_put : (job : Job) (j : Journal) (s : Shared) (c response : List ℕ) → Still j s → 0 < s.file.number → promises j Power job c ≡ false → Gives job j (state_of j s.file) c response
+    → LastIf job j s.origin (s.history ++ adds j job c) s.answers c response
+last_put Execute j s c response still named quiet gives = by (j.is_entered c) quiet
+  where
+    by : (b : Bool) → cond b false true ≡ false → LastIf Execute j s.origin (s.history ++ cond b (c ∷ []) []) s.answers c response
+    by true quiet = last_one j s (state_of j s.file) c response (s.history ++ c ∷ []) s.history still refl refl (state_is j s still named) gives
+    by false quiet = absurd cc
+last_put Renew j s c response still named quiet gives = tt
+last_put Show j s c response still named quiet gives =
+    gives ∙ ap j.head (state_is j s still named ∙ ap (run j s.origin) (sym (append-nil s.history)))
+last_put Begin j s c response still named quiet gives = tt
 
-put_all : (j : Journal) (s : Shared) (k : Holder) (t : Shared) (new : List (List ℕ)) (b : Bool) → is_always k.force ≡ b → (a : HasAll j s.origin s.file k.force k.file k.place k.unsure)
-    → k.out ≡ k.unsure ++ entries j (spot_of j s.origin s.file) new → t.origin ≡ s.origin → t.file.number ≡ s.file.number
-    → body j t.origin t.file ≡ body j s.origin s.file ++ entries j (spot_of j s.origin s.file) new → t.file.forced ≡ min s.file.forced k.place
-    → HasAll j t.origin t.file k.force k.file (sure k + length k.out) (cond b k.out [])
-put_all j s k t new true word a out origin number text forced' =
-    let rest = entries j (spot_of j s.origin s.file) new in
-    let all : body j t.origin t.file ≡ a.front ++ k.out =
+put_all : (j : Journal) (s : Shared) (k : Holder) (t : Shared) (new : List (List ℕ)) (b : Bool) → is_always k.force ≡ b → (a : HasAll j s.file k.force k.file k.place k.unsure)
+    → k.out ≡ k.unsure ++ entries j (spot_of j s.file) new → t.file.number ≡ s.file.number
+    → body j t.file ≡ body j s.file ++ entries j (spot_of j s.file) new → t.file.forced ≡ min s.file.forced k.place
+    → HasAll j t.file k.force k.file (sure k + length k.out) (cond b k.out [])
+put_all j s k t new true word a out number text forced' =
+    let rest = entries j (spot_of j s.file) new in
+    let all : body j t.file ≡ a.front ++ k.out =
     text ∙ (ap (λ (x : List ℕ). x ++ rest) a.text ∙ (append_assoc a.front k.unsure rest ∙ ap (λ (x : List ℕ). a.front ++ x) (sym out))) in
     record {
       same = a.same ∙ sym number;
@@ -253,15 +254,15 @@ put_all j s k t new true word a out origin number text forced' =
       reached = omega (arith, a.reached, ap length a.text, length-append a.front k.unsure, ap length all, length-append a.front k.out);
       sure = λ always. omega (arith, a.sure always, forced', a.reached, ap length a.text, length-append a.front k.unsure);
     }
-put_all j s k t new false word a out origin number text forced' =
-    let rest = entries j (spot_of j s.origin s.file) new in
-    let all : body j t.origin t.file ≡ a.front ++ k.out =
+put_all j s k t new false word a out number text forced' =
+    let rest = entries j (spot_of j s.file) new in
+    let all : body j t.file ≡ a.front ++ k.out =
     text ∙ (ap (λ (x : List ℕ). x ++ rest) a.text ∙ (append_assoc a.front k.unsure rest ∙ ap (λ (x : List ℕ). a.front ++ x) (sym out))) in
     record {
       same = a.same ∙ sym number;
       named = omega (arith, a.named, number);
-      front = body j t.origin t.file;
-      text = sym (append-nil (body j t.origin t.file));
+      front = body j t.file;
+      text = sym (append-nil (body j t.file));
       reached = omega (arith, a.reached, ap length a.text, length-append a.front k.unsure, ap length all, length-append a.front k.out);
       sure = λ always. absurd (let e : false ≡ true = sym word ∙ always in cc);
     }
@@ -274,32 +275,31 @@ undropped s k le word =
     rw fits refl
 
 pub put_fits : (j : Journal) (s : Shared) (p : ℕ) (k : Holder) → Still j s → (s.locked ≡ true) × (s.locker ≡ p) → k.file < s.next → Calm (sight s) k.settled k.file
-    → Puts j s.origin s.file k.job k → Fits j (put s k (length k.out)) p (has_put k)
+    → Puts j s.file k.job k → Fits j (put j s k (length k.out)) p (has_put k)
 put_fits j s p k still lock below calm puts = by (is_always k.force) refl
   where
-    by : (b : Bool) → is_always k.force ≡ b → Fits j (put s k (length k.out)) p
+    by : (b : Bool) → is_always k.force ≡ b → Fits j (put j s k (length k.out)) p
         (record k { phase = cond b Forcing (settles k); place = sure k + length k.out; unsure = cond b k.out []; out = [] })
     by true word =
-        let t = put s k (length k.out) in
-        let new = adds k.job k.command in
+        let t = put j s k (length k.out) in
+        let new = adds j k.job k.command in
         let a = puts.all in
-        let base = base_of j s.origin s.file in
         let self : nat_le (length k.out) (length k.out) ≡ true = grind (arith, nat_tests) in
-        let full : put_more k (length k.out) ≡ new = rw self refl in
-        let text : body j t.origin t.file ≡ body j s.origin s.file ++ entries j (spot_of j s.origin s.file) new =
-        ap (λ (x : List (List ℕ)). whole j base (s.file.now.commands ++ x)) full ∙ whole_both j base s.file.now.commands new in
-        let spot : spot_of j t.origin t.file ≡ trail j (spot_of j s.origin s.file) new =
-        ap (λ (x : List (List ℕ)). trail j (started j base) (s.file.now.commands ++ x)) full ∙ trail_both j (started j base) s.file.now.commands new in
+        let full : put_more j k (length k.out) ≡ new = rw self refl in
+        let text : body j t.file ≡ body j s.file ++ entries j (spot_of j s.file) new =
+        ap (λ (x : List (List ℕ)). whole j s.file.head s.file.start (s.file.now.commands ++ x)) full ∙ whole_both j s.file.head s.file.start s.file.now.commands new in
+        let spot : spot_of j t.file ≡ trail j (spot_of j s.file) new =
+        ap (λ (x : List (List ℕ)). trail j s.file.start (s.file.now.commands ++ x)) full ∙ trail_both j s.file.start s.file.now.commands new in
         let low : is_always k.force ≡ true → sure k ≤ s.file.forced = λ always.
         omega (arith, a.sure always, a.reached, ap length a.text, length-append a.front k.unsure) in
         record {
           lock = λ _. lock;
           now = (
             record {
-              all = put_all j s k t new true word a puts.out refl refl text refl;
+              all = put_all j s k t new true word a puts.out refl text refl;
               has = puts.has ∙ ap (λ (x : Spot). Some x) (sym spot);
               last = subst (λ (x : List (List ℕ)). LastIf k.job j s.origin (s.history ++ x) s.answers k.command k.response) (sym full)
-                  (last_put k.job j s k.command k.response still puts.quiet puts.gives);
+                  (last_put k.job j s k.command k.response still puts.all.named puts.quiet puts.gives);
             },
             word,
             undropped s k low word,
@@ -308,23 +308,22 @@ put_fits j s p k still lock below calm puts = by (is_always k.force) refl
           calm = calm;
         }
     by false word =
-        let t = put s k (length k.out) in
-        let new = adds k.job k.command in
-        let base = base_of j s.origin s.file in
+        let t = put j s k (length k.out) in
+        let new = adds j k.job k.command in
         let self : nat_le (length k.out) (length k.out) ≡ true = grind (arith, nat_tests) in
-        let full : put_more k (length k.out) ≡ new = rw self refl in
-        let text : body j t.origin t.file ≡ body j s.origin s.file ++ entries j (spot_of j s.origin s.file) new =
-        ap (λ (x : List (List ℕ)). whole j base (s.file.now.commands ++ x)) full ∙ whole_both j base s.file.now.commands new in
-        let spot : spot_of j t.origin t.file ≡ trail j (spot_of j s.origin s.file) new =
-        ap (λ (x : List (List ℕ)). trail j (started j base) (s.file.now.commands ++ x)) full ∙ trail_both j (started j base) s.file.now.commands new in
+        let full : put_more j k (length k.out) ≡ new = rw self refl in
+        let text : body j t.file ≡ body j s.file ++ entries j (spot_of j s.file) new =
+        ap (λ (x : List (List ℕ)). whole j s.file.head s.file.start (s.file.now.commands ++ x)) full ∙ whole_both j s.file.head s.file.start s.file.now.commands new in
+        let spot : spot_of j t.file ≡ trail j (spot_of j s.file) new =
+        ap (λ (x : List (List ℕ)). trail j s.file.start (s.file.now.commands ++ x)) full ∙ trail_both j s.file.start s.file.now.commands new in
         settles_fits j t p (record k { place = sure k + length k.out; unsure = []; out = [] }) lock below calm
         (record {
-          all = put_all j s k t new false word puts.all puts.out refl refl text refl;
+          all = put_all j s k t new false word puts.all puts.out refl text refl;
           has = puts.has ∙ ap (λ (x : Spot). Some x) (sym spot);
           last = subst (λ (x : List (List ℕ)). LastIf k.job j s.origin (s.history ++ x) s.answers k.command k.response) (sym full)
-              (last_put k.job j s k.command k.response still puts.quiet puts.gives);
+              (last_put k.job j s k.command k.response still puts.all.named puts.quiet puts.gives);
         })
-        (λ yes'. absurd (quietly k.force k.job puts.quiet word yes'))
+        (λ yes'. absurd (quietly j k.force k.job k.command puts.quiet word yes'))
 
 -- ---- forcing
 
@@ -332,8 +331,8 @@ pub forced_fits : (j : Journal) (s : Shared) (p : ℕ) (k : Holder) → Still j 
     → StaysOf j (sight s) k → s.file.is_dropped ≡ false → Fits j (record s { file = forced s.file }) p (record k { phase = settles k; unsure = [] })
 forced_fits j s p k still lock below calm stays none =
     let t = record s { file = forced s.file } in
-    let all = body j s.origin s.file in
-    let far : length all ≤ length s.file.now.text = body_in j (base_of j s.origin s.file) s.file.now (still.file.now.text stays.all.named) in
+    let all = body j s.file in
+    let far : length all ≤ length s.file.now.text = body_in j s.file.head s.file.start s.file.now (still.file.now.text stays.all.named) in
     let on : cond s.file.is_dropped s.file.forced (length s.file.now.text) ≡ length s.file.now.text = rw none refl in
     let past : cond s.file.is_dropped s.file.past [] ≡ [] = rw none refl in
     settles_fits j t p (record k { unsure = [] }) lock below calm
@@ -354,37 +353,38 @@ forced_fits j s p k still lock below calm stays none =
 -- ---- naming
 
 -- the command that led to the new journal is the last one
-last_named : (job : Job) (j : Journal) (s : Shared) (c response : List ℕ) → Still j s → Gives job j (state_of j s.origin s.file) c response
-    → LastIf job j s.origin ((s.history ++ leads job c) ++ adds job c) s.answers c response
-last_named Execute j s c response still gives =
-    last_one j s (state_of j s.origin s.file) c response ((s.history ++ []) ++ c ∷ []) (s.history ++ []) still (append-nil s.history) refl (state_is j s still) gives
-last_named Leap j s c response still gives =
-    last_one j s (state_of j s.origin s.file) c response ((s.history ++ c ∷ []) ++ []) s.history still refl (append-nil (s.history ++ c ∷ [])) (state_is j s still) gives
-last_named Renew j s c response still gives = tt
-last_named Show j s c response still gives =
-    gives ∙ ap j.head (state_is j s still ∙ ap (run j s.origin) (sym (append-nil (s.history ++ []) ∙ append-nil s.history)))
-last_named Begin j s c response still gives = tt
+last_named : (job : Job) (j : Journal) (s : Shared) (c response : List ℕ) → Still j s → 0 < s.file.number → Gives job j (state_of j s.file) c response
+    → LastIf job j s.origin ((s.history ++ leads j job c) ++ adds j job c) s.answers c response
+last_named Execute j s c response still named gives = by (j.is_entered c)
+  where
+    by : (b : Bool) → LastIf Execute j s.origin ((s.history ++ cond b [] (c ∷ [])) ++ cond b (c ∷ []) []) s.answers c response
+    by true = last_one j s (state_of j s.file) c response ((s.history ++ []) ++ c ∷ []) (s.history ++ []) still (append-nil s.history) refl (state_is j s still named) gives
+    by false = last_one j s (state_of j s.file) c response ((s.history ++ c ∷ []) ++ []) s.history still refl (append-nil (s.history ++ c ∷ [])) (state_is j s still named) gives
+last_named Renew j s c response still named gives = tt
+last_named Show j s c response still named gives =
+    gives ∙ ap j.head (state_is j s still named ∙ ap (run j s.origin) (sym (append-nil (s.history ++ []) ∙ append-nil s.history)))
+last_named Begin j s c response still named gives = tt
 
 -- the new journal, in which all is forced
 pub record IsNew (j : Journal) (origin : List ℕ) (s : Shared) (k : Holder) : Type 0 where
-  pub body : body j origin (named_from origin s k).file ≡ k.out
-  pub has : k.device ≡ Some (spot_of j origin (named_from origin s k).file)
-  pub last : LastIf k.job j origin (named_from origin s k).history s.answers k.command k.response
+  pub body : body j (named_from j origin s k).file ≡ k.out
+  pub has : k.device ≡ Some (spot_of j (named_from j origin s k).file)
+  pub last : LastIf k.job j origin (named_from j origin s k).history s.answers k.command k.response
 
 new_fits : (j : Journal) (origin : List ℕ) (s : Shared) (p : ℕ) (k : Holder) → (s.locked ≡ true) × (s.locker ≡ p) → 0 < s.next → length k.out ≤ s.fresh_forced
-    → IsNew j origin s k → Fits j (named_from origin s k) p (has_named k s.next)
+    → IsNew j origin s k → Fits j (named_from j origin s k) p (has_named k s.next)
 new_fits j origin s p k lock next enough new = by (is_never k.force) refl
   where
-    by : (b : Bool) → is_never k.force ≡ b → Fits j (named_from origin s k) p
+    by : (b : Bool) → is_never k.force ≡ b → Fits j (named_from j origin s k) p
         (record k { phase = cond b (Leaving ending.Done) Settling; file = s.next; place = length k.out; unsure = []; settled = false })
     by true word =
-        let t = named_from origin s k in
-        let far : length (body j origin t.file) ≤ s.fresh_forced = omega (arith, enough, ap length new.body) in
+        let t = named_from j origin s k in
+        let far : length (body j t.file) ≤ s.fresh_forced = omega (arith, enough, ap length new.body) in
         record {
           lock = λ _. lock;
           now = record {
             stays = record {
-              all = record { same = refl; named = next; front = body j origin t.file; text = sym (append-nil (body j origin t.file)); reached = ap length (sym new.body); sure = λ _. far };
+              all = record { same = refl; named = next; front = body j t.file; text = sym (append-nil (body j t.file)); reached = ap length (sym new.body); sure = λ _. far };
               has = new.has;
               last = new.last;
             };
@@ -395,13 +395,13 @@ new_fits j origin s p k lock next enough new = by (is_never k.force) refl
           calm = λ e. absurd cc;
         }
     by false word =
-        let t = named_from origin s k in
-        let far : length (body j origin t.file) ≤ s.fresh_forced = omega (arith, enough, ap length new.body) in
+        let t = named_from j origin s k in
+        let far : length (body j t.file) ≤ s.fresh_forced = omega (arith, enough, ap length new.body) in
         record {
           lock = λ _. lock;
           now = (
             record {
-              all = record { same = refl; named = next; front = body j origin t.file; text = sym (append-nil (body j origin t.file)); reached = ap length (sym new.body); sure = λ _. far };
+              all = record { same = refl; named = next; front = body j t.file; text = sym (append-nil (body j t.file)); reached = ap length (sym new.body); sure = λ _. far };
               has = new.has;
               last = new.last;
             },
@@ -411,39 +411,39 @@ new_fits j origin s p k lock next enough new = by (is_never k.force) refl
           calm = λ e. absurd cc;
         }
 
-follows_new : (j : Journal) (s : Shared) (k : Holder) → Still j s → Follows j s.origin s.file k.job k.command k.device k.out k.response → IsNew j s.origin s k
+follows_new : (j : Journal) (s : Shared) (k : Holder) → Still j s → Follows j s.file k.job k.command k.device k.out k.response → IsNew j s.origin s k
 follows_new j s k still h =
-    let lead = leads k.job k.command in
-    let base : run j (state_of j s.origin s.file) lead ≡ run j s.origin (s.history ++ lead) =
-    ap (λ (x : List ℕ). run j x lead) (state_is j s still) ∙ sym (run_both j s.origin s.history lead) in
+    let lead = leads j k.job k.command in
+    let base : run j (state_of j s.file) lead ≡ run j s.origin (s.history ++ lead) =
+    ap (λ (x : List ℕ). run j x lead) (state_is j s still h.named) ∙ sym (run_both j s.origin s.history lead) in
     record {
-      body = ap (λ (x : List ℕ). whole j x (adds k.job k.command)) (sym base) ∙ sym h.text;
-      has = h.has ∙ ap (λ (x : List ℕ). Some (trail j (started j x) (adds k.job k.command))) base;
-      last = last_named k.job j s k.command k.response still h.gives;
+      body = ap (λ (x : List ℕ). begun j x (adds j k.job k.command)) (sym base) ∙ sym h.text;
+      has = h.has ∙ ap (λ (x : List ℕ). Some (trail j (started j x) (adds j k.job k.command))) base;
+      last = last_named k.job j s k.command k.response still h.named h.gives;
     }
 
 founds_new : (j : Journal) (s : Shared) (k : Holder) → Still j s → (h : Founds j s.file k.job k.device k.out) → IsNew j h.state s k
 founds_new j s k still h =
-    let lead = leads k.job k.command in
-    let new = adds k.job k.command in
+    let lead = leads j k.job k.command in
+    let new = adds j k.job k.command in
     let begins' : s.history ++ lead ≡ [] =
-    ap (λ (x : List (List ℕ)). x ++ lead) (unnamed_history j s still h.unnamed) ∙ ap (λ (job : Job). leads job k.command) h.is in
-    let addless : new ≡ [] = ap (λ (job : Job). adds job k.command) h.is in
+    ap (λ (x : List (List ℕ)). x ++ lead) (unnamed_history j s still h.unnamed) ∙ ap (λ (job : Job). leads j job k.command) h.is in
+    let addless : new ≡ [] = ap (λ (job : Job). adds j job k.command) h.is in
     record {
-      body = ap (λ (x : List (List ℕ)). whole j (run j h.state x) new) begins' ∙ (ap (whole j h.state) addless ∙ (append-nil (j.head h.state) ∙ sym h.text));
+      body = ap (λ (x : List (List ℕ)). begun j (run j h.state x) new) begins' ∙ (ap (begun j h.state) addless ∙ (append-nil (j.head h.state) ∙ sym h.text));
       has = h.has ∙ ap (λ (x : Spot). Some x) (sym (ap (λ (x : List (List ℕ)). trail j (started j (run j h.state x)) new) begins' ∙ ap (trail j (started j h.state)) addless));
-      last = subst (λ (job : Job). LastIf job j h.state ((s.history ++ leads job k.command) ++ adds job k.command) s.answers k.command k.response) (sym h.is) tt;
+      last = subst (λ (job : Job). LastIf job j h.state ((s.history ++ leads j job k.command) ++ adds j job k.command) s.answers k.command k.response) (sym h.is) tt;
     }
 
 pub named_fits : (j : Journal) (s : Shared) (p : ℕ) (k : Holder) → Still j s → (s.locked ≡ true) × (s.locker ≡ p) → k.file < s.next → Makes j (sight s) k → length k.out ≤ s.fresh_forced
-    → Fits j (named s k) p (has_named k s.next)
+    → Fits j (named j s k) p (has_named k s.next)
 named_fits j s p k still lock below (inl h) enough =
     let is : (s.file.number == 0) ≡ false = let named' = h.named in grind (arith, nat_tests) in
-    subst (λ (b : Bool). Fits j (named_from (cond b (state_in k.device) s.origin) s k) p (has_named k s.next)) (sym is)
+    subst (λ (b : Bool). Fits j (named_from j (cond b (state_in k.device) s.origin) s k) p (has_named k s.next)) (sym is)
     (new_fits j s.origin s p k lock (omega (arith, below)) enough (follows_new j s k still h))
 named_fits j s p k still lock below (inr h) enough =
     let is : (s.file.number == 0) ≡ true = let none = h.unnamed in grind (arith, nat_tests) in
     let from : state_in k.device ≡ h.state = ap state_in h.has in
-    subst (λ (b : Bool). Fits j (named_from (cond b (state_in k.device) s.origin) s k) p (has_named k s.next)) (sym is)
-    (subst (λ (x : List ℕ). Fits j (named_from x s k) p (has_named k s.next)) (sym from)
+    subst (λ (b : Bool). Fits j (named_from j (cond b (state_in k.device) s.origin) s k) p (has_named k s.next)) (sym is)
+    (subst (λ (x : List ℕ). Fits j (named_from j x s k) p (has_named k s.next)) (sym from)
     (new_fits j h.state s p k lock (omega (arith, below)) enough (founds_new j s k still h)))

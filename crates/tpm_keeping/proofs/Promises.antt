@@ -1,12 +1,12 @@
 -- What was promised stays the beginning of the history.
 use Rattle.std.proofs.Common.{◌≡◌, ℕ, ◌-◌, ◌≤◌, ◌==◌, Bool, true, false, cond, List, [], ◌++◌, length, max, take, refl, sym, ap, ◌∙◌, subst, arith, append_assoc}
 use Rattle.std.proofs.lemmas.List.{append-nil, take-append-le}
-use Rattle.tpm_keeping.specs.Journal.{Journal, IsJournal, run, started, whole_in}
+use Rattle.tpm_keeping.specs.Journal.{Journal, IsJournal, run, whole_in}
 use Rattle.tpm_keeping.specs.Holder.{Holder, Told, Starved, Failed}
 use Rattle.tpm_keeping.specs.World.{Effect, File, Part, All, Event, Starts, Asks, Does, Fails, Dies, Forks, Drops, Crashes, IsStart, Shared, World, content_at, crashed, crashed_to, does, does_in, fails_in, file_at, happen, happens, left}
 use Rattle.tpm_keeping.specs.Kept.{KeepsPromises}
 use Rattle.tpm_keeping.proofs.Entries.{IsFront, is_front}
-use Rattle.tpm_keeping.proofs.Invariant.{Fine, In, IsContent, IsDone, IsFile, LastIf, Still, base_of, sight}
+use Rattle.tpm_keeping.proofs.Invariant.{Fine, In, IsContent, IsDone, IsFile, LastIf, Still, sight}
 use Rattle.tpm_keeping.proofs.Folder.{promised_within}
 use Rattle.tpm_keeping.proofs.Answers.{promise_bounds}
 use Rattle.tpm_keeping.proofs.Crash.{content_there, crash_still, file_there}
@@ -27,20 +27,20 @@ pub record Longer (s t : Shared) : Type 0 where
 same_longer : (s t : Shared) → t.history ≡ s.history → s.promised ≤ t.promised → Longer s t
 same_longer s t is le = record { more = []; is = is ∙ sym (append-nil s.history); promised = le }
 
-does_longer : (phase : Phase) (effect : Effect) (s : Shared) (k : Holder) → Longer s (does phase s k effect)
-does_longer Putting (Part count) s k = record { more = _; is = refl; promised = omega arith }
-does_longer Putting All s k = record { more = _; is = refl; promised = omega arith }
-does_longer Forcing (Part count) s k = same_longer s (does Forcing s k (Part count)) refl (omega arith)
-does_longer Forcing All s k = same_longer s (does Forcing s k All) refl (omega arith)
-does_longer Making (Part count) s k = same_longer s (does Making s k (Part count)) refl (omega arith)
-does_longer Making All s k = same_longer s (does Making s k All) refl (omega arith)
-does_longer Naming All s k = record { more = _; is = append_assoc s.history _ _; promised = omega arith }
-does_longer Settling All s k = same_longer s (does Settling s k All) refl (omega arith)
-does_longer phase effect s k = same_longer s s refl (omega arith)
+does_longer : (phase : Phase) (effect : Effect) (j : Journal) (s : Shared) (k : Holder) → Longer s (does j phase s k effect)
+does_longer Putting (Part count) j s k = record { more = _; is = refl; promised = omega arith }
+does_longer Putting All j s k = record { more = _; is = refl; promised = omega arith }
+does_longer Forcing (Part count) j s k = same_longer s (does j Forcing s k (Part count)) refl (omega arith)
+does_longer Forcing All j s k = same_longer s (does j Forcing s k All) refl (omega arith)
+does_longer Making (Part count) j s k = same_longer s (does j Making s k (Part count)) refl (omega arith)
+does_longer Making All j s k = same_longer s (does j Making s k All) refl (omega arith)
+does_longer Naming All j s k = record { more = _; is = append_assoc s.history _ _; promised = omega arith }
+does_longer Settling All j s k = same_longer s (does j Settling s k All) refl (omega arith)
+does_longer phase effect j s k = same_longer s s refl (omega arith)
 
-left_longer : (e : End) (s : Shared) (k : Holder) → s.promised ≤ length s.history → Longer s (left e s k)
-left_longer ending.Done s k le = same_longer s (left ending.Done s k) refl (promise_bounds k.force k.job s le).0
-left_longer (ending.Failed f) s k le = same_longer s (left (ending.Failed f) s k) refl (omega arith)
+left_longer : (e : End) (j : Journal) (s : Shared) (k : Holder) → s.promised ≤ length s.history → Longer s (left j e s k)
+left_longer ending.Done j s k le = same_longer s (left j ending.Done s k) refl (promise_bounds j k.force k.job k.command s le).0
+left_longer (ending.Failed f) j s k le = same_longer s (left j (ending.Failed f) s k) refl (omega arith)
 
 locks_longer : (w new : World) (b : Bool) → Longer w.shared new.shared → Longer w.shared (cond b w new).shared
 locks_longer w new true h = same_longer w.shared w.shared refl (omega arith)
@@ -53,27 +53,27 @@ does_in_longer Locking j w p more le =
     let s : Shared = record w.shared { locked = true; locker = p } in
     locks_longer w (does_in j Locking (record w { shared = record w.shared { locked = false } }) p (w.holders p) more) w.shared.locked
     (same_longer w.shared s refl (omega arith))
-does_in_longer (Leaving e) j w p more le = left_longer e w.shared (w.holders p) le
-does_in_longer Looking j w p more le = does_longer Looking All w.shared (w.holders p)
-does_in_longer Reading j w p more le = does_longer Reading All w.shared (w.holders p)
-does_in_longer Putting j w p more le = does_longer Putting All w.shared (w.holders p)
-does_in_longer Forcing j w p more le = does_longer Forcing All w.shared (w.holders p)
-does_in_longer Making j w p more le = does_longer Making All w.shared (w.holders p)
-does_in_longer Naming j w p more le = does_longer Naming All w.shared (w.holders p)
-does_in_longer Settling j w p more le = does_longer Settling All w.shared (w.holders p)
+does_in_longer (Leaving e) j w p more le = left_longer e j w.shared (w.holders p) le
+does_in_longer Looking j w p more le = does_longer Looking All j w.shared (w.holders p)
+does_in_longer Reading j w p more le = does_longer Reading All j w.shared (w.holders p)
+does_in_longer Putting j w p more le = does_longer Putting All j w.shared (w.holders p)
+does_in_longer Forcing j w p more le = does_longer Forcing All j w.shared (w.holders p)
+does_in_longer Making j w p more le = does_longer Making All j w.shared (w.holders p)
+does_in_longer Naming j w p more le = does_longer Naming All j w.shared (w.holders p)
+does_in_longer Settling j w p more le = does_longer Settling All j w.shared (w.holders p)
 
 fails_in_longer : (phase : Phase) (j : Journal) (w : World) (p : ℕ) (effect : Effect) (told : Told) → w.shared.promised ≤ length w.shared.history
     → Longer w.shared (fails_in j phase w p (w.holders p) effect told).shared
 fails_in_longer (Ended e) j w p effect told le = same_longer w.shared w.shared refl (omega arith)
-fails_in_longer (Leaving e) j w p effect told le = left_longer e w.shared (w.holders p) le
-fails_in_longer Locking j w p effect told le = does_longer Locking effect w.shared (w.holders p)
-fails_in_longer Looking j w p effect told le = does_longer Looking effect w.shared (w.holders p)
-fails_in_longer Reading j w p effect told le = does_longer Reading effect w.shared (w.holders p)
-fails_in_longer Putting j w p effect told le = does_longer Putting effect w.shared (w.holders p)
-fails_in_longer Forcing j w p effect told le = does_longer Forcing effect w.shared (w.holders p)
-fails_in_longer Making j w p effect told le = does_longer Making effect w.shared (w.holders p)
-fails_in_longer Naming j w p effect told le = does_longer Naming effect w.shared (w.holders p)
-fails_in_longer Settling j w p effect told le = does_longer Settling effect w.shared (w.holders p)
+fails_in_longer (Leaving e) j w p effect told le = left_longer e j w.shared (w.holders p) le
+fails_in_longer Locking j w p effect told le = does_longer Locking effect j w.shared (w.holders p)
+fails_in_longer Looking j w p effect told le = does_longer Looking effect j w.shared (w.holders p)
+fails_in_longer Reading j w p effect told le = does_longer Reading effect j w.shared (w.holders p)
+fails_in_longer Putting j w p effect told le = does_longer Putting effect j w.shared (w.holders p)
+fails_in_longer Forcing j w p effect told le = does_longer Forcing effect j w.shared (w.holders p)
+fails_in_longer Making j w p effect told le = does_longer Making effect j w.shared (w.holders p)
+fails_in_longer Naming j w p effect told le = does_longer Naming effect j w.shared (w.holders p)
+fails_in_longer Settling j w p effect told le = does_longer Settling effect j w.shared (w.holders p)
 
 longer_keeps : (s t : Shared) → s.promised ≤ length s.history → Longer s t → KeepsPromises s t
 longer_keeps s t le h =
@@ -83,12 +83,11 @@ longer_keeps s t le h =
 crash_front : (j : Journal) (s : Shared) (f : File) (content far : ℕ) (litter : List ℕ) → IsFile j s.origin s.history s.promised s.lasting s.next f
     → IsFront (crashed_to j s f content far litter).history s.history
 crash_front j s f content far litter h =
-    let base = base_of j s.origin f in
     let c = content_at f.now f.past content in
-    let is = content_there (IsContent j base f.number s.history f.before h.surely) f.now f.past content h.now h.past in
+    let is = content_there (IsContent j f.head f.start f.number s.history f.before h.surely) f.now f.past content h.now h.past in
     let count = max f.forced far in
-    let inside = whole_in j (started j base) c.commands (count - length (j.head base)) in
-    let front = is_front j (started j base) c.commands (count - length (j.head base)) in
+    let inside = whole_in j f.start c.commands (count - length f.head) in
+    let front = is_front j f.start c.commands (count - length f.head) in
     record {
       more = front.more ++ is.more;
       is = is.of
@@ -124,9 +123,9 @@ event_keeps j w (Fails p effect starved) laws h =
     (fails_in_longer (w.holders p).phase j w p effect (cond starved Starved Failed) le)
 event_keeps j w (Dies p effect) laws h =
     let le = promised_within j w.shared h.still in
-    let t = does (w.holders p).phase w.shared (w.holders p) effect in
+    let t = does j (w.holders p).phase w.shared (w.holders p) effect in
     longer_keeps w.shared (happens j w (Dies p effect)).shared le
-    (dies_longer w.shared t (does_longer (w.holders p).phase effect w.shared (w.holders p)) (t.locker == p))
+    (dies_longer w.shared t (does_longer (w.holders p).phase effect j w.shared (w.holders p)) (t.locker == p))
 event_keeps j w (Forks p child) laws h = (omega arith, refl)
 event_keeps j w Drops laws h = by w.shared.locked
   where
@@ -135,13 +134,13 @@ event_keeps j w Drops laws h = by w.shared.locked
     by false = (omega arith, refl)
 event_keeps j w (Crashes file content far litter) laws h = crash_keeps j w.shared file content far litter laws h.still
 
-pub promises_are_kept : (j : Journal) (start : World) (events : List Event) (e : Event) → IsJournal j → IsStart start
+pub promises_are_kept : (j : Journal) (start : World) (events : List Event) (e : Event) → IsJournal j → IsStart j start
     → KeepsPromises (happen j events start).shared (happens j (happen j events start) e).shared
 promises_are_kept j start events e laws h = event_keeps j (happen j events start) e laws (run_is_fine j start events laws h)
 
 -- ---- a snapshot
 
-pub snapshots_are_true : (j : Journal) (start : World) (events : List Event) (p : ℕ) → IsJournal j → IsStart start
+pub snapshots_are_true : (j : Journal) (start : World) (events : List Event) (p : ℕ) → IsJournal j → IsStart j start
     → ((happen j events start).holders p).phase ≡ Leaving ending.Done → ((happen j events start).holders p).job ≡ Show
     → ((happen j events start).holders p).response ≡ j.head (run j (happen j events start).shared.origin (happen j events start).shared.history)
 snapshots_are_true j start events p laws h phase job =

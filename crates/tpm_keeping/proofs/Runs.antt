@@ -1,14 +1,17 @@
 -- Each event leaves the folder and all holders fine, and so does a run.
-use Rattle.std.proofs.Common.{◌≡◌, ℕ, suc, ◌+◌, ◌<◌, ◌==◌, Bool, true, false, cond, List, [], ◌∷◌, ◌++◌, length, take, drop, Some, None, refl, sym, ap, ◌∙◌, subst, arith, append_assoc}
+use Rattle.std.proofs.Common.{◌≡◌, ℕ, suc, ◌+◌, ◌<◌, ◌==◌, Bool, true, false, cond, List, [], ◌∷◌, ◌++◌, length, take, drop, Some, None, refl, sym, ap, ◌∙◌, subst, arith, append_assoc, length-append}
 use Rattle.std.specs.List.{AllByRecursion}
-use Rattle.tpm_keeping.specs.Journal.{Journal, IsJournal, Spot, entries, started}
+use Rattle.tpm_keeping.specs.Journal.{Entered, Journal, IsJournal, entries, run}
 use Rattle.tpm_keeping.specs.Holder.{Holder, Told, Done, Bytes, Failed, Starved, asked, asked_in, dropped, fault_told, forgets, goes, newborn, next_in, rests, rests_in}
+use Rattle.std.proofs.lemmas.Bool.Decides.{nat_tests}
+use Rattle.std.proofs.lemmas.List.{append-nil}
 use Rattle.tpm_keeping.specs.World.{Effect, All, Event, Starts, Asks, Does, Fails, Dies, Forks, Drops, Crashes, IsStart, Shared, World, does, does_in, fails_in, freed, happen, happens, left, starts_in, tells, with_holder}
 use Rattle.tpm_keeping.specs.Kept.{Ascend, IsKept}
-use Rattle.tpm_keeping.proofs.Invariant.{spot_of, Each, Fine, IsFile, Safe, Fits, In, IsContent, KnowsOf, StaysOf, Still, base_of, holds, sight}
+use Rattle.tpm_keeping.proofs.Invariant.{spot_of, Each, Fine, IsFile, Safe, Fits, In, IsContent, KnowsOf, StaysOf, Still, holds, sight}
 use Rattle.tpm_keeping.proofs.Folder.{drop_moves, promised_within, same_grows, same_moves, state_is}
 use Rattle.tpm_keeping.proofs.Answers.{left_moves}
 use Rattle.tpm_keeping.proofs.OneStep.{alone, away_fits, beside, does_moves, dropped_fits, forced_fits, goes_fine, has_read_fits, knows_nothing, looks_fits, named_fits, newborn_fits, put_fits, same_lock, update}
+use Rattle.tpm_keeping.proofs.Reading.{has_all_knows}
 use Rattle.tpm_keeping.proofs.Crash.{crash_still}
 use Rattle.tpm_keeping.specs.declared.holder.Force.{Force}
 use Rattle.tpm_keeping.specs.declared.holder.Job.{Job}
@@ -29,43 +32,24 @@ locks_fine j w p h knows false is =
     let still = h.still in
     update j w t p (goes Looking (w.holders p))
     (record { told = still.told; file = still.file; older = still.older; alone = still.alone; each = still.each; once = still.once; safe = still.safe })
-    (λ q apart. away_fits j s t q (w.holders q) (same_grows j s t refl refl (λ none. none) (omega arith)) (h.holders q)
+    (λ q apart. away_fits j s t q (w.holders q) (same_grows j s t refl (λ none. none) (omega arith)) (h.holders q)
     (λ theirs. let a = ((h.holders q).lock theirs).0 in let e : false ≡ true = sym is ∙ a in cc))
     (record { lock = λ _. (refl, refl); now = knows; below = (h.holders p).below; calm = (h.holders p).calm })
 
 knows_stays : (j : Journal) (s : Shared) (k : Holder) → StaysOf j (sight s) k → KnowsOf j (sight s) k
-knows_stays j s k h = record {
-  at = λ d is _. record {
-    done = s.file.now.commands;
-    ahead = [];
-    parts = sym (append_nil s.file.now.commands);
-    is = some_is d (spot_of j s.origin s.file) (sym is ∙ h.has);
-    front = h.all.front;
-    text = h.all.text;
-    reached = h.all.reached;
-    sure = h.all.sure;
-  };
-  empty = λ none. absurd (let e : None ≡ Some (spot_of j s.origin s.file) = sym none ∙ h.has in cc);
-}
-  where
-    append_nil : (x : List (List ℕ)) → x ++ [] ≡ x
-    append_nil [] = refl
-    append_nil (c ∷ x) = ap (λ (y : List (List ℕ)). c ∷ y) (append_nil x)
-
-    some_is : (a b : Spot) → Some a ≡ Some b → a ≡ b
-    some_is a b e = cc
+knows_stays j s k h = has_all_knows j s k h.all h.has
 
 leaves_fine : (e : End) (j : Journal) (w : World) (p : ℕ) → Fine j w → holds (w.holders p).phase ≡ true → In (Leaving e) j (sight w.shared) (w.holders p)
-    → Fine j (with_holder (left e w.shared (w.holders p)) w.holders p (goes (Ended e) (w.holders p)))
+    → Fine j (with_holder (left j e w.shared (w.holders p)) w.holders p (goes (Ended e) (w.holders p)))
 leaves_fine ending.Done j w p h mine now =
     let s = w.shared in
     let k = w.holders p in
-    goes_fine j w (left ending.Done s k) p (goes (Ended ending.Done) k) h mine (left_moves ending.Done j s k h.still now)
+    goes_fine j w (left j ending.Done s k) p (goes (Ended ending.Done) k) h mine (left_moves ending.Done j s k h.still now)
     (record { lock = λ off. absurd cc; now = knows_stays j s k now.stays; below = (h.holders p).below; calm = (h.holders p).calm })
 leaves_fine (ending.Failed f) j w p h mine now =
     let s = w.shared in
     let k = w.holders p in
-    goes_fine j w (left (ending.Failed f) s k) p (goes (Ended (ending.Failed f)) k) h mine (left_moves (ending.Failed f) j s k h.still now)
+    goes_fine j w (left j (ending.Failed f) s k) p (goes (Ended (ending.Failed f)) k) h mine (left_moves (ending.Failed f) j s k h.still now)
     (record { lock = λ off. absurd cc; now = now; below = (h.holders p).below; calm = (h.holders p).calm })
 
 -- ---- what is done
@@ -89,27 +73,27 @@ does_fine Reading j w p more laws h is now lock =
 does_fine Putting j w p more laws h is now lock =
     let s = w.shared in
     let k = w.holders p in
-    goes_fine j w (does Putting s k All) p (next_in j Putting k Done) h (ap holds is) (does_moves Putting All j s k laws h.still now)
+    goes_fine j w (does j Putting s k All) p (next_in j Putting k Done) h (ap holds is) (does_moves Putting All j s k laws h.still now)
     (put_fits j s p k h.still (lock refl) (h.holders p).below (h.holders p).calm now)
 does_fine Forcing j w p more laws h is now lock =
     let s = w.shared in
     let k = w.holders p in
-    goes_fine j w (does Forcing s k All) p (next_in j Forcing k Done) h (ap holds is) (does_moves Forcing All j s k laws h.still now)
+    goes_fine j w (does j Forcing s k All) p (next_in j Forcing k Done) h (ap holds is) (does_moves Forcing All j s k laws h.still now)
     (forced_fits j s p k h.still (lock refl) (h.holders p).below (h.holders p).calm now.0 now.2)
 does_fine Making j w p more laws h is now lock =
     let s = w.shared in
     let k = w.holders p in
-    goes_fine j w (does Making s k All) p (next_in j Making k Done) h (ap holds is) (does_moves Making All j s k laws h.still now)
+    goes_fine j w (does j Making s k All) p (next_in j Making k Done) h (ap holds is) (does_moves Making All j s k laws h.still now)
     (record { lock = λ _. lock refl; now = (now, refl, omega arith); below = (h.holders p).below; calm = (h.holders p).calm })
 does_fine Naming j w p more laws h is now lock =
     let s = w.shared in
     let k = w.holders p in
-    goes_fine j w (does Naming s k All) p (next_in j Naming k (tells Naming (does Naming s k All) k more)) h (ap holds is) (does_moves Naming All j s k laws h.still now)
+    goes_fine j w (does j Naming s k All) p (next_in j Naming k (tells Naming (does j Naming s k All) k more)) h (ap holds is) (does_moves Naming All j s k laws h.still now)
     (named_fits j s p k h.still (lock refl) (h.holders p).below now.0 now.2)
 does_fine Settling j w p more laws h is now lock =
     let s = w.shared in
     let k = w.holders p in
-    goes_fine j w (does Settling s k All) p (next_in j Settling k Done) h (ap holds is) (does_moves Settling All j s k laws h.still now)
+    goes_fine j w (does j Settling s k All) p (next_in j Settling k Done) h (ap holds is) (does_moves Settling All j s k laws h.still now)
     (record {
       lock = λ _. lock refl;
       now = record { stays = now.0; forced = now.1; settled = λ _. refl };
@@ -120,19 +104,19 @@ does_fine Settling j w p more laws h is now lock =
 -- ---- what fails
 
 -- the lock of the one that has it is its own after all that it does
-lock_after : (phase : Phase) (effect : Effect) (s : Shared) (k : Holder) (p : ℕ) → (s.locked ≡ true) × (s.locker ≡ p)
-    → ((does phase s k effect).locked ≡ true) × ((does phase s k effect).locker ≡ p)
-lock_after phase effect s k p lock = let same = same_lock phase effect s k in (same.0 ∙ lock.0, same.1 ∙ lock.1)
+lock_after : (j : Journal) (phase : Phase) (effect : Effect) (s : Shared) (k : Holder) (p : ℕ) → (s.locked ≡ true) × (s.locker ≡ p)
+    → ((does j phase s k effect).locked ≡ true) × ((does j phase s k effect).locker ≡ p)
+lock_after j phase effect s k p lock = let same = same_lock j phase effect s k in (same.0 ∙ lock.0, same.1 ∙ lock.1)
 
 drops_fine : (phase : Phase) (effect : Effect) (j : Journal) (w : World) (p : ℕ) (told : Told) → IsJournal j → (h : Fine j w) → (w.holders p).phase ≡ phase → holds phase ≡ true
     → In phase j (sight w.shared) (w.holders p) → (w.shared.locked ≡ true) × (w.shared.locker ≡ p)
-    → Fine j (with_holder (does phase w.shared (w.holders p) effect) w.holders p (dropped (fault_told phase told) (w.holders p)))
+    → Fine j (with_holder (does j phase w.shared (w.holders p) effect) w.holders p (dropped (fault_told phase told) (w.holders p)))
 drops_fine phase effect j w p told laws h is mine now lock =
     let s = w.shared in
     let k = w.holders p in
     let moves = does_moves phase effect j s k laws h.still now in
-    goes_fine j w (does phase s k effect) p (dropped (fault_told phase told) k) h (ap holds is ∙ mine) moves
-    (dropped_fits j (does phase s k effect) p k (fault_told phase told) (omega (arith, (h.holders p).below, moves.grows.next)) (lock_after phase effect s k p lock))
+    goes_fine j w (does j phase s k effect) p (dropped (fault_told phase told) k) h (ap holds is ∙ mine) moves
+    (dropped_fits j (does j phase s k effect) p k (fault_told phase told) (omega (arith, (h.holders p).below, moves.grows.next)) (lock_after j phase effect s k p lock))
 
 fails_fine : (phase : Phase) (effect : Effect) (starved : Bool) (j : Journal) (w : World) (p : ℕ) → IsJournal j → (h : Fine j w) → (w.holders p).phase ≡ phase
     → In phase j (sight w.shared) (w.holders p) → (holds phase ≡ true → (w.shared.locked ≡ true) × (w.shared.locker ≡ p))
@@ -140,9 +124,9 @@ fails_fine : (phase : Phase) (effect : Effect) (starved : Bool) (j : Journal) (w
 fails_fine (Ended e) effect starved j w p laws h is now lock = h
 fails_fine (Leaving e) effect starved j w p laws h is now lock = leaves_fine e j w p h (ap holds is) now
 fails_fine Locking effect true j w p laws h is now lock = beside j w p (forgets (Ended (ending.Failed fault.Memory)) (w.holders p)) h
-    (record { lock = λ off. absurd cc; now = knows_nothing j w.shared.origin w.shared.file (w.holders p).force; below = omega (arith, (h.holders p).below); calm = λ e. absurd cc })
+    (record { lock = λ off. absurd cc; now = knows_nothing j w.shared.file (w.holders p).force; below = omega (arith, (h.holders p).below); calm = λ e. absurd cc })
 fails_fine Locking effect false j w p laws h is now lock = beside j w p (forgets (Ended (ending.Failed fault.Lock)) (w.holders p)) h
-    (record { lock = λ off. absurd cc; now = knows_nothing j w.shared.origin w.shared.file (w.holders p).force; below = omega (arith, (h.holders p).below); calm = λ e. absurd cc })
+    (record { lock = λ off. absurd cc; now = knows_nothing j w.shared.file (w.holders p).force; below = omega (arith, (h.holders p).below); calm = λ e. absurd cc })
 fails_fine Looking effect true j w p laws h is now lock = drops_fine Looking effect j w p Starved laws h is refl now (lock refl)
 fails_fine Looking effect false j w p laws h is now lock = drops_fine Looking effect j w p Failed laws h is refl now (lock refl)
 fails_fine Reading effect true j w p laws h is now lock = drops_fine Reading effect j w p Starved laws h is refl now (lock refl)
@@ -179,11 +163,11 @@ freed_fits j s p q k apart h = record {
 
 dies_holding : (phase : Phase) (effect : Effect) (j : Journal) (w : World) (p : ℕ) → IsJournal j → (h : Fine j w) → (w.holders p).phase ≡ phase → holds phase ≡ true
     → In phase j (sight w.shared) (w.holders p)
-    → Fine j (with_holder (freed (does phase w.shared (w.holders p) effect) p) w.holders p (newborn (w.holders p).force (w.holders p).limit))
+    → Fine j (with_holder (freed (does j phase w.shared (w.holders p) effect) p) w.holders p (newborn (w.holders p).force (w.holders p).limit))
 dies_holding phase effect j w p laws h is mine now =
     let s = w.shared in
     let k = w.holders p in
-    let t = does phase s k effect in
+    let t = does j phase s k effect in
     let moves = does_moves phase effect j s k laws h.still now in
     update j w (freed t p) p (newborn k.force k.limit) (freed_still j t p moves.still)
     (λ q apart. freed_fits j t p q (w.holders q) apart (away_fits j s t q (w.holders q) moves.grows (h.holders q) (alone j w p h (ap holds is ∙ mine) q apart)))
@@ -200,7 +184,7 @@ dies_beside j w p h =
 
 dies_fine : (phase : Phase) (effect : Effect) (j : Journal) (w : World) (p : ℕ) → IsJournal j → (h : Fine j w) → (w.holders p).phase ≡ phase
     → In phase j (sight w.shared) (w.holders p)
-    → Fine j (with_holder (freed (does phase w.shared (w.holders p) effect) p) w.holders p (newborn (w.holders p).force (w.holders p).limit))
+    → Fine j (with_holder (freed (does j phase w.shared (w.holders p) effect) p) w.holders p (newborn (w.holders p).force (w.holders p).limit))
 dies_fine (Ended e) effect j w p laws h is now = dies_beside j w p h
 dies_fine Locking effect j w p laws h is now = dies_beside j w p h
 dies_fine Looking effect j w p laws h is now = dies_holding Looking effect j w p laws h is refl now
@@ -277,16 +261,17 @@ kept : (j : Journal) (w : World) → IsJournal j → Fine j w → IsKept j w.sha
 kept j w laws h =
     let s = w.shared in
     let still = h.still in
-    let base = base_of j s.origin s.file in
-    let size = length (j.head base) + length (entries j (started j base) s.file.now.commands) in
+    let f = s.file in
+    let size = length f.head + length (entries j f.start f.now.commands) in
     record {
       opens = λ named. (
-          let t = still.file.now.text named in (
-            spot_of j s.origin s.file,
+          let t = still.file.now.text named in
+          let headed = still.file.headed named in (
+            spot_of j f,
             size,
-            ap j.opened (t.is ∙ append_assoc (j.head base) (entries j (started j base) s.file.now.commands) t.tail)
-                ∙ laws.opens base s.file.now.commands t.tail (still.file.lives named) t.torn,
-            state_is j s still,
+            ap j.opened (t.is ∙ append_assoc f.head (entries j f.start f.now.commands) t.tail)
+                ∙ laws.opens f.head f.start f.now.commands t.tail headed.after headed.lives still.file.now.entered t.torn,
+            state_is j s still named,
           )
           );
       each = still.each;
@@ -296,31 +281,52 @@ kept j w laws h =
       lasts = still.file.lasts;
     }
 
-pub begun : (j : Journal) (w : World) → IsStart w → Fine j w
-begun j w h =
+-- ---- how it starts
+
+found_entered : (j : Journal) (w : World) → IsStart j w → (b : Bool) → (w.shared.file.number == 0) ≡ b → Entered j w.shared.file.now.commands
+found_entered j w h true is =
+    let none : w.shared.file.number ≡ 0 = grind (arith, nat_tests) in
+    subst (Entered j) (sym (h.none none)) tt
+found_entered j w h false is =
+    let named : 0 < w.shared.file.number = grind (arith, nat_tests) in
+    (h.found named).0.entered
+
+pub start_is_fine : (j : Journal) (w : World) → IsStart j w → Fine j w
+start_is_fine j w h =
     let s = w.shared in
-    let none : s.history ≡ s.file.before ++ s.file.now.commands =
-    h.history ∙ (sym h.commands ∙ ap (λ (x : List (List ℕ)). x ++ s.file.now.commands) (sym h.before)) in
+    let f = s.file in
+    let cs = f.now.commands in
+    let told : s.history ≡ f.before ++ cs = h.history ∙ ap (λ (x : List (List ℕ)). x ++ cs) (sym h.before) in
     record {
       still = record {
-        told = none;
+        told = told;
         file = record {
-          surely = [];
-          enough = λ named. absurd (omega (arith, named, h.number));
-          kept = omega (arith, h.promised);
-          lasts = λ lasting. absurd (let e : false ≡ true = sym h.lasting ∙ lasting in cc);
-          below = omega (arith, h.number, h.next);
+          surely = cs;
+          enough = λ named. (
+              let found = (h.found named).0 in
+              omega (arith, found.forced, ap length found.text, length-append f.head (entries j f.start cs ++ found.tail), length-append f.head (entries j f.start cs), length-append (entries j f.start cs) found.tail)
+              );
+          kept = omega (arith, h.promised, ap length h.history);
+          lasts = h.lasting;
+          below = h.next;
           unnamed = λ _. h.before;
-          lives = λ named. absurd (omega (arith, named, h.number));
+          headed = λ named. (
+              let found = h.found named in
+              record { after = found.0.after; lives = found.0.lives; state = sym found.1 ∙ ap (run j s.origin) (sym h.before) }
+              );
           now = record {
             rest = [];
-            has = h.commands;
+            has = sym (append-nil cs);
             more = [];
-            of = h.history ∙ sym (ap (λ (x : List (List ℕ)). x ++ (s.file.now.commands ++ [])) h.before ∙ ap (λ (x : List (List ℕ)). x ++ []) h.commands);
-            text = λ named. absurd (omega (arith, named, h.number));
-            empty = λ _. h.commands;
+            of = told ∙ ap (λ (x : List (List ℕ)). f.before ++ x) (sym (append-nil cs));
+            entered = found_entered j w h (f.number == 0) refl;
+            text = λ named. (
+                let found = (h.found named).0 in
+                record { tail = found.tail; is = found.text ∙ sym (append_assoc f.head (entries j f.start cs) found.tail); torn = found.torn }
+                );
+            empty = h.none;
           };
-          past = subst (AllByRecursion (IsContent j (base_of j s.origin s.file) s.file.number s.history s.file.before [])) (sym h.past) tt;
+          past = subst (AllByRecursion (IsContent j f.head f.start f.number s.history f.before cs)) (sym h.past) tt;
         };
         older = subst (AllByRecursion (IsFile j s.origin s.history s.promised s.lasting s.next)) (sym h.older) tt;
         alone = λ _. h.older;
@@ -328,11 +334,11 @@ begun j w h =
         once = subst Ascend (sym h.answers) tt;
         safe = subst (Safe s.promised) (sym h.answers) tt;
       };
-      holders = λ p. subst (λ (k : Holder). Fits j s p k) (sym (h.holders p)) (newborn_fits j s p (w.holders p).force (w.holders p).limit h.next);
+      holders = λ p. subst (λ (k : Holder). Fits j s p k) (sym (h.holders p)) (newborn_fits j s p (w.holders p).force (w.holders p).limit (omega (arith, h.next)));
     }
 
-pub run_is_fine : (j : Journal) (start : World) (events : List Event) → IsJournal j → IsStart start → Fine j (happen j events start)
-run_is_fine j start events laws h = steps j events start laws (begun j start h)
+pub run_is_fine : (j : Journal) (start : World) (events : List Event) → IsJournal j → IsStart j start → Fine j (happen j events start)
+run_is_fine j start events laws h = steps j events start laws (start_is_fine j start h)
 
-pub kept_through_crashes : (j : Journal) (start : World) (events : List Event) → IsJournal j → IsStart start → IsKept j (happen j events start).shared
+pub kept_through_crashes : (j : Journal) (start : World) (events : List Event) → IsJournal j → IsStart j start → IsKept j (happen j events start).shared
 kept_through_crashes j start events laws h = kept j (happen j events start) laws (run_is_fine j start events laws h)

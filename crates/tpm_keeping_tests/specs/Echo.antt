@@ -1,6 +1,7 @@
 -- A device without a state, which answers each command with the command. Its journal has a byte for
--- the head and one for each entry.
-use Rattle.std.specs.Prelude.{◌≡◌, ℕ, suc, Bool, true, false, List, [], ◌∷◌, length, Option, Some, None}
+-- the head and one for each entry. A command that begins with a zero has no entry, and no bytes are
+-- no command.
+use Rattle.std.specs.Prelude.{◌≡◌, ℕ, zero, suc, Bool, true, false, List, [], ◌∷◌, length, Option, Some, None}
 use Rattle.tpm_keeping.specs.Journal.{Journal, Spot}
 
 abbrev pub nothing : Spot
@@ -9,6 +10,20 @@ nothing = record { state = []; chain = 0 }
 abbrev pub is_empty : List ℕ → Bool
 is_empty [] = true
 is_empty (b ∷ text) = false
+
+abbrev pub is_some : List ℕ → Bool
+is_some [] = false
+is_some (b ∷ text) = true
+
+abbrev pub begins_above_zero : List ℕ → Bool
+begins_above_zero [] = false
+begins_above_zero (zero ∷ text) = false
+begins_above_zero (suc b ∷ text) = true
+
+abbrev pub headed_at : List ℕ → Option Spot
+headed_at [] = None
+headed_at (b ∷ []) = Some nothing
+headed_at (b ∷ c ∷ text) = None
 
 abbrev pub opened_at : List ℕ → Option (Spot × ℕ)
 opened_at [] = None
@@ -22,6 +37,8 @@ followed_at p (b ∷ text) = (nothing, suc (length text))
 abbrev pub echo : Journal
 echo = record {
   is_state = λ s. is_empty s;
+  is_command = λ c. is_some c;
+  is_entered = λ c. begins_above_zero c;
   after = λ s c. [];
   response = λ s c. c;
   begun = λ seed. Some [];
@@ -29,6 +46,7 @@ echo = record {
   link = λ p c. 0;
   head = λ s. 104 ∷ [];
   first = λ s. 0;
+  after_head = λ text. headed_at text;
   opened = λ text. opened_at text;
   followed = λ p text. Some (followed_at p text);
   is_torn = λ p text. is_empty text;

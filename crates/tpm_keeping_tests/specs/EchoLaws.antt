@@ -2,7 +2,7 @@
 use Rattle.std.proofs.Common.{◌≡◌, ℕ, zero, suc, ◌+◌, ◌<◌, Bool, true, false, List, [], ◌∷◌, ◌++◌, length, take, Some, None, Option, refl, sym, ap, ◌∙◌, subst, arith}
 use Rattle.std.proofs.lemmas.List.{append-nil}
 use Rattle.tpm_keeping.specs.Journal.{Journal, IsJournal, Spot, entries, run, started, stepped, trail}
-use Rattle.tpm_keeping_tests.specs.Echo.{echo, followed_at, is_empty, nothing, opened_at}
+use Rattle.tpm_keeping_tests.specs.Echo.{echo, followed_at, headed_at, is_empty, nothing, opened_at}
 
 none : (text : List ℕ) → is_empty text ≡ true → text ≡ []
 none [] is = refl
@@ -22,6 +22,13 @@ followed p (c ∷ cs) =
 begun : (s : List ℕ) → is_empty s ≡ true → started echo s ≡ nothing
 begun s is = ap (λ (x : List ℕ). started echo x) (none s is)
 
+-- a head is one byte, and leads to nothing
+head_is : (head : List ℕ) (p : Spot) → headed_at head ≡ Some p
+    → (b : ℕ) × (head ≡ b ∷ []) × (p ≡ nothing)
+head_is [] p is = absurd cc
+head_is (b ∷ []) p is = (b, refl, (let same : nothing ≡ p = cc in sym same))
+head_is (b ∷ c ∷ text) p is = absurd cc
+
 short : (k : ℕ) → k < 1 → is_empty (take k (101 ∷ [])) ≡ true
 short zero le = refl
 short (suc k) le = absurd (omega (arith, le))
@@ -36,17 +43,21 @@ pub echo_is_a_journal : IsJournal echo
 echo_is_a_journal = record {
   begins = λ seed s is. begins seed s is;
   leads = λ s c is. refl;
-  opens = λ s cs tail lives torn. (
-      let all = entries echo (started echo s) cs in
+  heads = λ s is. ap (λ (p : Spot). Some p) (sym (begun s is));
+  opens = λ head p cs tail after lives entered torn. (
+      let is = head_is head p after in
+      let all = entries echo p cs in
       let text : all ++ tail ≡ all =
       ap (λ (x : List ℕ). all ++ x) (none tail torn) ∙ append-nil all in
-      let one : suc (length all) ≡ 1 + length all = omega arith in
-      let end : nothing ≡ trail echo (started echo s) cs =
-      sym (still cs) ∙ ap (λ (p : Spot). trail echo p cs) (sym (begun s lives)) in
-      ap (λ (x : List ℕ). Some (nothing, suc (length x))) text
-      ∙ (ap (λ (n : ℕ). Some (nothing, n)) one ∙ ap (λ (p : Spot). Some (p, 1 + length all)) end)
+      let size : suc (length all) ≡ length head + length all = omega (arith, ap length is.1) in
+      let end : nothing ≡ trail echo p cs =
+      sym (still cs) ∙ ap (λ (q : Spot). trail echo q cs) (sym is.2) in
+      ap (λ (x : List ℕ). opened_at (x ++ (all ++ tail))) is.1
+      ∙ (ap (λ (x : List ℕ). Some (nothing, suc (length x))) text
+      ∙ (ap (λ (n : ℕ). Some (nothing, n)) size
+      ∙ ap (λ (q : Spot). Some (q, length head + length all)) end))
       );
-  follows = λ p cs tail lives torn. (
+  follows = λ p cs tail lives entered torn. (
       let all = entries echo p cs in
       let text : all ++ tail ≡ all =
       ap (λ (x : List ℕ). all ++ x) (none tail torn) ∙ append-nil all in
@@ -54,7 +65,7 @@ echo_is_a_journal = record {
       ∙ ap (λ (r : Spot × ℕ). Some r) (followed p cs)
       );
   nothing = λ p. refl;
-  front = λ p c k le. short k le;
+  front = λ p c k lives entered le. short k le;
   littered = λ p tail k litter torn is. littered tail k litter torn is;
   clean = refl;
 }

@@ -4,10 +4,28 @@
 use crate::echo::Echo;
 use crate::folder::Folder;
 use std::process::Abort;
-use tpm_keeping::holder::{Force, Job};
+use tpm_keeping::holder::{End, Fault, Force, Job};
 use tpm_keeping::keeper::Keeper;
 
 const FAR: u64 = 1000;
+const NO_JOURNAL: End = End::Failed(Fault::Absent);
+
+/// A call with this command ends so, by just this, and leaves this journal.
+fn ends<R: Abort>(
+    rt: &R,
+    folder: &mut Folder,
+    keeper: &mut Keeper<Echo>,
+    job: Job,
+    command: &[u8],
+    end: End,
+    did: &[u8],
+    journal: &[u8],
+) {
+    let ended = folder.runs(keeper, job, command);
+    assert!(rt; ended == Ok(end));
+    assert!(rt; folder.did.as_slice() == did);
+    assert!(rt; folder.journal.as_slice() == journal);
+}
 
 /// A call is done, by just this, and leaves this journal.
 fn check<R: Abort>(
@@ -18,15 +36,12 @@ fn check<R: Abort>(
     did: &[u8],
     journal: &[u8],
 ) {
-    let is_done = matches!(folder.runs(keeper, job, b"command"), Ok(true));
-    assert!(rt; is_done);
-    assert!(rt; folder.did.as_slice() == did);
-    assert!(rt; folder.journal.as_slice() == journal);
+    ends(rt, folder, keeper, job, b"command", End::Done, did, journal);
 }
 
 /// The last call has given this response.
 fn answers<R: Abort>(rt: &R, keeper: &Keeper<Echo>, response: &[u8]) {
-    assert!(rt; keeper.response.as_slice() == response);
+    assert!(rt; keeper.response() == response);
 }
 
 #[test]
@@ -39,8 +54,66 @@ fn each_job_is_done(rt: HostRuntime) {
     check(&rt, &mut folder, &mut always, Job::Show, b"LKPFU", b"he");
     answers(&rt, &always, b"h");
     check(&rt, &mut folder, &mut always, Job::Renew, b"LKMNSU", b"h");
-    check(&rt, &mut folder, &mut always, Job::Leap, b"LKMNSU", b"h");
-    answers(&rt, &always, b"command");
+}
+
+#[test]
+fn a_command_without_an_entry_begins_a_new_journal(rt: HostRuntime) {
+    let mut folder = Folder::new(rt.alloc());
+    let mut power = Keeper::new(rt.alloc(), Force::Power, FAR);
+    check(&rt, &mut folder, &mut power, Job::Begin, b"LKMNSU", b"h");
+    check(&rt, &mut folder, &mut power, Job::Execute, b"LKPU", b"he");
+    ends(
+        &rt,
+        &mut folder,
+        &mut power,
+        Job::Execute,
+        b"\0",
+        End::Done,
+        b"LKMNSU",
+        b"h",
+    );
+    answers(&rt, &power, b"\0");
+    check(&rt, &mut folder, &mut power, Job::Execute, b"LKPU", b"he");
+}
+
+// The device stays in memory: the next call reads nothing.
+#[test]
+fn what_is_no_command_is_refused(rt: HostRuntime) {
+    let mut folder = Folder::new(rt.alloc());
+    let mut never = Keeper::new(rt.alloc(), Force::Never, FAR);
+    let refused = End::Failed(Fault::NoCommand);
+    check(&rt, &mut folder, &mut never, Job::Begin, b"LKMNU", b"h");
+    ends(
+        &rt,
+        &mut folder,
+        &mut never,
+        Job::Execute,
+        b"",
+        refused,
+        b"LKU",
+        b"h",
+    );
+    answers(&rt, &never, b"");
+    check(&rt, &mut folder, &mut never, Job::Execute, b"LKPU", b"he");
+}
+
+#[test]
+fn without_a_journal_only_begin_is_done(rt: HostRuntime) {
+    let mut folder = Folder::new(rt.alloc());
+    let mut never = Keeper::new(rt.alloc(), Force::Never, FAR);
+    for job in [Job::Execute, Job::Renew, Job::Show] {
+        ends(
+            &rt,
+            &mut folder,
+            &mut never,
+            job,
+            b"command",
+            NO_JOURNAL,
+            b"LKU",
+            b"",
+        );
+    }
+    check(&rt, &mut folder, &mut never, Job::Begin, b"LKMNU", b"h");
 }
 
 // Each holder reads what others added. Only the one that forces before each answer writes again
@@ -102,4 +175,13 @@ fn a_grown_journal_begins_anew_with_the_entry(rt: HostRuntime) {
         b"LKMNSU",
         b"he",
     );
+}
+
+#[test]
+fn a_small_limit_does_not_renew_a_small_journal(rt: HostRuntime) {
+    let mut folder = Folder::new(rt.alloc());
+    let mut keeper = Keeper::new(rt.alloc(), Force::Never, 0);
+    check(&rt, &mut folder, &mut keeper, Job::Begin, b"LKMNU", b"h");
+    check(&rt, &mut folder, &mut keeper, Job::Execute, b"LKPU", b"he");
+    check(&rt, &mut folder, &mut keeper, Job::Execute, b"LKMNU", b"he");
 }

@@ -7,7 +7,8 @@ ghost use Rattle.tpm_keeping_tests.specs.EchoLaws.{echo_is_a_journal};
 use std::alloc::Global;
 use tpm_keeping::device::{Device, Exhausted};
 
-/// Answers each command with the command.
+/// Answers each command with the command. One that begins with a zero has no entry, and no bytes are
+/// no command.
 #[derive(Drop)]
 pub struct Echo;
 
@@ -33,6 +34,17 @@ impl Device for Echo {
         Ok(Some(text.len()))
     }
 
+    fn is_command(command: &[u8]) -> bool {
+        !command.is_empty()
+    }
+
+    fn is_entered(command: &[u8]) -> bool {
+        match command.first() {
+            Some(first) => *first != 0,
+            None => false,
+        }
+    }
+
     fn execute(
         &mut self,
         command: &[u8],
@@ -40,6 +52,13 @@ impl Device for Echo {
         response: &mut Vec<u8>,
     ) -> Result<(), Exhausted> {
         let (Ok(()), Ok(())) = (out.push(101), response.extend_from_slice(command)) else {
+            return Err(Exhausted);
+        };
+        Ok(())
+    }
+
+    fn leap(&mut self, command: &[u8], response: &mut Vec<u8>) -> Result<(), Exhausted> {
+        let Ok(()) = response.extend_from_slice(command) else {
             return Err(Exhausted);
         };
         Ok(())

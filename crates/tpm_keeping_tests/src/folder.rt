@@ -3,7 +3,7 @@
 use std::alloc::{AllocError, Global};
 use std::mem;
 use tpm_keeping::device::Device;
-use tpm_keeping::holder::{End, Job};
+use tpm_keeping::holder::{End, Fault, Job};
 use tpm_keeping::keeper::{Ask, Got, Keeper};
 
 /// A call that is longer than any is.
@@ -13,7 +13,7 @@ const STEPS: u32 = 40;
 const PART: usize = 3;
 
 /// The journal, the new file that has no name yet, and a letter for each thing that the host did in
-/// the last call.
+/// the last call; an exclamation mark where the keeper said that it had no memory.
 #[derive(Drop)]
 pub struct Folder {
     pub number: u64,
@@ -48,41 +48,48 @@ impl Folder {
         }
     }
 
-    /// Does what a keeper asks for until the call has ended, and tells whether it is done.
+    /// Does what a keeper asks for until the call has ended, and returns how it ended.
     pub fn runs<D: Device>(
         &mut self,
         keeper: &mut Keeper<D>,
         job: Job,
         command: &[u8],
-    ) -> Result<bool, AllocError> {
+    ) -> Result<End, AllocError> {
         self.did.clear();
-        let _ = keeper.begin(job, command);
+        let begun = keeper.begin(job, command).is_ok();
+        self.marks(begun)?;
         for _ in 0..STEPS {
             let ask = keeper.ask();
             if let Ask::Nothing(end) = ask {
-                return Ok(matches!(end, End::Done));
+                return Ok(end);
             }
             self.did.push(letter(ask))?;
-            self.does(keeper, ask)?;
+            let went_on = self.does(keeper, ask)?;
+            self.marks(went_on)?;
         }
-        Ok(false)
+        Ok(End::Failed(Fault::Idle))
     }
 
-    /// Does one thing, and tells the keeper.
-    fn does<D: Device>(&mut self, keeper: &mut Keeper<D>, ask: Ask) -> Result<(), AllocError> {
+    /// Marks that the keeper had no memory.
+    fn marks(&mut self, went_on: bool) -> Result<(), AllocError> {
+        if went_on {
+            return Ok(());
+        }
+        self.did.push(b'!')
+    }
+
+    /// Does one thing, and tells the keeper. Returns whether that had memory to go on.
+    fn does<D: Device>(&mut self, keeper: &mut Keeper<D>, ask: Ask) -> Result<bool, AllocError> {
         match ask {
-            Ask::Read(from) => {
-                self.reads(keeper, from as usize);
-                return Ok(());
-            }
+            Ask::Read(from) => return Ok(self.reads(keeper, from as usize)),
             Ask::Put { cut, at } => {
                 self.journal.truncate(cut as usize);
                 self.journal.truncate(at as usize);
-                self.journal.extend_from_slice(&keeper.out)?;
+                self.journal.extend_from_slice(keeper.out())?;
             }
             Ask::Make => {
                 self.fresh.clear();
-                self.fresh.extend_from_slice(&keeper.out)?;
+                self.fresh.extend_from_slice(keeper.out())?;
             }
             Ask::Name => {
                 self.number = self.number.wrapping_add(1);
@@ -90,8 +97,7 @@ impl Folder {
             }
             _ => {}
         }
-        let _ = keeper.next(self.tells(ask));
-        Ok(())
+        Ok(keeper.next(self.tells(ask)).is_ok())
     }
 
     fn tells(&self, ask: Ask) -> Got<'static> {
@@ -108,9 +114,9 @@ impl Folder {
         }
     }
 
-    fn reads<D: Device>(&self, keeper: &mut Keeper<D>, from: usize) {
+    fn reads<D: Device>(&self, keeper: &mut Keeper<D>, from: usize) -> bool {
         let rest = self.journal.get(from..).unwrap_or(&[]);
         let part = rest.get(..PART).unwrap_or(rest);
-        let _ = keeper.next(Got::Bytes(part));
+        keeper.next(Got::Bytes(part)).is_ok()
     }
 }
