@@ -6,6 +6,7 @@ pub mod Reading
 pub mod OneStep
 pub mod Crash
 pub mod Runs
+pub mod Ending
 pub mod LineLaws
 pub mod Promises
 pub mod Asked

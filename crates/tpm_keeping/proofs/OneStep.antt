@@ -135,28 +135,37 @@ begins_fits Execute j s p k laws is none next lock below calm = dropped_fits j s
 begins_fits Renew j s p k laws is none next lock below calm = dropped_fits j s p k fault.Absent next lock
 begins_fits Show j s p k laws is none next lock below calm = dropped_fits j s p k fault.Absent next lock
 
+-- what it looks at again: the file that it knows, from where it executed it
+abbrev pub again : Shared → Holder → Holder
+again s k = record k { size = length s.file.now.text; seen = k.place; read = [] }
+
+pub again_reading : (j : Journal) (s : Shared) (k : Holder) → knows_file k s.file.number (length s.file.now.text) ≡ true → KnowsOf j (sight s) k → 0 < s.file.number
+    → IsReading j (sight s) (again s k)
+again_reading j s k is knows named =
+    let same : k.file ≡ s.file.number = grind (arith, nat_tests) in
+    record { knows = knows; same = same; named = named; size = refl; seen = omega arith; read = refl }
+
+-- and another one, from its front
+abbrev pub anew : Shared → Holder → Holder
+anew s k = record (newborn k.force k.limit) { job = k.job; command = k.command; file = s.file.number; size = length s.file.now.text }
+
+pub anew_reading : (j : Journal) (s : Shared) (k : Holder) → 0 < s.file.number → IsReading j (sight s) (anew s k)
+anew_reading j s k named = record {
+  knows = record { at = λ d none _. absurd cc; empty = λ _. (refl, refl) };
+  same = refl;
+  named = named;
+  size = refl;
+  seen = omega arith;
+  read = refl;
+}
+
 looked_fits : (j : Journal) (s : Shared) (p : ℕ) (k : Holder) → IsJournal j → Still j s → (s.locked ≡ true) × (s.locker ≡ p) → k.file < s.next
     → Calm (sight s) k.settled k.file → KnowsOf j (sight s) k → 0 < s.file.number → Fits j s p (looked j k s.file.number (length s.file.now.text))
 looked_fits j s p k laws still lock below calm knows named = by (knows_file k s.file.number (length s.file.now.text)) refl
   where
-    by : (b : Bool) → knows_file k s.file.number (length s.file.now.text) ≡ b
-        → Fits j s p (cond b (reads_on j (record k { size = length s.file.now.text; seen = k.place; read = [] }))
-        (reads_on j (record (newborn k.force k.limit) { job = k.job; command = k.command; file = s.file.number; size = length s.file.now.text })))
-    by true is =
-        let same : k.file ≡ s.file.number = grind (arith, nat_tests) in
-        reads_on_fits j s p (record k { size = length s.file.now.text; seen = k.place; read = [] }) laws still lock below calm
-        (record { knows = knows; same = same; named = named; size = refl; seen = omega arith; read = refl })
-    by false is =
-        reads_on_fits j s p (record (newborn k.force k.limit) { job = k.job; command = k.command; file = s.file.number; size = length s.file.now.text }) laws still lock still.file.below
-        (λ e. absurd cc)
-        (record {
-          knows = record { at = λ d none _. absurd cc; empty = λ _. (refl, refl) };
-          same = refl;
-          named = named;
-          size = refl;
-          seen = omega arith;
-          read = refl;
-        })
+    by : (b : Bool) → knows_file k s.file.number (length s.file.now.text) ≡ b → Fits j s p (cond b (reads_on j (again s k)) (reads_on j (anew s k)))
+    by true is = reads_on_fits j s p (again s k) laws still lock below calm (again_reading j s k is knows named)
+    by false is = reads_on_fits j s p (anew s k) laws still lock still.file.below (λ e. absurd cc) (anew_reading j s k named)
 
 pub looks_fits : (j : Journal) (s : Shared) (p : ℕ) (k : Holder) (more : ℕ) → IsJournal j → Still j s → (s.locked ≡ true) × (s.locker ≡ p) → k.file < s.next
     → Calm (sight s) k.settled k.file → KnowsOf j (sight s) k → Fits j s p (next_in j Looking k (tells Looking s k more))
@@ -172,11 +181,13 @@ looks_fits j s p k more laws still lock below calm knows = by (s.file.number == 
 
 -- ---- reading
 
-pub has_read_fits : (j : Journal) (s : Shared) (p : ℕ) (k : Holder) (bytes : List ℕ) (n : ℕ) → IsJournal j → Still j s → (s.locked ≡ true) × (s.locker ≡ p) → k.file < s.next
-    → Calm (sight s) k.settled k.file → IsReading j (sight s) k → bytes ≡ take n (drop k.seen s.file.now.text) → Fits j s p (has_read j k bytes)
-has_read_fits j s p k [] n laws still lock below calm r is = dropped_fits j s p k fault.Read (omega (arith, below)) lock
-has_read_fits j s p k (b ∷ bs) n laws still lock below calm r is =
-    let bytes : List ℕ = b ∷ bs in
+-- it has read these bytes more
+abbrev pub more_read : Holder → List ℕ → Holder
+more_read k bytes = record k { seen = k.seen + length bytes; read = k.read ++ bytes }
+
+pub more_reading : (j : Journal) (s : Shared) (k : Holder) (bytes : List ℕ) (n : ℕ) → IsReading j (sight s) k → bytes ≡ take n (drop k.seen s.file.now.text)
+    → IsReading j (sight s) (more_read k bytes)
+more_reading j s k bytes n r is =
     let rest = drop k.place s.file.now.text in
     let next = drop (length k.read) rest in
     let from : bytes ≡ take n next =
@@ -187,15 +198,14 @@ has_read_fits j s p k (b ∷ bs) n laws still lock below calm r is =
     ap (λ (m : ℕ). take m rest) (length-append k.read bytes)
     ∙ (ap (take (length k.read + length bytes)) parts
     ∙ (take-append-add k.read next (length bytes) ∙ ap (λ (x : List ℕ). k.read ++ x) fits)) in
-    reads_on_fits j s p (record k { seen = k.seen + length bytes; read = k.read ++ bytes }) laws still lock below calm
-    (record {
+    record {
       knows = r.knows;
       same = r.same;
       named = r.named;
       size = r.size;
       seen = omega (arith, r.seen, length-append k.read bytes);
       read = all;
-    })
+    }
   where
     front_again : (n : ℕ) (x : List ℕ) → take (length (take n x)) x ≡ take n x
     front_again zero x = refl
@@ -204,6 +214,12 @@ has_read_fits j s p k (b ∷ bs) n laws still lock below calm r is =
 
     all_of : (y : List ℕ) (n : ℕ) (x : List ℕ) → y ≡ take n x → take (length y) x ≡ y
     all_of y n x e = ap (λ (z : List ℕ). take (length z) x) e ∙ (front_again n x ∙ sym e)
+
+pub has_read_fits : (j : Journal) (s : Shared) (p : ℕ) (k : Holder) (bytes : List ℕ) (n : ℕ) → IsJournal j → Still j s → (s.locked ≡ true) × (s.locker ≡ p) → k.file < s.next
+    → Calm (sight s) k.settled k.file → IsReading j (sight s) k → bytes ≡ take n (drop k.seen s.file.now.text) → Fits j s p (has_read j k bytes)
+has_read_fits j s p k [] n laws still lock below calm r is = dropped_fits j s p k fault.Read (omega (arith, below)) lock
+has_read_fits j s p k (b ∷ bs) n laws still lock below calm r is =
+    reads_on_fits j s p (more_read k (b ∷ bs)) laws still lock below calm (more_reading j s k (b ∷ bs) n r is)
 
 -- ---- putting
 

@@ -1,9 +1,14 @@
 -- What holds at each moment.
-use Rattle.std.specs.Prelude.{◌≡◌, ◌⊎◌, ℕ, Bool, false, true, ◌+◌, ◌<◌, ◌≤◌, List, [], ◌∷◌, ◌++◌, length, take, Some}
+use Rattle.std.specs.Prelude.{◌≡◌, ◌⊎◌, ℕ, Bool, false, true, cond, ◌+◌, ◌<◌, ◌≤◌, ◌==◌, List, [], ◌∷◌, ◌++◌, length, map, take, Option, Some, None}
 use Rattle.std.specs.List.{AllByRecursion}
 use Rattle.tpm_keeping.specs.Journal.{Journal, Spot, run}
 use Rattle.tpm_keeping.specs.Holder.{Holder, is_always}
-use Rattle.tpm_keeping.specs.World.{Answer, Asks, Event, Shared}
+use Rattle.tpm_keeping.specs.World.{Answer, Asks, Does, Event, File, Shared, World}
+use Rattle.tpm_keeping.specs.declared.holder.Job.{Job}
+use Rattle.tpm_keeping.specs.declared.holder.Job.TheVariants.{Execute, Begin}
+use Rattle.tpm_keeping.specs.declared.holder.Fault.TheVariants as fault
+use Rattle.tpm_keeping.specs.declared.holder.End.{End}
+use Rattle.tpm_keeping.specs.declared.holder.End.TheVariants as ending
 use Rattle.tpm_keeping.specs.declared.holder.Phase.{Phase}
 use Rattle.tpm_keeping.specs.declared.holder.Phase.TheVariants.{Ended, Locking, Looking, Reading, Putting, Forcing, Making, Naming, Settling, Leaving}
 
@@ -67,6 +72,32 @@ abbrev pub Advances : Holder → Holder → Type 0
 Advances old new =
     (rank old.phase < rank new.phase)
     ⊎ ((old.phase ≡ Reading) × (new.phase ≡ Reading) × (old.seen < new.seen))
+
+-- How a call ends whose host does all that it is to do, where there is no journal,
+abbrev pub begun_or : Option (List ℕ) → End
+begun_or None = ending.Failed fault.Unreadable
+begun_or (Some s) = ending.Done
+
+abbrev pub end_without : Journal → Job → (command : List ℕ) → End
+end_without j Begin c = begun_or (j.begun c)
+end_without j job c = ending.Failed fault.Absent
+
+-- and where there is one.
+abbrev pub end_with : Journal → Job → (command : List ℕ) → End
+end_with j Execute c = cond (j.is_command c) ending.Done (ending.Failed fault.NoCommand)
+end_with j job c = ending.Done
+
+abbrev pub end_of : Journal → File → Job → (command : List ℕ) → End
+end_of j f job c = cond (f.number == 0) (end_without j job c) (end_with j job c)
+
+-- A process does what it is to do, as often as the list is long, and each time it reads one byte and
+-- at most so many more.
+abbrev pub turns : (p : ℕ) → (mores : List ℕ) → List Event
+turns p mores = map (λ (more : ℕ). Does p more) mores
+
+-- A call has ended so, and the lock is free.
+abbrev pub HasEnded : World → (p : ℕ) → End → Type 0
+HasEnded w p e = ((w.holders p).phase ≡ Ended e) × (w.shared.locked ≡ false)
 
 -- ---- what was asked for
 

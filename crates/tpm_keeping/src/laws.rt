@@ -1,16 +1,20 @@
 //! What holds after every run of every holder.
 
-ghost use Rattle.std.specs.Prelude.{◌≡◌, ◌<◌, ℕ, Bool, List, true};
+ghost use Rattle.std.specs.Prelude.{◌≡◌, ◌+◌, ◌<◌, ◌≤◌, ◌∷◌, ℕ, Bool, List, false, length, true};
 ghost use Rattle.std.specs.List.{AllByRecursion};
 ghost use Rattle.tpm_keeping.specs.Holder.{Holder, Told, next_of};
 ghost use Rattle.tpm_keeping.specs.Journal.{IsJournal, Journal};
 ghost use Rattle.tpm_keeping.specs.Journal.{run};
-ghost use Rattle.tpm_keeping.specs.Kept.{Advances, IsKept, KeepsPromises, Pass, rank};
+ghost use Rattle.tpm_keeping.specs.Kept.{Advances, HasEnded, IsKept, KeepsPromises, Pass, end_of};
+ghost use Rattle.tpm_keeping.specs.Kept.{rank, turns};
 ghost use Rattle.tpm_keeping.specs.Lines.{lines};
-ghost use Rattle.tpm_keeping.specs.World.{Event, IsStart, World, happen, happens};
+ghost use Rattle.tpm_keeping.specs.World.{Asks, Event, IsStart, World, happen};
+ghost use Rattle.tpm_keeping.specs.World.{happens};
+ghost use Rattle.tpm_keeping.specs.declared.holder.End.{End};
 ghost use Rattle.tpm_keeping.specs.declared.holder.End.TheVariants.{Done};
+ghost use Rattle.tpm_keeping.specs.declared.holder.Job.{Job};
 ghost use Rattle.tpm_keeping.specs.declared.holder.Job.TheVariants.{Show};
-ghost use Rattle.tpm_keeping.specs.declared.holder.Phase.TheVariants.{Leaving};
+ghost use Rattle.tpm_keeping.specs.declared.holder.Phase.TheVariants.{Ended, Leaving};
 
 /// Whatever the holders of one device are asked for, wherever each is killed, whatever fails and
 /// whenever the host crashes: the journal opens as the device that executed the history, each
@@ -24,6 +28,19 @@ pub fn kept_through_crashes()
 pub fn calls_advance()
     ensures { (j : Journal) (k : Holder) (told : Told) → rank k.phase < 7
         → Advances k (next_of j k told) }
+{}
+
+/// A call ends, if its host does all that it is to do and memory suffices: it is done, unless there
+/// is no journal or what was passed is no command and no text of a device. It takes no more steps
+/// than six and one for each byte of the file, and the lock is free then.
+pub fn calls_end()
+    ensures { (j : Journal) (start : World) (events : List Event) (p : ℕ) (e : End) (job : Job)
+        (command : List ℕ) (mores : List ℕ) → IsJournal j → IsStart j start
+        → let w = happen j events start in
+        (w.holders p).phase ≡ Ended e → w.shared.locked ≡ false
+        → 6 + length w.shared.file.now.text ≤ length mores
+        → HasEnded (happen j (Asks p job command ∷ turns p mores) w) p
+        (end_of j w.shared.file job command) }
 {}
 
 /// What was promised stays the beginning of the history, whatever happens next.
