@@ -7,7 +7,7 @@ use Rattle.std.proofs.lemmas.List.{append-nil}
 use Rattle.tpm_keeping.specs.Journal.{Entered, Journal, IsJournal, Spot, entries, trail, whole_in}
 use Rattle.tpm_keeping.specs.World.{Answer, Content, File, Shared, content_at, crashed, crashed_to, file_at, left_of, litter_of, within}
 use Rattle.tpm_keeping.specs.Kept.{Ascend, IsTrue}
-use Rattle.tpm_keeping.proofs.Entries.{whole, front_past, is_cut, is_front, keeps_sure, trail_lives, whole_in_entered}
+use Rattle.tpm_keeping.proofs.Entries.{whole, front_past, is_cut, is_front, keeps_sure, whole_in_entered}
 use Rattle.tpm_keeping.proofs.Invariant.{Each, IsContent, IsFile, IsText, Safe, Still}
 
 -- ---- the answers

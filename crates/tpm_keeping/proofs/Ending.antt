@@ -1,10 +1,10 @@
 -- A call whose host does all that it is to do ends, after no more steps than the file has bytes and six.
-use Rattle.std.proofs.Common.{◌≡◌, ℕ, zero, suc, ◌+◌, ◌-◌, ◌<◌, ◌≤◌, ◌==◌, ◌||◌, Bool, true, false, cond, List, [], ◌∷◌, ◌++◌, length, take, drop, Some, None, Option, refl, sym, ap, ◌∙◌, subst, arith, length-append}
+use Rattle.std.proofs.Common.{◌≡◌, ℕ, suc, ◌+◌, ◌-◌, ◌<◌, ◌≤◌, ◌==◌, ◌||◌, Bool, true, false, cond, List, [], ◌∷◌, length, take, drop, Some, None, Option, refl, sym, ap, ◌∙◌, subst, arith}
 use Rattle.std.specs.Prelude.{nat_le}
 use Rattle.std.proofs.lemmas.Bool.Decides.{nat_tests}
 use Rattle.std.proofs.lemmas.List.{length-drop, take_all}
 use Rattle.tpm_keeping.specs.Journal.{Journal, IsJournal, Spot}
-use Rattle.tpm_keeping.specs.Holder.{Holder, Told, Done, Gone, Stands, acts, asked_in, begins, begins_of, caught_up, enters, executes, finishes, found, goes, has_named, has_put, has_read, is_always, is_grown, is_never, knows_file, leaps, looked, next_in, reads_on, refuses, settles}
+use Rattle.tpm_keeping.specs.Holder.{Holder, Done, Gone, Stands, acts, asked_in, begins, begins_of, caught_up, enters, executes, finishes, found, goes, has_named, has_put, has_read, is_always, is_grown, is_never, knows_file, leaps, looked, next_in, reads_on, refuses, settles}
 use Rattle.tpm_keeping.specs.World.{All, Asks, Does, Event, IsStart, Shared, World, does, does_in, happen, happens, left, tells, with_holder}
 use Rattle.tpm_keeping.specs.Kept.{HasEnded, begun_or, end_of, end_with, end_without, turns}
 use Rattle.tpm_keeping.proofs.Invariant.{Fine, In, IsReading, KnowsOf, Still, sight, spot_of}

@@ -8,9 +8,8 @@ use Rattle.tpm_keeping.specs.Journal.{Entered, Journal, IsJournal, Spot, entries
 use Rattle.tpm_keeping.specs.Holder.{Holder, is_always, sure}
 use Rattle.tpm_keeping.specs.World.{Answer, Content, File, Shared, adds, leads, written, put_more, put_on, put, forced, named_from, named, state_in}
 use Rattle.tpm_keeping.proofs.Entries.{entered_both, run_lives, trail_lives, trail_state, whole, run_both, whole_both, whole_length}
-use Rattle.tpm_keeping.proofs.Invariant.{spot_of, Calm, begun, body, promises, state_of, IsText, IsContent, IsFile, IsHeaded, Each, Still, sight, IsAt, Knows, Puts, Follows, Founds, Makes}
+use Rattle.tpm_keeping.proofs.Invariant.{spot_of, Calm, begun, body, state_of, IsText, IsContent, IsFile, Each, Still, sight, IsAt, Knows, Puts, Follows, Founds, Makes}
 use Rattle.tpm_keeping.specs.declared.holder.Force.{Force}
-use Rattle.tpm_keeping.specs.declared.holder.Force.TheVariants.{Power}
 use Rattle.tpm_keeping.specs.declared.holder.Job.{Job}
 use Rattle.tpm_keeping.specs.declared.holder.Job.TheVariants.{Execute, Renew, Show, Begin}
 

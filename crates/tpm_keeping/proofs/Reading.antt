@@ -14,7 +14,6 @@ use Rattle.tpm_keeping.specs.declared.holder.Force.TheVariants.{Never, Power, Al
 use Rattle.tpm_keeping.specs.declared.holder.Job.{Job}
 use Rattle.tpm_keeping.specs.declared.holder.Job.TheVariants.{Execute, Renew, Show, Begin}
 use Rattle.tpm_keeping.specs.declared.holder.End.TheVariants as ending
-use Rattle.tpm_keeping.specs.declared.holder.Fault.TheVariants as fault
 use Rattle.tpm_keeping.specs.declared.holder.Phase.TheVariants.{Reading, Putting, Settling, Leaving}
 
 -- ---- what is read leads to the state of the file
@@ -199,7 +198,7 @@ leaps_fits j s p k is none lock below calm all =
     let leads' : leads j Execute k.command ≡ k.command ∷ [] = rw none refl in
     let adds' : adds j Execute k.command ≡ [] = rw none refl in
     let parts = subst (λ (x : List (List ℕ)). new x (adds j Execute k.command)) (sym leads')
-        (subst (new (k.command ∷ [])) (sym adds') (refl, sym (append-nil (j.head next)))) in
+    (subst (new (k.command ∷ [])) (sym adds') (refl, sym (append-nil (j.head next)))) in
     let follows : Follows j s.file Execute k.command (Some (started j next)) (j.head next) (j.response state k.command) =
     record { named = all.named; has = parts.0; text = parts.1; gives = refl } in
     record {
@@ -220,7 +219,7 @@ enters_fits j s p k true is one lock below calm all =
     let leads' : leads j Execute k.command ≡ [] = rw one refl in
     let adds' : adds j Execute k.command ≡ k.command ∷ [] = rw one refl in
     let parts = subst (λ (x : List (List ℕ)). new x (adds j Execute k.command)) (sym leads')
-        (subst (new []) (sym adds') (refl, ap (λ (x : List ℕ). j.head state ++ x) (sym (append-nil (j.entry first k.command))))) in
+    (subst (new []) (sym adds') (refl, ap (λ (x : List ℕ). j.head state ++ x) (sym (append-nil (j.entry first k.command))))) in
     let follows : Follows j s.file Execute k.command (Some (stepped j first k.command)) (j.head state ++ j.entry first k.command) (j.response state k.command) =
     record { named = all.named; has = parts.0; text = parts.1; gives = refl } in
     record {

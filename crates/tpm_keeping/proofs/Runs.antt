@@ -1,5 +1,5 @@
 -- Each event leaves the folder and all holders fine, and so does a run.
-use Rattle.std.proofs.Common.{◌≡◌, ℕ, suc, ◌+◌, ◌<◌, ◌==◌, Bool, true, false, cond, List, [], ◌∷◌, ◌++◌, length, take, drop, Some, None, refl, sym, ap, ◌∙◌, subst, arith, append_assoc, length-append}
+use Rattle.std.proofs.Common.{◌≡◌, ℕ, suc, ◌+◌, ◌<◌, ◌==◌, Bool, true, false, cond, List, [], ◌∷◌, ◌++◌, length, take, drop, refl, sym, ap, ◌∙◌, subst, arith, append_assoc, length-append}
 use Rattle.std.specs.List.{AllByRecursion}
 use Rattle.tpm_keeping.specs.Journal.{Entered, Journal, IsJournal, entries, run}
 use Rattle.tpm_keeping.specs.Holder.{Holder, Told, Done, Bytes, Failed, Starved, asked, asked_in, dropped, fault_told, forgets, goes, newborn, next_in, rests, rests_in}

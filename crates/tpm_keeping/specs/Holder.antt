@@ -144,14 +144,18 @@ enters j k p false = record k {
   response = j.response p.state k.command;
 }
 
--- A command that has none. The state after it begins a new journal.
-abbrev pub leaps : Journal → Holder → (p : Spot) → Holder
-leaps j k p = record k {
+-- A state begins a new journal.
+abbrev pub renews : Journal → Holder → (state response : List ℕ) → Holder
+renews j k state response = record k {
   phase = Making;
-  device = Some (started j (j.after p.state k.command));
-  out = j.head (j.after p.state k.command);
-  response = j.response p.state k.command;
+  device = Some (started j state);
+  out = j.head state;
+  response = response;
 }
+
+-- A command that has no entry. The state after it begins a new journal.
+abbrev pub leaps : Journal → Holder → (p : Spot) → Holder
+leaps j k p = renews j k (j.after p.state k.command) (j.response p.state k.command)
 
 -- What is no command is refused, and nothing is changed.
 abbrev pub refuses : Holder → (p : Spot) → Holder
@@ -179,12 +183,7 @@ shows k p response = record k {
 -- the device has executed the whole file
 abbrev pub acts : Journal → Job → Holder → (p : Spot) → Holder
 acts j Execute k p = executes j k p
-acts j Renew k p = record k {
-  phase = Making;
-  device = Some (started j p.state);
-  out = j.head p.state;
-  response = [];
-}
+acts j Renew k p = renews j k p.state []
 acts j Show k p = shows k p (j.head p.state)
 acts j Begin k p = shows k p []
 
@@ -231,12 +230,7 @@ looked j k file size =
 -- There is no journal: one begins, if that is asked for.
 abbrev pub begins_of : Journal → Holder → Option (List ℕ) → Holder
 begins_of j k None = dropped fault.Unreadable k
-begins_of j k (Some s) = record k {
-  phase = Making;
-  device = Some (started j s);
-  out = j.head s;
-  response = [];
-}
+begins_of j k (Some s) = renews j k s []
 
 abbrev pub begins : Journal → Job → Holder → Holder
 begins j Begin k = begins_of j k (j.begun k.command)

@@ -366,7 +366,7 @@ abbrev pub happen : Journal → List Event → World → World
 happen j [] w = w
 happen j (e ∷ es) w = happen j es (happens j w e)
 
--- There is no journal; or one is there, forced, with whole entries and perhaps what is torn.
+-- A journal is there, forced, with whole entries and perhaps what is left of one.
 pub record IsFound (j : Journal) (f : File) : Type 0 where
   pub after : j.after_head f.head ≡ Some f.start
   pub lives : j.is_state f.start.state ≡ true
@@ -379,7 +379,8 @@ pub record IsFound (j : Journal) (f : File) : Type 0 where
 -- A folder with a journal or none, and processes that have done nothing yet. The history begins with
 -- the commands whose entries the journal has.
 pub record IsStart (j : Journal) (w : World) : Type 0 where
-  pub found : 0 < w.shared.file.number → IsFound j w.shared.file × (w.shared.origin ≡ w.shared.file.start.state)
+  pub found : 0 < w.shared.file.number
+      → IsFound j w.shared.file × (w.shared.origin ≡ w.shared.file.start.state)
   pub none : w.shared.file.number ≡ 0 → w.shared.file.now.commands ≡ []
   pub history : w.shared.history ≡ w.shared.file.now.commands
   pub before : w.shared.file.before ≡ []

@@ -5,7 +5,7 @@ ghost use Rattle.std.specs.Prelude.{false, take, true};
 ghost use Rattle.std.specs.declared.option.Option.TheVariants.{None, Some};
 ghost use Rattle.tpm_keeping.specs.Holder.{acts, begins, caught_up, dropped, enters, executes, finishes};
 ghost use Rattle.tpm_keeping.specs.Holder.{found, has_named, has_put, has_read, is_grown, leaps, looked};
-ghost use Rattle.tpm_keeping.specs.Holder.{reads_on, settles, shows};
+ghost use Rattle.tpm_keeping.specs.Holder.{reads_on, renews, settles, shows};
 ghost use Rattle.tpm_keeping.specs.Holder.{begins_of};
 ghost use Rattle.tpm_keeping.specs.declared.holder.Fault.TheVariants.{Memory};
 ghost use Rattle.tpm_keeping.specs.View.{holder_of};
@@ -123,7 +123,7 @@ impl<D: Device> Keeper<D> {
     }
 
     /// Does what was asked for with the device that has executed the whole file.
-    fn acts(&mut self, mut device: D) -> Result<(), Exhausted>
+    fn acts(&mut self, device: D) -> Result<(), Exhausted>
         ensures ok { OnOk result (holder_of D.spot self.new
             ≡ acts D.journal self.old.job (holder_of D.spot self.old) (D.spot device)) }
         ensures err { OnErr result (dropped Memory (holder_of D.spot self.new)
@@ -133,12 +133,7 @@ impl<D: Device> Keeper<D> {
         self.response.clear();
         match self.job {
             Job::Execute => self.executes(device),
-            Job::Renew => {
-                device.renew(&mut self.out)?;
-                self.phase = Phase::Making;
-                self.device = Some(device);
-                Ok(())
-            }
+            Job::Renew => self.renews(device),
             Job::Show => {
                 device.show(&mut self.response)?;
                 self.shows(device)
@@ -220,6 +215,17 @@ impl<D: Device> Keeper<D> {
             ≡ dropped Memory (holder_of D.spot self.old)) }
     {
         device.leap(&self.command, &mut self.response)?;
+        self.renews(device)
+    }
+
+    /// Begins a new journal in this state.
+    fn renews(&mut self, mut device: D) -> Result<(), Exhausted>
+        requires out { self.old.out.items ≡ [] }
+        ensures ok { OnOk result (holder_of D.spot self.new ≡ renews D.journal
+            (holder_of D.spot self.old) (D.spot device).state self.old.response.items) }
+        ensures err { OnErr result (dropped Memory (holder_of D.spot self.new)
+            ≡ dropped Memory (holder_of D.spot self.old)) }
+    {
         device.renew(&mut self.out)?;
         self.phase = Phase::Making;
         self.device = Some(device);
@@ -273,14 +279,11 @@ impl<D: Device> Keeper<D> {
     {
         self.out.clear();
         self.response.clear();
-        let Some(mut device) = D::begin(self.alloc, &self.command)? else {
+        let Some(device) = D::begin(self.alloc, &self.command)? else {
             self.give_up(Fault::Unreadable);
             return Ok(());
         };
-        device.renew(&mut self.out)?;
-        self.phase = Phase::Making;
-        self.device = Some(device);
-        Ok(())
+        self.renews(device)
     }
 
     /// The text is in the file. A holder that forces before each answer keeps it until it is

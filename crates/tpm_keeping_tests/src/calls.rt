@@ -8,6 +8,7 @@ use tpm_keeping::holder::{End, Fault, Force, Job};
 use tpm_keeping::keeper::Keeper;
 
 const FAR: u64 = 1000;
+
 const NO_JOURNAL: End = End::Failed(Fault::Absent);
 
 /// A call with this command ends so, by just this, and leaves this journal.

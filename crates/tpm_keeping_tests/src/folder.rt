@@ -72,10 +72,10 @@ impl Folder {
 
     /// Marks that the keeper had no memory.
     fn marks(&mut self, went_on: bool) -> Result<(), AllocError> {
-        if went_on {
-            return Ok(());
+        if !went_on {
+            self.did.push(b'!')?;
         }
-        self.did.push(b'!')
+        Ok(())
     }
 
     /// Does one thing, and tells the keeper. Returns whether that had memory to go on.
