@@ -3,7 +3,7 @@ use Rattle.std.proofs.Common.{◌≡◌, ℕ, ◌+◌, ◌==◌, Bool, true, fal
 use Rattle.std.specs.List.{AllByRecursion}
 use Rattle.std.specs.Prelude.{nat_le, ◌||◌}
 use Rattle.tpm_keeping.specs.Journal.{Journal, IsJournal, Spot}
-use Rattle.tpm_keeping.specs.Holder.{Holder, Told, Done, Stands, Gone, Bytes, Failed, Starved, acts, asked_in, begins, begins_of, caught_up, enters, executes, finishes, found, goes, is_always, is_grown, is_never, knows_file, leaps, looked, newborn, next_in, reads_on, refuses, rests_in, settles}
+use Rattle.tpm_keeping.specs.Holder.{Holder, Told, Done, Stands, Gone, Bytes, Failed, Starved, acts, asked_in, begins, begins_of, caught_up, enters, executes, finishes, found, goes, is_always, is_grown, is_never, is_read, knows_file, leaps, looked, newborn, next_in, reads_on, refuses, rests_in, settles}
 use Rattle.tpm_keeping.specs.World.{Effect, Part, All, Event, Starts, Asks, Does, Fails, Dies, Forks, Drops, Crashes, IsStart, Shared, World, adds, leads, does, does_in, fails_in, freed, happen, happens, left, lost, put_more, starts_in, tells, with_holder}
 use Rattle.tpm_keeping.specs.Kept.{Pass}
 use Rattle.tpm_keeping.proofs.Invariant.{Fine}
@@ -61,7 +61,7 @@ finishes_fair None test j k ok = tt
 finishes_fair (Some found) test j k ok = acts_fair k.job test j (caught_up k found.1) found.0 ok
 
 reads_on_fair : (test : List ℕ → Bool) (j : Journal) (k : Holder) → test k.command ≡ true → IsFair test (reads_on j k)
-reads_on_fair test j k ok = by (nat_le k.size k.seen)
+reads_on_fair test j k ok = by (is_read k)
   where
     by : (b : Bool) → IsFair test (cond b (finishes j k (found j k.device k.read)) (goes Reading k))
     by true = finishes_fair (found j k.device k.read) test j k ok

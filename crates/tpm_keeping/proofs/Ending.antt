@@ -1,10 +1,9 @@
 -- A call whose host does all that it is to do ends, after no more steps than the file has bytes and six.
 use Rattle.std.proofs.Common.{◌≡◌, ℕ, suc, ◌+◌, ◌-◌, ◌<◌, ◌≤◌, ◌==◌, ◌||◌, Bool, true, false, cond, List, [], ◌∷◌, length, take, drop, Some, None, Option, refl, sym, ap, ◌∙◌, subst, arith}
-use Rattle.std.specs.Prelude.{nat_le}
 use Rattle.std.proofs.lemmas.Bool.Decides.{nat_tests}
 use Rattle.std.proofs.lemmas.List.{length-drop, take_all}
 use Rattle.tpm_keeping.specs.Journal.{Journal, IsJournal, Spot}
-use Rattle.tpm_keeping.specs.Holder.{Holder, Done, Gone, Stands, acts, asked_in, begins, begins_of, caught_up, enters, executes, finishes, found, goes, has_named, has_put, has_read, is_always, is_grown, is_never, knows_file, leaps, looked, next_in, reads_on, refuses, settles}
+use Rattle.tpm_keeping.specs.Holder.{Holder, Done, Gone, Stands, acts, asked_in, begins, begins_of, caught_up, enters, executes, finishes, found, goes, has_named, has_put, has_read, is_always, is_grown, is_never, is_read, knows_file, leaps, looked, next_in, reads_on, refuses, settles}
 use Rattle.tpm_keeping.specs.World.{All, Asks, Does, Event, IsStart, Shared, World, does, does_in, happen, happens, left, tells, with_holder}
 use Rattle.tpm_keeping.specs.Kept.{HasEnded, begun_or, end_of, end_with, end_without, turns}
 use Rattle.tpm_keeping.proofs.Invariant.{Fine, In, IsReading, KnowsOf, Still, sight, spot_of}
@@ -69,9 +68,9 @@ acts_heads Begin e j s k p n is le = shows_heads e j s k (acts j Begin k p) n is
 -- once all is read it acts, for the file is a journal
 reads_on_heads : (e : End) (j : Journal) (s : Shared) (k : Holder) (n : ℕ) → IsJournal j → Still j s → IsReading j (sight s) k → end_with j k.job k.command ≡ e
     → 4 + (k.size - k.seen) ≤ n → HeadsFor e j s (reads_on j k) n
-reads_on_heads e j s k n laws still r is le = by (nat_le k.size k.seen) refl
+reads_on_heads e j s k n laws still r is le = by (is_read k) refl
   where
-    by : (b : Bool) → nat_le k.size k.seen ≡ b → HeadsFor e j s (cond b (finishes j k (found j k.device k.read)) (goes Reading k)) n
+    by : (b : Bool) → is_read k ≡ b → HeadsFor e j s (cond b (finishes j k (found j k.device k.read)) (goes Reading k)) n
     by true done =
         let far : k.size ≤ k.seen = grind (arith, nat_tests) in
         let rest = drop k.place s.file.now.text in

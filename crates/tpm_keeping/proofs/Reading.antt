@@ -1,10 +1,9 @@
 -- Whatever a holder knew of the file, reading leads to its end.
 use Rattle.std.proofs.Common.{◌≡◌, ℕ, ◌+◌, ◌<◌, ◌≤◌, ◌||◌, Bool, true, false, cond, List, [], ◌∷◌, ◌++◌, length, take, drop, Some, None, Option, refl, sym, ap, ◌∙◌, subst, arith, inl, append_assoc, length-append}
-use Rattle.std.specs.Prelude.{nat_le}
 use Rattle.std.proofs.lemmas.Bool.Decides.{nat_tests}
 use Rattle.std.proofs.lemmas.List.{append-nil, drop_at, length-drop, take_all, take_at}
 use Rattle.tpm_keeping.specs.Journal.{Entered, Journal, IsJournal, Spot, entries, run, started, stepped, trail}
-use Rattle.tpm_keeping.specs.Holder.{Holder, acts, caught_up, enters, executes, finishes, found, goes, is_always, is_grown, is_never, leaps, reads_on, refuses, settles, shows}
+use Rattle.tpm_keeping.specs.Holder.{Holder, acts, caught_up, enters, executes, finishes, found, goes, is_always, is_grown, is_never, is_read, leaps, reads_on, refuses, settles, shows}
 use Rattle.tpm_keeping.specs.World.{Shared, adds, leads}
 use Rattle.tpm_keeping.proofs.Entries.{entered_last, trail_lives, trail_both, whole, whole_both}
 use Rattle.tpm_keeping.proofs.Invariant.{spot_of, Calm, Fits, Follows, Gives, HasAll, IsAt, IsForced, IsHeaded, IsReading, IsText, KnowsOf, LastIf, Puts, StaysOf, Still, begun, body, promises, sight, state_of}
@@ -278,9 +277,9 @@ acts_fits Begin j s p k still is lock below calm all = shows_fits j s p k [] Beg
 
 pub reads_on_fits : (j : Journal) (s : Shared) (p : ℕ) (k : Holder) → IsJournal j → Still j s → (s.locked ≡ true) × (s.locker ≡ p) → k.file < s.next
     → Calm (sight s) k.settled k.file → IsReading j (sight s) k → Fits j s p (reads_on j k)
-reads_on_fits j s p k laws still lock below calm r = by (nat_le k.size k.seen) refl
+reads_on_fits j s p k laws still lock below calm r = by (is_read k) refl
   where
-    by : (b : Bool) → nat_le k.size k.seen ≡ b → Fits j s p (cond b (finishes j k (found j k.device k.read)) (goes Reading k))
+    by : (b : Bool) → is_read k ≡ b → Fits j s p (cond b (finishes j k (found j k.device k.read)) (goes Reading k))
     by true is =
         let le : k.size ≤ k.seen = grind (arith, nat_tests) in
         let rest = drop k.place s.file.now.text in

@@ -204,8 +204,11 @@ found j None text = j.opened text
 found j (Some p) text = j.followed p text
 
 -- once all was read, it is executed
+abbrev pub is_read : Holder → Bool
+is_read k = nat_le k.size k.seen
+
 abbrev pub reads_on : Journal → Holder → Holder
-reads_on j k = cond (nat_le k.size k.seen) (finishes j k (found j k.device k.read)) (goes Reading k)
+reads_on j k = cond (is_read k) (finishes j k (found j k.device k.read)) (goes Reading k)
 
 -- a read gives something, or the file was cut
 abbrev pub has_read : Journal → Holder → List ℕ → Holder

@@ -90,8 +90,8 @@ end_with j job c = ending.Done
 abbrev pub end_of : Journal → File → Job → (command : List ℕ) → End
 end_of j f job c = cond (f.number == 0) (end_without j job c) (end_with j job c)
 
--- A process does what it is to do, as often as the list is long, and each time it reads one byte and
--- at most so many more.
+-- A process does what it is to do, as often as the list is long, and each time it reads one byte
+-- and at most so many more.
 abbrev pub turns : (p : ℕ) → (mores : List ℕ) → List Event
 turns p mores = map (λ (more : ℕ). Does p more) mores
 

@@ -15,12 +15,13 @@
 -- the memory of its parent, and no lock. Each has a word of force of its own.
 --
 -- What is left out: what processes read after a failed force, where the system then shows older
--- bytes; a crash that mixes blocks of two contents; a disk that says forced and has not; file systems
--- that leave a file without bytes and with later ones, as ext4 and XFS may, or take back one of two
+-- bytes (a holder opens the file again if it has fewer, and does not notice others in their place);
+-- a crash that mixes blocks of two contents; a disk that says forced and has not; file systems that
+-- leave a file without bytes and with later ones, as ext4 and XFS may, or take back one of two
 -- renames; a folder whose force fails and then succeeds without the rename; a sector that is torn
 -- where bytes stand that were forced before; network file systems, whose locks and renames are seen
--- late; two hosts on one folder; the lock's file removed under its holder; anybody else who writes to
--- the folder.
+-- late; two hosts on one folder; the lock's file removed under its holder; anybody else who writes
+-- to the folder.
 use Rattle.std.specs.Prelude.{◌≡◌, ℕ, zero, suc, ◌+◌, ◌-◌, ◌<◌, ◌≤◌, ◌==◌, ◌&&◌, Bool, true, false, cond, List, [], ◌∷◌, ◌++◌, drop, length, max, min, nat_le, take, Option, Some, None}
 use Rattle.tpm_keeping.specs.Journal.{Entered, Journal, Spot, entries, run, started, trail, whole_in}
 use Rattle.tpm_keeping.specs.Holder.{Holder, Told, Done, Stands, Gone, Bytes, Failed, Starved, asked, is_never, newborn, next_in, rests, sure}
@@ -376,8 +377,8 @@ pub record IsFound (j : Journal) (f : File) : Type 0 where
   pub text : f.now.text ≡ f.head ++ (entries j f.start f.now.commands ++ tail)
   pub forced : f.forced ≡ length f.now.text
 
--- A folder with a journal or none, and processes that have done nothing yet. The history begins with
--- the commands whose entries the journal has.
+-- A folder with a journal or none, and processes that have done nothing yet. The history begins
+-- with the commands whose entries the journal has.
 pub record IsStart (j : Journal) (w : World) : Type 0 where
   pub found : 0 < w.shared.file.number
       → IsFound j w.shared.file × (w.shared.origin ≡ w.shared.file.start.state)

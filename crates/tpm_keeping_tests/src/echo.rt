@@ -7,8 +7,8 @@ ghost use Rattle.tpm_keeping_tests.specs.EchoLaws.{echo_is_a_journal};
 use std::alloc::Global;
 use tpm_keeping::device::{Device, Exhausted};
 
-/// Answers each command with the command. One that begins with a zero has no entry, and no bytes are
-/// no command.
+/// Answers each command with the command. One that begins with a zero has no entry, and no bytes
+/// are no command.
 #[derive(Drop)]
 pub struct Echo;
 
