@@ -13,7 +13,7 @@ use Rattle.tpm_keeping.specs.declared.holder.Phase.{Phase}
 use Rattle.tpm_keeping.specs.declared.holder.Phase.TheVariants.{Ended, Locking, Looking, Reading, Putting, Forcing, Making, Naming, Settling, Leaving}
 
 pub record Holder : Type 0 where
-  -- when it forces, and from which size on a journal begins anew
+  -- when it forces, and the size from which on a journal may begin anew
   pub force : Force
   pub limit : ℕ
   pub phase : Phase

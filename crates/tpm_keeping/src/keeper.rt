@@ -77,7 +77,8 @@ pub struct Keeper<D: Device> {
 }
 
 impl<D: Device> Keeper<D> {
-    /// A keeper that has seen nothing. From `limit` bytes on a journal begins anew.
+    /// A keeper that has seen nothing. A journal begins anew once it has `limit` bytes, and twice
+    /// what it would begin with.
     pub fn new(alloc: Global, force: Force, limit: u64) -> Keeper<D>
         ensures { holder_of D.spot result ≡ newborn force limit }
     {
