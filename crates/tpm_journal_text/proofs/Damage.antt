@@ -1,20 +1,21 @@
 -- A text is damaged where it is long enough and no entry stands at its front; and what is torn has
 -- no entry there.
-use Rattle.std.proofs.Common.{◌≡◌, ℕ, zero, suc, ◌-◌, ◌<◌, ◌≤◌, inl, inr, List, [], ◌∷◌, ◌++◌, length, take, replicate, get_or, refl, ap, sym, ◌∙◌, append_assoc, arith, length-append}
+use Rattle.std.proofs.Common.{◌≡◌, ℕ, zero, suc, ◌-◌, ◌<◌, ◌≤◌, inl, inr, List, [], ◌∷◌, ◌++◌, length, take, replicate, get_or, refl, ap, subst, sym, ◌∙◌, append_assoc, arith, length-append}
 use Rattle.std.specs.Prelude.{codes}
 use Rattle.std.proofs.Math.Seq.{get_or-append_right, get_or-append_seam}
 use Rattle.std.proofs.lemmas.List.{length-take, take-append-le}
 use Rattle.hex.specs.Hex.{encode_lower}
 use Rattle.tpm_bytes.specs.Reading.{AreBytes}
 use Rattle.tpm_journal_text.specs.Entry.{IsEntry, PlainEntry, entry_size, entry_text, entry_word, executing_lines, mark_line, mark_of, setting_lines, shown}
-use Rattle.tpm_journal_text.specs.Journal.{BeginsWithMark, HasFewer, IsDamaged, IsTorn}
+use Rattle.tpm_journal_text.specs.Journal.{BeginsWithMark, HasFewer, IsDamaged, IsTorn, LinesEnd}
 use Rattle.tpm_journal_text.specs.Places.{Stands}
 use Rattle.tpm_journal_text.specs.Sum.{sum_from}
+use Rattle.tpm_journal_text.proofs.LineFeeds.{lines_end_zeros}
 use Rattle.tpm_journal_text.proofs.Pieces.{line_same}
 use Rattle.tpm_journal_text.proofs.Standing.{entry_text_many, line_stands, mark_bytes, mark_line_many, mark_many, stands}
 
 -- what is torn and begins with a mark's line is in a text that begins with it
-torn_line : (sum : ℕ) (text mark : List ℕ) (torn : IsTorn sum text) → BeginsWithMark sum mark torn.front → take 72 text ≡ mark_line sum mark
+pub torn_line : (sum : ℕ) (text mark : List ℕ) (torn : IsTorn sum text) → BeginsWithMark sum mark torn.front → take 72 text ≡ mark_line sum mark
 torn_line sum text mark torn begins =
     let long : 72 ≤ length torn.front =
     omega (arith, ap length begins.line, mark_line_many sum mark begins.count, length-take 72 torn.front) in
@@ -58,13 +59,13 @@ no_entry_with sum text mark many are line long none = record {
 
 -- ---- what is torn is no entry
 
-zero_at : (zeros place : ℕ) → get_or {A = ℕ} (replicate zeros 0) place 0 ≡ 0
+pub zero_at : (zeros place : ℕ) → get_or {A = ℕ} (replicate zeros 0) place 0 ≡ 0
 zero_at zero place = refl
 zero_at (suc zeros) zero = refl
 zero_at (suc zeros) (suc place) = zero_at zeros place
 
 -- where a line ends, no zeros stand
-line_feed_is_no_zero : (front : List ℕ) (zeros : ℕ) (line rest : List ℕ) → length front ≤ length line
+pub line_feed_is_no_zero : (front : List ℕ) (zeros : ℕ) (line rest : List ℕ) → length front ≤ length line
     → line ++ (10 ∷ rest) ≡ front ++ replicate zeros 0 → ⊥
 line_feed_is_no_zero front zeros line rest le same =
     let ten : 10 ≡ 0 =
@@ -73,11 +74,11 @@ line_feed_is_no_zero front zeros line rest le same =
     absurd (omega (arith, ten))
 
 -- the text of an entry but for its last line feed
-without_end : (sum : ℕ) → PlainEntry → List ℕ
+pub without_end : (sum : ℕ) → PlainEntry → List ℕ
 without_end sum e =
     (mark_line sum (mark_of e) ++ setting_lines e) ++ (codes "entropy " ++ encode_lower (shown e.drawn) ++ codes "\ncmd " ++ encode_lower e.buffer)
 
-ends_a_line : (sum : ℕ) (e : PlainEntry) (rest : List ℕ) → entry_text sum e ++ rest ≡ without_end sum e ++ (10 ∷ rest)
+pub ends_a_line : (sum : ℕ) (e : PlainEntry) (rest : List ℕ) → entry_text sum e ++ rest ≡ without_end sum e ++ (10 ∷ rest)
 unfolding entry_text executing_lines without_end
 ends_a_line sum e rest =
     let line = mark_line sum (mark_of e) ++ setting_lines e in
@@ -101,3 +102,33 @@ torn_is_no_entry sum e rest text is t torn =
     ] in
     line_feed_is_no_zero torn.front torn.zeros (without_end sum e) rest (omega (arith, less, end, a, b, size))
     (sym (ends_a_line sum e rest) ∙ sym t ∙ torn.is)
+
+-- a text that begins with the line of a mark, and has fewer bytes than the mark's entry, is no entry
+few_is_no_entry : (sum : ℕ) (e : PlainEntry) (rest text mark : List ℕ) → IsEntry e → text ≡ entry_text sum e ++ rest → mark ≡ mark_of e
+    → HasFewer (entry_size mark) text → ⊥
+few_is_no_entry sum e rest text mark is t same has =
+    let end = ap length (ends_a_line sum e []) in
+    let a = length-append (entry_text sum e) [] in
+    let b = length-append (without_end sum e) (10 ∷ []) in
+    let size = entry_text_many sum e is in
+    let sizes : entry_size mark ≡ entry_size (mark_of e) = ap entry_size same in
+    let fewer = has.fewer in
+    line_feed_is_no_zero has.front has.zeros (without_end sum e) rest (omega (arith, fewer, sizes, end, a, b, size))
+    (sym (ends_a_line sum e rest) ∙ sym t ∙ has.is)
+
+-- and it is damaged if its lines do not end as those of an entry do
+pub lines_end_otherwise : (sum : ℕ) (text mark : List ℕ) → BeginsWithMark sum mark text → (HasFewer 72 text → ⊥) → HasFewer (entry_size mark) text
+    → (LinesEnd mark text → ⊥) → IsDamaged sum text
+lines_end_otherwise sum text mark begins long has otherwise = record {
+  not_torn = λ torn. elim torn.cut_off [
+    | inl short ↦ long (record { front = torn.front; zeros = torn.zeros; is = torn.is; fewer = short })
+    | inr found ↦
+        let same : mark ≡ found.0 =
+        same_mark sum text mark found.0 begins.count begins.bytes begins.line found.1.count found.1.bytes (torn_line sum text found.0 torn found.1) in
+        otherwise (subst (LinesEnd mark) (sym torn.is)
+        (lines_end_zeros mark torn.front torn.zeros (subst (λ (m : List ℕ). LinesEnd m torn.front) (sym same) found.3)))
+  ];
+  no_entry = λ e rest is t.
+      few_is_no_entry sum e rest text mark is t
+      (same_mark sum text mark (mark_of e) begins.count begins.bytes begins.line (mark_many e) (mark_bytes e) (line_stands sum e text rest t)) has;
+}

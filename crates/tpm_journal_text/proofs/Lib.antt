@@ -7,3 +7,5 @@ pub mod Damage
 pub mod HeadStanding
 pub mod Parsing
 pub mod Digits
+pub mod LineFeeds
+pub mod LeftOut

@@ -81,7 +81,7 @@ before_many sum e =
     let all = length-append (mark_line sum (mark_of e) ++ setting_lines e) (codes "entropy ") in
     omega (arith, line, setting, both, all)
 
-shown_many : (drawn : List ℕ) → length (shown drawn) ≡ max 1 (length drawn)
+pub shown_many : (drawn : List ℕ) → length (shown drawn) ≡ max 1 (length drawn)
 shown_many [] = refl
 shown_many (byte ∷ drawn) = grind (arith)
 

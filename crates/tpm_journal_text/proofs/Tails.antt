@@ -1,13 +1,14 @@
 -- What is torn, and stays torn.
-use Rattle.std.proofs.Common.{◌≡◌, ℕ, zero, suc, ◌-◌, ◌<◌, ◌≤◌, ◌==◌, Bool, true, false, List, [], ◌∷◌, ◌++◌, length, take, drop, replicate, inl, inr, refl, ap, sym, ◌∙◌, subst, arith, length-append}
+use Rattle.std.proofs.Common.{◌≡◌, ℕ, zero, suc, ◌-◌, ◌<◌, ◌≤◌, ◌==◌, Bool, true, false, List, [], ◌∷◌, ◌++◌, length, take, drop, max, replicate, inl, inr, refl, ap, sym, ◌∙◌, subst, arith, length-append}
 use Rattle.std.specs.Prelude.{nat_lt}
 use Rattle.std.specs.List.{list_all}
 use Rattle.std.proofs.lemmas.Bool.{and_parts, eqb-true}
 use Rattle.std.proofs.lemmas.Bool.Decides.{nat_tests}
 use Rattle.std.proofs.lemmas.List.{append-nil, drop-replicate, length-take-le, take-append-drop, take-append-le}
 use Rattle.tpm_journal_text.specs.Entry.{IsEntry, PlainEntry, entry_size, entry_text, mark_of}
-use Rattle.tpm_journal_text.specs.Journal.{BeginsWithMark, HasFewer, IsCutOff, IsTorn}
-use Rattle.tpm_journal_text.proofs.Standing.{entry_text_many, line_stands, mark_bytes, mark_many}
+use Rattle.tpm_journal_text.specs.Journal.{BeginsWithMark, HasFewer, IsCutOff, IsTorn, LinesEnd}
+use Rattle.tpm_journal_text.proofs.LineFeeds.{front_lines_end, lines_end_front}
+use Rattle.tpm_journal_text.proofs.Standing.{buffer_told, drawn_told, entry_text_many, line_stands, mark_bytes, mark_many}
 
 -- ---- zeros
 
@@ -66,6 +67,7 @@ cut_off_front sum front back cut = by (nat_lt (length front) 72) refl
                 found.0,
                 record { count = found.1.count; bytes = found.1.bytes; line = sym (take-append-le 72 front back long) ∙ found.1.line },
                 omega (arith, found.2, length-append front back),
+                lines_end_front found.0 front back found.3,
               )
         ]
 
@@ -90,6 +92,7 @@ part_of_entry sum e size is less = by (nat_lt size 72) refl
             line = sym (take-append-le 72 (take size (entry_text sum e)) (drop size (entry_text sum e)) (omega (arith, many, short))) ∙ ap (take 72) (sym whole) ∙ line;
           },
           omega (arith, short, less, entry_text_many sum e is),
+          front_lines_end sum e size is (omega (arith, less, entry_text_many sum e is, ap (max 1) (drawn_told e is), buffer_told e is)),
         )
 
 -- ---- torn
@@ -97,8 +100,8 @@ part_of_entry sum e size is less = by (nat_lt size 72) refl
 pub torn_by_few : (sum : ℕ) (text : List ℕ) → HasFewer 72 text → IsTorn sum text
 torn_by_few sum text has = record { front = has.front; zeros = has.zeros; is = has.is; cut_off = inl has.fewer }
 
-pub torn_by_mark : (sum : ℕ) (text mark : List ℕ) → BeginsWithMark sum mark text → (HasFewer 72 text → ⊥) → HasFewer (entry_size mark) text → IsTorn sum text
-torn_by_mark sum text mark begins long has = by (nat_lt (length has.front) 72) refl
+pub torn_by_mark : (sum : ℕ) (text mark : List ℕ) → BeginsWithMark sum mark text → (HasFewer 72 text → ⊥) → HasFewer (entry_size mark) text → LinesEnd mark text → IsTorn sum text
+torn_by_mark sum text mark begins long has end = by (nat_lt (length has.front) 72) refl
   where
     by : (b : Bool) → nat_lt (length has.front) 72 ≡ b → IsTorn sum text
     by true h = absurd (long (record { front = has.front; zeros = has.zeros; is = has.is; fewer = grind (arith, nat_tests) }))
@@ -116,6 +119,7 @@ torn_by_mark sum text mark begins long has = by (nat_lt (length has.front) 72) r
               line = sym (take-append-le 72 has.front (replicate has.zeros 0) many) ∙ ap (take 72) (sym has.is) ∙ begins.line;
             },
             has.fewer,
+            lines_end_front mark has.front (replicate has.zeros 0) (subst (LinesEnd mark) has.is end),
           );
         }
 

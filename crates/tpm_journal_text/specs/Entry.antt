@@ -108,6 +108,11 @@ unfoldable pub executing_lines : PlainEntry → List ℕ
 executing_lines e =
     codes "entropy " ++ encode_lower (shown e.drawn) ++ codes "\ncmd " ++ encode_lower e.buffer ++ 10 ∷ []
 
+-- where the line of the random bytes ends, from the end of the mark's line on, in an entry that drew
+-- so many
+abbrev pub drawn_line_end : (drawn : ℕ) → ℕ
+drawn_line_end drawn = 30 + 2 * max 1 drawn
+
 -- how many bytes the setting and the executing lines have together
 abbrev pub lines_size : (drawn buffer : ℕ) → ℕ
 lines_size drawn buffer = 36 + (2 * max 1 drawn + 2 * buffer)

@@ -1,7 +1,7 @@
 -- The entries of a journal one after another, and how their text ends.
-use Rattle.std.specs.Prelude.{◌≡◌, ℕ, ◌≤◌, ◌<◌, ◌⊎◌, List, [], ◌∷◌, ◌++◌, length, replicate, take}
+use Rattle.std.specs.Prelude.{◌≡◌, ℕ, ◌≤◌, ◌<◌, ◌⊎◌, List, [], ◌∷◌, ◌++◌, drop, get_or, length, replicate, take}
 use Rattle.tpm_bytes.specs.Reading.{AreBytes}
-use Rattle.tpm_journal_text.specs.Entry.{IsEntry, PlainEntry, entry_size, entry_text, mark_line}
+use Rattle.tpm_journal_text.specs.Entry.{IsEntry, PlainEntry, drawn_line_end, drawn_size, entry_size, entry_text, mark_line}
 use Rattle.tpm_journal_text.specs.declared.reading.Next.{Next}
 use Rattle.tpm_journal_text.specs.declared.reading.Next.TheVariants.{Whole, Torn, Damaged}
 use Rattle.tpm_journal_text.specs.Entry.{plain_entry, mark_line_size, mark_size, sum_after}
@@ -22,12 +22,24 @@ pub record BeginsWithMark (sum : ℕ) (mark text : List ℕ) : Type 0 where
   pub bytes : AreBytes mark
   pub line : take mark_line_size text ≡ mark_line sum mark
 
+-- A line of the entry with this mark ends at this place after the line of the mark. The end of the
+-- last line is the end of the entry, and not among them.
+abbrev pub EndsLine : (mark : List ℕ) → (place : ℕ) → Type 0
+EndsLine mark place =
+    (place ≡ 15) ⊎ ((place ≡ 21) ⊎ (place ≡ drawn_line_end (drawn_size mark)))
+
+-- The lines that follow the line of this mark in a text end only where those of its entry end.
+abbrev pub LinesEnd : (mark text : List ℕ) → Type 0
+LinesEnd mark text =
+    (place : ℕ) → get_or (drop mark_line_size text) place 0 ≡ 10 → EndsLine mark place
+
 -- A text is less than an entry: its first line is cut, or is the line of a mark that announces more
--- bytes than the text has.
+-- bytes than the text has, and the lines that follow end as those of the mark's entry do.
 abbrev pub IsCutOff : (sum : ℕ) → List ℕ → Type 0
 IsCutOff sum text =
     (length text < mark_line_size)
-    ⊎ ((mark : List ℕ) × BeginsWithMark sum mark text × (length text < entry_size mark))
+    ⊎ ((mark : List ℕ) × BeginsWithMark sum mark text × (length text < entry_size mark)
+    × LinesEnd mark text)
 
 -- A text is torn: it is less than an entry, and zeros after that, or nothing. A process that is
 -- killed leaves less than an entry, and a crash of the host may leave zeros in place of the rest.

@@ -4,13 +4,13 @@ ghost use Rattle.std.specs.Prelude.{◌≡◌, ◌+◌, ◌*◌, ◌≤◌, ◌<
 ghost use Rattle.hex.specs.Hex.{encode_lower};
 ghost use Rattle.tpm_bytes.specs.Reading.{AreBytes};
 ghost use Rattle.std.specs.Int.{w16, w32, w64, from_be_bytes};
-ghost use Rattle.tpm_journal_text.specs.Entry.{IsEntry, PlainEntry, buffer_size, drawn_size, entry_room, entry_size, entry_text, lines_size, mark_of, plain_entry};
+ghost use Rattle.tpm_journal_text.specs.Entry.{IsEntry, PlainEntry, buffer_size, drawn_line_end, drawn_size, entry_room, entry_size, entry_text, lines_size, mark_of, plain_entry};
 ghost use Rattle.tpm_journal_text.specs.Places.{Stands};
-ghost use Rattle.tpm_journal_text.specs.Journal.{Finds};
+ghost use Rattle.tpm_journal_text.specs.Journal.{BeginsWithMark, Finds, HasFewer};
 
 use crate::entry::{ENTRY_LIMIT, ENTRY_ROOM, ENTRY_WORD, Entry};
 use crate::marked::read_marked_line;
-use crate::torn::has_fewer;
+use crate::torn::{has_fewer, lines_end};
 use tpm_bytes::is_equal;
 use tpm_hex::decode;
 
@@ -33,7 +33,8 @@ pub enum Next<'a> {
         size: usize,
         sum: u64,
     },
-    /// Less than an entry, and after that zeros up to the end, if anything.
+    /// Less than an entry, whose lines end as an entry's do, and after that zeros up to the end, if
+    /// anything.
     Torn,
     /// Neither an entry nor what a crash leaves of one.
     Damaged,
@@ -88,6 +89,13 @@ fn size_told(mark: &[u8; MARK_SIZE]) -> usize
     MARK_LINE_SIZE + 36 + 2 * u16_at(mark, 6).max(1) + 2 * u16_at(mark, 8)
 }
 
+/// Where the line of the random bytes ends, from the end of the mark's line on.
+fn drawn_end(mark: &[u8; MARK_SIZE]) -> usize
+    ensures { result ≡ drawn_line_end (drawn_size mark.now) }
+{
+    30 + 2 * u16_at(mark, 6).max(1)
+}
+
 /// The entry that the text may hold after its mark was read; None where it holds none.
 fn entry_behind<'a>(
     mark: &[u8; MARK_SIZE],
@@ -130,6 +138,20 @@ pub(crate) fn begins_with(text: &[u8], front: &[u8]) -> bool
     is_equal(begin, front)
 }
 
+/// What a text is that begins with the line of a mark, and is less than the mark's entry.
+fn less_than_entry<'a>(text: &[u8], mark: &[u8; MARK_SIZE]) -> Next<'a>
+    requires { 72 ≤ length text.now }
+    ensures { (sum : ℕ) → BeginsWithMark sum mark.now text.now → (HasFewer 72 text.now → ⊥)
+        → HasFewer (entry_size mark.now) text.now → Finds sum text.now result }
+{
+    let (_, lines) = text.split_at(MARK_LINE_SIZE);
+    if lines_end(lines, drawn_end(mark)) {
+        Next::Torn
+    } else {
+        Next::Damaged
+    }
+}
+
 /// Reads the entry at the front of a text. `sum` is the sum of the marks before it. The entry's
 /// bytes go to the first room, and its text is written to the second, to be compared.
 pub fn read_entry<'a>(
@@ -148,7 +170,7 @@ pub fn read_entry<'a>(
         return Next::Damaged;
     };
     if has_fewer(text, size_told(&mark)) {
-        return Next::Torn;
+        return less_than_entry(text, &mark);
     }
     let Some(entry) = entry_behind(&mark, text, bytes) else {
         return Next::Damaged;

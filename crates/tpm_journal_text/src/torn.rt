@@ -1,9 +1,9 @@
 //! What a crash leaves of an entry: less than an entry, and perhaps zeros after that.
 
-ghost use Rattle.std.specs.Prelude.{◌≡◌, ◌==◌, ◌≤◌, ◌<◌, ◌++◌, ℕ, List, [], true, false, length, replicate, take};
+ghost use Rattle.std.specs.Prelude.{◌≡◌, ◌==◌, ◌+◌, ◌≤◌, ◌<◌, ◌⊎◌, ◌↔◌, ◌++◌, ℕ, List, [], true, false, drop, get_or, length, replicate, take};
 ghost use Rattle.std.specs.List.{list_all};
 ghost use Rattle.tpm_journal_text.specs.Entry.{IsEntry, PlainEntry, entry_text};
-ghost use Rattle.tpm_journal_text.specs.Journal.{HasFewer, IsTorn};
+ghost use Rattle.tpm_journal_text.specs.Journal.{HasFewer, IsDamaged, IsTorn};
 
 /// Whether all bytes are zeros.
 fn are_zeros(bytes: &[u8]) -> bool
@@ -26,8 +26,32 @@ pub(crate) fn has_fewer(text: &[u8], size: usize) -> bool
     are_zeros(end)
 }
 
+/// Whether a line of an entry ends at a place, from the end of the mark's line on.
+fn is_line_end(place: usize, drawn_end: usize) -> bool
+    ensures { result ≡ true ↔ ((place ≡ 15) ⊎ ((place ≡ 21) ⊎ (place ≡ drawn_end))) }
+{
+    place == 15 || place == 21 || place == drawn_end
+}
+
+/// Whether each line feed is where a line of an entry ends, from the end of the mark's line on. The
+/// line of the entry's random bytes ends at `drawn_end`.
+pub(crate) fn lines_end(lines: &[u8], drawn_end: usize) -> bool
+    ensures yes { result ≡ true → (place : ℕ) → get_or lines.now place 0 ≡ 10
+        → (place ≡ 15) ⊎ ((place ≡ 21) ⊎ (place ≡ drawn_end)) }
+    ensures no { result ≡ false → ((place : ℕ) → get_or lines.now place 0 ≡ 10
+        → (place ≡ 15) ⊎ ((place ≡ 21) ⊎ (place ≡ drawn_end))) → ⊥ }
+{
+    for place in 0..lines.len() {
+        if lines[place] == b'\n' && !is_line_end(place, drawn_end) {
+            return false;
+        }
+    }
+    true
+}
+
 /// What a crash leaves of an entry is torn: nothing, the front of the entry, and zeros after that.
-/// It stays torn when another crash cuts it or adds zeros. The function does nothing.
+/// It stays torn when another crash cuts it or adds zeros. An entry is not torn, and one in which a
+/// byte is left out is damaged, unless it is the last byte. The function does nothing.
 #[inline(always)]
 pub fn torn_laws()
     ensures nothing { (sum : ℕ) → IsTorn sum [] }
@@ -38,4 +62,7 @@ pub fn torn_laws()
         → IsTorn sum (take size text ++ replicate zeros 0) }
     ensures no_entry { (sum : ℕ) (e : PlainEntry) (rest : List ℕ) → IsEntry e
         → IsTorn sum (entry_text sum e ++ rest) → ⊥ }
+    ensures left_out { (sum : ℕ) (e : PlainEntry) (place : ℕ) → IsEntry e
+        → place + 1 < length (entry_text sum e)
+        → IsDamaged sum (take place (entry_text sum e) ++ drop (place + 1) (entry_text sum e)) }
 {}

@@ -3,7 +3,6 @@ use Rattle.tpm_journal_text.specs.Entry.{entry_text, entry_word}
 use Rattle.tpm_journal_text.specs.Journal.{HasFewer}
 use Rattle.tpm_journal_text.specs.Marked.{marked_line}
 use Rattle.tpm_journal_text.proofs.Damage.{no_entry_with, no_line}
-use Rattle.tpm_journal_text.proofs.Tails.{torn_by_mark}
 use Rattle.tpm_journal_text.proofs.reading.read_entry.Goals as goal
 
 pub returns-in_default : goal.returns-in_default
@@ -12,7 +11,7 @@ returns-in_default c =
 
 pub returns-then-has_fewer-2 : goal.returns-then-has_fewer-2
 returns-then-has_fewer-2 c =
-    torn_by_mark c.args.sum c.args.text.now c.read_marked_line.new.bytes (record {
+    c.less_than_entry.ensures c.args.sum (record {
       count = search rules;
       bytes = c.read_marked_line.ensures.bytes;
       line = c.in-Some.ensures.found.1 ∙ ap (marked_line entry_word c.read_marked_line.new.bytes) c.in-Some.ensures.found.0;

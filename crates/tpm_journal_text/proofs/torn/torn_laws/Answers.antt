@@ -1,5 +1,6 @@
 use Rattle.std.proofs.Common.{refl}
 use Rattle.tpm_journal_text.proofs.Damage.{torn_is_no_entry}
+use Rattle.tpm_journal_text.proofs.LeftOut.{left_out_is_damaged}
 use Rattle.tpm_journal_text.proofs.Tails.{torn_again, torn_entry, torn_nothing}
 use Rattle.tpm_journal_text.proofs.torn.torn_laws.Goals as goal
 
@@ -14,3 +15,6 @@ returns-clause-again c = torn_again
 
 pub returns-clause-no_entry : goal.returns-clause-no_entry
 returns-clause-no_entry c = λ sum e rest is. torn_is_no_entry sum e rest _ is refl
+
+pub returns-clause-left_out : goal.returns-clause-left_out
+returns-clause-left_out c = left_out_is_damaged
