@@ -14,6 +14,7 @@ from tpmsim.audit import main as audit
 from tpmsim.device import library, LibraryDevice
 from tpmsim.explain import main as command_line
 from tpmsim.explain.play import Play
+from tpmsim.records.parts import parts_of
 
 START = "do Startup 0"
 DEFINE = "do NV_DefineSpace OWNER pw:- 736563726574 01000001000b0004000400000010"
@@ -126,6 +127,14 @@ class Ends(unittest.TestCase):
                 cuts = [it.size for it in play.cuts]
                 self.assertEqual(cuts, [size - last + zeros] if size - last + zeros else [])
                 self.assertFalse(any(it.differences for it in events))
+
+    def test_a_byte_left_out(self):
+        """A last record without one of its bytes is not cut off, unless that is its last byte."""
+        journal = journal_with_index()
+        text = journal.text
+        for place in range(journal.ends[-2], len(text)):
+            (part,) = parts_of(text[:place] + text[place + 1 :])
+            self.assertEqual(part.torn != b"", place == len(text) - 1, place)
 
     def test_another_log_after_a_cut_end(self):
         journal = journal_with_index()

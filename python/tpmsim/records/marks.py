@@ -6,6 +6,7 @@ from __future__ import annotations
 
 import re
 from dataclasses import dataclass
+from itertools import accumulate
 
 from tpmsim.standard import Fields
 
@@ -18,6 +19,9 @@ MARK_LINE_BYTES = 72
 
 # An entry's lines beside its mark have so many bytes, and two for each that was drawn or sent.
 LINES_BYTES = 36
+
+# Its lines of the time, of the locality, and of the random bytes without these.
+WAIT_BYTES, LOC_BYTES, ENTROPY_BYTES = 16, 6, 9
 
 
 def sum_from(total: int, data: bytes) -> int:
@@ -88,6 +92,12 @@ class Mark:
     @property
     def entry_bytes(self) -> int:
         return MARK_LINE_BYTES + LINES_BYTES + 2 * max(1, self.drawn) + 2 * self.size
+
+    @property
+    def line_ends(self) -> set[int]:
+        """Where the lines of the entry end, but for its last one."""
+        lines = (MARK_LINE_BYTES, WAIT_BYTES, LOC_BYTES, ENTROPY_BYTES + 2 * max(1, self.drawn))
+        return {end - 1 for end in accumulate(lines)}
 
     def is_of(self, buffer: bytes, locality: int, elapsed: int, drawn: bytes) -> bool:
         told = self.locality, self.elapsed, self.drawn, self.size

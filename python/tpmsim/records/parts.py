@@ -15,6 +15,7 @@ REPORTED = re.compile(rb"^# (image|state) (?=54504d|[0-9a-f]{84})", re.MULTILINE
 HEADS = re.compile(HEAD.pattern + rb"(?=\n)|" + REPORTED.pattern, re.MULTILINE)
 LINES_OF_HEAD, LINES_OF_ENTRY = 2, 5
 BEGUN = re.compile(rb"#( ([0-9a-f]+( [0-9a-f]*)?)?)?")
+LINE_END = re.compile(rb"\n")
 LINE_OF_MARK = re.compile(rb"^" + MARK.pattern + rb"\n", re.MULTILINE)
 
 
@@ -60,11 +61,12 @@ def whole_of(part: Part) -> Part:
 
 
 def is_cut(entry: bytes) -> bool:
-    """Whether what begins with the line of a mark, if anything, is less than an entry."""
+    """Whether what begins with the line of a mark, if anything, is less than an entry, and its lines
+    end as those of the entry do.
+    """
     mark = Mark.read(entry.partition(b"\n")[0])
-    if mark is None or entry.count(b"\n") >= LINES_OF_ENTRY:
-        return False
-    return len(entry) < mark.entry_bytes
+    ends = {it.start() for it in LINE_END.finditer(entry)}
+    return mark is not None and len(entry) < mark.entry_bytes and ends <= mark.line_ends
 
 
 def after_lines(text: bytes, count: int, at: int = 0) -> int:
