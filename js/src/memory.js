@@ -1,0 +1,155 @@
+// The memory that the proved module is lent: blocks of it, and the bytes in them.
+
+const PAGE = 65_536;
+const ALIGNMENT = 16;
+
+// Enough for each image and each state text. More is lent to what needs more.
+const OUTPUT_SIZE = 36_864;
+
+const decoder = new TextDecoder();
+
+/** @param {number} size */
+const aligned = (size) => Math.ceil(size / ALIGNMENT) * ALIGNMENT;
+
+/** The memory from the heap's base up. Each block is of zeros when it is lent. */
+export class Memory {
+  #memory;
+  #end;
+  #bytes = new Uint8Array();
+  #view = new DataView(new ArrayBuffer(0));
+  /** @type {Map<number, number[]>} */
+  #free = new Map();
+  #input;
+  #output;
+
+  /**
+   * @param {WebAssembly.Memory} memory
+   * @param {number} base
+   */
+  constructor(memory, base) {
+    this.#memory = memory;
+    this.#end = aligned(base);
+    this.#look();
+    this.#input = { at: this.lend(PAGE), size: PAGE };
+    this.#output = { at: this.lend(OUTPUT_SIZE), size: OUTPUT_SIZE };
+  }
+
+  /** The views are of the memory as it is; growing it ends them. */
+  #look() {
+    this.#bytes = new Uint8Array(this.#memory.buffer);
+    this.#view = new DataView(this.#memory.buffer);
+  }
+
+  /**
+   * The address of a block that nobody else has.
+   * @param {number} size
+   */
+  lend(size) {
+    const free = this.#free.get(size)?.pop();
+    if (free !== undefined) return free;
+    const at = this.#end;
+    const end = at + aligned(size);
+    if (end > this.#bytes.length) {
+      this.#memory.grow(Math.ceil((end - this.#bytes.length) / PAGE));
+      this.#look();
+    }
+    this.#end = end;
+    return at;
+  }
+
+  /**
+   * Takes a block back, and forgets what it had.
+   * @param {number} at
+   * @param {number} size
+   */
+  free(at, size) {
+    this.#bytes.fill(0, at, at + size);
+    const free = this.#free.get(size) ?? [];
+    free.push(at);
+    this.#free.set(size, free);
+  }
+
+  /**
+   * A block for at least so many bytes, in place of one that is too small.
+   * @param {{at: number, size: number}} block
+   * @param {number} needed
+   */
+  #larger(block, needed) {
+    const size = 2 ** Math.ceil(Math.log2(needed));
+    const at = this.lend(size);
+    this.free(block.at, block.size);
+    return { at, size };
+  }
+
+  /**
+   * Puts bytes where a call reads them, until the next ones are put there: its two parameters.
+   * @param {Uint8Array} bytes
+   */
+  input(bytes) {
+    if (bytes.length > this.#input.size) this.#input = this.#larger(this.#input, bytes.length);
+    this.put(this.#input.at, bytes);
+    return [BigInt(this.#input.at), BigInt(bytes.length)];
+  }
+
+  /**
+   * What a call writes to a buffer. It returns how many bytes that are, and writes none that do not
+   * fit; then it is called with a larger buffer.
+   * @param {(at: bigint, size: bigint) => bigint} call
+   */
+  output(call) {
+    for (;;) {
+      const { at, size } = this.#output;
+      const needed = Number(call(BigInt(at), BigInt(size)));
+      if (needed <= size) return this.take(at, needed);
+      this.#output = this.#larger(this.#output, needed);
+    }
+  }
+
+  /**
+   * @param {number} at
+   * @param {Uint8Array} bytes
+   */
+  put(at, bytes) {
+    this.#bytes.set(bytes, at);
+  }
+
+  /**
+   * @param {number} at
+   * @param {number} number
+   */
+  putWord(at, number) {
+    this.#view.setUint32(at, number, true);
+  }
+
+  /**
+   * A copy of bytes.
+   * @param {number} at
+   * @param {number} size
+   */
+  take(at, size) {
+    return this.#bytes.slice(at, at + size);
+  }
+
+  /**
+   * @param {number} at
+   * @param {number} size
+   */
+  text(at, size) {
+    return decoder.decode(this.#bytes.subarray(at, at + size));
+  }
+
+  /** @param {number} at */
+  byte(at) {
+    return this.#bytes[at];
+  }
+
+  /** @param {number} at */
+  word(at) {
+    return this.#view.getUint32(at, true);
+  }
+
+  /** @param {number} at */
+  size(at) {
+    return Number(this.#view.getBigUint64(at, true));
+  }
+}

@@ -1,0 +1,231 @@
+// The proved module: how it is loaded, and its exports on words. Those on a device are in chip.js; no
+// other file knows an export. Nothing here checks arguments: device.js and words.js do.
+
+import { Chip } from "./chip.js";
+import { NoModule } from "./errors.js";
+import { Memory } from "./memory.js";
+
+/**
+ * A line that was read. `fault` is empty, or the fault's name. `column` counts from 1 and is 0
+ * without a fault; `wanted` says what is wanted there.
+ * @typedef {{bytes: Uint8Array, fault: string, column: number, wanted: string}} Read
+ */
+
+/**
+ * A line of a script: `number` is the locality, or the milliseconds; `waited` is what has passed
+ * since the last command. The kind is empty for an empty line, a comment and a bad line.
+ * @typedef {"" | "cmd" | "do" | "loc" | "wait" | "entropy" | "power"} Kind
+ * @typedef {Read & {kind: Kind, number: number, waited: number}} ScriptLine
+ */
+
+/**
+ * What a response code says: its name, and the handle, parameter or session that is at fault.
+ * @typedef {"" | "handle" | "parameter" | "session"} Place
+ * @typedef {{name: string, place: Place, number: number}} Meaning
+ */
+
+/**
+ * Where the blocks of a fixed size are.
+ * @typedef {Record<keyof typeof SIZES, number>} Blocks
+ */
+
+export const RANDOM_SIZE = 256;
+export const MOST_MILLISECONDS = 0xffff_ffff;
+export const LOCALITIES = 5;
+
+// How many bytes the structures have, and what calls write to the buffers of a fixed size.
+const SIZES = {
+  random: RANDOM_SIZE,
+  response: 4096,
+  answered: 32,
+  trace: 64,
+  written: 32_768,
+  wanted: 64,
+  read: 32,
+  waited: 4,
+  taken: 8,
+  entry: 9216,
+  line: 16_384,
+  words: 256,
+  place: 4,
+};
+
+/** @type {readonly Kind[]} */
+const KINDS = ["", "cmd", "do", "loc", "wait", "entropy", "power"];
+/** @type {readonly Place[]} */
+const AT_FAULT = ["", "handle", "parameter", "session"];
+const LINE_FAULTS = ["", "BadName", "BadField", "Missing", "Range", "TooLong"];
+
+const EXPORTS = [
+  "memory",
+  "__heap_base",
+  "device_version",
+  "device_size",
+  "device_manufacture",
+  "device_execute",
+  "device_complete",
+  "device_cycle_power",
+  "device_save",
+  "device_kept",
+  "device_open",
+  "device_snapshot",
+  "device_restore",
+  "device_release",
+  "script_line",
+  "line_assemble",
+  "line_spell",
+  "command_number",
+  "command_form",
+  "command_example",
+  "code_meaning",
+  "journal_begin",
+  "journal_checkpoint",
+  "journal_open",
+  "journal_follow",
+  "journal_execute",
+];
+
+const encoder = new TextEncoder();
+
+/** The module, with as many devices as are asked for. */
+export class Module {
+  /** @type {any} */ #calls;
+  #memory;
+  #at;
+
+  /**
+   * Compiles a module, if that is not done, and makes its memory. NoModule if it is another one.
+   * @param {BufferSource | WebAssembly.Module} source
+   * @returns {Promise<Module>}
+   */
+  static async load(source) {
+    let compiled;
+    try {
+      compiled = source instanceof WebAssembly.Module ? source : await WebAssembly.compile(source);
+    } catch (cause) {
+      throw new NoModule("the bytes are no module that runs here", { cause });
+    }
+    const there = new Set(WebAssembly.Module.exports(compiled).map((it) => it.name));
+    const missing = EXPORTS.filter((it) => !there.has(it));
+    if (missing.length > 0) throw new NoModule(`the module has no ${missing.join(", ")}`);
+    if (WebAssembly.Module.imports(compiled).length > 0) throw new NoModule("the module has imports");
+    return new Module(await WebAssembly.instantiate(compiled, {}));
+  }
+
+  /** @param {WebAssembly.Instance} instance */
+  constructor(instance) {
+    this.#calls = instance.exports;
+    this.#memory = new Memory(this.#calls.memory, Number(this.#calls.__heap_base.value));
+    const blocks = Object.entries(SIZES).map(([name, size]) => [name, this.#memory.lend(size)]);
+    this.#at = /** @type {Blocks} */ (Object.fromEntries(blocks));
+  }
+
+  /** The version, as `0.1.0`. */
+  get version() {
+    const number = this.#calls.device_version() >>> 0;
+    return `${number >>> 16}.${(number >>> 8) & 0xff}.${number & 0xff}`;
+  }
+
+  /**
+   * A new device, whose secrets are these bytes.
+   * @param {Uint8Array} random
+   */
+  manufacture(random) {
+    return new Chip(this.#calls, this.#memory, this.#at, random);
+  }
+
+  /**
+   * Reads a line of a script, without its end.
+   * @param {string | Uint8Array} line
+   * @param {number} waited milliseconds since the last command
+   * @returns {ScriptLine}
+   */
+  readLine(line, waited) {
+    const { written, wanted, read } = this.#at;
+    const bytes = typeof line === "string" ? encoder.encode(line) : line;
+    this.#memory.putWord(this.#at.waited, waited);
+    const places = [this.#at.waited, written, wanted, read].map(BigInt);
+    this.#calls.script_line(...this.#memory.input(bytes), ...places);
+    return {
+      ...this.#read(written),
+      kind: KINDS[this.#memory.byte(read + 28)],
+      number: this.#memory.word(read + 24),
+      waited: this.#memory.word(this.#at.waited),
+    };
+  }
+
+  /**
+   * The buffer of a command in words.
+   * @param {string | Uint8Array} words
+   * @returns {Read}
+   */
+  assemble(words) {
+    const { response, wanted, read } = this.#at;
+    const bytes = typeof words === "string" ? encoder.encode(words) : words;
+    this.#calls.line_assemble(...this.#memory.input(bytes), ...[response, wanted, read].map(BigInt));
+    return this.#read(response);
+  }
+
+  /**
+   * A line in words that spells the buffer; empty if there is none.
+   * @param {Uint8Array} command
+   */
+  spell(command) {
+    const size = Number(this.#calls.line_spell(...this.#memory.input(command), BigInt(this.#at.line)));
+    return this.#memory.text(this.#at.line, size);
+  }
+
+  /**
+   * The number of the command of this name, 0 for none.
+   * @param {string} name
+   */
+  commandNumber(name) {
+    return this.#calls.command_number(...this.#memory.input(encoder.encode(name))) >>> 0;
+  }
+
+  /**
+   * How a command is said in words, as `NV_Write @Entity Index Buffer u16`; empty for none.
+   * @param {number} number
+   */
+  commandForm(number) {
+    const size = Number(this.#calls.command_form(number, BigInt(this.#at.words)));
+    return this.#memory.text(this.#at.words, size);
+  }
+
+  /**
+   * An example of what follows the name of a command.
+   * @param {number} number
+   */
+  commandExample(number) {
+    const size = Number(this.#calls.command_example(number, BigInt(this.#at.words)));
+    return this.#memory.text(this.#at.words, size);
+  }
+
+  /**
+   * What a response code says; null if there is no such code.
+   * @param {number} code
+   * @returns {Meaning | null}
+   */
+  meaning(code) {
+    const { words, place } = this.#at;
+    const size = Number(this.#calls.code_meaning(code, BigInt(words), BigInt(place)));
+    if (size === 0) return null;
+    const where = this.#memory.word(place);
+    const name = this.#memory.text(words, size);
+    return { name, place: AT_FAULT[where >>> 8], number: where & 0xff };
+  }
+
+  /**
+   * What a line says, or its fault.
+   * @param {number} at where its bytes are
+   */
+  #read(at) {
+    const { wanted, read } = this.#at;
+    return {
+      bytes: this.#memory.take(at, this.#memory.size(read)),
+      fault: LINE_FAULTS[this.#memory.byte(read + 29)],
+      column: this.#memory.size(read + 8),
+      wanted: this.#memory.text(wanted, this.#memory.size(read + 16)),
+    };
+  }
+}
