@@ -14,8 +14,8 @@ export class BadArgument extends TypeError {
   }
 }
 
-/** A text is not what it has to be; `fault` is the first fault, as docs/table has it. */
-class BadText extends Error {
+/** A text is not what it has to be; `fault` names its first fault. */
+export class BadText extends Error {
   /**
    * @param {string} name
    * @param {string} fault
@@ -57,12 +57,15 @@ export class BadLine extends BadText {
    * @param {string} fault
    * @param {number} column from 1; 0 if the fault has none
    * @param {string} wanted what is wanted there
+   * @param {number} line its number in a script, from 1; else 0
    */
-  constructor(fault, column, wanted) {
+  constructor(fault, column, wanted, line = 0) {
     super("BadLine", fault);
     this.column = column;
     this.wanted = wanted;
-    this.message = [fault, column || "", wanted && `(${wanted})`].filter(Boolean).join(" ");
+    this.line = line;
+    const place = column === 0 ? fault : `${fault} ${column}`;
+    this.message = `${line === 0 ? "" : `line ${line}: `}${place}${wanted && `: ${wanted}`}`;
   }
 }
 

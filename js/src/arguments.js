@@ -1,0 +1,74 @@
+// The checks of what a program passes: each refuses with BadArgument, which names the argument.
+
+import { BadArgument } from "./errors.js";
+
+/**
+ * The argument, if it is a Uint8Array, as a Buffer of node is; of this window or of another one.
+ * @param {string} name
+ * @param {unknown} given
+ * @returns {Uint8Array}
+ */
+export function bytes(name, given) {
+  if (Object.prototype.toString.call(given) !== "[object Uint8Array]") {
+    throw new BadArgument(name, "a Uint8Array");
+  }
+  return /** @type {Uint8Array} */ (given);
+}
+
+/**
+ * @param {string} name
+ * @param {unknown} given
+ * @param {number} size
+ */
+export function bytesOf(name, given, size) {
+  const checked = bytes(name, given);
+  if (checked.length !== size) throw new BadArgument(name, `of ${size} bytes`);
+  return checked;
+}
+
+/**
+ * @param {string} name
+ * @param {unknown} given
+ */
+export function text(name, given) {
+  if (typeof given !== "string") throw new BadArgument(name, "a string");
+  return given;
+}
+
+/**
+ * A whole number from 0 to the largest one.
+ * @param {string} name
+ * @param {unknown} given
+ * @param {number} largest
+ */
+export function number(name, given, largest) {
+  if (!Number.isInteger(given) || Number(given) < 0 || Number(given) > largest) {
+    throw new BadArgument(name, `a whole number from 0 to ${largest}`);
+  }
+  return Number(given);
+}
+
+/**
+ * @param {string} name
+ * @param {unknown} given
+ */
+export function truth(name, given) {
+  if (typeof given !== "boolean") throw new BadArgument(name, "true or false");
+  return given;
+}
+
+/**
+ * Options by their names, and no others.
+ * @template {object} Options
+ * @param {Options | undefined} given
+ * @param {readonly (keyof Options & string)[]} names
+ * @returns {Options}
+ */
+export function options(given, names) {
+  if (given === undefined) return /** @type {Options} */ ({});
+  if (given === null || typeof given !== "object") throw new BadArgument("options", "an object");
+  for (const name of Object.keys(given)) {
+    if (!names.some((it) => it === name)) throw new BadArgument(name, `one of ${names.join(", ")}`);
+  }
+  return given;
+}

@@ -1,0 +1,58 @@
+// The random bytes of a device: those of the system, or those of a seed.
+
+import { RANDOM_SIZE } from "./module.js";
+import { shake256 } from "./shake.js";
+
+const encoder = new TextEncoder();
+
+/** What a device draws from: first its secrets, and then 256 bytes for each command.
+ * @typedef {{secrets(): Uint8Array, next(): Uint8Array, spend(drawn: number): void}} Source
+ */
+
+/** The system's bytes. Those that no command drew are kept for the next one. @implements {Source} */
+export class SystemBytes {
+  #bytes = new Uint8Array(RANDOM_SIZE);
+
+  constructor() {
+    this.spend(RANDOM_SIZE);
+  }
+
+  secrets() {
+    return crypto.getRandomValues(new Uint8Array(RANDOM_SIZE));
+  }
+
+  next() {
+    return this.#bytes;
+  }
+
+  /** @param {number} drawn from the front */
+  spend(drawn) {
+    if (drawn > 0) crypto.getRandomValues(this.#bytes.subarray(0, drawn));
+  }
+}
+
+/** The same bytes in each run: those that Python's `Device(seed=..)` draws. @implements {Source} */
+export class SeededBytes {
+  #seed;
+  #drawings = 0;
+
+  /** @param {string | Uint8Array} seed */
+  constructor(seed) {
+    this.#seed = typeof seed === "string" ? encoder.encode(seed) : seed.slice();
+  }
+
+  secrets() {
+    return shake256(this.#seed, RANDOM_SIZE);
+  }
+
+  next() {
+    this.#drawings += 1;
+    const number = encoder.encode(`${this.#drawings}`);
+    const text = new Uint8Array(this.#seed.length + number.length);
+    text.set(this.#seed);
+    text.set(number, this.#seed.length);
+    return shake256(text, RANDOM_SIZE);
+  }
+
+  spend() {}
+}

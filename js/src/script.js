@@ -1,0 +1,67 @@
+// The lines of a script, played on a device one after another, as `tpmsim run` does.
+
+import { BadLine } from "./errors.js";
+import { RANDOM_SIZE } from "./module.js";
+
+/** @typedef {import("./device.js").Answer} Answer */
+/** @typedef {import("./device.js").Device} Device */
+/** @typedef {import("./module.js").Module} Module */
+
+/**
+ * What a line did: a command and its answer, or a power cycle, whose trace is `power`.
+ * @typedef {{line: number, command: Uint8Array, answer: Answer, trace: string}} PlayedCommand
+ * @typedef {{line: number, command: null, answer: null, trace: "power"}} PlayedPower
+ * @typedef {PlayedCommand | PlayedPower} Played
+ */
+
+const NEWLINE = 0x0a;
+const encoder = new TextEncoder();
+
+/**
+ * The lines of a text, each without its newline, which the last one need not have.
+ * @param {Uint8Array} text
+ */
+function* lines(text) {
+  for (let at = 0; at < text.length; ) {
+    const found = text.indexOf(NEWLINE, at);
+    const end = found < 0 ? text.length : found;
+    yield text.subarray(at, end);
+    at = end + 1;
+  }
+}
+
+/**
+ * A text, repeated to the size of a command's random bytes.
+ * @param {Uint8Array} text
+ */
+const repeated = (text) => Uint8Array.from({ length: RANDOM_SIZE }, (_, at) => text[at % text.length]);
+
+/**
+ * @param {Device} device
+ * @param {Module} module
+ * @param {string | Uint8Array} script
+ * @returns {Generator<Played, void, undefined>}
+ */
+export function* played(device, module, script) {
+  let locality = 0;
+  let waited = 0;
+  let random = new Uint8Array(RANDOM_SIZE);
+  let line = 0;
+  for (const text of lines(typeof script === "string" ? encoder.encode(script) : script)) {
+    line += 1;
+    const elapsed = waited;
+    const read = module.readLine(text, waited);
+    if (read.fault) throw new BadLine(read.fault, read.column, read.wanted, line);
+    waited = read.waited;
+    if (read.kind === "loc") locality = read.number;
+    if (read.kind === "entropy") random = repeated(read.bytes);
+    if (read.kind === "power") {
+      device.powerCycle();
+      yield { line, command: null, answer: null, trace: "power" };
+    }
+    if (read.kind === "do" || read.kind === "cmd") {
+      const answer = device.execute(read.bytes, { locality, elapsed, random });
+      yield { line, command: read.bytes, answer, trace: answer.trace };
+    }
+  }
+}

@@ -1,0 +1,113 @@
+// Commands, response codes and scripts in words, which the proved module reads and writes.
+
+import { bytes, number, options, text } from "./arguments.js";
+import { BadArgument, BadLine } from "./errors.js";
+import { loaded } from "./load.js";
+import { Module } from "./module.js";
+
+/** @typedef {import("./module.js").Meaning} Meaning */
+
+const LARGEST = 0xffff_ffff;
+const CODE_AT = 6;
+const HEADER_SIZE = 10;
+
+/**
+ * The code of a response.
+ * @param {Uint8Array} response
+ */
+function codeOf(response) {
+  const checked = bytes("response", response);
+  if (checked.length < HEADER_SIZE) throw new BadArgument("response", "of at least 10 bytes");
+  return new DataView(checked.buffer, checked.byteOffset).getUint32(CODE_AT);
+}
+
+/** What the module says in words. */
+export class Words {
+  #module;
+
+  /** @param {Module} module use `Words.load`, or a device's `words` */
+  constructor(module) {
+    if (!(module instanceof Module)) throw new BadArgument("module", "one that Words.load has loaded");
+    this.#module = module;
+  }
+
+  /**
+   * @param {{module?: BufferSource | WebAssembly.Module}} [given]
+   * @returns {Promise<Words>}
+   */
+  static async load(given) {
+    return new Words(await loaded(options(given, ["module"]).module));
+  }
+
+  /** The version of the module, as `0.1.0`. */
+  get version() {
+    return this.#module.version;
+  }
+
+  /**
+   * The buffer of a command in words, such as `GetRandom 4`. BadLine if they spell none.
+   * @param {string} line
+   * @returns {Uint8Array}
+   */
+  assemble(line) {
+    const { bytes: command, fault, column, wanted } = this.#module.assemble(text("line", line));
+    if (fault) throw new BadLine(fault, column, wanted);
+    return command;
+  }
+
+  /**
+   * A line in words that spells just these bytes; null if there is none.
+   * @param {Uint8Array} command
+   * @returns {string | null}
+   */
+  spell(command) {
+    return this.#module.spell(bytes("command", command)) || null;
+  }
+
+  /**
+   * What a response, or a response code, says. Null if there is no such code.
+   * @param {Uint8Array | number} given
+   * @returns {Meaning | null}
+   */
+  meaning(given) {
+    const code = typeof given === "number" ? number("code", given, LARGEST) : codeOf(given);
+    return this.#module.meaning(code);
+  }
+
+  /**
+   * The number of the command of this name; null for none.
+   * @param {string} name
+   * @returns {number | null}
+   */
+  commandNumber(name) {
+    return this.#module.commandNumber(text("name", name)) || null;
+  }
+
+  /**
+   * The name of the command of this number; null for none.
+   * @param {number} code
+   * @returns {string | null}
+   */
+  commandName(code) {
+    return this.commandForm(code)?.split(" ", 1)[0] ?? null;
+  }
+
+  /**
+   * How a command is said in words, as `NV_Write @Entity Index Buffer u16`; null for none.
+   * @param {number} code
+   * @returns {string | null}
+   */
+  commandForm(code) {
+    return this.#module.commandForm(number("code", code, LARGEST)) || null;
+  }
+
+  /**
+   * A whole line of a command, as an example; null for none.
+   * @param {number} code
+   * @returns {string | null}
+   */
+  commandExample(code) {
+    const name = this.commandName(code);
+    return name === null ? null : `${name} ${this.#module.commandExample(code)}`.trimEnd();
+  }
+}

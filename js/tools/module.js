@@ -1,0 +1,14 @@
+// Takes the module into this folder for `npm pack`, which packs no file from elsewhere, and removes it
+// after that: the repository has it in dist/ alone.
+//
+//   node tools/module.js take|leave
+
+import { copyFile, rm } from "node:fs/promises";
+
+const source = new URL("../../dist/tpmsim.wasm", import.meta.url);
+const place = new URL("../tpmsim.wasm", import.meta.url);
+
+const [word] = process.argv.slice(2);
+if (word === "take") await copyFile(source, place);
+else if (word === "leave") await rm(place, { force: true });
+else throw new Error("usage: node tools/module.js take|leave");
