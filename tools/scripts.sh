@@ -33,7 +33,8 @@ set -u
 top=$(CDPATH='' cd "$(dirname "$0")/.." && pwd -P) || exit 1
 out=$top/crates/tpmsim/out
 lists=$top/crates/tpmsim_lists/out/tpmsim_lists
-library=$top/dist/libtpmsim.a
+in_dist=$top/$(cd "$top" && . tools/lib/proved.sh && echo "$shipped") || exit 1
+library=${in_dist%/*}/libtpmsim.a
 jobs=${JOBS:-$(getconf _NPROCESSORS_ONLN)}
 
 # Tests force files to the disk, so they work in memory.
@@ -135,8 +136,8 @@ shipped_is_of_sources() (
 # played as the one in dist/, where it has the same bytes and that is of the sources.
 is_asked() {
     case $asked,$1 in
-    shipped,"$top/dist/tpmsim" | ,*) true ;;
-    built,"$out/"*) ! cmp -s "$top/dist/tpmsim" "$1" || ! shipped_is_of_sources ;;
+    shipped,"$in_dist" | ,*) true ;;
+    built,"$out/"*) ! cmp -s "$in_dist" "$1" || ! shipped_is_of_sources ;;
     *) false ;;
     esac
 }
@@ -147,18 +148,18 @@ missing() {
 }
 
 programs=0
-for program in "$out/tpmsim" "$out/tpmsim.by-rattle" "$top/dist/tpmsim"; do
+for program in "$out/tpmsim" "$out/tpmsim.by-rattle" "$in_dist"; do
     is_asked "$program" || continue
     if [ ! -x "$program" ]; then
         missing "$program"
         continue
     fi
-    if [ "$program" = "$top/dist/tpmsim" ] && ! shipped_is_of_sources; then
-        say 'dist/tpmsim is not run: it was proved of other sources than these'
+    if [ "$program" = "$in_dist" ] && ! shipped_is_of_sources; then
+        say "${in_dist#"$top/"} is not run: it was proved of other sources than these"
         continue
     fi
-    if [ -z "$asked" ] && [ "$program" = "$top/dist/tpmsim" ] && cmp -s "$out/tpmsim" "$program"; then
-        say 'dist/tpmsim has the bytes of the program that was built here'
+    if [ -z "$asked" ] && [ "$program" = "$in_dist" ] && cmp -s "$out/tpmsim" "$program"; then
+        say "${in_dist#"$top/"} has the bytes of the program that was built here"
         continue
     fi
     programs=$((programs + 1))

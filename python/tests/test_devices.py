@@ -12,6 +12,7 @@ import sys
 import tempfile
 import time
 import unittest
+import unittest.mock
 
 import tpmsim.device
 from tpmsim.caller import Caller, Refused
@@ -20,6 +21,7 @@ from tpmsim.device import ModelDevice, ServedDevice, SimulatorDevice, StartedSwt
 from tpmsim.device import Unsupported
 from tpmsim.device.child import program_found
 from tpmsim.device.library import but_clock
+from tpmsim.device.shipped import shipped
 from tpmsim.model.image import image
 from tpmsim.model.machine import Model
 from tpmsim.model.player import played
@@ -63,6 +65,16 @@ class Told(TwentyTests):
                 self.tpm.device.locality = number
         self.tpm.device.wait(2**32 - 1)
         self.assertRaises(ValueError, self.tpm.device.wait, 1)
+
+
+class Shipped(unittest.TestCase):
+    """What a clone of the repository ships is found by the machine."""
+
+    def test_machines(self):
+        for machine, folder in (("x86_64", "dist"), ("aarch64", "aarch64")):
+            with unittest.mock.patch("platform.machine", return_value=machine):
+                self.assertEqual(shipped("tpmsim").parts[-2:], (folder, "tpmsim"))
+                self.assertTrue(os.access(shipped("tpmsim"), os.X_OK))
 
 
 class OverModel(Told, unittest.TestCase):

@@ -7,7 +7,7 @@ tests=$(cd "$(dirname "$0")/.." && pwd -P)
 needs python3
 
 attach ask ask
-shipped=$tests/../dist/tpmsim
+shipped=$dist/tpmsim
 
 # words LINE: prints the buffer of a command in words.
 words() {

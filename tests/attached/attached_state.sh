@@ -4,7 +4,7 @@ tests=$(cd "$(dirname "$0")/.." && pwd -P)
 . "$tests/common/cases.sh"
 . "$tests/common/library.sh"
 . "$tests/common/attached.sh"
-shipped=$tests/../dist/tpmsim
+shipped=$dist/tpmsim
 "$shipped" power --help >"$room/help" 2>&1 || skip 'the program has no kept device'
 
 attach ask ask

@@ -6,7 +6,7 @@ needs cc nm strip python3 libtpms/tpm_library.h
 TPMSIM_ARCHIVE=$(readlink -f "$program")
 export TPMSIM_ARCHIVE
 unset CFLAGS
-assemble=$tests/../dist/tpmsim
+assemble=${TPMSIM_ARCHIVE%/*}/tpmsim
 sanitizers='-g -fsanitize=address,undefined -fno-sanitize-recover=all'
 
 # build FOLDER: makes all of these in a folder.

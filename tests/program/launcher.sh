@@ -3,6 +3,7 @@
 # proved; a stand-in for `rt` builds another, which says that it was built.
 tests=$(cd "$(dirname "$0")/.." && pwd -P)
 . "$tests/common/cases.sh"
+[ "$(uname -m)" = x86_64 ] || skip 'there is no program that tools/dist.sh ships but for x86-64'
 needs git
 [ "$(id -u)" -ne 0 ] || needs setpriv
 copy="$room/a copy"

@@ -4,7 +4,7 @@
 # repository's folder, as the launcher does at each start: so it begins few processes.
 # shellcheck shell=sh
 . tools/lib/proved.sh
-stamp=crates/tpmsim/out/verified
+stamp=crates/tpmsim/out/verified-$machine
 
 # Whether dist/ has a program for this machine.
 is_served() {

@@ -10,6 +10,7 @@ import weakref
 
 from tpmsim.device.base import BadState, DeviceEnded, Executed, line_in_bytes, Unsupported
 from tpmsim.device.in_step import CLOSED, InStep, NOT_ENDED
+from tpmsim.device.shipped import shipped
 from tpmsim.device.told import Device, Path
 from tpmsim.standard import CC
 
@@ -19,10 +20,9 @@ NO_STATE_TEXT = "tpmsim: snapshot "
 
 def program_found() -> str:
     """The program: the one that $TPMSIM names, the one of this repository, or one on the path."""
-    shipped = pathlib.Path(__file__).resolve().parents[3] / "dist" / "tpmsim"
     found = os.environ.get("TPMSIM")
-    if not found and os.access(shipped, os.X_OK):
-        found = str(shipped)
+    if not found and os.access(shipped("tpmsim"), os.X_OK):
+        found = str(shipped("tpmsim"))
     found = found or shutil.which("tpmsim")
     if not found:
         raise FileNotFoundError("there is no tpmsim: $TPMSIM may name it")

@@ -12,6 +12,7 @@ from typing import Callable
 import tpmsim
 from tpmsim.device.base import BadImage, BadState, DeviceEnded, Executed
 from tpmsim.device.folder import opened, OWNER_ALONE
+from tpmsim.device.shipped import shipped
 from tpmsim.device.told import Device, NothingReplaced, Path, RANDOM_BYTES
 from tpmsim.model.image import BODY_AT, DIGEST_AT_END, HIERARCHIES
 
@@ -149,8 +150,7 @@ def places() -> list[str]:
     named = os.environ.get("TPMSIM_LIBRARY")
     if named:
         return [named]
-    package = pathlib.Path(__file__).resolve().parents[1]
-    beside = [package / NAME, package.parents[1] / "dist" / NAME]
+    beside = [pathlib.Path(__file__).resolve().parents[1] / NAME, shipped(NAME)]
     return [*(str(it) for it in beside if it.is_file()), NAME]
 
 
