@@ -33,7 +33,9 @@ set -u
 top=$(CDPATH='' cd "$(dirname "$0")/.." && pwd -P) || exit 1
 out=$top/crates/tpmsim/out
 lists=$top/crates/tpmsim_lists/out/tpmsim_lists
-in_dist=$top/$(cd "$top" && . tools/lib/proved.sh && echo "$shipped") || exit 1
+# What is shipped for this machine.
+in_dist=$top/dist/tpmsim
+[ "$(uname -sm)" != 'Linux aarch64' ] || in_dist=$top/dist/aarch64/tpmsim
 library=${in_dist%/*}/libtpmsim.a
 jobs=${JOBS:-$(getconf _NPROCESSORS_ONLN)}
 
