@@ -3,9 +3,6 @@
 const PAGE = 65_536;
 const ALIGNMENT = 16;
 
-// Enough for each image and each state text. More is lent to what needs more.
-const OUTPUT_SIZE = 36_864;
-
 const decoder = new TextDecoder();
 
 /** @param {number} size */
@@ -31,7 +28,7 @@ export class Memory {
     this.#end = aligned(base);
     this.#look();
     this.#input = { at: this.lend(PAGE), size: PAGE };
-    this.#output = { at: this.lend(OUTPUT_SIZE), size: OUTPUT_SIZE };
+    this.#output = { at: this.lend(PAGE), size: PAGE };
   }
 
   /** The views are of the memory as it is; growing it ends them. */

@@ -12,8 +12,9 @@ import { Memory } from "./memory.js";
  */
 
 /**
- * A line of a script: `number` is the locality, or the milliseconds; `waited` is what has passed
- * since the last command. The kind is empty for an empty line, a comment and a bad line.
+ * A line of a script: `number` is the locality, the milliseconds of a wait, or those that passed
+ * before a command; `waited` is what has passed since the last command. The kind is empty for an empty
+ * line, a comment and a bad line.
  * @typedef {"" | "cmd" | "do" | "loc" | "wait" | "entropy" | "power"} Kind
  * @typedef {Read & {kind: Kind, number: number, waited: number}} ScriptLine
  */
@@ -45,7 +46,6 @@ const SIZES = {
   waited: 4,
   taken: 8,
   entry: 9216,
-  line: 16_384,
   words: 256,
   place: 4,
 };
@@ -86,6 +86,10 @@ const EXPORTS = [
 ];
 
 const encoder = new TextEncoder();
+const decoder = new TextDecoder();
+
+/** @param {Uint8Array} bytes */
+const textOf = (bytes) => decoder.decode(bytes);
 
 /** The module, with as many devices as are asked for. */
 export class Module {
@@ -171,8 +175,8 @@ export class Module {
    * @param {Uint8Array} command
    */
   spell(command) {
-    const size = Number(this.#calls.line_spell(...this.#memory.input(command), BigInt(this.#at.line)));
-    return this.#memory.text(this.#at.line, size);
+    const input = this.#memory.input(command);
+    return textOf(this.#memory.output((...room) => this.#calls.line_spell(...input, ...room)));
   }
 
   /**

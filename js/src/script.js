@@ -49,7 +49,6 @@ export function* played(device, module, script) {
   let line = 0;
   for (const text of lines(typeof script === "string" ? encoder.encode(script) : script)) {
     line += 1;
-    const elapsed = waited;
     const read = module.readLine(text, waited);
     if (read.fault) throw new BadLine(read.fault, read.column, read.wanted, line);
     waited = read.waited;
@@ -60,7 +59,7 @@ export function* played(device, module, script) {
       yield { line, command: null, answer: null, trace: "power" };
     }
     if (read.kind === "do" || read.kind === "cmd") {
-      const answer = device.execute(read.bytes, { locality, elapsed, random });
+      const answer = device.execute(read.bytes, { locality, elapsed: read.number, random });
       yield { line, command: read.bytes, answer, trace: answer.trace };
     }
   }
