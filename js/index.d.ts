@@ -119,28 +119,24 @@ export class Words {
 /** An argument of a wrong type or out of its range. Nothing was done. */
 export class BadArgument extends TypeError {
   private constructor();
-  name: "BadArgument";
   argument: string;
 }
 
 /** Bytes that are no image: Short, Magic, Version, Length, Digest or Body. */
 export class BadImage extends Error {
   private constructor();
-  name: "BadImage";
   fault: string;
 }
 
 /** Bytes that are no state text: Short, Magic, Version, Length, Digest or Body. */
 export class BadState extends Error {
   private constructor();
-  name: "BadState";
   fault: string;
 }
 
 /** A line with a fault: BadName, BadField, Missing, Range or TooLong. */
 export class BadLine extends Error {
   private constructor();
-  name: "BadLine";
   fault: string;
   /** From 1; 0 if the fault has none. */
   column: number;
@@ -153,11 +149,9 @@ export class BadLine extends Error {
 /** The device was disposed of. */
 export class DeviceEnded extends Error {
   private constructor();
-  name: "DeviceEnded";
 }
 
 /** There is no module, or it is not the one of this version. */
 export class NoModule extends Error {
   private constructor();
-  name: "NoModule";
 }

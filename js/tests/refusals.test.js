@@ -1,0 +1,94 @@
+// Wrong arguments: each is refused by its name, and changes nothing.
+
+import assert from "node:assert/strict";
+import { test } from "node:test";
+import { createContext, runInContext } from "node:vm";
+
+import { BadArgument, Device, NoModule, Words } from "tpmsim";
+
+const tpm = await Device.create({ seed: "mine" });
+const command = tpm.words.assemble("Startup 0");
+const zeros = new Uint8Array(256);
+
+/** Whether a call is refused for this argument. */
+const refused = (argument) => (it) =>
+  it instanceof BadArgument && it instanceof TypeError && it.name === "BadArgument" && it.argument === argument;
+
+const NO_BYTES = [undefined, null, "80010000000c000001440000", [1, 2], {}, 7, new Uint16Array(4), zeros.buffer];
+
+test("bytes", () => {
+  const before = tpm.snapshot();
+  for (const given of NO_BYTES) {
+    assert.throws(() => tpm.execute(given), refused("command"));
+    assert.throws(() => tpm.open(given), refused("image"));
+    assert.throws(() => tpm.restore(given), refused("state"));
+    assert.throws(() => tpm.words.spell(given), refused("command"));
+    if (typeof given !== "string") assert.throws(() => tpm.play(given), refused("script"));
+    if (given !== undefined) assert.throws(() => tpm.execute(command, { random: given }), refused("random"));
+  }
+  for (const size of [0, 255, 257]) {
+    assert.throws(() => tpm.execute(command, { random: new Uint8Array(size) }), refused("random"));
+  }
+  assert.deepEqual(tpm.snapshot(), before);
+});
+
+test("bytes of another realm are bytes", () => {
+  const other = runInContext("new Uint8Array([0x80, 1])", createContext());
+  assert.ok(!(other instanceof Uint8Array));
+  assert.equal(tpm.execute(other).row.check, "G1");
+});
+
+test("numbers", () => {
+  for (const given of [-1, 5, 1.5, NaN, Infinity, "1", null, 1n, {}]) {
+    assert.throws(() => tpm.execute(command, { locality: given }), refused("locality"));
+  }
+  for (const given of [-1, 2 ** 32, 0.5, NaN, "1", null, 1n]) {
+    assert.throws(() => tpm.execute(command, { elapsed: given }), refused("elapsed"));
+  }
+  for (const given of [-1, 2 ** 32, 0.5, NaN]) {
+    assert.throws(() => tpm.words.meaning(given), refused("code"));
+    for (const name of ["commandName", "commandForm", "commandExample"]) {
+      assert.throws(() => tpm.words[name](given), refused("code"));
+    }
+  }
+  assert.throws(() => tpm.words.meaning("98e"), refused("response"));
+  assert.throws(() => tpm.words.meaning(new Uint8Array(9)), refused("response"));
+});
+
+test("words", () => {
+  for (const given of [undefined, null, 7, command]) {
+    assert.throws(() => tpm.words.assemble(given), refused("line"));
+    assert.throws(() => tpm.do(given), refused("line"));
+    assert.throws(() => tpm.words.commandNumber(given), refused("name"));
+  }
+});
+
+test("options", async () => {
+  assert.throws(() => tpm.execute(command, { elasped: 5 }), refused("elasped"));
+  assert.throws(() => tpm.execute(command, { complete: 1 }), refused("complete"));
+  for (const given of [null, 7, "locality"]) {
+    assert.throws(() => tpm.execute(command, given), refused("options"));
+    await assert.rejects(Device.create(given), refused("options"));
+    await assert.rejects(Words.load(given), refused("options"));
+  }
+  await assert.rejects(Device.create({ sead: "mine" }), refused("sead"));
+  await assert.rejects(Device.create({ seed: 7 }), refused("seed"));
+  await assert.rejects(Device.create({ manufactured: new Uint8Array(255) }), refused("manufactured"));
+  await assert.rejects(Device.create({ image: "54504d49" }), refused("image"));
+  await assert.rejects(Device.create({ state: [1] }), refused("state"));
+  assert.equal(tpm.execute(command, undefined).row.check, "ok");
+});
+
+test("constructors", () => {
+  assert.throws(() => new Device(), refused("key"));
+  assert.throws(() => new Words(), refused("module"));
+});
+
+test("modules", async () => {
+  // A module with no exports, and one with an import.
+  const empty = Uint8Array.of(0, 0x61, 0x73, 0x6d, 1, 0, 0, 0);
+  for (const module of [zeros, new Uint8Array(), empty, empty.buffer, await WebAssembly.compile(empty), "tpmsim.wasm", 7]) {
+    await assert.rejects(Device.create({ module }), (it) => it instanceof NoModule && it.name === "NoModule");
+    await assert.rejects(Words.load({ module }), NoModule);
+  }
+});

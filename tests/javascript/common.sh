@@ -1,0 +1,20 @@
+# What the tests of the package for JavaScript share. Each reads this file behind cases.sh.
+# shellcheck shell=sh disable=SC2034,SC2154 # cases.sh has `tests`
+needs node
+top=${tests%/*}
+package=$top/js
+node -e 'process.exit(process.getBuiltinModule ? 0 : 1)' ||
+    skip 'there is no node from 20.16 on (Debian: nodejs)'
+(cd "$top" && . tools/lib/proved.sh && ship x86_64 && [ -f dist/tpmsim.wasm ] &&
+    is_proved 'web sources' "$(sources_checksum tpmsim_web)" &&
+    is_proved 'web module' "$(checksum <dist/tpmsim.wasm)") ||
+    skip 'dist/tpmsim.wasm was proved of other sources than these'
+
+# all_pass FOLDER: runs the tests of a package by node's runner, and shows what it says if one fails.
+all_pass() {
+    if TPMSIM_REPOSITORY=$top node --test "$1/tests/" >"$room/said" 2>&1; then
+        echo 'all tests pass'
+    else
+        grep -v '^# Subtest\|^ok\|duration_ms' "$room/said" | head -n 60
+    fi
+}

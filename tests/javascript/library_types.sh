@@ -1,0 +1,32 @@
+# The types of the package for JavaScript: its sources by their comments, index.d.ts, that the sources are
+# what it declares, and a program that uses it, whose marked lines are refused.
+tests=$(cd "$(dirname "$0")/.." && pwd -P)
+. "$tests/common/cases.sh"
+. "$tests/javascript/common.sh"
+needs tsc
+
+# types LABEL FILE WORDS..: whether a file has no fault.
+types() {
+    label=$1
+    shift
+    tsc --noEmit --strict --target es2022 --lib es2022,dom --module es2022 --moduleResolution node \
+        --typeRoots "$room" "$@" && echo "$label: no fault"
+}
+
+mkdir -p node_modules && ln -s "$package" node_modules/tpmsim
+cp "$tests/javascript/uses.ts" uses.ts
+cat >same.ts <<END
+import * as declared from "tpmsim";
+import * as real from "$package/src/index.js";
+type Shape<M> = {
+  [Name in keyof M]: M[Name] extends { prototype: infer Instance }
+    ? { instance: Instance; statics: Omit<M[Name], "prototype"> }
+    : M[Name];
+};
+declare const there: Shape<typeof real>;
+export const same: Shape<typeof declared> = there;
+END
+types 'the sources' --allowJs --checkJs "$package/src/index.js"
+types 'index.d.ts' "$package/index.d.ts"
+types 'the sources as declared' --allowJs same.ts
+types 'a program' uses.ts
