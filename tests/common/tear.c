@@ -51,7 +51,7 @@ static const char *name_of(int file, char *room, size_t size) {
     char link[64];
     if (file <= 1) return file ? "output" : "input";
     snprintf(link, sizeof link, "/proc/self/fd/%d", file);
-    ssize_t length = syscall(SYS_readlink, link, room, size - 1);
+    ssize_t length = syscall(SYS_readlinkat, AT_FDCWD, link, room, size - 1);
     if (length < 0) abort();
     room[length] = 0;
     if (strncmp(room, "socket:", 7) == 0) return "connection";

@@ -10,7 +10,7 @@ types() {
     label=$1
     shift
     tsc --noEmit --strict --target es2022 --lib es2022,dom --module es2022 --moduleResolution node \
-        --typeRoots "$room" "$@" && echo "$label: no fault"
+        --typeRoots "$room/none" "$@" && echo "$label: no fault"
 }
 
 mkdir -p node_modules && ln -s "$package" node_modules/tpmsim
