@@ -11,7 +11,9 @@ set -u
 LC_ALL=C
 export LC_ALL
 sources=$(CDPATH='' cd "$(dirname "$0")/../../attached" && pwd -P) || exit 1
-archive=${TPMSIM_ARCHIVE:-$sources/../dist/libtpmsim.a}
+shipped=$sources/../dist
+[ "$(uname -sm)" != 'Linux aarch64' ] || shipped=$shipped/aarch64
+archive=${TPMSIM_ARCHIVE:-$shipped/libtpmsim.a}
 compiler=${CC:-cc}
 ar=${AR:-ar}
 nm=${NM:-nm}

@@ -21,7 +21,9 @@ fail() {
 }
 
 [ "$#" -eq 1 ] || fail 'usage: tools/interop/attached_swtpm.sh FOLDER'
-archive=${TPMSIM_ARCHIVE:-$top/dist/libtpmsim.a}
+shipped=$top/dist
+[ "$(uname -sm)" != 'Linux aarch64' ] || shipped=$shipped/aarch64
+archive=${TPMSIM_ARCHIVE:-$shipped/libtpmsim.a}
 archive=$(realpath -e "$archive") || fail 'there is no archive of the library'
 folder=$(realpath -m "$1") || exit 1
 case $folder/ in

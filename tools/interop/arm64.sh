@@ -1,0 +1,94 @@
+#!/bin/sh
+# Runs a command in the repository as on a Debian machine on ARM64: in a root of Debian's packages for
+# arm64, with the package that tools/deb.sh makes, where qemu runs what is for ARM64. Nothing of this
+# machine changes: apt works in a folder of its own, nothing is installed, and the root and the kernel's
+# note of qemu are seen in namespaces of their own alone. Not part of the gate.
+#
+#   tools/interop/arm64.sh FOLDER              plays the package there (arm64_package.sh)
+#   tools/interop/arm64.sh FOLDER COMMAND..    runs this there, in a clone of the last commit, as with
+#                                              tools/scripts.sh 'nv/*'
+#
+# FOLDER keeps the root for the next time: 700 MB, of which 180 MB are fetched. Needs a Linux of 6.7 or
+# newer that lets the user make namespaces, Debian's apt, git, and what tools/deb.sh needs for ARM64.
+set -u
+umask 022
+[ "$#" -gt 0 ] || { echo "usage: $0 FOLDER [COMMAND..]" >&2; exit 2; }
+mkdir -p "$1" || exit 1
+folder=$(realpath "$1")
+shift
+cd "$(dirname "$0")/../.." && top=$(pwd -P) || exit 1
+root=$folder/root
+log=$folder/log
+: >"$log" || exit 1
+
+# What the commands of the repository need of a machine.
+packages='base-files base-passwd bash binutils coreutils dash debianutils diffutils findutils g++ gcc git
+    grep gzip hostname libc-bin libc6-dev libtpms-dev libtss2-dev make mawk ncurses-base pkg-config
+    procps python3 sed socat swtpm tar tpm2-tools util-linux'
+
+# fail REASON: ends the script, and shows what was logged last.
+fail() {
+    tail -n 20 "$log" >&2
+    echo "$0: $1" >&2
+    exit 1
+}
+
+# foreign WORDS..: apt for ARM64, which knows of no package that is installed here.
+foreign() {
+    apt-get -q -y -o APT::Architecture=arm64 -o APT::Architectures::=arm64 -o APT::Sandbox::User= \
+        -o Dir::State="$folder/state" -o Dir::State::status="$folder/status" \
+        -o Dir::Cache="$folder/cache" "$@" >>"$log" 2>&1
+}
+
+# Fetches the packages, and qemu as one file that needs no other.
+fetch() {
+    mkdir -p "$folder/state/lists/partial" "$folder/cache/archives/partial" && : >"$folder/status" &&
+        foreign update || return 1
+    # shellcheck disable=SC2086 # they are words
+    foreign --no-install-recommends --download-only install $packages &&
+        (cd "$folder" && apt-get -q download qemu-user-static) >>"$log" 2>&1
+}
+
+# Unpacks them. What their scripts would do is done here, as far as it matters.
+unpack() {
+    mkdir -p "$root.new" "$folder/qemu" &&
+        dpkg-deb -x "$folder"/qemu-user-static_*.deb "$folder/qemu" || return 1
+    for package in "$folder"/cache/archives/*.deb; do
+        dpkg-deb -x "$package" "$root.new" || return 1
+    done
+    for names in 'awk mawk' 'cc gcc' 'c++ g++'; do
+        ln -sf "${names#* }" "$root.new/usr/bin/${names% *}" || return 1
+    done
+    echo 'root:x:0:0:root:/root:/bin/sh' >"$root.new/etc/passwd" &&
+        echo 'root:x:0:' >"$root.new/etc/group" && mv "$root.new" "$root"
+}
+
+# Puts the package and a clone of the last commit into the root, in place of those of the last time.
+bring() {
+    rm -rf "$folder/made" "$root/repository"
+    tools/deb.sh --machine aarch64 "$folder/made" >>"$log" 2>&1 &&
+        dpkg-deb -x "$folder"/made/tpmsim_*_arm64.deb "$root" &&
+        git clone -q "$top" "$root/repository" >>"$log" 2>&1
+}
+
+if [ ! -d "$root" ]; then
+    fetch || fail 'the packages are not fetched'
+    unpack || fail 'the packages are not unpacked'
+fi
+bring || fail 'the package is not there'
+[ "$#" -gt 0 ] || set -- tools/interop/arm64_package.sh
+
+# The kernel is told that files which begin so are run by qemu.
+magic='\x7fELF\x02\x01\x01\x00\x00\x00\x00\x00\x00\x00\x00\x00\x02\x00\xb7\x00'
+mask='\xff\xff\xff\xff\xff\xff\xff\x00\xff\xff\xff\xff\xff\xff\xff\xff\xfe\xff\xff\xff'
+note=":tpmsim-arm64:M::$magic:$mask:$folder/qemu/usr/bin/qemu-aarch64-static:FO"
+# shellcheck disable=SC2016 # the shell within reads the names
+exec unshare --map-root-user --mount sh -c '
+    root=$1 note=$2
+    shift 2
+    mount -t binfmt_misc none /proc/sys/fs/binfmt_misc &&
+        printf %s "$note" >/proc/sys/fs/binfmt_misc/register &&
+        mount --rbind /dev "$root/dev" && mount --rbind /proc "$root/proc" &&
+        exec chroot "$root" env -i HOME=/root LC_ALL=C PATH=/usr/bin:/bin:/usr/sbin:/sbin \
+            sh -c '\''ldconfig && cd /repository && exec "$@"'\'' sh "$@"
+' sh "$root" "$note" "$@"
