@@ -9,14 +9,8 @@ needs git qemu-aarch64 unshare
 (cd "${tests%/*}" && . tools/lib/proved.sh && ship aarch64 && is_proved sources "$(sources_checksum tpmsim)") ||
     skip 'dist/aarch64 was proved of other sources than these'
 
-# What the kernel is told: files that begin so are run by qemu.
-magic='\x7fELF\x02\x01\x01\x00\x00\x00\x00\x00\x00\x00\x00\x00\x02\x00\xb7\x00'
-mask='\xff\xff\xff\xff\xff\xff\xff\x00\xff\xff\xff\xff\xff\xff\xff\xff\xfe\xff\xff\xff'
-cat >"$room/on_arm" <<END
-mount -t binfmt_misc none /proc/sys/fs/binfmt_misc || exit 1
-printf %s ':arm:M::$magic:$mask:$(command -v qemu-aarch64):F' >/proc/sys/fs/binfmt_misc/register || exit 1
-exec "\$@"
-END
+. "$tests/../tools/lib/arm64.sh"
+note=$(note_of_arm64 "$(command -v qemu-aarch64)" F)
 mkdir "$room/machine" "$room/copy"
 printf '#!/bin/sh\necho Linux aarch64\n' >"$room/machine/uname"
 printf '#!/bin/sh\necho "rt builds nothing here" >&2\nexit 1\n' >"$room/machine/rt"
@@ -25,7 +19,7 @@ chmod +x "$room/machine"/*
 # on_arm COMMAND..: runs a command of the copy as on an ARM64 machine.
 on_arm() {
     (cd "$room/copy" && PATH=$room/machine:$PATH QEMU_LD_PREFIX=/usr/aarch64-linux-gnu \
-        timeout 60 unshare --map-root-user --mount sh "$room/on_arm" "$@")
+        with_arm64 "$note" timeout 60 "$@")
 }
 
 on_arm true 2>"$room/error" || skip 'there is no namespace that runs programs for ARM64'

@@ -8,8 +8,8 @@
 #   tools/interop/arm64.sh FOLDER COMMAND..    runs this there, in a clone of the last commit, as with
 #                                              tools/scripts.sh 'nv/*'
 #
-# FOLDER keeps the root for the next time: 700 MB, of which 180 MB are fetched. Needs a Linux of 6.7 or
-# newer that lets the user make namespaces, Debian's apt, git, and what tools/deb.sh needs for ARM64.
+# FOLDER keeps the root for the next time: 700 MB, of which 180 MB are fetched. Needs what
+# tools/lib/arm64.sh does, Debian's apt, git, and what tools/deb.sh needs for ARM64.
 set -u
 umask 022
 [ "$#" -gt 0 ] || { echo "usage: $0 FOLDER [COMMAND..]" >&2; exit 2; }
@@ -17,6 +17,7 @@ mkdir -p "$1" || exit 1
 folder=$(realpath "$1")
 shift
 cd "$(dirname "$0")/../.." && top=$(pwd -P) || exit 1
+. tools/lib/arm64.sh
 root=$folder/root
 log=$folder/log
 : >"$log" || exit 1
@@ -78,17 +79,11 @@ fi
 bring || fail 'the package is not there'
 [ "$#" -gt 0 ] || set -- tools/interop/arm64_package.sh
 
-# The kernel is told that files which begin so are run by qemu.
-magic='\x7fELF\x02\x01\x01\x00\x00\x00\x00\x00\x00\x00\x00\x00\x02\x00\xb7\x00'
-mask='\xff\xff\xff\xff\xff\xff\xff\x00\xff\xff\xff\xff\xff\xff\xff\xff\xfe\xff\xff\xff'
-note=":tpmsim-arm64:M::$magic:$mask:$folder/qemu/usr/bin/qemu-aarch64-static:FO"
-# shellcheck disable=SC2016 # the shell within reads the names
-exec unshare --map-root-user --mount sh -c '
-    root=$1 note=$2
-    shift 2
-    mount -t binfmt_misc none /proc/sys/fs/binfmt_misc &&
-        printf %s "$note" >/proc/sys/fs/binfmt_misc/register &&
-        mount --rbind /dev "$root/dev" && mount --rbind /proc "$root/proc" &&
+# shellcheck disable=SC2016 # the shells within read the names
+with_arm64 "$(note_of_arm64 "$folder/qemu/usr/bin/qemu-aarch64-static" FO)" sh -c '
+    root=$1
+    shift
+    mount --rbind /dev "$root/dev" && mount --rbind /proc "$root/proc" &&
         exec chroot "$root" env -i HOME=/root LC_ALL=C PATH=/usr/bin:/bin:/usr/sbin:/sbin \
-            sh -c '\''ldconfig && cd /repository && exec "$@"'\'' sh "$@"
-' sh "$root" "$note" "$@"
+            sh -c "ldconfig && cd /repository && exec \"\$@\"" sh "$@"
+' sh "$root" "$@"

@@ -110,7 +110,8 @@ rm -f tpm.ctrl
 serve tpmsim-simulator --port 23210
 TPM2TOOLS_TCTI=mssim:host=127.0.0.1,port=23210
 check 'simulator: startup' tool startup -c
-measure simulator
+check "simulator: pcrextend" tool pcrextend "16:sha256=$(printf %064d 1)"
+check "simulator: pcrread" reads_pcr
 kill "$server" && wait "$server" 2>/dev/null
 server=
 
