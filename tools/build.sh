@@ -2,8 +2,16 @@
 # Proves all that the program tpmsim stands on, from nothing, and builds it. The launcher calls this
 # where it has no proved program, and prefers what this leaves to the one in dist/. Needs `rt`, the
 # command of the Rattle toolchain, and git.
+#
+#   tools/build.sh                    the program for x86-64
+#   tools/build.sh --target aarch64   what dist/aarch64 has, with the library (tools/aarch64.sh)
 set -u
 cd "$(dirname "$0")/.." && top=$(pwd -P) || exit 3
+case $* in
+'') ;;
+'--target aarch64') exec tools/aarch64.sh ;;
+*) echo "usage: $0 [--target aarch64]" >&2 && exit 2 ;;
+esac
 . tools/lib/proved.sh
 . tools/lib/proving.sh
 out=$top/crates/tpmsim/out

@@ -5,8 +5,16 @@
 # The exports are proved and compiled over the crates below them, as `rt ci` left these here, where
 # no source is newer; else over a copy of them, which is proved first. Needs `rt`, git, a C compiler
 # and Debian's binutils.
+#
+#   tools/library.sh                    what is for x86-64
+#   tools/library.sh --target aarch64   what is for ARM64, with the program (tools/aarch64.sh)
 set -u
 cd "$(dirname "$0")/.." && top=$(pwd -P) || exit 1
+case $* in
+'') ;;
+'--target aarch64') exec tools/aarch64.sh ;;
+*) echo "usage: $0 [--target aarch64]" >&2 && exit 2 ;;
+esac
 . tools/lib/proved.sh
 . tools/lib/proving.sh
 . tools/lib/compiling.sh
