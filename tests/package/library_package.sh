@@ -4,6 +4,10 @@ tests=$(cd "$(dirname "$0")/.." && pwd -P)
 needs dpkg-deb cc pkg-config man python3
 top=${tests%/*}
 root=$room/root
+case $(uname -m) in
+aarch64) machine=arm64 folder=aarch64-linux-gnu dist=$top/dist/aarch64 ;;
+*) machine=amd64 folder=x86_64-linux-gnu dist=$top/dist ;;
+esac
 
 # said COMMAND..: what a command prints, at its head, and its status where that is not 0.
 said() {
@@ -21,17 +25,17 @@ END
 chmod +x headers/cc
 
 echo '== it is made'
-version=$("$top/dist/tpmsim" --version | sed 's/.* //')
+version=$("$dist/tpmsim" --version | sed 's/.* //')
 said env PATH="$room/folder/headers:$PATH" TPMSIM_PACKING=none "$top/tools/deb.sh" "$room/made" |
-    sed -e "s/$version/VERSION/"
-package=$room/made/tpmsim_${version}_amd64.deb
-dpkg-deb -f "$package" Package Architecture Depends Description | head -n 4
+    sed -e "s/$version/VERSION/" -e "s/_$machine/_MACHINE/"
+package=$room/made/tpmsim_${version}_$machine.deb
+dpkg-deb -f "$package" Package Architecture Depends Description | sed -e "s/: $machine/: MACHINE/" -e 4q
 dpkg-deb -x "$package" "$root" && dpkg-deb -e "$package" control
 [ "$(cd "$root" && find usr -type f | wc -l)" -eq "$(wc -l <control/md5sums)" ] &&
     (cd "$root" && md5sum -c --quiet "$room/folder/control/md5sums") && echo 'each file has its sum'
 
 PATH=$root/usr/bin:$PATH
-LD_LIBRARY_PATH=$root/usr/lib/x86_64-linux-gnu
+LD_LIBRARY_PATH=$root/usr/lib/$folder
 PKG_CONFIG_PATH=$LD_LIBRARY_PATH/pkgconfig
 PKG_CONFIG_SYSROOT_DIR=$root
 export LD_LIBRARY_PATH PKG_CONFIG_PATH PKG_CONFIG_SYSROOT_DIR
@@ -79,5 +83,5 @@ PYTHONPATH=$root/usr/lib/python3/dist-packages lines=9 said python3 program.py
 echo '== man pages, documents and completion'
 man -M "$root/usr/share/man" -w tpmsim tpmsim-power libtpmsim | sed "s|$root|ROOT|"
 MANWIDTH=90 man -M "$root/usr/share/man" tpmsim-power 2>&1 | sed -n '3,5p'
-(cd "$root/usr/share/doc/tpmsim" && ls && cmp PROVED "$top/dist/PROVED")
+(cd "$root/usr/share/doc/tpmsim" && ls && cmp PROVED "$dist/PROVED")
 bash -c '. "$0" && complete -p tpmsim' "$root/usr/share/bash-completion/completions/tpmsim-audit"

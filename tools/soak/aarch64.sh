@@ -1,14 +1,15 @@
 #!/bin/sh
-# Plays for ARM64 in qemu more than the gate does: each script of tests/ with the program, and tests of
-# attached/ whose callers are compiled for that machine, among them 300 kills of processes that hold a
-# device. It takes some ten minutes. Needs Debian's qemu-user and gcc-aarch64-linux-gnu, and what
+# Plays for ARM64 in qemu more than the gate does: each script of tests/ with the program and over both
+# files of the library, whose calls may take no more stack than tpmsim.h says; and tests of attached/ whose
+# callers are compiled for that machine, among them 300 kills of processes that hold a device. It takes
+# some ten minutes. Needs Debian's qemu-user and gcc-aarch64-linux-gnu, and what
 # tools/lib/arm64.sh does.
 #
 # The other tests of attached/ need what qemu 7.2 has not: sanitizers, orphans that go to a process of
 # choice, and memory that a forked child finds empty, by which the module knows of a fork.
 #
 #   tools/soak/aarch64.sh           all of these
-#   tools/soak/aarch64.sh NAME..    these tests of attached/
+#   tools/soak/aarch64.sh NAME..    these: scripts, library, and the tests of attached/ by their names
 set -u
 top=$(CDPATH='' cd "$(dirname "$0")/../.." && pwd -P) || exit 1
 cd "$top" || exit 1
@@ -45,15 +46,31 @@ compare() {
     failed=$((failed + 1))
 }
 
-if [ "$#" -eq 0 ]; then
-    compare 'each script' tests/machines/aarch64.sh env EVERY=1 sh tests/machines/aarch64.sh dist/tpmsim
-    set -- kills document full_disk modes no_proc script state
-fi
-PATH=$work/tools:$PATH
-QEMU_LD_PREFIX=/usr/aarch64-linux-gnu
-export PATH QEMU_LD_PREFIX
+# The library without sanitizers, whose lines are missing in what comes of it.
+cat >"$work/library.sh" <<END
+tests=$top/tests
+. "\$tests/common/cases.sh"
+. "\$tests/common/library.sh"
+needs cc python3
+compile static play "\$archive"
+compile shared play "\$shared" -Wl,-rpath,"\$dist"
+compile stack stack "\$archive"
+python3 "\$sources/scripts.py" "\$room/stack" "\$room/static" "\$room/shared"
+END
+grep -v '^sanitized:' tests/library/library_scripts.out >"$work/library.out"
+
+[ "$#" -gt 0 ] || set -- scripts library kills document full_disk modes no_proc script state
 for name do
-    test=tests/attached/attached_$name.sh
-    compare "attached_$name" "$test" with_arm64 "$note" timeout 600 sh "$test" dist/aarch64/libtpmsim.a
+    case $name in
+    scripts)
+        test=tests/machines/aarch64.sh
+        compare scripts "$test" env EVERY=1 sh "$test" dist/tpmsim
+        continue
+        ;;
+    library) test=$work/library.sh ;;
+    *) test=tests/attached/attached_$name.sh ;;
+    esac
+    compare "$name" "$test" with_arm64 "$note" env PATH="$work/tools:$PATH" \
+        QEMU_LD_PREFIX=/usr/aarch64-linux-gnu timeout 600 sh "$test" dist/aarch64/libtpmsim.a
 done
 [ "$failed" -eq 0 ]
