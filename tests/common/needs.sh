@@ -14,6 +14,7 @@ package_of() {
     nm | objdump | strip) echo binutils ;;
     setpriv) echo util-linux ;;
     tpm2 | tpm2_startup) echo tpm2-tools ;;
+    tsc) echo node-typescript ;;
     tss2/tss2_tcti.h) echo libtss2-dev ;;
     *) echo "$1" ;;
     esac

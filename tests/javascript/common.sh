@@ -4,7 +4,7 @@ needs node
 top=${tests%/*}
 package=$top/js
 node -e 'process.exit(process.getBuiltinModule ? 0 : 1)' ||
-    skip 'there is no node from 20.16 on (Debian: nodejs)'
+    skip 'there is no node from 20.16 on'
 (cd "$top" && . tools/lib/proved.sh && ship x86_64 && [ -f dist/tpmsim.wasm ] &&
     is_proved 'web sources' "$(sources_checksum tpmsim_web)" &&
     is_proved 'web module' "$(checksum <dist/tpmsim.wasm)") ||

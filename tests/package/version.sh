@@ -12,10 +12,10 @@ echo "status $?"
 # turn FILE FROM TO: tells a copy in which this file says something else.
 turn() {
     rm -rf copy
-    mkdir -p copy/tools copy/python/tpmsim
+    mkdir -p copy/tools copy/python/tpmsim copy/js
     cp "$top/tools/version.sh" copy/tools/
     (cd "$top" && tar cf - CHANGELOG.md library dist/tpmsim.h dist/tpmsim.pc python/pyproject.toml \
-        python/tpmsim/__init__.py) | tar xf - -C copy
+        python/tpmsim/__init__.py js/package.json) | tar xf - -C copy
     sed "s/$2/$3/" "copy/$1" >turned
     cmp -s turned "copy/$1" && echo "$1 is as it was"
     cp turned "copy/$1"
@@ -31,4 +31,5 @@ turn library/tpmsim.pc '^Version: .*' 'Version: 1'
 turn dist/tpmsim.h 'NUMBER 0x' 'NUMBER '
 turn dist/tpmsim.pc '^Version: .*' ''
 turn python/pyproject.toml '^version = ".*"' 'version = "9.9.9"'
+turn js/package.json '"version": ".*"' '"version": "9.9.9"'
 turn python/tpmsim/__init__.py '"[0-9.]*"$' '"9.9.9"'
