@@ -9,8 +9,10 @@ const IN_CLONE = "../../dist/tpmsim.wasm";
 /** @typedef {{process?: {getBuiltinModule?: (name: string) => any}}} Host */
 const host = /** @type {Host} */ (/** @type {unknown} */ (globalThis));
 
-/** @type {Promise<Module> | undefined} */
-let shared;
+// The modules by what they were loaded from: all devices of one source are in one module.
+/** @type {WeakMap<object, Promise<Module>>} */
+const kept = new WeakMap();
+const BESIDE_PACKAGE = {};
 
 /**
  * A file's bytes. No import names node's module of files, so a bundler for browsers looks for none.
@@ -33,16 +35,20 @@ async function found() {
 }
 
 /**
- * The module that a caller has, or else the one that is found, which all callers share.
+ * The module of a source, or else the one beside this package.
  * @param {BufferSource | WebAssembly.Module | undefined} source
  */
 export async function loaded(source) {
-  if (source !== undefined) return Module.load(source);
-  shared ??= found().then((it) => Module.load(it));
+  const key = source === undefined ? BESIDE_PACKAGE : Object(source);
+  let module = kept.get(key);
+  if (module === undefined) {
+    module = source === undefined ? found().then((it) => Module.load(it)) : Module.load(source);
+    kept.set(key, module);
+  }
   try {
-    return await shared;
+    return await module;
   } catch (fault) {
-    shared = undefined;
+    kept.delete(key);
     throw fault;
   }
 }

@@ -1,6 +1,7 @@
 // Memory: what devices take of it, and give back.
 
 import assert from "node:assert/strict";
+import { readFile } from "node:fs/promises";
 import { test } from "node:test";
 import { setTimeout } from "node:timers/promises";
 import { setFlagsFromString } from "node:v8";
@@ -101,6 +102,22 @@ test("a new device finds nothing of the one before", async () => {
   memory.free(at, 100);
   assert.equal(memory.lend(100), at);
   assert.deepEqual(memory.take(at, 100), new Uint8Array(100));
+});
+
+test("devices of one module of the program's own share its memory", async () => {
+  const bytes = await readFile(process.env.TPMSIM_MODULE ?? new URL("../../dist/tpmsim.wasm", import.meta.url));
+  const compiled = await WebAssembly.compile(bytes);
+  for (const module of [compiled, bytes]) {
+    const make = async () => (await Device.create({ module })).do("Startup 0").row.check;
+    assert.equal(await make(), "ok");
+    const instantiate = WebAssembly.instantiate;
+    WebAssembly.instantiate = () => assert.fail("it is instantiated again");
+    try {
+      assert.equal(await make(), "ok");
+    } finally {
+      WebAssembly.instantiate = instantiate;
+    }
+  }
 });
 
 test("a large command is answered, and the memory for it is used again", async () => {

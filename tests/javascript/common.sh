@@ -12,7 +12,7 @@ node -e 'process.exit(process.getBuiltinModule ? 0 : 1)' ||
 
 # all_pass FOLDER: runs the tests of a package by node's runner, and shows what it says if one fails.
 all_pass() {
-    if TPMSIM_REPOSITORY=$top node --test "$1/tests/" >"$room/said" 2>&1; then
+    if TPMSIM_REPOSITORY=$top TPMSIM_MODULE=$top/dist/tpmsim.wasm node --test "$1/tests/" >"$room/said" 2>&1; then
         echo 'all tests pass'
     else
         grep -v '^# Subtest\|^ok\|duration_ms' "$room/said" | head -n 60
