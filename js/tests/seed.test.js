@@ -49,12 +49,12 @@ test("random bytes of the caller leave the others as they are", async () => {
 });
 
 const IN_PYTHON = `
-from tpmsim.device import Device, ModelDevice
-from tpmsim.standard.lines import buffer_of
+from tpmsim.device import Device
+from tpmsim.standard.lines import assemble
 with Device(seed=b"mine") as device:
     print(device.save().hex())
-    for line in ("Startup 0", "GetRandom 8", "ReadClock", "GetRandom 16"):
-        print(device.execute(buffer_of(line)).response.hex())
+    for line in (b"Startup 0", b"GetRandom 8", b"ReadClock", b"GetRandom 16"):
+        print(device.execute(assemble(line)).response.hex())
 `;
 
 test("Python's device of the same seed is this one", async (context) => {
