@@ -5,14 +5,16 @@
 #
 #   tools/interop/attached_simulator.sh FOLDER
 #
-# The library is dist/libtpmsim.a, or the archive that TPMSIM_ARCHIVE names, with tpmsim.h beside it.
+# The library is that of dist/ for this machine, or the archive that TPMSIM_ARCHIVE names, with tpmsim.h beside it.
 # CC, NM and STRIP are the tools, as those for another machine, and CFLAGS are further words for CC: with
 # sanitizers nothing is stripped. Needs a C compiler and Debian's binutils.
 set -u
 LC_ALL=C
 export LC_ALL
 sources=$(CDPATH='' cd "$(dirname "$0")/../../attached" && pwd -P) || exit 1
-archive=${TPMSIM_ARCHIVE:-$sources/../dist/libtpmsim.a}
+shipped=$sources/../dist
+[ "$(uname -sm)" != 'Linux aarch64' ] || shipped=$shipped/aarch64
+archive=${TPMSIM_ARCHIVE:-$shipped/libtpmsim.a}
 compiler=${CC:-cc}
 nm=${NM:-nm}
 strip=${STRIP:-strip}
