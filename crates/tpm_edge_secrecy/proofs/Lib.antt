@@ -1,0 +1,4 @@
+pub mod Layer
+pub mod Repeated
+pub mod Completed
+pub mod Opened

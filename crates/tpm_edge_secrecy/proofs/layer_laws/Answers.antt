@@ -1,0 +1,15 @@
+use Rattle.tpm_edge_secrecy.proofs.Completed.{completed_run_tells_nothing, completed_tells_nothing}
+use Rattle.tpm_edge_secrecy.proofs.Layer.{layer_answers_alike, layer_forgets_alike}
+use Rattle.tpm_edge_secrecy.proofs.layer_laws.Goals as goal
+
+pub returns-clause-answers : goal.returns-clause-answers
+returns-clause-answers c = layer_answers_alike
+
+pub returns-clause-forgets : goal.returns-clause-forgets
+returns-clause-forgets c = layer_forgets_alike
+
+pub returns-clause-event : goal.returns-clause-event
+returns-clause-event c = completed_tells_nothing
+
+pub returns-clause-run : goal.returns-clause-run
+returns-clause-run c = completed_run_tells_nothing

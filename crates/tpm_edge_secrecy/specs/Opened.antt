@@ -1,0 +1,38 @@
+-- What a device that was opened from a journal tells of what its objects seal.
+use Rattle.std.specs.Prelude.{Bool, List, Ok, false, ℕ, ◌∷◌, ◌≡◌, ◌⊎◌}
+use Rattle.tpm_journal.specs.Opening.{IsJournal, OpensJournal}
+use Rattle.tpm_journal.specs.Replay.{run_of_all}
+use Rattle.tpm_journal.specs.declared.opening.Opened.{Opened}
+use Rattle.tpm_record.specs.Record.{Record}
+use Rattle.tpm_secrecy.specs.SealedData.{ReadsSealed, TellsNothingSealed}
+use Rattle.tpm_step.specs.Events.{PlainEvent}
+use Rattle.tpm_step.specs.Execution.{Executes}
+use Rattle.tpm_step.specs.Executions.{Execution, Leads, history_after}
+use Rattle.tpm_step.specs.Follows.{Follows}
+use Rattle.tpm_step.specs.History.{AcceptedCommand, Done, History, recorded}
+use Rattle.tpm_step.specs.Step.{Stepped}
+use Rattle.tpm_types_object.specs.declared.public.Public.{Public}
+
+-- the history of a device with all that a journal's entries executed: first that of the device of
+-- the journal's head
+abbrev pub journal_history : (text : List ℕ) (opened : Opened) (new : Record)
+    → IsJournal text opened new → History → History
+journal_history text opened new is history =
+    history_after history
+    (run_of_all false is.reads.start.journal is.reads.start.device
+    is.reads.replays.repeats.performances opened.journal new is.reads.replays.repeats.leads)
+
+-- A text was opened as a journal whose head holds a device that follows a history: an image of a
+-- device with a history, behind a power cycle, or a state text of one. Whatever was executed since
+-- on the device that was opened: an execution tells nothing of what is sealed, or is recorded as an
+-- accepted command that reads it, whose policy was met by the history from the head on.
+abbrev pub OpenedDataNeedPolicy : Type 0
+OpenedDataNeedPolicy =
+    (objects : Public → Bool) (text : List ℕ) (opened : Opened) (new : Record)
+    (is : OpensJournal text (Ok opened) new) (past : History) → Follows is.reads.start.device past
+    → (can : Bool) (executions : List Execution) (old : Record) → Leads can new executions old
+    → (event : PlainEvent) (x : Stepped) → Executes can old event x
+    → let history : History = history_after (journal_history text opened new is past) executions in
+    TellsNothingSealed objects can old event x
+    ⊎ (c : AcceptedCommand) × (recorded old event x.row.check history ≡ Done c ∷ history)
+    × ReadsSealed objects history c
