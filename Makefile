@@ -5,10 +5,11 @@
 #   make dist-arm64                 what dist/aarch64 has, after make dist
 #   make install PREFIX=/usr/local  installs what dist/ has; DESTDIR stands before PREFIX
 #   make deb                        makes the package for Debian in out/; deb-arm64 the one for ARM64
+#   make crate                      makes the package for Rust in out/
 PREFIX = /usr/local
 DESTDIR =
 
-.PHONY: check dist dist-arm64 install deb deb-arm64
+.PHONY: check dist dist-arm64 install deb deb-arm64 crate
 
 check:
 	tools/before_commit.sh
@@ -30,3 +31,6 @@ deb:
 
 deb-arm64:
 	tools/deb.sh --machine aarch64
+
+crate:
+	tools/crate.sh

@@ -27,6 +27,7 @@ versions() {
     done
     echo "$(sed -n 's/^version = "\(.*\)"$/\1/p' python/pyproject.toml) python/pyproject.toml"
     echo "$(sed -n 's/^  "version": "\(.*\)",$/\1/p' js/package.json) js/package.json"
+    echo "$(sed -n 's/^version = "\(.*\)"$/\1/p' rust/Cargo.toml) rust/Cargo.toml"
     echo "$(sed -n 's/^__version__ = "\(.*\)"$/\1/p' python/tpmsim/__init__.py) tpmsim.__version__"
 }
 

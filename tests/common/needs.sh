@@ -5,6 +5,8 @@
 # package_of NAME: the packages of Debian's that have a tool or a header.
 package_of() {
     case $1 in
+    cargo-clippy) echo rust-clippy ;;
+    cargo-fmt) echo rustfmt ;;
     cc) echo gcc, libc6-dev ;;
     dpkg-deb) echo dpkg ;;
     go) echo golang-go ;;

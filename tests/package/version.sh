@@ -12,10 +12,10 @@ echo "status $?"
 # turn FILE FROM TO: tells a copy in which this file says something else.
 turn() {
     rm -rf copy
-    mkdir -p copy/tools copy/python/tpmsim copy/js
+    mkdir -p copy/tools copy/python/tpmsim copy/js copy/rust
     cp "$top/tools/version.sh" copy/tools/
     (cd "$top" && tar cf - CHANGELOG.md library dist/tpmsim.h dist/tpmsim.pc python/pyproject.toml \
-        python/tpmsim/__init__.py js/package.json) | tar xf - -C copy
+        python/tpmsim/__init__.py js/package.json rust/Cargo.toml) | tar xf - -C copy
     sed "s/$2/$3/" "copy/$1" >turned
     cmp -s turned "copy/$1" && echo "$1 is as it was"
     cp turned "copy/$1"
@@ -33,3 +33,4 @@ turn dist/tpmsim.pc '^Version: .*' ''
 turn python/pyproject.toml '^version = ".*"' 'version = "9.9.9"'
 turn js/package.json '"version": ".*"' '"version": "9.9.9"'
 turn python/tpmsim/__init__.py '"[0-9.]*"$' '"9.9.9"'
+turn rust/Cargo.toml '^version = ".*"' 'version = "9.9.9"'

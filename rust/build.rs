@@ -1,0 +1,52 @@
+//! Has the linker find libtpmsim: in the folder `TPMSIM_LIB_DIR`, else in `native/MACHINE` here.
+//!
+//! The build script of a package above reads that folder from `DEP_TPMSIM_LIBDIR`.
+
+use std::env;
+use std::path::{Path, PathBuf};
+use std::process::exit;
+
+/// What the linker is told of a folder: how it links the library that is there.
+fn kind_in(folder: &Path) -> Option<&'static str> {
+    let has = |name: &str| folder.join(name).exists();
+    if has("libtpmsim.a") {
+        return Some("static");
+    }
+    has("libtpmsim.so").then_some("dylib")
+}
+
+/// What cargo says to a build script, or nothing.
+fn told(name: &str) -> String {
+    env::var(name).unwrap_or_default()
+}
+
+/// The folder of the library.
+fn library_folder() -> PathBuf {
+    match told("TPMSIM_LIB_DIR") {
+        named if !named.is_empty() => PathBuf::from(named),
+        _ => Path::new(&told("CARGO_MANIFEST_DIR"))
+            .join("native")
+            .join(told("CARGO_CFG_TARGET_ARCH")),
+    }
+}
+
+fn main() {
+    println!("cargo:rerun-if-env-changed=TPMSIM_LIB_DIR");
+    println!("cargo:rerun-if-changed=build.rs");
+    if told("CARGO_CFG_TARGET_OS") != "linux" {
+        eprintln!("tpmsim: libtpmsim is for Linux alone");
+        exit(1);
+    }
+    let folder = library_folder();
+    let place = folder.display();
+    match kind_in(&folder) {
+        Some(kind) => println!("cargo:rustc-link-lib={kind}=tpmsim"),
+        None => {
+            eprintln!("tpmsim: there is no libtpmsim in {place}; TPMSIM_LIB_DIR names its folder");
+            exit(1);
+        }
+    }
+    println!("cargo:rustc-link-search=native={place}");
+    println!("cargo:rerun-if-changed={place}");
+    println!("cargo:libdir={place}");
+}

@@ -1,0 +1,288 @@
+//! A device.
+
+use crate::error::{Error, Result};
+use crate::log::Log;
+use crate::native::{Circumstances, Executor, Native, DONE};
+use crate::random::{self, Source};
+use crate::response::Response;
+use std::fmt;
+use std::time::Duration;
+
+/// The first numbers of the header's faults of images and of state texts.
+const FIRST_IMAGE_FAULT: u8 = 4;
+const FIRST_STATE_FAULT: u8 = 13;
+
+/// The highest locality.
+const LAST_LOCALITY: u8 = 4;
+
+/// TPM2_Startup(CLEAR).
+const STARTUP: [u8; 12] = [0x80, 1, 0, 0, 0, 12, 0, 0, 1, 0x44, 0, 0];
+
+/// A TPM in this process, which has 82 KB, shares nothing, and is freed where it is dropped.
+///
+/// It may move between threads, and no two of them use it at once: it is [`Send`], and no [`Sync`]. A call
+/// takes 96 KB of stack.
+///
+/// ```compile_fail
+/// fn shared<T: Sync>(_: T) {}
+/// shared(tpmsim::Device::new().unwrap());
+/// ```
+pub struct Device {
+    native: Native,
+    source: Source,
+    locality: u8,
+    elapsed: u32,
+    log: Option<Log>,
+}
+
+impl Device {
+    /// A new device, with secrets and random bytes of the system's. Its power is just on: it awaits
+    /// TPM2_Startup.
+    ///
+    /// # Errors
+    ///
+    /// [`Error::Memory`], [`Error::Random`].
+    pub fn new() -> Result<Device> {
+        Device::manufactured(None, Source::system().map_err(Error::Random)?)
+    }
+
+    /// A new device whose secrets and random bytes follow from a seed, so that each run has the same.
+    /// A device in Python or Go that has the same seed is the same device.
+    ///
+    /// # Errors
+    ///
+    /// [`Error::Memory`].
+    ///
+    /// ```
+    /// # fn main() -> tpmsim::Result<()> {
+    /// let (one, other) = (tpmsim::Device::from_seed(b"mine")?, tpmsim::Device::from_seed(b"mine")?);
+    /// assert_eq!(one.save(), other.save());
+    /// # Ok(())
+    /// # }
+    /// ```
+    pub fn from_seed(seed: &[u8]) -> Result<Device> {
+        Device::manufactured(Some(seed), Source::of_seed(seed))
+    }
+
+    /// The device of an image, after a power cycle.
+    ///
+    /// # Errors
+    ///
+    /// [`Error::Image`] of other bytes, [`Error::Memory`], [`Error::Random`].
+    ///
+    /// ```
+    /// use tpmsim::{Device, Error, Fault};
+    ///
+    /// # fn main() -> tpmsim::Result<()> {
+    /// let image = Device::new()?.save();
+    /// assert_eq!(Device::open(&image)?.save(), image);
+    /// let refused = Device::open(&image[1..]);
+    /// assert!(matches!(refused, Err(Error::Image(Fault::Magic))));
+    /// # Ok(())
+    /// # }
+    /// ```
+    pub fn open(image: &[u8]) -> Result<Device> {
+        let mut device = Device::holding_none(Source::system().map_err(Error::Random)?);
+        match device.native.open(image) {
+            DONE => Ok(device),
+            told => Err(Error::of(told, FIRST_IMAGE_FAULT, Error::Image)),
+        }
+    }
+
+    /// Executes a command, whichever bytes it has.
+    ///
+    /// # Panics
+    ///
+    /// If the system has no more random bytes: then the next command would draw the same again.
+    ///
+    /// ```
+    /// # fn main() -> tpmsim::Result<()> {
+    /// let mut tpm = tpmsim::Device::new()?;
+    /// tpm.start_up()?;
+    /// let response = tpm.execute(&[0x80, 1, 0, 0, 0, 12, 0, 0, 1, 0x7b, 0, 4]); // GetRandom 4
+    /// assert_eq!(response.accepted()?.len(), 2 + 4);
+    /// # Ok(())
+    /// # }
+    /// ```
+    pub fn execute(&mut self, buffer: &[u8]) -> Response {
+        self.executed(Executor::Device, buffer)
+    }
+
+    /// Executes a command with the completing layer above the device, which answers saved contexts and
+    /// other things that the device by design does not. The check of the response is that of the device.
+    ///
+    /// # Panics
+    ///
+    /// As [`Device::execute`].
+    ///
+    /// ```
+    /// # fn main() -> tpmsim::Result<()> {
+    /// let mut tpm = tpmsim::Device::new()?;
+    /// tpm.start_up()?;
+    /// let stir_random = [0x80, 1, 0, 0, 0, 13, 0, 0, 1, 0x46, 0, 1, 7];
+    /// assert_eq!(tpm.execute(&stir_random).code().name(), Some("COMMAND_CODE"));
+    /// assert_eq!(tpm.complete(&stir_random).code().name(), Some("SUCCESS"));
+    /// # Ok(())
+    /// # }
+    /// ```
+    pub fn complete(&mut self, buffer: &[u8]) -> Response {
+        self.executed(Executor::Completed, buffer)
+    }
+
+    /// Executes TPM2_Startup(CLEAR).
+    ///
+    /// # Errors
+    ///
+    /// [`Error::Refused`] if the device is started already.
+    pub fn start_up(&mut self) -> Result<()> {
+        self.execute(&STARTUP).accepted()?;
+        Ok(())
+    }
+
+    /// The locality of the next commands, at first 0.
+    pub fn locality(&self) -> u8 {
+        self.locality
+    }
+
+    /// Sets the locality of the next commands, 0 to 4.
+    ///
+    /// # Errors
+    ///
+    /// [`Error::Locality`] of a higher number.
+    pub fn set_locality(&mut self, locality: u8) -> Result<()> {
+        if locality > LAST_LOCALITY {
+            return Err(Error::Locality(locality));
+        }
+        self.locality = locality;
+        self.logged(|| format!("loc {locality}"));
+        Ok(())
+    }
+
+    /// Has time pass before the next command, in whole milliseconds. The time of a device is told, and
+    /// no call waits.
+    ///
+    /// # Errors
+    ///
+    /// [`Error::Wait`] if more than 4,294,967,295 milliseconds would pass before a command.
+    pub fn wait(&mut self, time: Duration) -> Result<()> {
+        let milliseconds = u32::try_from(time.as_millis()).map_err(|_| Error::Wait)?;
+        self.elapsed = self.elapsed.checked_add(milliseconds).ok_or(Error::Wait)?;
+        self.logged(|| format!("wait {milliseconds}"));
+        Ok(())
+    }
+
+    /// Takes the power away and gives it back: the device awaits TPM2_Startup.
+    pub fn power_cycle(&mut self) {
+        self.native.power_cycle();
+        self.logged(|| "power".into());
+    }
+
+    /// The image: what the device keeps without power, and [`Device::open`] opens.
+    pub fn save(&self) -> Vec<u8> {
+        self.native.image()
+    }
+
+    /// The state text: all that the device is, with its sessions, objects, PCRs and times. It has all
+    /// secrets in the clear. It has no locality, and no time that no command followed yet.
+    pub fn snapshot(&self) -> Vec<u8> {
+        self.native.state_text()
+    }
+
+    /// Makes the device what a state text says, of any device in any process. A log begins anew.
+    ///
+    /// # Errors
+    ///
+    /// [`Error::State`] of other bytes and [`Error::Memory`]: the device is as it was.
+    ///
+    /// ```
+    /// # fn main() -> tpmsim::Result<()> {
+    /// let mut tpm = tpmsim::Device::new()?;
+    /// let before = tpm.snapshot();
+    /// tpm.start_up()?;
+    /// assert!(tpm.start_up().is_err()); // it is started
+    /// tpm.restore(&before)?;
+    /// tpm.start_up()?; // it was not
+    /// # Ok(())
+    /// # }
+    /// ```
+    pub fn restore(&mut self, text: &[u8]) -> Result<()> {
+        match self.native.restore(text) {
+            DONE => {
+                self.elapsed = 0;
+                if self.log.is_some() {
+                    self.begin_log();
+                }
+                Ok(())
+            }
+            told => Err(Error::of(told, FIRST_STATE_FAULT, Error::State)),
+        }
+    }
+
+    /// Begins a log with the device as it is. Until then no log is kept.
+    pub fn begin_log(&mut self) {
+        let mut log = Log::of_state(&self.native.state_text());
+        if self.locality > 0 {
+            log.line(&format!("loc {}", self.locality));
+        }
+        if self.elapsed > 0 {
+            log.line(&format!("wait {}", self.elapsed));
+        }
+        self.log = Some(log);
+    }
+
+    /// The log, a script with the responses as comments: `tpmsim-explain FILE` reports why each command
+    /// of it was refused. Nothing without [`Device::begin_log`]. It has all secrets.
+    pub fn log(&self) -> &str {
+        self.log.as_ref().map_or("", Log::text)
+    }
+
+    /// What holds no device yet.
+    fn holding_none(source: Source) -> Device {
+        Device { native: Native::empty(), source, locality: 0, elapsed: 0, log: None }
+    }
+
+    /// A new device.
+    fn manufactured(seed: Option<&[u8]>, source: Source) -> Result<Device> {
+        let random = random::of_new_device(seed).map_err(Error::Random)?;
+        let mut device = Device::holding_none(source);
+        match device.native.manufacture(&random) {
+            DONE => Ok(device),
+            _ => Err(Error::Memory),
+        }
+    }
+
+    /// Executes a command, and renews what it drew.
+    fn executed(&mut self, by: Executor, buffer: &[u8]) -> Response {
+        let random = self.source.next();
+        let told = Circumstances { locality: self.locality, elapsed: self.elapsed, random };
+        let executed = self.native.execute(by, buffer, &told);
+        let outcome = executed.expect("there is a device, and its locality is one");
+        self.elapsed = 0;
+        let drawn = outcome.drawn;
+        if let Some(log) = &mut self.log {
+            log.command(buffer, &self.source.bytes()[..drawn], &outcome.response);
+        }
+        if let Err(fault) = self.source.renew(drawn) {
+            panic!("the system has no random bytes: {fault}");
+        }
+        Response::of(outcome)
+    }
+
+    /// Adds a line to the log, if there is one.
+    fn logged(&mut self, line: impl FnOnce() -> String) {
+        if let Some(log) = &mut self.log {
+            log.line(&line());
+        }
+    }
+}
+
+impl fmt::Debug for Device {
+    /// Shows no secret.
+    fn fmt(&self, out: &mut fmt::Formatter<'_>) -> fmt::Result {
+        let Device { locality, elapsed, .. } = self;
+        out.debug_struct("Device")
+            .field("locality", locality)
+            .field("elapsed", elapsed)
+            .finish_non_exhaustive()
+    }
+}

@@ -1,0 +1,103 @@
+//! What can fail, in words.
+
+use crate::response::Refusal;
+use std::fmt;
+use std::io;
+
+/// Why bytes are no image, or no state text, in the order of the checks.
+#[derive(Clone, Copy, Debug, PartialEq, Eq, Hash)]
+pub enum Fault {
+    /// There are fewer than 42 bytes.
+    Short,
+    /// They do not begin as an image or a state text does.
+    Magic,
+    /// They are of a version that is not known.
+    Version,
+    /// There are not as many bytes as they say.
+    Length,
+    /// The last 32 are not the SHA-256 of those before.
+    Digest,
+    /// What stands between spells no state.
+    Body,
+}
+
+/// The faults in the order of the header's numbers.
+const FAULTS: [Fault; 6] =
+    [Fault::Short, Fault::Magic, Fault::Version, Fault::Length, Fault::Digest, Fault::Body];
+
+impl fmt::Display for Fault {
+    fn fmt(&self, out: &mut fmt::Formatter<'_>) -> fmt::Result {
+        out.write_str(match self {
+            Fault::Short => "there are fewer than 42 bytes",
+            Fault::Magic => "they begin otherwise",
+            Fault::Version => "their version is not known",
+            Fault::Length => "there are not as many bytes as they say",
+            Fault::Digest => "their digest is another one",
+            Fault::Body => "they spell no state",
+        })
+    }
+}
+
+/// What a call of this package cannot do.
+#[derive(Debug)]
+#[non_exhaustive]
+pub enum Error {
+    /// The system has no random bytes.
+    Random(io::Error),
+    /// There is no memory for a device.
+    Memory,
+    /// The bytes are no image.
+    Image(Fault),
+    /// The bytes are no state text.
+    State(Fault),
+    /// A locality is 0 to 4, and this is none.
+    Locality(u8),
+    /// At most 4,294,967,295 milliseconds pass before a command.
+    Wait,
+    /// The device refuses the command.
+    Refused(Refusal),
+}
+
+/// A value, or why there is none.
+pub type Result<T> = std::result::Result<T, Error>;
+
+impl Error {
+    /// What a call of the library answers that is not done, with the first number of the faults that it
+    /// looks for.
+    pub(crate) fn of(told: u8, first: u8, kind: fn(Fault) -> Error) -> Error {
+        match told.checked_sub(first).and_then(|at| FAULTS.get(usize::from(at))) {
+            Some(fault) => kind(*fault),
+            None => Error::Memory,
+        }
+    }
+}
+
+impl fmt::Display for Error {
+    fn fmt(&self, out: &mut fmt::Formatter<'_>) -> fmt::Result {
+        match self {
+            Error::Random(_) => out.write_str("the system has no random bytes"),
+            Error::Memory => out.write_str("there is no memory for a device"),
+            Error::Image(fault) => write!(out, "the bytes are no image: {fault}"),
+            Error::State(fault) => write!(out, "the bytes are no state text: {fault}"),
+            Error::Locality(number) => write!(out, "a locality is 0 to 4, and not {number}"),
+            Error::Wait => out.write_str("at most 4294967295 milliseconds pass before a command"),
+            Error::Refused(refusal) => refusal.fmt(out),
+        }
+    }
+}
+
+impl std::error::Error for Error {
+    fn source(&self) -> Option<&(dyn std::error::Error + 'static)> {
+        match self {
+            Error::Random(fault) => Some(fault),
+            Error::Refused(refusal) => Some(refusal),
+            _ => None,
+        }
+    }
+}
+
+impl From<Refusal> for Error {
+    fn from(refusal: Refusal) -> Error {
+        Error::Refused(refusal)
+    }
+}

@@ -1,0 +1,46 @@
+//! The log of a device: what `tpmsim-explain` and `tpmsim-audit` read.
+
+use std::fmt::Write;
+
+/// Lines of a script, with the responses as comments.
+pub(crate) struct Log {
+    text: String,
+}
+
+impl Log {
+    /// The log that begins with a device's state text.
+    pub(crate) fn of_state(state_text: &[u8]) -> Log {
+        let mut log = Log { text: String::new() };
+        log.bytes("# state ", state_text);
+        log
+    }
+
+    /// The whole text.
+    pub(crate) fn text(&self) -> &str {
+        &self.text
+    }
+
+    /// Adds a line.
+    pub(crate) fn line(&mut self, line: &str) {
+        self.text.push_str(line);
+        self.text.push('\n');
+    }
+
+    /// Adds a command, what it drew, and its response.
+    pub(crate) fn command(&mut self, buffer: &[u8], drawn: &[u8], response: &[u8]) {
+        if !drawn.is_empty() {
+            self.bytes("entropy ", drawn);
+        }
+        self.bytes("cmd ", buffer);
+        self.bytes("# ", response);
+    }
+
+    /// Adds a word and bytes in hex.
+    fn bytes(&mut self, word: &str, bytes: &[u8]) {
+        self.text.push_str(word);
+        for byte in bytes {
+            let _ = write!(self.text, "{byte:02x}"); // a string takes all that is written
+        }
+        self.text.push('\n');
+    }
+}

@@ -1,0 +1,61 @@
+//! Where the random bytes of a device come from.
+
+use crate::native::{self, RANDOM_BYTES};
+use crate::shake::shake256;
+use std::io;
+
+/// The random bytes that a command may draw.
+pub(crate) enum Source {
+    /// The system's. The bytes that no command drew are as good as new.
+    System([u8; RANDOM_BYTES]),
+    /// Those that follow from a seed: the bytes, the seed, and how many commands had theirs.
+    Seed([u8; RANDOM_BYTES], Vec<u8>, u64),
+}
+
+impl Source {
+    /// The system's.
+    pub(crate) fn system() -> io::Result<Source> {
+        let mut bytes = [0; RANDOM_BYTES];
+        native::draw(&mut bytes)?;
+        Ok(Source::System(bytes))
+    }
+
+    /// Those of a seed.
+    pub(crate) fn of_seed(seed: &[u8]) -> Source {
+        Source::Seed([0; RANDOM_BYTES], seed.to_vec(), 0)
+    }
+
+    /// The bytes that the next command may draw.
+    pub(crate) fn next(&mut self) -> &[u8; RANDOM_BYTES] {
+        if let Source::Seed(bytes, seed, count) = self {
+            *count += 1;
+            *bytes = shake256(&[seed.as_slice(), count.to_string().as_bytes()].concat());
+        }
+        self.bytes()
+    }
+
+    /// The bytes that the last command might draw, of which some may be renewed since.
+    pub(crate) fn bytes(&self) -> &[u8; RANDOM_BYTES] {
+        match self {
+            Source::System(bytes) | Source::Seed(bytes, ..) => bytes,
+        }
+    }
+
+    /// Replaces what a command drew.
+    pub(crate) fn renew(&mut self, drawn: usize) -> io::Result<()> {
+        match self {
+            Source::System(bytes) => native::draw(&mut bytes[..drawn]),
+            Source::Seed(..) => Ok(()),
+        }
+    }
+}
+
+/// The random bytes of which a new device is made: its seeds and its proofs.
+pub(crate) fn of_new_device(seed: Option<&[u8]>) -> io::Result<[u8; RANDOM_BYTES]> {
+    let mut bytes = [0; RANDOM_BYTES];
+    match seed {
+        Some(seed) => bytes = shake256(seed),
+        None => native::draw(&mut bytes)?,
+    }
+    Ok(bytes)
+}

@@ -1,0 +1,79 @@
+//! A device as the way to a TPM that libraries take.
+
+use crate::device::Device;
+use std::io::{self, Read, Write};
+
+/// The way to a TPM: a command goes there, and its response comes back.
+///
+/// A library that is generic over a trait of its own implements that trait by this one.
+pub trait Transport {
+    /// What can fail on the way.
+    type Error;
+
+    /// The response to a command.
+    ///
+    /// # Errors
+    ///
+    /// What failed on the way. A command that the TPM refuses has a response.
+    fn transmit(&mut self, command: &[u8]) -> Result<Vec<u8>, Self::Error>;
+}
+
+impl Transport for Device {
+    type Error = crate::Error;
+
+    fn transmit(&mut self, command: &[u8]) -> crate::Result<Vec<u8>> {
+        Ok(self.execute(command).into_bytes())
+    }
+}
+
+/// A device as the file of one, `/dev/tpm0`: each write is a command, and the reads after it have its
+/// response.
+///
+/// ```
+/// use std::io::{Read, Write};
+///
+/// # fn main() -> Result<(), Box<dyn std::error::Error>> {
+/// let mut file = tpmsim::DeviceFile::new(tpmsim::Device::new()?);
+/// file.write_all(&[0x80, 1, 0, 0, 0, 12, 0, 0, 1, 0x44, 0, 0])?;
+/// let mut response = [0; 4096];
+/// assert_eq!(file.read(&mut response)?, 10);
+/// # Ok(())
+/// # }
+/// ```
+pub struct DeviceFile {
+    device: Device,
+    response: Vec<u8>,
+    taken: usize,
+}
+
+impl DeviceFile {
+    /// The file of a device.
+    pub fn new(device: Device) -> DeviceFile {
+        DeviceFile { device, response: Vec::new(), taken: 0 }
+    }
+
+    /// The device, to change its locality, time or power.
+    pub fn device(&mut self) -> &mut Device {
+        &mut self.device
+    }
+}
+
+impl Write for DeviceFile {
+    fn write(&mut self, command: &[u8]) -> io::Result<usize> {
+        self.response = self.device.execute(command).into_bytes();
+        self.taken = 0;
+        Ok(command.len())
+    }
+
+    fn flush(&mut self) -> io::Result<()> {
+        Ok(())
+    }
+}
+
+impl Read for DeviceFile {
+    fn read(&mut self, buffer: &mut [u8]) -> io::Result<usize> {
+        let count = (&self.response[self.taken..]).read(buffer)?;
+        self.taken += count;
+        Ok(count)
+    }
+}

@@ -1,0 +1,21 @@
+# What the tests of the Rust package share, which read this file behind cases.sh and library.sh: a copy of the
+# package, over the archive that is tested, in the folder where cargo works.
+# shellcheck shell=sh disable=SC2154 # cases.sh has `room` and `tests`, library.sh `dist`
+PATH=$PATH:${HOME:-/root}/.cargo/bin
+CARGO_TARGET_DIR=$room/target
+CARGO_NET_OFFLINE=true
+TPMSIM_LIB_DIR=$dist
+export CARGO_TARGET_DIR CARGO_NET_OFFLINE TPMSIM_LIB_DIR
+
+# copy_package: makes the copy `package`, whose library no link leads to.
+copy_package() {
+    cp -rL "$tests/../rust" package && rm -rf package/target package/Cargo.lock package/native
+}
+
+# play WORDS..: what cargo does in the copy; what it says if that fails.
+play() {
+    (cd package && cargo "$@") >said 2>&1 && return
+    echo "cargo $*: status $?"
+    tail -n 40 said
+    return 1
+}

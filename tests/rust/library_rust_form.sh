@@ -1,0 +1,10 @@
+# The form of the Rust package, and what clippy says of it.
+tests=$(cd "$(dirname "$0")/.." && pwd -P)
+. "$tests/common/cases.sh"
+. "$tests/common/library.sh"
+. "$tests/common/rust.sh"
+needs cargo cargo-clippy cargo-fmt
+copy_package
+
+play fmt --check && echo 'it is laid out'
+play clippy --all-targets -- -D warnings && echo 'clippy finds nothing'

@@ -1,0 +1,33 @@
+#!/bin/sh
+# Makes the Rust package, tpmsim-VERSION.crate, with the library of each machine that dist/ has in it, and
+# prints its path. No network is asked.
+#
+#   tools/crate.sh [FOLDER]   in FOLDER; else in out/
+#
+# Needs cargo, which builds what is packed.
+set -u
+folder=$(realpath -m "${1:-$(dirname "$0")/../out}") && cd "$(dirname "$0")/.." || exit 1
+
+# fail REASON: ends the script, and shows what cargo said.
+fail() {
+    [ ! -f "$work/said" ] || tail -n 20 "$work/said" >&2
+    echo "$0: $1" >&2
+    exit 1
+}
+
+work=$(mktemp -d) || exit 1
+trap 'rm -rf "$work"' EXIT
+PATH=$PATH:${HOME:-/root}/.cargo/bin
+command -v cargo >"$work/found" || fail 'there is no cargo'
+# A copy, as cargo writes beside what it reads; in it no link leads to dist/.
+mkdir "$work/rust" || fail 'there is no folder for a copy'
+(cd rust && cp -rL Cargo.toml README.md build.rs examples native src tests "$work/rust/") ||
+    fail 'the package is not copied'
+unset TPMSIM_LIB_DIR
+(cd "$work/rust" && cargo package --offline --allow-dirty --target-dir "$work/target") \
+    >"$work/said" 2>&1 || fail 'cargo makes no package'
+mkdir -p "$folder" || fail "$folder is no folder"
+cp "$work"/target/package/*.crate "$folder/" || fail "$folder is not written"
+for made in "$work"/target/package/*.crate; do
+    echo "$folder/${made##*/}"
+done
