@@ -68,7 +68,7 @@ tell_proved() {
 # Puts everything in its place.
 deliver() {
     mkdir -p "$folder" && mv "$work/tpmsim" "$work/libtpmsim.a" "$work/libtpmsim.so.0" "$folder/" &&
-        cp library/tpmsim.h library/tpmsim.pc "$folder/" && tell_proved >"$folder/PROVED"
+        cp library/tpmsim.h library/tpmsim.hpp library/tpmsim.pc "$folder/" && tell_proved >"$folder/PROVED"
 }
 
 for tool in rt rattle "${prefix}gcc" "${prefix}ar" "${prefix}strip"; do

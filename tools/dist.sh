@@ -38,7 +38,7 @@ faults_of_program() {
 }
 
 faults_of_library() {
-    for file in "$archive" "$shared" dist/tpmsim.h dist/tpmsim.pc; do
+    for file in "$archive" "$shared" dist/tpmsim.h dist/tpmsim.hpp dist/tpmsim.pc; do
         [ -f "$file" ] || { echo "$file is not there" && return; }
     done
     is_proved 'library sources' "$(sources_checksum tpmsim_library)" ||
@@ -47,7 +47,7 @@ faults_of_library() {
         echo "$archive is not the archive that $proved names"
     is_proved 'library shared object' "$(checksum <"$shared")" ||
         echo "$shared is not the shared object that $proved names"
-    for file in tpmsim.h tpmsim.pc; do
+    for file in tpmsim.h tpmsim.hpp tpmsim.pc; do
         cmp -s "library/$file" "dist/$file" || echo "dist/$file has other bytes than library/$file"
     done
 }
@@ -65,7 +65,7 @@ faults_of_aarch64() (
     is_proved 'library archive' "$(checksum <"$archive")" || echo "$archive is not what $proved names"
     is_proved 'library shared object' "$(checksum <"$shared")" ||
         echo "$shared is not what $proved names"
-    for file in tpmsim.h tpmsim.pc; do
+    for file in tpmsim.h tpmsim.hpp tpmsim.pc; do
         cmp -s "library/$file" "$distribution/$file" ||
             echo "$distribution/$file has other bytes than library/$file"
     done

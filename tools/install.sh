@@ -69,6 +69,7 @@ put_library() {
     put 644 "$shared" "$libraries/libtpmsim.so.0"
     link libtpmsim.so.0 "$libraries/libtpmsim.so"
     put 644 dist/tpmsim.h include/tpmsim.h
+    put 644 dist/tpmsim.hpp include/tpmsim.hpp
     # shellcheck disable=SC2016 # pkg-config reads the names
     sed -e "1iprefix=$prefix\nincludedir=\${prefix}/include\nlibdir=\${prefix}/$libraries\n" \
         -e 's/-I[$]{pcfiledir}/-I${includedir}/' -e 's/-L[$]{pcfiledir}/-L${libdir}/' \
@@ -141,7 +142,7 @@ put_documents() {
     put 644 "$proved" share/doc/tpmsim/PROVED
     tools/man/documents.py "${DESTDIR:-}" "$prefix/share/doc/tpmsim" \
         "dist/PROVED=$prefix/share/doc/tpmsim/PROVED" "dist/tpmsim.h=$prefix/include/tpmsim.h" \
-        "library/tpmsim.h=$prefix/include/tpmsim.h" \
+        "library/tpmsim.h=$prefix/include/tpmsim.h" "dist/tpmsim.hpp=$prefix/include/tpmsim.hpp" \
         "dist/tpmsim.pc=$prefix/$libraries/pkgconfig/tpmsim.pc" || fail 'the documents are not written'
 }
 

@@ -1,5 +1,5 @@
 #!/bin/sh
-# Makes the library in dist/: libtpmsim.a, libtpmsim.so.0, tpmsim.h and tpmsim.pc; and the library's
+# Makes the library in dist/: libtpmsim.a, libtpmsim.so.0, tpmsim.h, tpmsim.hpp and tpmsim.pc; and its
 # lines in dist/PROVED, which name the kit, and the checksums of the sources and of the first two.
 #
 # The exports are proved and compiled over the crates below them, as `rt ci` left these here, where
@@ -67,7 +67,7 @@ tell_proved() {
 # Puts everything in its place.
 deliver() {
     mkdir -p dist && mv "$work/libtpmsim.a" "$archive" && mv "$work/libtpmsim.so.0" "$shared" &&
-        cp library/tpmsim.h library/tpmsim.pc dist/ && tell_proved
+        cp library/tpmsim.h library/tpmsim.hpp library/tpmsim.pc dist/ && tell_proved
 }
 
 for tool in rt rattle git cc ar strip; do

@@ -7,7 +7,9 @@ package_of() {
     case $1 in
     cargo-clippy) echo rust-clippy ;;
     cargo-fmt) echo rustfmt ;;
+    c++) echo g++ ;;
     cc) echo gcc, libc6-dev ;;
+    clang++) echo clang ;;
     dpkg-deb) echo dpkg ;;
     go) echo golang-go ;;
     qemu-aarch64) echo qemu-user ;;

@@ -1,7 +1,7 @@
 # The package for Debian: it is unpacked into an empty root, and what is in it runs from there.
 tests=$(cd "$(dirname "$0")/.." && pwd -P)
 . "$tests/common/cases.sh"
-needs dpkg-deb cc pkg-config man python3
+needs dpkg-deb cc c++ pkg-config man python3
 top=${tests%/*}
 root=$room/root
 case $(uname -m) in
@@ -64,6 +64,13 @@ cc -o shared program.c $(pkg-config --cflags --libs tpmsim) && ./shared && echo 
 # shellcheck disable=SC2046 # as above
 cc -o static program.c $(pkg-config --cflags tpmsim) "$LD_LIBRARY_PATH/libtpmsim.a" && ./static &&
     echo 'the archive'
+cat >program.cpp <<'END'
+#include <tpmsim.hpp>
+int main() { return libtpmsim::Device().save().empty(); }
+END
+# shellcheck disable=SC2046 # as above
+c++ -std=c++17 -o shared program.cpp $(pkg-config --cflags --libs tpmsim) && ./shared &&
+    echo 'the header for C++'
 cat >program.py <<'END'
 import importlib.metadata
 import tpmsim

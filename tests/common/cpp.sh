@@ -1,0 +1,20 @@
+# What the tests of tpmsim.hpp share, which read this file behind cases.sh and library.sh.
+# shellcheck shell=sh disable=SC2154 # cases.sh has `room` and `tests`, library.sh the rest
+
+# play_header COMPILER: what tests/cpp/devices.cpp prints by C++17, and whether it prints the same by
+# C++20, and by both the part that throws nothing without exceptions. Each warning is an error.
+play_header() {
+    for words in -std=c++17 -std=c++20 '-std=c++17 -fno-exceptions' '-std=c++20 -fno-exceptions'; do
+        # shellcheck disable=SC2086 # they are words
+        if ! "$1" $words -Wall -Wextra -Wpedantic -Wconversion -Werror $sanitizers -pthread \
+            -I"$dist" -o "$room/caller" "$tests/cpp/devices.cpp" "$archive"; then
+            echo "$words: it is not compiled"
+        elif ! "$room/caller" >printed; then
+            echo "$words: it does not run"
+        elif [ "$words" = -std=c++17 ]; then
+            tee wanted <printed
+        else
+            tail -n "$(wc -l <printed)" wanted | cmp - printed && echo "$words: the same"
+        fi
+    done
+}

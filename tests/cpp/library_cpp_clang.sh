@@ -1,0 +1,8 @@
+# tpmsim.hpp by clang++, beside sanitizers: devices.cpp.
+tests=$(cd "$(dirname "$0")/.." && pwd -P)
+. "$tests/common/cases.sh"
+. "$tests/common/library.sh"
+. "$tests/common/cpp.sh"
+needs clang++
+
+play_header clang++

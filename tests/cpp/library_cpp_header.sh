@@ -1,0 +1,14 @@
+# tpmsim.hpp by g++, beside sanitizers: devices.cpp, and the program of docs/LIBRARY.md. The header in dist/ is
+# that of the sources.
+tests=$(cd "$(dirname "$0")/.." && pwd -P)
+. "$tests/common/cases.sh"
+. "$tests/common/library.sh"
+. "$tests/common/cpp.sh"
+needs g++
+
+cmp "$tests/../library/tpmsim.hpp" "$dist/tpmsim.hpp" && echo 'the header is that of the sources'
+play_header g++
+
+echo '== docs/LIBRARY.md'
+awk '/^```/ { shown = $0 == "```cpp"; next } shown' "$tests/../docs/LIBRARY.md" >program.cpp
+g++ -std=c++17 -Wall -Wextra -Werror -I"$dist" -o program program.cpp "$archive" && ./program
