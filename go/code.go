@@ -1,0 +1,89 @@
+package tpmsim
+
+import (
+	"encoding/binary"
+	"fmt"
+)
+
+// headerBytes is how many bytes the header of a response has: tag, size and code.
+const headerBytes = 10
+
+// A Code is a response code, TPM_RC.
+type Code uint32
+
+// Success is the code of a command that was accepted.
+const Success = Code(0)
+
+// CodeOf returns the code of a response, which has at least 10 bytes.
+func CodeOf(response []byte) Code {
+	return Code(binary.BigEndian.Uint32(response[headerBytes-4 : headerBytes]))
+}
+
+// Place says what a code is about, as p1, h2 or s1: a parameter, a handle or a session; or nothing.
+func (code Code) Place() string {
+	number := uint32(code) >> 8 & 0xf
+	switch {
+	case code&0x080 == 0 || code>>8 == 0:
+		return ""
+	case code&0x040 != 0:
+		return fmt.Sprintf("p%d", number)
+	case number&8 != 0:
+		return fmt.Sprintf("s%d", number-8)
+	default:
+		return fmt.Sprintf("h%d", number)
+	}
+}
+
+// Name returns the name without its place, as AUTH_FAIL; nothing of a code that this device does not answer.
+func (code Code) Name() string {
+	if code == Success {
+		return "SUCCESS"
+	}
+	if code.Place() != "" {
+		code &= 0x0bf
+	}
+	return codes[code]
+}
+
+// String spells a code, as AUTH_FAIL/s1 (98E).
+func (code Code) String() string {
+	name, place := code.Name(), code.Place()
+	if name == "" {
+		name = "unknown"
+	}
+	if place != "" {
+		name += "/" + place
+	}
+	if code == Success {
+		return name
+	}
+	return fmt.Sprintf("%s (%03X)", name, uint32(code))
+}
+
+// A Refusal is the error of a command that the TPM refused.
+type Refusal struct {
+	Command uint32 // TPM_CC; 0 if none was found
+	Code    Code
+	check   uint8
+}
+
+// Check returns the check that refused, by its name in a trace and in the table of the device, as G9.
+func (it *Refusal) Check() string {
+	switch {
+	case it.check == 255:
+		return "M"
+	case it.check > 20:
+		return fmt.Sprintf("A%d", it.check-20)
+	default:
+		return fmt.Sprintf("G%d", it.check)
+	}
+}
+
+// Error says what was refused, and why, as in "GetRandom: INITIALIZE (100), by G5".
+func (it *Refusal) Error() string {
+	name, known := commands[it.Command]
+	if !known {
+		name = "unknown command"
+	}
+	return fmt.Sprintf("%s: %v, by %s", name, it.Code, it.Check())
+}

@@ -1,0 +1,3 @@
+module tpmsim
+
+go 1.19

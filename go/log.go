@@ -1,0 +1,67 @@
+package tpmsim
+
+import (
+	"fmt"
+	"strings"
+)
+
+// log has the lines of a script, with the responses as comments.
+type log struct{ text strings.Builder }
+
+func (it *log) line(line string) { it.text.WriteString(line + "\n") }
+
+func (it *log) command(buffer, drawn, response []byte) {
+	if len(drawn) > 0 {
+		it.line(fmt.Sprintf("entropy %x", drawn))
+	}
+	it.line(fmt.Sprintf("cmd %x", buffer))
+	it.line(fmt.Sprintf("# %x", response))
+}
+
+// logged adds a line to the log, if there is one.
+func (tpm *TPM) logged(line string) {
+	if tpm.log != nil {
+		tpm.log.line(line)
+	}
+}
+
+// logAnew begins the log anew, if there is one.
+func (tpm *TPM) logAnew() error {
+	if tpm.log == nil {
+		return nil
+	}
+	return tpm.beginLog()
+}
+
+func (tpm *TPM) beginLog() error {
+	if !tpm.native.isThere() {
+		return ErrClosed
+	}
+	tpm.log = new(log)
+	tpm.log.line(fmt.Sprintf("# state %x", tpm.native.stateText()))
+	if tpm.locality > 0 {
+		tpm.logged(fmt.Sprintf("loc %d", tpm.locality))
+	}
+	if tpm.elapsed > 0 {
+		tpm.logged(fmt.Sprintf("wait %d", tpm.elapsed))
+	}
+	return nil
+}
+
+// BeginLog begins a log with the device as it is. Until then no log is kept.
+func (tpm *TPM) BeginLog() error {
+	tpm.lock.Lock()
+	defer tpm.lock.Unlock()
+	return tpm.beginLog()
+}
+
+// Log returns the log, a script with the responses as comments: tpmsim-explain reports why each command of
+// it was refused. It is empty without BeginLog. It has all secrets.
+func (tpm *TPM) Log() string {
+	tpm.lock.Lock()
+	defer tpm.lock.Unlock()
+	if tpm.log == nil {
+		return ""
+	}
+	return tpm.log.text.String()
+}

@@ -1,0 +1,15 @@
+package tpmsim
+
+import "io"
+
+// Read reads the response to what Write wrote; io.EOF after its end.
+func (tpm *TPM) Read(buffer []byte) (int, error) {
+	tpm.lock.Lock()
+	defer tpm.lock.Unlock()
+	if len(tpm.response) == 0 {
+		return 0, io.EOF
+	}
+	count := copy(buffer, tpm.response)
+	tpm.response = tpm.response[count:]
+	return count, nil
+}

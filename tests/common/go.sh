@@ -1,0 +1,18 @@
+# What the tests of the Go module share, which read this file behind cases.sh and library.sh: a copy of the
+# module, over the archive that is tested, and the folders where go works.
+# shellcheck shell=sh disable=SC2154 # cases.sh has `room` and `tests`, library.sh `dist`
+export CGO_ENABLED=1 GOFLAGS=-buildvcs=false GOPROXY=off GOSUMDB=off
+export GOCACHE="$room/cache" GOPATH="$room/path" CGO_LDFLAGS="-L$dist"
+
+# copy_module: makes the copy `module`, whose library no link leads to.
+copy_module() {
+    cp -rL "$tests/../go" module && rm -rf module/native && cp "$dist/tpmsim.h" module/
+}
+
+# play WORDS..: what go does in the copy; what it says if that fails.
+play() {
+    (cd module && go "$@") >said 2>&1 && return
+    echo "go $*: status $?"
+    tail -n 40 said
+    return 1
+}
