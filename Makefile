@@ -5,11 +5,11 @@
 #   make dist-arm64                 what dist/aarch64 has, after make dist
 #   make install PREFIX=/usr/local  installs what dist/ has; DESTDIR stands before PREFIX
 #   make deb                        makes the package for Debian in out/; deb-arm64 the one for ARM64
-#   make crate                      makes the package for Rust in out/
+#   make crate, make wheel          make the packages for Rust and Python in out/
 PREFIX = /usr/local
 DESTDIR =
 
-.PHONY: check dist dist-arm64 install deb deb-arm64 crate
+.PHONY: check dist dist-arm64 install deb deb-arm64 crate wheel
 
 check:
 	tools/before_commit.sh
@@ -34,3 +34,6 @@ deb-arm64:
 
 crate:
 	tools/crate.sh
+
+wheel:
+	tools/wheel.py

@@ -12,9 +12,14 @@ import os
 import pathlib
 import shutil
 import sys
-import tomllib
 
 SOURCES = pathlib.Path(__file__).resolve().parents[1] / "python"
+sys.path.insert(0, str(SOURCES / "packing"))
+# What Python compiles is not kept in the repository.
+sys.dont_write_bytecode = sys.pycache_prefix is None
+
+import tpmsim_wheel  # noqa: E402
+
 PROGRAM = """#!/usr/bin/python3
 import os
 import sys
@@ -28,35 +33,18 @@ sys.exit({function}())
 
 
 def install(root: pathlib.Path, packages: pathlib.Path, programs: pathlib.Path) -> None:
-    with open(SOURCES / "pyproject.toml", "rb") as file:
-        told = tomllib.load(file)
-    project, data = told["project"], told["tool"]["setuptools"]["package-data"]
-    name, version = project["name"], project["version"]
-    copied = [*SOURCES.glob(f"{name}/**/*.py")]
-    for package, patterns in data.items():
-        for pattern in patterns:
-            copied += (SOURCES / package.replace(".", "/")).glob(pattern)
-    for source in copied:
+    for source in tpmsim_wheel.sources():
         target = root / packages / source.relative_to(SOURCES)
         target.parent.mkdir(parents=True, exist_ok=True)
         shutil.copyfile(source, target)
 
-    described = root / packages / f"{name}-{version}.dist-info"
+    described = root / packages / f"{tpmsim_wheel.stem()}.dist-info"
     described.mkdir(exist_ok=True)
-    (described / "METADATA").write_text(
-        f"Metadata-Version: 2.1\nName: {name}\nVersion: {version}\n"
-        f"Summary: {project['description']}\nRequires-Python: {project['requires-python']}\n"
-    )
-    groups = {"console_scripts": project["scripts"], **project["entry-points"]}
-    (described / "entry_points.txt").write_text(
-        "".join(
-            f"[{group}]\n" + "".join(f"{key} = {value}\n" for key, value in entries.items())
-            for group, entries in groups.items()
-        )
-    )
+    (described / "METADATA").write_text(tpmsim_wheel.metadata())
+    (described / "entry_points.txt").write_text(tpmsim_wheel.entry_points())
 
     (root / programs).mkdir(parents=True, exist_ok=True)
-    for program, entry in project["scripts"].items():
+    for program, entry in tpmsim_wheel.project()["scripts"].items():
         module, _, function = entry.partition(":")
         path = root / programs / program
         path.write_text(

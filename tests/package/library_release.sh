@@ -10,8 +10,8 @@ printf '#!/bin/sh\nexit 1\n' >none/cc
 chmod +x none/cc
 (cd "$top" && tar cf - --exclude=out --exclude=must-fail --exclude=__pycache__ CHANGELOG.md Makefile \
     README.md HANDLES crates/tpmsim crates/tpmsim_library crates.txt attached dist \
-    docs examples library packaging python/pyproject.toml python/tpmsim rust/Cargo.toml tools tpmsim \
-    .gitignore) |
+    docs examples library packaging python/packing python/pyproject.toml python/tpmsim \
+    rust/Cargo.toml tools tpmsim .gitignore) |
     tar xf - -C copy
 cd copy || exit 1
 version=$(dist/tpmsim --version | sed 's/.* //')

@@ -4,6 +4,7 @@ import os
 import pathlib
 import shutil
 import subprocess
+import sys
 import tempfile
 import time
 import weakref
@@ -19,11 +20,14 @@ NO_STATE_TEXT = "tpmsim: snapshot "
 
 
 def program_found() -> str:
-    """The program: the one that $TPMSIM names, the one of this repository, or one on the path."""
+    """The program: the one that $TPMSIM names, the one of this repository, one on the path, or the one
+    beside the interpreter, where a wheel puts it.
+    """
     found = os.environ.get("TPMSIM")
     if not found and os.access(shipped("tpmsim"), os.X_OK):
         found = str(shipped("tpmsim"))
-    found = found or shutil.which("tpmsim")
+    beside = os.path.join(os.path.dirname(sys.executable), "tpmsim")
+    found = found or shutil.which("tpmsim") or shutil.which(beside)
     if not found:
         raise FileNotFoundError("there is no tpmsim: $TPMSIM may name it")
     return found

@@ -1,0 +1,73 @@
+# tools/wheel.py makes a wheel with the library in it, which pip installs in a plain venv without a network;
+# pip installs the folder python/ too, and leaves nothing there. README's first example runs, and the program.
+tests=$(cd "$(dirname "$0")/.." && pwd -P)
+. "$tests/common/cases.sh"
+needs python3
+top=${tests%/*}
+unset PYTHONPATH TPMSIM TPMSIM_LIBRARY
+export PIP_NO_COMPILE=1 PIP_NO_INDEX=1 PIP_NO_CACHE_DIR=1 PIP_DISABLE_PIP_VERSION_CHECK=1 PIP_ROOT_USER_ACTION=ignore
+
+command python3 -m venv venv >said 2>&1 || skip 'there is no venv of Python (Debian: python3-venv)'
+venv=$PWD/venv
+
+# try WHAT: installs it, and tries it from another folder.
+try() {
+    "$venv/bin/pip" install -q "$1" || echo "pip: status $?"
+    (cd / && "$venv/bin/python" "$room/folder/example.py" | sed 's/^[0-9a-f]\{8\}$/4 random bytes/' &&
+        "$venv/bin/python" "$room/folder/found.py" &&
+        "$venv/bin/tpmsim-explain" --help | grep -c '^    tpmsim-explain LOG')
+}
+
+# remove: removes it again, and what is left is printed.
+remove() {
+    "$venv/bin/pip" uninstall -q -y tpmsim && find venv \( -name 'tpmsim*' -o -name 'libtpmsim*' \)
+}
+
+awk '/^```/ { shown = $0 == "```python" && !blocks++; next } shown' "$top/python/README.md" >example.py
+cat >found.py <<'END'
+import importlib.metadata
+import pathlib
+import sys
+
+import tpmsim
+from tpmsim.device import ChildDevice, Device
+from tpmsim.device.library import places
+
+with Device() as device:
+    print(type(device).__name__)
+if pathlib.Path(sys.executable).with_name("tpmsim").exists():
+    with ChildDevice() as device:
+        print(device.program.endswith("/bin/tpmsim"), device.execute(b"").check)
+print(pathlib.Path(places()[0]).relative_to(sys.prefix).parts[-2:])
+print(importlib.metadata.version("tpmsim") == tpmsim.__version__)
+END
+
+echo '== a wheel'
+wheel=$("$top/tools/wheel.py" made) || echo "status $?"
+version=$(sed -n 's/^version = "\(.*\)"/\1/p' "$top/python/pyproject.toml")
+[ "$wheel" = "made/tpmsim-$version-py3-none-manylinux_2_34_$(uname -m).whl" ] && echo 'it has its name'
+"$top/tools/wheel.py" again >said && cmp "$wheel" again/*.whl && echo 'it has the same bytes each time'
+try "$wheel"
+cmp venv/bin/tpmsim "$top/dist/tpmsim" && echo 'do Startup 0' | venv/bin/tpmsim run --trace -
+remove
+
+echo '== the one for ARM64'
+wheel=$("$top/tools/wheel.py" --machine aarch64 made) && python3 -m zipfile -e "$wheel" arm &&
+    cmp arm/tpmsim/libtpmsim.so.0 "$top/dist/aarch64/libtpmsim.so.0" &&
+    sed -n 's/^Tag: //p' arm/*.dist-info/WHEEL
+
+echo '== the folder'
+mkdir copy && cp -r "$top/python" "$top/dist" copy/ && find copy -name __pycache__ -prune -exec rm -r {} +
+find copy | LC_ALL=C sort >before
+try ./copy/python
+remove
+find copy -name __pycache__ -prune -o -print | LC_ALL=C sort >after
+cmp before after && echo 'nothing is left there'
+
+echo '== the folder, without dist/'
+rm -r copy/dist
+venv/bin/pip install -q ./copy/python && venv/bin/python -c '
+from tpmsim.device import ModelDevice
+print(ModelDevice().execute(b"").check)'
+"$top/tools/wheel.py" /dev/null 2>said
+echo "no folder: status $?"
