@@ -2,7 +2,7 @@
 # module, over the archive that is tested, and the folders where go works.
 # shellcheck shell=sh disable=SC2154 # cases.sh has `room` and `tests`, library.sh `dist`
 export CGO_ENABLED=1 GOFLAGS=-buildvcs=false GOPROXY=off GOSUMDB=off
-export GOCACHE="$room/cache" GOPATH="$room/path" CGO_LDFLAGS="-L$dist"
+export GOCACHE="${TPMSIM_BUILT:-$room}/go" GOPATH="$room/path" CGO_LDFLAGS="-L$dist"
 
 # copy_module: makes the copy `module`, whose library no link leads to.
 copy_module() {

@@ -1,0 +1,60 @@
+/* A counter holds the lowest version that may be started. A key that is sealed for a version is given out while
+   the counter is not above it; and the counter never goes back, whatever becomes of its index. */
+#include "commands.h"
+
+/* A counter that its value and the owner write and read. */
+static const uint32_t counter = 0x00060016;
+
+static void increment(tpm *it) { must(it, 0x134, HANDLES(INDEX, INDEX), BY_PASSWORD(""), NULL); }
+
+static uint32_t lowest(tpm *it) {
+    need(read_index(it, ""), "the counter is not read");
+    return number_at(it->parameters + 2 + 4, 4);
+}
+
+/* TPM2_PolicyNV: the counter is at most this version. */
+static int at_most(tpm *it, uint32_t session, uint32_t version) {
+    text parameters = {0};
+    put_number(&parameters, 8, 2);
+    put_number(&parameters, version, 8);
+    put_number(&parameters, 9, 4); /* from offset 0 on, less than or equal to, without sign */
+    return send_command(it, 0x149, HANDLES(INDEX, INDEX, session), BY_PASSWORD(""), &parameters);
+}
+
+/* Prints the key of a version, or why there is none. */
+static void tell_key(tpm *it, const char *what, uint32_t version) {
+    const uint32_t trial = start_session(it, TRIAL);
+    need(at_most(it, trial, version), "a trial session refuses");
+    const text policy = digest_of(it, trial);
+    const uint32_t parent = storage_key(it, "");
+    const uint32_t handle = seal(it, parent, "", policy, "the key of this version.");
+    const uint32_t session = start_session(it, POLICY);
+    if (at_most(it, session, version)) unseal(it, handle, (by){session, ""});
+    tell(it, what);
+    flush(it, session);
+    flush(it, handle);
+    flush(it, parent);
+}
+
+int main(void) {
+    static tpm it;
+    const text clear = {2, {0}};
+    begin(&it);
+    define(&it, counter, "");
+    increment(&it);
+    const uint32_t first = lowest(&it);
+    tell_key(&it, "Version 1", first);
+    increment(&it);
+    printf("The counter went up by %u\n", lowest(&it) - first);
+    tell_key(&it, "Version 1", first);
+    tell_key(&it, "Version 2", first + 1);
+
+    tpmsim_power_cycle(&it.device);
+    must(&it, 0x144, HANDLES(NONE), NULL, &clear);
+    tell_key(&it, "After a power cycle, version 1", first);
+    must(&it, 0x122, HANDLES(OWNER, INDEX), BY_PASSWORD(""), NULL);
+    define(&it, counter, "");
+    increment(&it);
+    printf("Defined anew it went up by %u\n", lowest(&it) - first);
+    tpmsim_free(&it.device);
+}

@@ -1,0 +1,203 @@
+// Package commands has commands as bytes, as the examples need them. A program has a TPM library for this.
+package commands
+
+import (
+	"bytes"
+	"encoding/binary"
+	"fmt"
+	"log"
+
+	"tpmsim"
+)
+
+// Handles, and the kinds of sessions.
+const (
+	Owner   = 0x40000001
+	Null    = 0x40000007
+	Lockout = 0x4000000a
+	Index   = 0x01000001
+
+	Policy = 1
+	Trial  = 3
+)
+
+// By is what authorizes a handle: its value as a password, or a policy session, with the value if its policy
+// asks for it as a password.
+type By struct {
+	Session uint32
+	Value   []byte
+}
+
+// Password is a value as a password.
+func Password(value string) *By { return &By{0x40000009, []byte(value)} }
+
+// ByPolicy is a policy session, with a value.
+func ByPolicy(session uint32, value string) *By { return &By{session, []byte(value)} }
+
+func (by *By) entry() []byte {
+	if by.Session == 0x40000009 {
+		return Join(Number(by.Session), []byte{0, 0, 0}, Sized(by.Value))
+	}
+	return Join(Number(by.Session), Sized(make([]byte, 16)), []byte{1}, Sized(by.Value))
+}
+
+// An Answer is what a command answers.
+type Answer struct {
+	Handle     uint32
+	Parameters []byte
+}
+
+// Buffer takes the sized buffer at the front.
+func (it *Answer) Buffer() []byte {
+	size := 2 + binary.BigEndian.Uint16(it.Parameters)
+	buffer := it.Parameters[2:size]
+	it.Parameters = it.Parameters[size:]
+	return buffer
+}
+
+// Join puts texts behind each other.
+func Join(texts ...[]byte) []byte { return bytes.Join(texts, nil) }
+
+// Number is one of four bytes.
+func Number(value uint32) []byte { return binary.BigEndian.AppendUint32(nil, value) }
+
+// Sized is a buffer with its size before it.
+func Sized(buffer []byte) []byte {
+	return append(binary.BigEndian.AppendUint16(nil, uint16(len(buffer))), buffer...)
+}
+
+// Selection is PCRs of the SHA-256 bank.
+func Selection(pcrs ...int) []byte {
+	bits := make([]byte, 3)
+	for _, pcr := range pcrs {
+		bits[pcr/8] |= 1 << (pcr % 8)
+	}
+	return append([]byte{0, 0, 0, 1, 0, 0x0b, 3}, bits...)
+}
+
+// Send sends a command, whose first handle is authorized so.
+func Send(tpm *tpmsim.TPM, code uint32, handles []uint32, by *By, parameters ...[]byte) (*Answer, error) {
+	var body []byte
+	for _, handle := range handles {
+		body = append(body, Number(handle)...)
+	}
+	tag := []byte{0x80, 1}
+	if by != nil {
+		tag[1] = 2
+		body = append(body, Join(Number(uint32(len(by.entry()))), by.entry())...)
+	}
+	body = append(body, Join(parameters...)...)
+	rest, err := tpm.Execute(Join(tag, Number(uint32(10+len(body))), Number(code), body))
+	if err != nil {
+		return nil, err
+	}
+	answer := new(Answer)
+	switch code {
+	case 0x131, 0x157, 0x176: // CreatePrimary, Load and StartAuthSession answer a handle
+		answer.Handle, rest = binary.BigEndian.Uint32(rest), rest[4:]
+	}
+	if by != nil {
+		size := binary.BigEndian.Uint32(rest)
+		rest = rest[4 : 4+size]
+	}
+	answer.Parameters = rest
+	return answer, nil
+}
+
+// Must sends a command that is accepted, or ends the program.
+func Must(tpm *tpmsim.TPM, code uint32, handles []uint32, by *By, parameters ...[]byte) *Answer {
+	answer, err := Send(tpm, code, handles, by, parameters...)
+	if err != nil {
+		log.Fatal(err)
+	}
+	return answer
+}
+
+// StartSession starts a session by SHA-256, neither bound nor salted.
+func StartSession(tpm *tpmsim.TPM, kind byte) uint32 {
+	parameters := Join(Sized(make([]byte, 16)), []byte{0, 0, kind, 0, 0x10, 0, 0x0b})
+	return Must(tpm, 0x176, []uint32{Null, Null}, nil, parameters).Handle
+}
+
+// Flush flushes sessions and objects.
+func Flush(tpm *tpmsim.TPM, handles ...uint32) {
+	for _, handle := range handles {
+		Must(tpm, 0x165, nil, nil, Number(handle))
+	}
+}
+
+// DigestOf is the digest of a trial session that was told assertions, which ends.
+func DigestOf(tpm *tpmsim.TPM, tell func(session uint32) error) []byte {
+	trial := StartSession(tpm, Trial)
+	if err := tell(trial); err != nil {
+		log.Fatal(err)
+	}
+	digest := Must(tpm, 0x189, []uint32{trial}, nil).Buffer()
+	Flush(tpm, trial)
+	return digest
+}
+
+// StorageKey is one of the owner's: an AES key, which the same template makes again.
+func StorageKey(tpm *tpmsim.TPM, owner string) uint32 {
+	template := []byte{0, 0x25, 0, 0x0b, 0, 3, 4, 0x72, 0, 0, 0, 6, 0, 0x80, 0, 0x43, 0, 0}
+	parameters := Join(Sized(make([]byte, 4)), Sized(template), make([]byte, 6))
+	return Must(tpm, 0x131, []uint32{Owner}, Password(owner), parameters).Handle
+}
+
+// Sealed seals data below a storage key, with a value and a policy, and loads them.
+func Sealed(tpm *tpmsim.TPM, parent uint32, value string, policy []byte, data string) uint32 {
+	sensitive := Join(Sized([]byte(value)), Sized([]byte(data)))
+	public := Join([]byte{0, 8, 0, 0x0b, 0, 0, 0, 0x12}, Sized(policy), []byte{0, 0x10, 0, 0})
+	parameters := Join(Sized(sensitive), Sized(public), make([]byte, 6))
+	made := Must(tpm, 0x153, []uint32{parent}, Password(""), parameters)
+	areas := Join(Sized(made.Buffer()), Sized(made.Buffer()))
+	return Must(tpm, 0x157, []uint32{parent}, Password(""), areas).Handle
+}
+
+// Unseal is what an object seals.
+func Unseal(tpm *tpmsim.TPM, handle uint32, by *By) (string, error) {
+	answer, err := Send(tpm, 0x15e, []uint32{handle}, by)
+	if err != nil {
+		return "", err
+	}
+	return string(answer.Buffer()), nil
+}
+
+// Define defines the index of the examples, with these attributes.
+func Define(tpm *tpmsim.TPM, attributes uint32, value string) {
+	area := Join(Number(Index), []byte{0, 0x0b}, Number(attributes), []byte{0, 0, 0, 8})
+	Must(tpm, 0x12a, []uint32{Owner}, Password(""), Sized([]byte(value)), Sized(area))
+}
+
+// Read reads the index of the examples.
+func Read(tpm *tpmsim.TPM, value string) ([]byte, error) {
+	answer, err := Send(tpm, 0x14e, []uint32{Index, Index}, Password(value), []byte{0, 8, 0, 0})
+	if err != nil {
+		return nil, err
+	}
+	return answer.Buffer(), nil
+}
+
+// Measure measures data into a PCR, and returns the digest of the SHA-256 bank.
+func Measure(tpm *tpmsim.TPM, pcr uint32, data string) []byte {
+	answer := Must(tpm, 0x13c, []uint32{pcr}, Password(""), Sized([]byte(data)))
+	// Their number, and that of SHA-1 with its algorithm, stand before it.
+	return answer.Parameters[4+2+20+2:][:32]
+}
+
+// Tell prints a line of an example: what came of it, or why it was refused.
+func Tell(what, came string, err error) {
+	if err != nil {
+		came = err.Error()
+	}
+	fmt.Printf("%s: %s\n", what, came)
+}
+
+// Open makes a TPM, or ends the program.
+func Open() *tpmsim.TPM {
+	tpm, err := tpmsim.Open()
+	if err != nil {
+		log.Fatal(err)
+	}
+	return tpm
+}

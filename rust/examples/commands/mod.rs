@@ -1,0 +1,175 @@
+//! Commands as bytes, as the examples need them. A program has a TPM library for this.
+#![allow(dead_code)] // no example uses all of them
+
+use tpmsim::{Device, Refusal};
+
+pub const OWNER: u32 = 0x4000_0001;
+pub const NULL: u32 = 0x4000_0007;
+pub const LOCKOUT: u32 = 0x4000_000a;
+pub const INDEX: u32 = 0x0100_0001;
+
+pub const POLICY: u8 = 1;
+pub const TRIAL: u8 = 3;
+
+/// The commands that answer a handle: CreatePrimary, Load and StartAuthSession.
+const WITH_HANDLE: [u32; 3] = [0x131, 0x157, 0x176];
+
+/// What authorizes a handle.
+pub enum By<'a> {
+    /// Its value, as a password.
+    Password(&'a [u8]),
+    /// A policy session, and the value if its policy asks for it as a password.
+    Policy(u32, &'a [u8]),
+}
+
+impl By<'_> {
+    /// The entry of the authorization area.
+    fn entry(&self) -> Vec<u8> {
+        match self {
+            By::Password(value) => [&number(0x4000_0009)[..], &[0, 0, 0], &sized(value)].concat(),
+            By::Policy(session, value) => {
+                [&number(*session)[..], &sized(&[0; 16]), &[1], &sized(value)].concat()
+            }
+        }
+    }
+}
+
+/// What a command answers.
+pub struct Answer {
+    pub handle: u32,
+    pub parameters: Vec<u8>,
+}
+
+impl Answer {
+    /// The sized buffers at its front.
+    pub fn buffers(&self, count: usize) -> Vec<Vec<u8>> {
+        let mut rest = &self.parameters[..];
+        let mut take = |size: usize| {
+            let (front, behind) = rest.split_at(size);
+            rest = behind;
+            front.to_vec()
+        };
+        (0..count)
+            .map(|_| {
+                let size = take(2);
+                take(usize::from(size[0]) << 8 | usize::from(size[1]))
+            })
+            .collect()
+    }
+}
+
+pub fn number(value: u32) -> [u8; 4] {
+    value.to_be_bytes()
+}
+
+pub fn sized(bytes: &[u8]) -> Vec<u8> {
+    [&(bytes.len() as u16).to_be_bytes()[..], bytes].concat()
+}
+
+/// PCRs of the SHA-256 bank.
+pub fn selection(pcrs: &[u8]) -> Vec<u8> {
+    let mut bits = [0; 3];
+    for pcr in pcrs {
+        bits[usize::from(pcr / 8)] |= 1 << (pcr % 8);
+    }
+    [&[0, 0, 0, 1, 0, 0x0b, 3][..], &bits].concat()
+}
+
+/// Sends a command, whose first handle is authorized so.
+pub fn send(
+    tpm: &mut Device,
+    code: u32,
+    handles: &[u32],
+    by: Option<By>,
+    parameters: &[u8],
+) -> Result<Answer, Refusal> {
+    let mut body: Vec<u8> = handles.iter().flat_map(|it| number(*it)).collect();
+    if let Some(by) = &by {
+        let entry = by.entry();
+        body.extend(number(entry.len() as u32));
+        body.extend(entry);
+    }
+    body.extend(parameters);
+    let tag = [0x80, if by.is_some() { 2 } else { 1 }];
+    let header = [&tag[..], &number(10 + body.len() as u32), &number(code)].concat();
+    let response = tpm.execute(&[header, body].concat());
+    let mut rest = response.accepted()?;
+    let mut take = || {
+        let (front, behind) = rest.split_at(4);
+        rest = behind;
+        u32::from_be_bytes(front.try_into().expect("there are four bytes"))
+    };
+    let handle = if WITH_HANDLE.contains(&code) { take() } else { 0 };
+    let size = if by.is_some() { take() as usize } else { rest.len() };
+    Ok(Answer { handle, parameters: rest[..size].to_vec() })
+}
+
+/// Starts a session by SHA-256, neither bound nor salted.
+pub fn start_session(tpm: &mut Device, kind: u8) -> Result<u32, Refusal> {
+    let parameters = [&sized(&[0; 16])[..], &[0, 0, kind, 0, 0x10, 0, 0x0b]].concat();
+    Ok(send(tpm, 0x176, &[NULL, NULL], None, &parameters)?.handle)
+}
+
+/// Flushes a session or an object.
+pub fn flush(tpm: &mut Device, handle: u32) -> Result<(), Refusal> {
+    send(tpm, 0x165, &[], None, &number(handle)).map(|_| ())
+}
+
+/// The digest of a trial session, which ends.
+pub fn digest_of(tpm: &mut Device, trial: u32) -> Result<Vec<u8>, Refusal> {
+    let digest = send(tpm, 0x189, &[trial], None, &[])?.buffers(1).remove(0);
+    flush(tpm, trial)?;
+    Ok(digest)
+}
+
+/// A storage key of the owner's: an AES key, which the same template makes again.
+pub fn storage_key(tpm: &mut Device, owner: &[u8]) -> Result<u32, Refusal> {
+    let template = [0, 0x25, 0, 0x0b, 0, 3, 4, 0x72, 0, 0, 0, 6, 0, 0x80, 0, 0x43, 0, 0];
+    let parameters = [sized(&[0; 4]), sized(&template), vec![0; 6]].concat();
+    Ok(send(tpm, 0x131, &[OWNER], Some(By::Password(owner)), &parameters)?.handle)
+}
+
+/// Data that are sealed below a storage key, with a value and a policy, and are loaded.
+pub fn sealed(
+    tpm: &mut Device,
+    parent: u32,
+    value: &[u8],
+    policy: &[u8],
+    data: &[u8],
+) -> Result<u32, Refusal> {
+    let sensitive = [sized(value), sized(data)].concat();
+    let public = [&[0, 8, 0, 0x0b, 0, 0, 0, 0x12][..], &sized(policy), &[0, 0x10, 0, 0]].concat();
+    let parameters = [sized(&sensitive), sized(&public), vec![0; 6]].concat();
+    let made = send(tpm, 0x153, &[parent], Some(By::Password(b"")), &parameters)?.buffers(2);
+    let areas = [sized(&made[0]), sized(&made[1])].concat();
+    Ok(send(tpm, 0x157, &[parent], Some(By::Password(b"")), &areas)?.handle)
+}
+
+/// What an object seals.
+pub fn unseal(tpm: &mut Device, handle: u32, by: By) -> Result<String, Refusal> {
+    let data = send(tpm, 0x15e, &[handle], Some(by), &[])?.buffers(1).remove(0);
+    Ok(String::from_utf8_lossy(&data).into_owned())
+}
+
+/// Defines the index of the examples, with these attributes.
+pub fn define(tpm: &mut Device, attributes: u32, value: &[u8]) -> Result<(), Refusal> {
+    let area = [&number(INDEX)[..], &[0, 0x0b], &number(attributes), &[0, 0, 0, 8]].concat();
+    let parameters = [sized(value), sized(&area)].concat();
+    send(tpm, 0x12a, &[OWNER], Some(By::Password(b"")), &parameters).map(|_| ())
+}
+
+/// Measures data into a PCR; the digest of the SHA-256 bank.
+pub fn measure(tpm: &mut Device, pcr: u8, data: &[u8]) -> Result<Vec<u8>, Refusal> {
+    let by = Some(By::Password(b""));
+    let digests = send(tpm, 0x13c, &[pcr.into()], by, &sized(data))?.parameters;
+    // Their number, and that of SHA-1 with its algorithm, stand before it.
+    Ok(digests[4 + 2 + 20 + 2..][..32].to_vec())
+}
+
+/// A line of an example: what came of it, or why it was refused.
+pub fn tell(what: &str, came: Result<String, Refusal>) {
+    match came {
+        Ok(text) => println!("{what}: {text}"),
+        Err(refusal) => println!("{what}: {refusal}"),
+    }
+}

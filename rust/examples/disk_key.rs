@@ -1,0 +1,84 @@
+//! A disk's key is sealed to PCRs 7 and 11 and a PIN. It is refused after PCR 11 moved on, and recovered by
+//! a second branch of its policy, which asks for the owner's passphrase.
+
+mod commands;
+
+use commands::{
+    digest_of, flush, measure, sealed, selection, send, sized, start_session, storage_key, tell,
+    unseal, By, OWNER, POLICY, TRIAL,
+};
+use tpmsim::{Device, Refusal};
+
+const DISK_KEY: &[u8] = b"the key of a disk, of 32 bytes..";
+const PIN: &[u8] = b"7391";
+const PASSPHRASE: &[u8] = b"kept in a drawer";
+
+/// The first branch: the PCRs as they are now, and the PIN.
+fn by_pin(tpm: &mut Device, session: u32) -> Result<(), Refusal> {
+    let pcrs = [vec![0, 0], selection(&[7, 11])].concat();
+    send(tpm, 0x17f, &[session], None, &pcrs)?;
+    send(tpm, 0x18c, &[session], None, &[]).map(|_| ())
+}
+
+/// The second branch: TPM2_PolicySecret of the owner.
+fn by_passphrase(tpm: &mut Device, session: u32, passphrase: &[u8]) -> Result<(), Refusal> {
+    send(tpm, 0x151, &[OWNER, session], Some(By::Password(passphrase)), &[0; 10]).map(|_| ())
+}
+
+/// TPM2_PolicyOR of the branches.
+fn either(tpm: &mut Device, session: u32, branches: &[Vec<u8>; 2]) -> Result<(), Refusal> {
+    let digests = [vec![0, 0, 0, 2], sized(&branches[0]), sized(&branches[1])].concat();
+    send(tpm, 0x171, &[session], None, &digests).map(|_| ())
+}
+
+/// The digests of the branches, for the PCRs as they are now, and that of the policy.
+fn policy(tpm: &mut Device) -> Result<([Vec<u8>; 2], Vec<u8>), Refusal> {
+    let trial = start_session(tpm, TRIAL)?;
+    by_pin(tpm, trial)?;
+    let first = digest_of(tpm, trial)?;
+    let trial = start_session(tpm, TRIAL)?;
+    by_passphrase(tpm, trial, PASSPHRASE)?;
+    let branches = [first, digest_of(tpm, trial)?];
+    let trial = start_session(tpm, TRIAL)?;
+    either(tpm, trial, &branches)?;
+    Ok((branches, digest_of(tpm, trial)?))
+}
+
+/// The disk's key by the first branch that holds, or why there is none.
+fn opened(
+    tpm: &mut Device,
+    disk: u32,
+    branches: &[Vec<u8>; 2],
+    (pin, passphrase): (&[u8], &[u8]),
+) -> Result<String, Refusal> {
+    let session = start_session(tpm, POLICY)?;
+    by_pin(tpm, session)?;
+    let key = match either(tpm, session, branches) {
+        Ok(()) => unseal(tpm, disk, By::Policy(session, pin)),
+        Err(_) => send(tpm, 0x180, &[session], None, &[]) // TPM2_PolicyRestart
+            .and_then(|_| by_passphrase(tpm, session, passphrase))
+            .and_then(|()| either(tpm, session, branches))
+            .and_then(|()| unseal(tpm, disk, By::Policy(session, b""))),
+    };
+    flush(tpm, session)?;
+    key
+}
+
+fn main() -> tpmsim::Result<()> {
+    let tpm = &mut Device::new()?;
+    tpm.start_up()?;
+    send(tpm, 0x129, &[OWNER], Some(By::Password(b"")), &sized(PASSPHRASE))?;
+    measure(tpm, 7, b"secure boot is on")?;
+    measure(tpm, 11, b"kernel and initrd")?;
+    let (branches, digest) = policy(tpm)?;
+
+    let parent = storage_key(tpm, PASSPHRASE)?;
+    let disk = sealed(tpm, parent, PIN, &digest, DISK_KEY)?;
+    tell("With the PIN", opened(tpm, disk, &branches, (PIN, b"")));
+    tell("With another PIN", opened(tpm, disk, &branches, (b"1234", b"")));
+
+    measure(tpm, 11, b"the system is started")?;
+    tell("After PCR 11 moved on", opened(tpm, disk, &branches, (PIN, b"a guess")));
+    tell("With the passphrase", opened(tpm, disk, &branches, (PIN, PASSPHRASE)));
+    Ok(())
+}

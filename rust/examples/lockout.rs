@@ -1,0 +1,45 @@
+//! Wrong PINs are counted. After three of them the TPM looks at none any more, until an hour of device time
+//! has passed; or at once by the lockout's own value.
+
+mod commands;
+
+use commands::{define, number, send, sized, tell, By, INDEX, LOCKOUT};
+use std::time::Duration;
+use tpmsim::{Device, Refusal};
+
+/// An index that its value writes and reads.
+const BY_VALUE: u32 = 0x0004_0004;
+
+const PIN: &[u8] = b"7391";
+const WRONG: &[u8] = b"1234";
+const HOUR: u32 = 3_600;
+
+/// The data of the index by a PIN, or why there are none.
+fn read(tpm: &mut Device, pin: &[u8]) -> Result<String, Refusal> {
+    let by = Some(By::Password(pin));
+    let data = send(tpm, 0x14e, &[INDEX, INDEX], by, &[0, 8, 0, 0])?.buffers(1).remove(0);
+    Ok(String::from_utf8_lossy(&data).into_owned())
+}
+
+fn main() -> tpmsim::Result<()> {
+    let tpm = &mut Device::new()?;
+    tpm.start_up()?;
+    let protection = [number(3), number(HOUR), number(24 * HOUR)].concat();
+    send(tpm, 0x13a, &[LOCKOUT], Some(By::Password(b"")), &protection)?;
+    define(tpm, BY_VALUE, PIN)?;
+    let written = [sized(b"the data"), vec![0, 0]].concat();
+    send(tpm, 0x137, &[INDEX, INDEX], Some(By::Password(PIN)), &written)?;
+    tell("The right PIN", read(tpm, PIN));
+    for _ in 0..3 {
+        tell("A wrong one", read(tpm, WRONG));
+    }
+    tell("The right PIN", read(tpm, PIN));
+
+    tpm.wait(Duration::from_secs(HOUR.into()))?;
+    tell("An hour later", read(tpm, PIN));
+    tell("A wrong one", read(tpm, WRONG));
+    tell("The right PIN", read(tpm, PIN));
+    send(tpm, 0x139, &[LOCKOUT], Some(By::Password(b"")), &[])?;
+    tell("After a reset", read(tpm, PIN));
+    Ok(())
+}

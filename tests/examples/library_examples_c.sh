@@ -1,0 +1,12 @@
+# The examples in C print what those in Python do, but for the words of a refusal.
+tests=$(cd "$(dirname "$0")/.." && pwd -P)
+. "$tests/common/cases.sh"
+. "$tests/common/library.sh"
+needs cc
+
+for name in disk_key event_log lockout rollback_guard; do
+    echo "== $name"
+    # shellcheck disable=SC2086 # they are words
+    cc -std=c11 -D_DEFAULT_SOURCE -Wall -Wextra -Werror $sanitizers -I"$dist" -o "$room/$name" \
+        "$tests/../examples/c/$name.c" "$archive" && "$room/$name"
+done

@@ -1,0 +1,14 @@
+# The examples in Go print what those in Python do.
+tests=$(cd "$(dirname "$0")/.." && pwd -P)
+. "$tests/common/cases.sh"
+. "$tests/common/library.sh"
+. "$tests/common/go.sh"
+needs go cc
+copy_module
+mkdir "$room/built"
+
+play build -o "$room/built/" ./examples/...
+for name in disk_key event_log lockout rollback_guard; do
+    echo "== $name"
+    "$room/built/$name"
+done

@@ -1,0 +1,12 @@
+# The examples in Rust print what those in Python do.
+tests=$(cd "$(dirname "$0")/.." && pwd -P)
+. "$tests/common/cases.sh"
+. "$tests/common/library.sh"
+. "$tests/common/rust.sh"
+needs cargo
+copy_package
+
+for name in disk_key event_log lockout rollback_guard; do
+    echo "== $name"
+    play run --quiet --example "$name" && cat said
+done
