@@ -1,0 +1,40 @@
+-- The types of the code, as the definitions see them.
+use Rattle.std.specs.Prelude.{◌≡◌, ℕ, List, Option, Some, None}
+use Rattle.tpm_keeping.specs.Journal.{Spot}
+use Rattle.tpm_slots.specs.SlotRecord.{slot_record}
+use Rattle.tpm_types.specs.Locality.{locality_number}
+use Rattle.tpm_kept_journal.specs.Command.{Begins, Cycles, Executes, KeptCommand}
+use Rattle.tpm_kept_journal.specs.Seed.{Seed}
+use Rattle.tpm_kept_journal.specs.State.{DeviceState, spot_of, state_in}
+use Rattle.tpm_kept_device.specs.declared.command.Command.{Command}
+use Rattle.tpm_kept_device.specs.declared.command.Command.TheVariants as command
+use Rattle.tpm_kept_device.specs.declared.seed.Seed as declared
+use Rattle.tpm_kept_device.specs.declared.parts.Parts.{Parts}
+
+-- a command, wherever its bytes lie in memory
+abbrev pub plain_command : Command → KeptCommand
+plain_command (command.Execute now locality completes random buffer) =
+    Executes now (locality_number locality) completes random.now buffer.now
+plain_command (command.Cycle now start) = Cycles now start
+plain_command (command.Begin seed) = Begins seed.now
+
+-- a seed, wherever its bytes lie in memory
+abbrev pub plain_seed : declared.Seed → Seed
+plain_seed seed = record {
+  kind = seed.kind;
+  now = seed.now_ms;
+  start = seed.start;
+  content = seed.content.now;
+}
+
+-- the state of a device, and its spot
+abbrev pub state_of : Parts → DeviceState
+state_of parts = state_in parts.journal (slot_record parts.machine.keep)
+
+abbrev pub spot_in : Parts → Spot
+spot_in parts = spot_of parts.journal (slot_record parts.machine.keep)
+
+-- A device began in this state, or there is none.
+abbrev pub BeginsAs : {B : Type 0} → (B → Parts) → Option DeviceState → Option B → Type 0
+BeginsAs parts_in state (Some b) = state ≡ Some (state_of (parts_in b))
+BeginsAs parts_in state None = state ≡ None

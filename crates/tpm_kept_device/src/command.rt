@@ -1,0 +1,116 @@
+//! A command to a kept device, read from its text.
+
+ghost use Rattle.std.specs.Prelude.{◌≡◌, IfOk};
+ghost use Rattle.std.specs.Int.{w8};
+ghost use Rattle.tpm_bytes.specs.Reading.{AreBytes, Gives, Reads};
+ghost use Rattle.tpm_image_text.specs.Fields.{bytes_in, number_in, passing};
+ghost use Rattle.tpm_kept_journal.specs.Command.{IsGiven, command_in, command_of, cycled_in, executed_in, is_locality};
+ghost use Rattle.tpm_kept_device.specs.View.{plain_command};
+ghost use Rattle.tpm_types.specs.Locality.{locality_number};
+
+use tpm_bytes::Cursor;
+use tpm_image_text::{Malformed, read_bool, read_u8, read_u64};
+use tpm_types::Locality;
+
+/// A command to a kept device. Each has the host's clock in milliseconds.
+#[derive(Clone, Copy)]
+pub(crate) enum Command<'a> {
+    /// A command of the standard.
+    Execute {
+        now_ms: u64,
+        locality: Locality,
+        /// Whether the layer completes what the device does.
+        completes: bool,
+        /// 256 random bytes.
+        random: &'a [u8],
+        buffer: &'a [u8],
+    },
+    /// A power cycle. The number of the layer's start is one that no start had before.
+    Cycle {
+        now_ms: u64,
+        start: u64,
+    },
+    /// A beginning anew, as the restoring of a snapshot.
+    Begin {
+        seed: &'a [u8],
+    },
+}
+
+/// Reads a command from a text.
+pub(crate) fn read_command<'a>(text: &'a [u8]) -> Result<Command<'a>, Malformed>
+    ensures value { Gives plain_command (command_of text.now) result }
+    ensures given { IfOk result (λ command. IsGiven (plain_command command)) }
+{
+    read_any(text)
+}
+
+/// Reads a command from a text of bytes.
+#[tactic(auto, unfolding(tpm_kept_journal::specs::Command::command_in))]
+fn read_any<'a>(text: &'a [u8]) -> Result<Command<'a>, Malformed>
+    ensures value { Gives plain_command (command_in text.now) result }
+    ensures bytes { AreBytes text.now }
+{
+    let mut left = Cursor::new(text);
+    match read_u8(&mut left)? {
+        0 => read_executed(&mut left),
+        1 => read_cycled(&mut left),
+        2 => Ok(Command::Begin { seed: left.rest() }),
+        _ => Err(Malformed),
+    }
+}
+
+/// Reads a command of the standard, after its kind.
+#[tactic(auto, unfolding(tpm_kept_journal::specs::Command::executed_in))]
+fn read_executed<'a>(text: &mut Cursor<'a>) -> Result<Command<'a>, Malformed>
+    ensures { Gives plain_command (executed_in text.old) result }
+{
+    let now_ms = read_u64(text)?;
+    let locality = read_locality(text)?;
+    let completes = read_bool(text)?;
+    let random = read_random(text)?;
+    Ok(Command::Execute {
+        now_ms,
+        locality,
+        completes,
+        random,
+        buffer: text.rest(),
+    })
+}
+
+/// Reads a locality, 0 to 4.
+fn read_locality(text: &mut Cursor) -> Result<Locality, Malformed>
+    ensures { Reads locality_number (passing is_locality (number_in w8) text.old) text.old result
+        text.new }
+{
+    let mut ahead = Cursor::new(text.rest());
+    let number = read_u8(&mut ahead)?;
+    let Some(locality) = Locality::new(number) else {
+        return Err(Malformed);
+    };
+    *text = ahead;
+    Ok(locality)
+}
+
+/// Reads 256 random bytes.
+fn read_random<'a>(text: &mut Cursor<'a>) -> Result<&'a [u8], Malformed>
+    ensures { Reads (λ bytes. bytes.now) (bytes_in 256 text.old) text.old result text.new }
+{
+    match text.take(256) {
+        Ok(random) => Ok(random),
+        Err(_) => Err(Malformed),
+    }
+}
+
+/// Reads a power cycle, after its kind.
+#[tactic(auto, unfolding(tpm_kept_journal::specs::Command::cycled_in))]
+fn read_cycled<'a>(text: &mut Cursor<'a>) -> Result<Command<'a>, Malformed>
+    ensures { Gives plain_command (cycled_in text.old) result }
+{
+    let now_ms = read_u64(text)?;
+    let start = read_u64(text)?;
+    if text.is_empty() {
+        Ok(Command::Cycle { now_ms, start })
+    } else {
+        Err(Malformed)
+    }
+}

@@ -1,0 +1,15 @@
+#![tactic(auto)]
+
+//! A device as a keeper keeps it: [`KeptDevice`], which tpm_keeping drives.
+//!
+//! tpm_kept_journal says what its journal is: functions of texts, which meet what a keeper needs.
+//! This crate computes them with the real device: each method's contract is that of
+//! `tpm_keeping::device::Device` over that journal. So what tpm_keeping proves of a kept device,
+//! through kills, failures and crashes, holds of this one.
+
+mod command;
+pub mod device;
+pub mod parts;
+mod seed;
+
+pub use device::KeptDevice;

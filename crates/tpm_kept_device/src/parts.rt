@@ -1,0 +1,327 @@
+//! What a kept device is made of, and what it does.
+
+ghost use Rattle.std.specs.Prelude.{◌≡◌, ◌≤◌, ◌++◌, IfOk, OnOk, false, length, option_copied, replicate, take, true};
+ghost use Rattle.std.specs.Option.{MatchOption};
+ghost use Rattle.tpm_completion.specs.Completion.{new_completion};
+ghost use Rattle.tpm_journal.specs.Command.{Executed, entry_of};
+ghost use Rattle.tpm_completion.specs.Execution.{seen_of};
+ghost use Rattle.tpm_journal.specs.Opening.{OpensJournal};
+ghost use Rattle.tpm_journal.specs.Replay.{Replays};
+ghost use Rattle.tpm_journal.specs.State.{journal_after, layer_in};
+ghost use Rattle.tpm_keeping.specs.Journal.{started, stepped};
+ghost use Rattle.tpm_kept_journal.specs.DeviceJournal.{device_journal};
+ghost use Rattle.tpm_kept_journal.specs.Effect.{command_on, cycled_at};
+ghost use Rattle.tpm_kept_journal.specs.Opening.{head_of, head_sum_of, opened_text, walked};
+ghost use Rattle.tpm_kept_journal.specs.Seed.{begun_in, state_made, state_opened, state_restored};
+ghost use Rattle.tpm_kept_journal.specs.State.{IsDeviceState, bytes_of, whole_of};
+ghost use Rattle.tpm_kept_device.specs.View.{BeginsAs, plain_seed, spot_in, state_of};
+ghost use Rattle.tpm_image_text.specs.Image.{image_of};
+ghost use Rattle.tpm_bytes.specs.Reading.{AreBytes};
+ghost use Rattle.tpm_journal_text.specs.Head.{content_limit, head_sum, head_text};
+ghost use Rattle.tpm_journal_text.specs.declared.head.HeadKind.TheVariants.{State};
+ghost use Rattle.tpm_record.specs.Record.{manufactured};
+ghost use Rattle.tpm_slots.specs.SlotRecord.{slot_record};
+ghost use Rattle.tpm_state_text.specs.State.{state_of_text, state_text};
+
+use crate::command::{Command, read_command};
+use crate::seed::{Seed, read_seed};
+use std::alloc::Global;
+use tpm_completion::Completion;
+use tpm_image::open_into;
+use tpm_journal::Journal;
+use tpm_journal::opening::open;
+use tpm_journal_text::{ENTRY_ROOM, HeadKind, head_size, write_head};
+use tpm_keeping::device::Exhausted;
+use tpm_machine::Machine;
+use tpm_slots::SlotKeep;
+use tpm_snapshot::{Layer, completion_of, layer_of, restore_new, snapshot_into};
+use tpm_step::{Event, Outcome};
+
+/// A device, its journal with the completing layer, the outcome of its latest event, over which the
+/// next outcome is written, and buffers for random bytes and for an entry.
+#[derive(Drop)]
+pub struct Parts {
+    machine: Machine<SlotKeep>,
+    journal: Journal,
+    outcome: Outcome,
+    random: [u8; 256],
+    entry: [u8; ENTRY_ROOM],
+}
+
+impl Parts {
+    /// A device as it is manufactured with these random bytes.
+    fn manufacture(alloc: Global, random: &[u8; 256]) -> Result<Box<Parts>, Exhausted>
+        ensures { IfOk result (λ b. slot_record b.value.machine.keep ≡ manufactured random.now) }
+    {
+        let Ok(machine) = Machine::manufacture(alloc, random) else {
+            return Err(Exhausted);
+        };
+        let parts = Parts {
+            machine,
+            journal: Journal::begun(0, 0),
+            outcome: Outcome::empty(),
+            random: [0; 256],
+            entry: [0; ENTRY_ROOM],
+        };
+        match Box::new(alloc, parts) {
+            Ok(parts) => Ok(parts),
+            Err(_) => Err(Exhausted),
+        }
+    }
+
+    /// The journal of a device begins anew at this time, with this layer.
+    fn begin_journal(&mut self, now_ms: u64, layer: Completion)
+        ensures { state_of self.new ≡ record (state_of self.old) { time = now_ms; layer = layer } }
+    {
+        self.journal = Journal {
+            sum: 0,
+            time: now_ms,
+            layer,
+        };
+    }
+
+    /// A device that begins of a seed; None if the seed is none.
+    #[tactic(auto, unfolding(tpm_kept_journal::specs::Seed::begun_of))]
+    pub fn begin(alloc: Global, seed: &[u8]) -> Result<Option<Box<Parts>>, Exhausted>
+        ensures { IfOk result (BeginsAs (λ b. b.value) (begun_in seed.now)) }
+    {
+        let Ok(seed) = read_seed(seed) else {
+            return Ok(None);
+        };
+        match seed.kind {
+            0 => Parts::make(alloc, &seed),
+            1 => Parts::power_on(alloc, &seed),
+            2 => Parts::restore(alloc, &seed),
+            _ => Ok(None),
+        }
+    }
+
+    /// A device as it is manufactured with a seed's 256 random bytes.
+    fn make(alloc: Global, seed: &Seed) -> Result<Option<Box<Parts>>, Exhausted>
+        ensures { IfOk result (BeginsAs (λ b. b.value) (state_made (plain_seed seed.now))) }
+    {
+        if seed.content.len() != 256 {
+            return Ok(None);
+        }
+        let mut random = [0; 256];
+        random.copy_from_slice(seed.content);
+        let mut parts = Parts::manufacture(alloc, &random)?;
+        parts.begin_journal(seed.now_ms, Completion::of_start(seed.start));
+        Ok(Some(parts))
+    }
+
+    /// The device of a seed's image, as power comes on.
+    fn power_on(alloc: Global, seed: &Seed) -> Result<Option<Box<Parts>>, Exhausted>
+        ensures { IfOk result (BeginsAs (λ b. b.value)
+            (state_opened (plain_seed seed.now) (image_of seed.now.content.now))) }
+    {
+        let mut parts = Parts::manufacture(alloc, &[0; 256])?;
+        let Ok(()) = open_into(&mut parts.machine, seed.content) else {
+            return Ok(None);
+        };
+        parts.begin_journal(seed.now_ms, Completion::of_start(seed.start));
+        Ok(Some(parts))
+    }
+
+    /// The device of a seed's state text, with its layer, if it has one.
+    fn restore(alloc: Global, seed: &Seed) -> Result<Option<Box<Parts>>, Exhausted>
+        ensures { IfOk result (BeginsAs (λ b. b.value)
+            (state_restored (plain_seed seed.now) (state_of_text seed.now.content.now))) }
+    {
+        let mut parts = Parts::manufacture(alloc, &[0; 256])?;
+        let Ok(layer) = restore_new(&mut parts.machine, seed.content) else {
+            return Ok(None);
+        };
+        parts.begin_journal(seed.now_ms, layer_in(seed.start, layer.as_ref()));
+        Ok(Some(parts))
+    }
+
+    /// What a device is, by the widths of its fields. The call only reads.
+    pub fn read_widths(&self)
+        ensures { IsDeviceState (state_of self.now) }
+    {
+        let _keep = self.machine.keep();
+        let _layer = layer_of(&self.journal.layer);
+        let _time = self.journal.time;
+    }
+
+    /// Opens the device of a journal; None if the text is none.
+    pub fn open(alloc: Global, text: &[u8]) -> Result<Option<(Box<Parts>, usize)>, Exhausted>
+        ensures { IfOk result (λ opened. MatchOption opened (opened_text text.now ≡ None)
+            (λ found. opened_text text.now ≡ Some (spot_in found.0.value, found.1))) }
+    {
+        let mut parts = Parts::manufacture(alloc, &[0; 256])?;
+        match parts.open_in_place(text) {
+            Some(taken) => Ok(Some((parts, taken))),
+            None => Ok(None),
+        }
+    }
+
+    /// Opens the device of a journal in place of a new device of zeros. At None nothing is said of
+    /// the device.
+    fn open_in_place(&mut self, text: &[u8]) -> Option<usize>
+        requires { slot_record self.old.machine.keep ≡ manufactured (replicate 256 0) }
+        ensures { MatchOption result (opened_text text.now ≡ None)
+            (λ taken. opened_text text.now ≡ Some (spot_in self.new, taken)) }
+    {
+        let Ok(opened) = open(&mut self.machine, text, &mut self.outcome) else {
+            return None;
+        };
+        self.journal = opened.journal;
+        Some(opened.taken)
+    }
+
+    /// Executes the entries of a text; None if they do not follow.
+    pub fn follow(&mut self, text: &[u8]) -> Option<usize>
+        ensures { MatchOption result (walked (spot_in self.old) 0 text.now ≡ None)
+            (λ taken. walked (spot_in self.old) 0 text.now ≡ Some (spot_in self.new, taken)) }
+    {
+        self.read_widths();
+        let followed = self
+            .journal
+            .follow(&mut self.machine, text, &mut self.outcome);
+        match followed.fault {
+            None => Some(followed.taken),
+            Some(_) => None,
+        }
+    }
+
+    /// Executes a command that has an entry, and appends the entry and the response.
+    pub fn execute(
+        &mut self,
+        command: &[u8],
+        out: &mut Vec<u8>,
+        response: &mut Vec<u8>,
+    ) -> Result<(), Exhausted>
+        requires { device_journal.is_entered command.now ≡ true }
+        ensures spot { OnOk result (spot_in self.new
+            ≡ stepped device_journal (spot_in self.old) command.now) }
+        ensures entry { OnOk result (out.new.items
+            ≡ out.old.items ++ device_journal.entry (spot_in self.old) command.now) }
+        ensures response { OnOk result (response.new.items
+            ≡ response.old.items ++ device_journal.response (spot_in self.old).state command.now) }
+    {
+        let size = self.perform(command);
+        let (entry, _) = self.entry.split_at(size);
+        let answer = self.outcome.response.as_slice();
+        match (
+            out.extend_from_slice(entry),
+            response.extend_from_slice(answer),
+        ) {
+            (Ok(()), Ok(())) => Ok(()),
+            _ => Err(Exhausted),
+        }
+    }
+
+    /// Executes a command that has an entry. The entry, of as many bytes as is returned, is in the
+    /// buffer, and the response in the outcome.
+    fn perform(&mut self, command: &[u8]) -> usize
+        requires { device_journal.is_entered command.now ≡ true }
+        ensures spot { spot_in self.new ≡ stepped device_journal (spot_in self.old) command.now }
+        ensures entry { take result self.new.entry
+            ≡ device_journal.entry (spot_in self.old) command.now }
+        ensures fits { result ≤ length self.new.entry }
+        ensures response { self.new.outcome.response.items
+            ≡ device_journal.response (spot_in self.old).state command.now }
+    {
+        self.read_widths();
+        let Ok(
+            Command::Execute {
+                now_ms,
+                locality,
+                completes,
+                random,
+                buffer,
+            },
+        ) = read_command(command)
+        else {
+            return 0;
+        };
+        self.random.copy_from_slice(random);
+        self.journal.execute(
+            &mut self.machine,
+            buffer,
+            locality,
+            now_ms,
+            completes,
+            &self.random,
+            &mut self.outcome,
+            &mut self.entry,
+        )
+    }
+
+    /// Cycles the power of a device, whose layer begins anew.
+    pub fn cycle_power(&mut self, now_ms: u64, start: u64)
+        ensures { state_of self.new ≡ cycled_at (state_of self.old) now_ms start }
+    {
+        self.machine
+            .execute_into(&Event::PowerCycle, &mut self.outcome);
+        self.begin_journal(now_ms, Completion::of_start(start));
+    }
+
+    /// Appends the head of the state, and returns its sum.
+    pub fn put_head(&self, alloc: Global, out: &mut Vec<u8>) -> Result<u64, Exhausted>
+        ensures head { OnOk result (out.new.items
+            ≡ out.old.items ++ head_of (bytes_of (state_of self.now))) }
+        ensures sum { IfOk result (λ sum. sum ≡ head_sum_of (bytes_of (state_of self.now))) }
+    {
+        self.read_widths();
+        let Ok(text) = self.state_text(alloc) else {
+            return Err(Exhausted);
+        };
+        put_head_of(alloc, self.journal.time, &text, out)
+    }
+
+    /// The state text of the device, with its layer.
+    fn state_text(&self, alloc: Global) -> Result<Vec<u8>, Exhausted>
+        ensures { IfOk result (λ text. text.items ≡ state_text (whole_of (state_of self.now))) }
+    {
+        let layer = layer_of(&self.journal.layer);
+        let size = snapshot_into(&self.machine, Some(&layer), &mut []);
+        let Ok(mut text) = vec![in alloc; 0u8; size] else {
+            return Err(Exhausted);
+        };
+        snapshot_into(&self.machine, Some(&layer), &mut text);
+        Ok(text)
+    }
+
+    /// The next entry follows a head with this sum.
+    pub fn chain_to(&mut self, sum: u64)
+        ensures { spot_in self.new ≡ record (spot_in self.old) { chain = sum } }
+    {
+        self.journal.sum = sum;
+    }
+}
+
+/// Appends the head of this clock and this state text, and returns its sum.
+fn put_head_of(
+    alloc: Global,
+    clock_ms: u64,
+    text: &[u8],
+    out: &mut Vec<u8>,
+) -> Result<u64, Exhausted>
+    requires { length text.now ≤ content_limit State }
+    ensures head { OnOk result (out.new.items
+        ≡ out.old.items ++ head_text State clock_ms text.now) }
+    ensures sum { IfOk result (λ sum. sum ≡ head_sum clock_ms text.now) }
+    ensures bytes { AreBytes text.now }
+{
+    let Ok(mut head) = vec![in alloc; 0u8; head_size(text.len())] else {
+        return Err(Exhausted);
+    };
+    let sum = write_head(HeadKind::State, clock_ms, text, &[], &mut head);
+    match out.extend_from_slice(&head) {
+        Ok(()) => Ok(sum),
+        Err(_) => Err(Exhausted),
+    }
+}
+
+/// The layer of a state: the one that it has, or a new one of this start.
+fn layer_in(start: u64, layer: Option<&Layer>) -> Completion
+    ensures { result ≡ layer_in start (option_copied layer.entry) }
+{
+    match layer {
+        Some(_) => completion_of(layer),
+        None => Completion::of_start(start),
+    }
+}

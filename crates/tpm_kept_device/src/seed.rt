@@ -1,0 +1,37 @@
+//! What a device begins of, read from its text.
+
+ghost use Rattle.tpm_bytes.specs.Reading.{Gives};
+ghost use Rattle.tpm_kept_journal.specs.Seed.{seed_in};
+ghost use Rattle.tpm_kept_device.specs.View.{plain_seed};
+
+use tpm_bytes::Cursor;
+use tpm_image_text::{Malformed, read_u8, read_u64};
+
+/// What a device begins of.
+#[derive(Clone, Copy)]
+pub(crate) struct Seed<'a> {
+    /// 0: the content is random bytes. 1: an image. 2: a state text.
+    pub(crate) kind: u8,
+    /// The host's clock in milliseconds.
+    pub(crate) now_ms: u64,
+    /// The number of the completing layer's start, which no start had before.
+    pub(crate) start: u64,
+    pub(crate) content: &'a [u8],
+}
+
+/// Reads a seed from a text.
+#[tactic(auto, unfolding(tpm_kept_journal::specs::Seed::seed_in))]
+pub(crate) fn read_seed<'a>(text: &'a [u8]) -> Result<Seed<'a>, Malformed>
+    ensures { Gives plain_seed (seed_in text.now) result }
+{
+    let mut left = Cursor::new(text);
+    let kind = read_u8(&mut left)?;
+    let now_ms = read_u64(&mut left)?;
+    let start = read_u64(&mut left)?;
+    Ok(Seed {
+        kind,
+        now_ms,
+        start,
+        content: left.rest(),
+    })
+}

@@ -1,0 +1,43 @@
+//! The texts of commands and seeds.
+
+use std::alloc::{AllocError, Global};
+
+/// A seed of a device that is manufactured: its kind, the clock, the start and 256 random bytes.
+pub fn seed(alloc: Global, now_ms: u64, random: u8) -> Result<Vec<u8>, AllocError> {
+    let mut text = Vec::new(alloc);
+    text.push(0)?;
+    text.extend_from_slice(&now_ms.to_be_bytes())?;
+    text.extend_from_slice(&7u64.to_be_bytes())?;
+    text.extend_from_slice(&[random; 256])?;
+    Ok(text)
+}
+
+/// A command of the standard from locality 0, completed by the layer, with 256 random bytes.
+pub fn given(alloc: Global, now_ms: u64, random: u8, buffer: &[u8]) -> Result<Vec<u8>, AllocError> {
+    let mut text = Vec::new(alloc);
+    text.push(0)?;
+    text.extend_from_slice(&now_ms.to_be_bytes())?;
+    text.extend_from_slice(&[0, 1])?;
+    text.extend_from_slice(&[random; 256])?;
+    text.extend_from_slice(buffer)?;
+    Ok(text)
+}
+
+/// A power cycle.
+pub fn cycle(alloc: Global, now_ms: u64) -> Result<Vec<u8>, AllocError> {
+    let mut text = Vec::new(alloc);
+    text.push(1)?;
+    text.extend_from_slice(&now_ms.to_be_bytes())?;
+    text.extend_from_slice(&8u64.to_be_bytes())?;
+    Ok(text)
+}
+
+/// The restoring of a state text, at this time.
+pub fn restoring(alloc: Global, now_ms: u64, state: &[u8]) -> Result<Vec<u8>, AllocError> {
+    let mut text = Vec::new(alloc);
+    text.extend_from_slice(&[2, 2])?;
+    text.extend_from_slice(&now_ms.to_be_bytes())?;
+    text.extend_from_slice(&9u64.to_be_bytes())?;
+    text.extend_from_slice(state)?;
+    Ok(text)
+}

@@ -1,0 +1,260 @@
+-- A device that executes the entries of a text goes where the text leads.
+use Rattle.std.proofs.Common.{◌≡◌, ◌≢◌, ◌≤◌, ◌<◌, ◌+◌, ◌==◌, ◌^◌, ℕ, zero, suc, Bool, true, false, List, [], ◌∷◌, ◌++◌, length, drop, take, map, get_or, Option, Some, None, Result, Ok, Err, refl, subst, sym, ap, ◌∙◌, append_assoc, arith, length-append, eq-eqb, eqb-true}
+use Rattle.std.specs.Prelude.{IfSome}
+use Rattle.std.specs.List.{AllByRecursion}
+use Rattle.std.proofs.lemmas.List.{length-take-le, take-append-drop}
+use Rattle.tpm_completion.specs.Completed.{completed}
+use Rattle.tpm_completion.specs.Execution.{Behind, Completes, CompletesBy, CompletesIf, Passes, Seen, given_up_behind}
+use Rattle.tpm_completion.specs.Room.{flush_asked}
+use Rattle.tpm_completion.specs.declared.completion.Completion.{Completion}
+use Rattle.tpm_completion.proofs.Exactly.{exactly}
+use Rattle.tpm_journal.specs.Command.{IsPerformed, event_of}
+use Rattle.tpm_journal.specs.Replay.{AnswersAre, EndsIn, LeadsBy, Performance, Replays, answer_said, entry_in, response_sum}
+use Rattle.tpm_journal.specs.State.{journal_after, time_after}
+use Rattle.tpm_journal.specs.declared.following.FollowFault.{FollowFault}
+use Rattle.tpm_journal.specs.declared.following.FollowFault.TheVariants.{Damaged, Otherwise}
+use Rattle.tpm_journal.specs.declared.following.Followed.{Followed}
+use Rattle.tpm_journal.specs.declared.journal.Journal.{Journal}
+use Rattle.tpm_journal_text.specs.Entry.{IsEntry, PlainEntry, entry_text, sum_after}
+use Rattle.tpm_journal_text.specs.Journal.{IsDamaged, IsTorn, entries_text}
+use Rattle.tpm_journal_text.specs.Sum.{sum_of}
+use Rattle.tpm_journal_text.proofs.Standing.{entry_text_some}
+use Rattle.tpm_keeping.specs.Journal.{Spot}
+use Rattle.tpm_record.specs.IsRecord.{IsRecord}
+use Rattle.tpm_record.specs.Record.{Record}
+use Rattle.tpm_step.specs.Events.{Cycled, Given, PlainEvent}
+use Rattle.tpm_snapshot.specs.Layer.{layer_of}
+use Rattle.tpm_kept_journal.specs.Effect.{left_by}
+use Rattle.tpm_kept_journal.specs.Opening.{Fails, found_at, found_next, performance, performed_on, walk, walked}
+use Rattle.tpm_kept_journal.specs.State.{DeviceState, IsDeviceState, bytes_of, spot_of, state_in, state_of_bytes}
+use Rattle.tpm_kept_journal.specs.texts.NextAt as next
+use Rattle.tpm_kept_journal.specs.texts.Parts.{where_so}
+use Rattle.tpm_kept_journal.proofs.Layers.{IsFine, completed_fine, fine_layer, layer_fine}
+use Rattle.tpm_kept_journal.proofs.States.{state_told}
+use Rattle.tpm_kept_journal.proofs.Walks.{found_torn, spot_made, walk_ends, walk_entry, walk_fails, walk_otherwise}
+use Rattle.tpm_kept_journal.proofs.texts.NextAt.{next_only}
+use Rattle.tpm_kept_journal.proofs.texts.Parts.{not_told, so_told}
+use Rattle.tpm_kept_journal.proofs.texts.TornText.{is_torn_text-Decides}
+
+-- ---- the record after an effect is one
+
+behind_record : (first : Seen) (buffer : List ℕ) (locality : ℕ) (random : List ℕ) (place : Option ℕ) (seen : Seen)
+    → IsRecord first.step.after → Behind false first buffer locality random place seen → IsRecord seen.step.after
+behind_record first buffer locality random (Some place) seen is (flush, flushes, again) = again.executes.is_record
+behind_record first buffer locality random None seen is same = subst (λ (s : Seen). IsRecord s.step.after) (sym same) is
+
+by_record : (c : Completion) (old : Record) (buffer : List ℕ) (locality elapsed : ℕ) (random : List ℕ) (place : Option ℕ) (seen : Seen)
+    → CompletesBy false c old buffer locality elapsed random place seen → IsRecord seen.step.after
+by_record c old buffer locality elapsed random (Some place) seen (tick, passes, same) =
+    subst (λ (s : Seen). IsRecord s.step.after) (sym same) passes.executes.is_record
+by_record c old buffer locality elapsed random None seen (first, passes, behind) =
+    behind_record first buffer locality random (given_up_behind first) seen passes.executes.is_record behind
+
+completes_record : (c : Completion) (old : Record) (event : PlainEvent) (seen : Seen) → Completes false c old event seen → IsRecord seen.step.after
+completes_record c old (Given buffer locality elapsed random) seen is = by_record c old buffer locality elapsed random (flush_asked c buffer) seen is
+completes_record c old Cycled seen passes = passes.executes.is_record
+
+pub record_after : (completes : Bool) (c : Completion) (old : Record) (event : PlainEvent) (seen : Seen) → CompletesIf false completes c old event seen
+    → IsRecord seen.step.after
+record_after false c old event seen passes = passes.executes.is_record
+record_after true c old event seen is = completes_record c old event seen is
+
+-- the state after an effect is one of a device
+pub state_after : (s : DeviceState) (completes : Bool) (event : PlainEvent) (elapsed : ℕ) (seen : Seen) → IsDeviceState s
+    → CompletesIf false completes s.layer s.device event seen → IsDeviceState (left_by s elapsed seen)
+state_after s completes event elapsed seen is done = record {
+  time = omega arith;
+  whole = record {
+    device = record_after completes s.layer s.device event seen done;
+    layer = fine_layer seen.layer (
+        subst (λ (x : Seen). IsFine x.layer) (sym (exactly false completes s.layer s.device event seen done refl))
+        (completed_fine completes s.layer s.device event (layer_fine s.layer is.whole.layer))
+        );
+  };
+}
+
+-- ---- one performance
+
+module _ (before : Journal) (old : Record) (one : Performance) (is : IsDeviceState (state_in before old))
+    (performed : IsPerformed false before.layer old one.entry one.seen) where
+  abbrev here : Spot
+  here = spot_of before old
+
+  abbrev there : Spot
+  there = spot_of (journal_after before one.entry one.seen.layer) one.seen.step.after
+
+  seen_is : performance (state_in before old) one.entry ≡ one.seen
+  seen_is = sym (exactly false one.entry.completes before.layer old (event_of one.entry) one.seen performed refl)
+
+  pub on_seen : performed_on here.chain one.entry (state_of_bytes here.state)
+      ≡ where_so (response_sum one == answer_said one) there
+  on_seen =
+      ap (performed_on here.chain one.entry) (state_told (state_in before old) is)
+      ∙ ap (λ (x : Seen). where_so (sum_of x.step.response == one.entry.answered)
+      (spot_made (bytes_of (left_by (state_in before old) one.entry.elapsed x)) (sum_after before.sum one.entry))) seen_is
+
+  pub next_is : IsDeviceState (state_in (journal_after before one.entry one.seen.layer) one.seen.step.after)
+  next_is = state_after (state_in before old) one.entry.completes (event_of one.entry) one.entry.elapsed one.seen is performed
+
+-- ---- all performances
+
+abbrev text_of : ℕ → List Performance → List ℕ
+text_of sum performances = entries_text sum (map entry_in performances)
+
+-- The walk over these entries and more goes on after them, from the spot to which they lead.
+pub record GoesOn (bound : ℕ) (before : Journal) (old : Record) (performances : List Performance) (after : Journal) (new : Record)
+    (taken : ℕ) (left : List ℕ) : Type 0 where
+  pub more : ℕ
+  pub enough : length left < more
+  pub is : IsDeviceState (state_in after new)
+  pub same : walk bound (spot_of before old) taken (text_of before.sum performances ++ left)
+      ≡ walk more (spot_of after new) (taken + length (text_of before.sum performances)) left
+
+abbrev second_of : List ℕ → List ℕ
+second_of [] = []
+second_of (x ∷ xs) = xs
+
+pub goes_on : (performances : List Performance) (bound : ℕ) (before : Journal) (old : Record) (after : Journal) (new : Record) (taken : ℕ) (left : List ℕ)
+    → IsDeviceState (state_in before old) → AllByRecursion IsEntry (map entry_in performances) → LeadsBy false before old performances after new
+    → map response_sum performances ≡ map answer_said performances → length (text_of before.sum performances ++ left) < bound
+    → GoesOn bound before old performances after new taken left
+goes_on [] bound before old after new taken left is are leads said less = record {
+  more = bound;
+  enough = less;
+  is = subst (λ (r : Record). IsDeviceState (state_in after r)) (sym leads.1) (subst (λ (j : Journal). IsDeviceState (state_in j old)) (sym leads.0) is);
+  same = (
+      let none : taken ≡ taken + 0 = omega arith in
+      ap (λ (j : Journal). walk bound (spot_of j old) taken left) (sym leads.0)
+      ∙ ap (λ (r : Record). walk bound (spot_of after r) taken left) (sym leads.1)
+      ∙ ap (λ (n : ℕ). walk bound (spot_of after new) n left) none
+      );
+}
+goes_on (one ∷ performances) zero before old after new taken left is are leads said less = absurd (omega (arith, less))
+goes_on (one ∷ performances) (suc bound) before old after new taken left is are leads said less =
+    let mid : Journal = journal_after before one.entry one.seen.layer in
+    let own : List ℕ = entry_text before.sum one.entry in
+    let rest : List ℕ = text_of mid.sum performances in
+    let answered : response_sum one ≡ answer_said one = ap (λ (l : List ℕ). get_or l 0 0) said in
+    let parts : (own ++ rest) ++ left ≡ own ++ (rest ++ left) = append_assoc own rest left in
+    let performed : performed_on before.sum one.entry (state_of_bytes (spot_of before old).state) ≡ Some (spot_of mid one.seen.step.after) =
+    on_seen before old one is leads.0 ∙ so_told (response_sum one == answer_said one) (spot_of mid one.seen.step.after) (eq-eqb _ _ answered) in
+    let less' : length (rest ++ left) < bound =
+    omega (arith, less, ap length parts, length-append own (rest ++ left), entry_text_some before.sum one.entry) in
+    let next = goes_on performances bound mid one.seen.step.after after new (taken + length own) left (next_is before old one is leads.0) are.1 leads.1
+    (ap second_of said) less' in
+    let size : taken + length own + length rest ≡ taken + length (own ++ rest) = omega (arith, length-append own rest) in
+    record {
+      more = next.more;
+      enough = next.enough;
+      is = next.is;
+      same = (
+          ap (walk (suc bound) (spot_of before old) taken) parts
+          ∙ walk_entry bound (spot_of before old) (spot_of mid one.seen.step.after) one.entry taken (rest ++ left) are.0 performed
+          ∙ next.same
+          ∙ ap (λ (n : ℕ). walk next.more (spot_of after new) n left) size
+          );
+    }
+
+-- where a device answers otherwise than an entry says, the walk fails: at this entry, or at a later one
+fails_at : (same : Bool) (one : Performance) (performances : List Performance) (bound : ℕ) (before : Journal) (old : Record) (taken : ℕ) (left : List ℕ)
+    → IsDeviceState (state_in before old) → IsEntry one.entry → IsPerformed false before.layer old one.entry one.seen
+    → (response_sum one == answer_said one) ≡ same
+    → (response_sum one ≡ answer_said one → walk bound (spot_of (journal_after before one.entry one.seen.layer) one.seen.step.after)
+    (taken + length (entry_text before.sum one.entry)) (text_of (sum_after before.sum one.entry) performances ++ left) ≡ None)
+    → walk (suc bound) (spot_of before old) taken
+    (entry_text before.sum one.entry ++ (text_of (sum_after before.sum one.entry) performances ++ left)) ≡ None
+fails_at true one performances bound before old taken left is entry performed same later =
+    let there : Spot = spot_of (journal_after before one.entry one.seen.layer) one.seen.step.after in
+    walk_entry bound (spot_of before old) there one.entry taken (text_of (sum_after before.sum one.entry) performances ++ left) entry
+    (on_seen before old one is performed ∙ ap (λ (b : Bool). where_so b there) same)
+    ∙ later (eqb-true _ _ same)
+fails_at false one performances bound before old taken left is entry performed same later =
+    let there : Spot = spot_of (journal_after before one.entry one.seen.layer) one.seen.step.after in
+    walk_otherwise bound (spot_of before old) one.entry taken (text_of (sum_after before.sum one.entry) performances ++ left) entry
+    (on_seen before old one is performed ∙ ap (λ (b : Bool). where_so b there) same)
+
+pub fails : (performances : List Performance) (bound : ℕ) (before : Journal) (old : Record) (after : Journal) (new : Record) (taken : ℕ) (left : List ℕ)
+    → IsDeviceState (state_in before old) → AllByRecursion IsEntry (map entry_in performances) → LeadsBy false before old performances after new
+    → (map response_sum performances ≡ map answer_said performances → ⊥) → length (text_of before.sum performances ++ left) < bound
+    → walk bound (spot_of before old) taken (text_of before.sum performances ++ left) ≡ None
+fails [] bound before old after new taken left is are leads differ less = absurd (differ refl)
+fails (one ∷ performances) zero before old after new taken left is are leads differ less = absurd (omega (arith, less))
+fails (one ∷ performances) (suc bound) before old after new taken left is are leads differ less =
+    let mid : Journal = journal_after before one.entry one.seen.layer in
+    let own : List ℕ = entry_text before.sum one.entry in
+    let rest : List ℕ = text_of mid.sum performances in
+    let parts : (own ++ rest) ++ left ≡ own ++ (rest ++ left) = append_assoc own rest left in
+    let less' : length (rest ++ left) < bound =
+    omega (arith, less, ap length parts, length-append own (rest ++ left), entry_text_some before.sum one.entry) in
+    ap (walk (suc bound) (spot_of before old) taken) parts
+    ∙ fails_at (response_sum one == answer_said one) one performances bound before old taken left is are.0 leads.0 refl
+    (λ answered. fails performances bound mid one.seen.step.after after new (taken + length own) left (next_is before old one is leads.0) are.1 leads.1
+    (λ others. differ (ap (λ (n : ℕ). n ∷ map response_sum performances) answered ∙ ap (λ (l : List ℕ). answer_said one ∷ l) others)) less')
+
+-- ---- the end of a text
+
+torn_end : (more : ℕ) (p : Spot) (taken : ℕ) (left : List ℕ) → length left < more → IsTorn p.chain left → walk more p taken left ≡ Some (p, taken)
+torn_end zero p taken left less torn = absurd (omega (arith, less))
+torn_end (suc more) p taken left less torn = walk_ends more p taken left (found_torn p left ((is_torn_text-Decides p.chain left).1 torn))
+
+found_damaged : (p : Spot) (text : List ℕ) → IsDamaged p.chain text → found_at p text ≡ Fails
+unfolding found_at
+found_damaged p text damaged = ap (found_next p) (next_only p.chain text next.Damaged damaged)
+
+damaged_end : (more : ℕ) (p : Spot) (taken : ℕ) (left : List ℕ) → length left < more → IsDamaged p.chain left → walk more p taken left ≡ None
+damaged_end zero p taken left less damaged = absurd (omega (arith, less))
+damaged_end (suc more) p taken left less damaged = walk_fails more p taken left (found_damaged p left damaged)
+
+-- the last of a list
+abbrev last_of : List ℕ → ℕ
+last_of [] = 0
+last_of (x ∷ []) = x
+last_of (x ∷ y ∷ xs) = last_of (y ∷ xs)
+
+last_is : (front : List ℕ) (x : ℕ) → last_of (front ++ x ∷ []) ≡ x
+last_is [] x = refl
+last_is (y ∷ []) x = refl
+last_is (y ∷ z ∷ front) x = last_is (z ∷ front) x
+
+-- ---- a text that was followed
+
+-- What a device did with a text, as the text alone tells it.
+abbrev pub Tells : Option FollowFault → Option (Spot × ℕ) → Spot → (taken : ℕ) → Type 0
+Tells None found p taken = found ≡ Some (p, taken)
+Tells (Some fault) found p taken = found ≡ None
+
+-- the walk over the text of these performances, and what is left after them
+told_by : (fault : Option FollowFault) (performances : List Performance) (before : Journal) (old : Record) (after : Journal) (new : Record) (taken : ℕ)
+    (left text : List ℕ) → IsDeviceState (state_in before old) → AllByRecursion IsEntry (map entry_in performances)
+    → LeadsBy false before old performances after new → AnswersAre fault (map response_sum performances) (map answer_said performances)
+    → EndsIn fault after.sum left → text ≡ text_of before.sum performances ++ left
+    → Tells fault (walk (suc (length text)) (spot_of before old) taken text) (spot_of after new) (taken + length (text_of before.sum performances))
+told_by None performances before old after new taken left text is are leads answers ends parts =
+    let g = goes_on performances (suc (length text)) before old after new taken left is are leads answers (omega (arith, ap length parts)) in
+    ap (walk (suc (length text)) (spot_of before old) taken) parts ∙ g.same
+    ∙ torn_end g.more (spot_of after new) (taken + length (text_of before.sum performances)) left g.enough ends
+told_by (Some Damaged) performances before old after new taken left text is are leads answers ends parts =
+    let g = goes_on performances (suc (length text)) before old after new taken left is are leads answers (omega (arith, ap length parts)) in
+    ap (walk (suc (length text)) (spot_of before old) taken) parts ∙ g.same
+    ∙ damaged_end g.more (spot_of after new) (taken + length (text_of before.sum performances)) left g.enough ends
+told_by (Some Otherwise) performances before old after new taken left text is are leads answers ends parts =
+    let differ : map response_sum performances ≡ map answer_said performances → ⊥ = λ same.
+    answers.5 (sym (last_is answers.0 answers.1) ∙ ap last_of (sym answers.3 ∙ same ∙ answers.4) ∙ last_is answers.0 answers.2) in
+    ap (walk (suc (length text)) (spot_of before old) taken) parts
+    ∙ fails performances (suc (length text)) before old after new taken left is are leads differ (omega (arith, ap length parts))
+
+tells_size : (fault : Option FollowFault) (found : Option (Spot × ℕ)) (p : Spot) (n m : ℕ) → n ≡ m → Tells fault found p n → Tells fault found p m
+tells_size fault found p n m same tells = subst (λ (k : ℕ). Tells fault found p k) same tells
+
+pub followed_so : (before : Journal) (old : Record) (text : List ℕ) (taken : ℕ) (followed : Followed) (after : Journal) (new : Record)
+    → IsDeviceState (state_in before old) → Replays false before old text followed after new
+    → Tells followed.fault (walked (spot_of before old) taken text) (spot_of after new) (taken + followed.taken)
+unfolding walked
+followed_so before old text taken followed after new is replays =
+    let r = replays.repeats in
+    let left : List ℕ = drop followed.taken text in
+    let parts : text ≡ text_of before.sum r.performances ++ left =
+    sym (take-append-drop followed.taken text) ∙ ap (λ (l : List ℕ). l ++ left) r.front in
+    let size : length (text_of before.sum r.performances) ≡ followed.taken = sym (ap length r.front) ∙ length-take-le followed.taken text r.within in
+    tells_size followed.fault _ (spot_of after new) _ _ (ap (λ (n : ℕ). taken + n) size)
+    (told_by followed.fault r.performances before old after new taken left text is r.are r.leads r.answers replays.ends parts)

@@ -1,0 +1,12 @@
+pub mod texts
+pub mod Replay
+pub mod Entries
+pub mod Walks
+pub mod States
+pub mod Heads
+pub mod JournalLaws
+pub mod Layers
+pub mod Following
+pub mod Executed
+pub mod Starting
+pub mod Shown

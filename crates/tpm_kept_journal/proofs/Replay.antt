@@ -1,0 +1,217 @@
+-- A command whose entry is performed has the effect that it had.
+use Rattle.std.proofs.Common.{◌≡◌, ◌≤◌, ◌-◌, ◌&&◌, ℕ, Bool, true, false, List, [], ◌∷◌, ◌++◌, length, replicate, take, Option, Some, None, Result, Ok, Err, refl, subst, sym, ap, ◌∙◌, get_or, arith, if◌then◌else◌}
+use Rattle.std.specs.Int.{w32, to_be_bytes}
+use Rattle.std.proofs.lemmas.Bool.{false≢true}
+use Rattle.std.proofs.lemmas.List.{length-append, length-replicate, length-take-le}
+use Rattle.std.proofs.lemmas.Slice.Eq.{bytes_eq-Decides}
+use Rattle.tpm_completion.specs.Answer.{is_refusal, refusal}
+use Rattle.tpm_completion.specs.Completed.{again_behind, behind, completed, completed_by, completed_with, done_behind, gave_up_behind, noted_behind, passed}
+use Rattle.tpm_completion.specs.Completion.{forgotten}
+use Rattle.tpm_completion.specs.Execution.{Seen, given_up_behind, no_random}
+use Rattle.tpm_completion.specs.Room.{flush_asked, flush_text, given_up, longest, wants_room}
+use Rattle.tpm_completion.specs.declared.completion.Completion.{Completion}
+use Rattle.tpm_journal.specs.Command.{Command, entry_of, event_of, given, padded}
+use Rattle.tpm_journal.specs.draw_laws.Bytes.{AgreeOnDrawn, zeros_behind}
+use Rattle.tpm_journal.proofs.draw_laws.Executions.{draws_alike, steps_alike}
+use Rattle.tpm_journal.proofs.draw_laws.Fronts.{front_kept}
+use Rattle.tpm_machine.specs.Drawn.{drawn_by, drawn_by_command}
+use Rattle.tpm_record.specs.Record.{Record}
+use Rattle.tpm_record.specs.Tick.{ticked}
+use Rattle.tpm_step.specs.Answer.{answer_to, framed, handle_answer, success_text}
+use Rattle.tpm_step.specs.Events.{Given, PlainEvent}
+use Rattle.tpm_step.specs.Step.{Accepted, Stepped, accepted, step, stepped_of}
+use Rattle.tpm_step.specs.declared.event.Row.{Row}
+use Rattle.tpm_step.specs.declared.refused_command.RefusedCommand.{RefusedCommand}
+use Rattle.tpm_types.specs.declared.handle.Handle.{Handle}
+use Rattle.tpm_types_command.specs.AuthEntry.{Entry}
+use Rattle.tpm_kept_journal.specs.Effect.{effect}
+use Rattle.tpm_kept_journal.specs.Opening.{performance}
+use Rattle.tpm_kept_journal.specs.State.{DeviceState}
+
+-- ---- the device alone
+
+-- the check that the step reports tells how many bytes are drawn, since a refusal draws none
+drawn_told : (r : Record) (random : List ℕ) (a : Result Accepted RefusedCommand)
+    → drawn_by_command random a (stepped_of r random a).row.check ≡ drawn_by_command random a 0
+drawn_told r random (Ok a) = refl
+drawn_told r random (Err e) = refl
+
+-- no more random bytes are drawn than there are
+drawn_of_those : (random : List ℕ) (a : Result Accepted RefusedCommand) → drawn_by_command random a 0 ≤ length random
+drawn_of_those random (Ok a) = omega arith
+drawn_of_those random (Err e) = omega arith
+
+abbrev seen_made : Completion → (Stepped → ℕ) → Stepped → Seen
+seen_made c drawn x = record { step = x; layer = forgotten x.after c; drawn = drawn x }
+
+module _ (c : Completion) (old : Record) (buffer : List ℕ) (locality elapsed : ℕ) (random : List ℕ) where
+  abbrev event : List ℕ → PlainEvent
+  event bytes = Given buffer locality elapsed bytes
+
+  abbrev drawn : ℕ
+  drawn = drawn_by old (event random) 0
+
+  -- how many bytes were drawn
+  pub passed_drawn : (passed c old (event random)).drawn ≡ drawn
+  unfolding passed
+  passed_drawn = drawn_told (ticked old elapsed) random (accepted (ticked old elapsed) buffer locality random)
+
+  pub drawn_few : drawn ≤ length random
+  drawn_few = drawn_of_those random (accepted (ticked old elapsed) buffer locality random)
+
+  -- the effect is the same with other bytes that agree on those that are drawn
+  pub passed_alike : (other : List ℕ) → AgreeOnDrawn old buffer locality elapsed random other → passed c old (event other) ≡ passed c old (event random)
+  unfolding passed
+  passed_alike other agree =
+      let here : Stepped → ℕ = λ (x : Stepped). drawn_by old (event other) x.row.check in
+      let draws : drawn_by old (event other) (step old (event random)).row.check ≡ drawn_by old (event random) (step old (event random)).row.check =
+      draws_alike old buffer locality elapsed random other agree (step old (event random)).row.check in
+      ap (seen_made c here) (steps_alike old buffer locality elapsed random other agree false)
+      ∙ ap (λ (n : ℕ). seen_made c (λ (x : Stepped). n) (step old (event random))) draws
+
+  -- zeros after the bytes that are drawn agree on them
+  zeros_agree : length random ≡ 256 → AgreeOnDrawn old buffer locality elapsed random (zeros_behind drawn random)
+  zeros_agree all = (
+    length-append (take drawn random) (replicate (256 - drawn) 0)
+        ∙ omega (arith, drawn_few, all, length-take-le drawn random drawn_few, length-replicate {A = ℕ} (256 - drawn) 0),
+    front_kept drawn random (replicate (256 - drawn) 0) drawn_few,
+  )
+
+  -- the effect is the same with zeros after the bytes that were drawn
+  pub passed_again : (n : ℕ) → n ≡ (passed c old (event random)).drawn → length random ≡ 256
+      → passed c old (event (zeros_behind n random)) ≡ passed c old (event random)
+  passed_again n is all =
+      ap (λ (m : ℕ). passed c old (event (zeros_behind m random))) (is ∙ passed_drawn)
+      ∙ passed_alike (zeros_behind drawn random) (zeros_agree all)
+
+  pub few_drawn : (passed c old (event random)).drawn ≤ length random
+  few_drawn = omega (arith, passed_drawn, drawn_few)
+
+  -- where none is drawn, the effect is the same with any others, as many
+  pub passed_anyhow : (other : List ℕ) → drawn ≡ 0 → length other ≡ length random → passed c old (event other) ≡ passed c old (event random)
+  passed_anyhow other none as_long =
+      passed_alike other (as_long, ap (λ (n : ℕ). take n other) none ∙ ap (λ (n : ℕ). take n random) (sym none))
+
+-- ---- a command for which an object is given up drew none before
+
+-- a success is no refusal: the third byte of its code is 0, and not 9
+framed_success : (tag : ℕ) (body : List ℕ) → is_refusal 0x902 (framed tag 0 body) ≡ true → ⊥
+framed_success tag body is =
+    let same : framed tag 0 body ≡ refusal 0x902 = (bytes_eq-Decides (framed tag 0 body) (refusal 0x902)).0 is in
+    let never : 0 ≡ 9 = ap (λ (l : List ℕ). get_or l 8 0) same in
+    absurd cc
+
+success_no_refusal : (entries : List Entry) (handle : Option Handle) (answer area : List ℕ) → is_refusal 0x902 (success_text entries handle answer area) ≡ true → ⊥
+unfolding success_text
+success_no_refusal [] handle answer area is = framed_success 0x8001 (handle_answer handle ++ answer) is
+success_no_refusal (entry ∷ entries) handle answer area is =
+    framed_success 0x8002 (handle_answer handle ++ to_be_bytes w32 (length answer) ++ answer ++ area) is
+
+refused_draws_none : (r : Record) (random : List ℕ) (a : Result Accepted RefusedCommand) → is_refusal 0x902 (stepped_of r random a).response ≡ true
+    → drawn_by_command random a 0 ≡ 0
+unfolding answer_to
+refused_draws_none r random (Ok a) is = absurd (success_no_refusal _ _ _ _ is)
+refused_draws_none r random (Err e) is = refl
+
+and_right : (a b : Bool) → (a && b) ≡ true → b ≡ true
+and_right true b is = is
+and_right false b is = absurd (false≢true is)
+
+and_left : (a b : Bool) → (a && b) ≡ true → a ≡ true
+and_left true b is = refl
+and_left false b is = absurd (false≢true is)
+
+some_if : {X : Type 0} (test : Bool) (x y : X) → (if test then Some x else None) ≡ Some y → test ≡ true
+some_if true x y is = refl
+some_if false x y is = absurd cc
+
+given_up_refused : (layer : Completion) (row : Row) (response : List ℕ) (place : ℕ) → given_up layer row response ≡ Some place → is_refusal 0x902 response ≡ true
+unfolding given_up
+given_up_refused layer row response place is =
+    and_right _ (is_refusal 0x902 response) (and_left (wants_room row response) _ (some_if _ (longest layer).place place is))
+
+gives_up_draws_none : (c : Completion) (old : Record) (buffer : List ℕ) (locality elapsed : ℕ) (random : List ℕ) (place : ℕ)
+    → given_up_behind (passed c old (Given buffer locality elapsed random)) ≡ Some place
+    → drawn_by old (Given buffer locality elapsed random) 0 ≡ 0
+unfolding passed
+gives_up_draws_none c old buffer locality elapsed random place given =
+    refused_draws_none (ticked old elapsed) random (accepted (ticked old elapsed) buffer locality random)
+    (given_up_refused _ _ _ place given)
+
+-- ---- with the layer
+
+zeros_many : (n : ℕ) (random : List ℕ) → n ≤ length random → length random ≡ 256 → length (zeros_behind n random) ≡ length random
+zeros_many n random few all =
+    length-append (take n random) (replicate (256 - n) 0)
+    ∙ omega (arith, few, all, length-take-le n random few, length-replicate {A = ℕ} (256 - n) 0)
+
+module _ (c : Completion) (old : Record) (buffer : List ℕ) (locality elapsed : ℕ) (random : List ℕ) (all : length random ≡ 256) where
+  abbrev first : Seen
+  first = passed c old (Given buffer locality elapsed random)
+
+  -- the device's first execution, with the bytes that were drawn in the end
+  first_again : (place : Option ℕ) → given_up_behind first ≡ place
+      → passed c old (Given buffer locality elapsed (zeros_behind (done_behind first buffer locality random place).drawn random)) ≡ first
+  first_again None is = passed_again c old buffer locality elapsed random first.drawn refl all
+  first_again (Some place) is =
+      let flush : Seen = passed first.layer first.step.after (Given (flush_text place) locality 0 no_random) in
+      let n : ℕ = (gave_up_behind first buffer locality random place).drawn in
+      passed_anyhow c old buffer locality elapsed random (zeros_behind n random)
+      (gives_up_draws_none c old buffer locality elapsed random place is)
+      (zeros_many n random (few_drawn flush.layer flush.step.after buffer locality 0 random) all)
+
+  -- and what comes after it
+  rest_again : (place : Option ℕ)
+      → done_behind first buffer locality (zeros_behind (done_behind first buffer locality random place).drawn random) place
+      ≡ done_behind first buffer locality random place
+  rest_again None = refl
+  rest_again (Some place) =
+      let flush : Seen = passed first.layer first.step.after (Given (flush_text place) locality 0 no_random) in
+      passed_again flush.layer flush.step.after buffer locality 0 random (gave_up_behind first buffer locality random place).drawn refl all
+
+  by_again : (place : Option ℕ)
+      → completed_by c old buffer locality elapsed (zeros_behind (completed_by c old buffer locality elapsed random place).drawn random) place
+      ≡ completed_by c old buffer locality elapsed random place
+  by_again (Some place) =
+      ap (λ (t : Seen). noted_behind t place)
+      (passed_again c old [] locality elapsed random (passed c old (Given [] locality elapsed random)).drawn refl all)
+  by_again None =
+      let kept : List ℕ = zeros_behind (behind first buffer locality random).drawn random in
+      ap (λ (f : Seen). behind f buffer locality kept) (first_again (given_up_behind first) refl)
+      ∙ rest_again (given_up_behind first)
+
+  pub completed_again : (completes : Bool) (n : ℕ) → n ≡ (completed completes c old (Given buffer locality elapsed random)).drawn
+      → completed completes c old (Given buffer locality elapsed (zeros_behind n random)) ≡ completed completes c old (Given buffer locality elapsed random)
+  completed_again false n is = passed_again c old buffer locality elapsed random n is all
+  completed_again true n is =
+      ap (λ (m : ℕ). completed true c old (Given buffer locality elapsed (zeros_behind m random))) is
+      ∙ by_again (flush_asked c buffer)
+
+  few_behind : (place : Option ℕ) → (done_behind first buffer locality random place).drawn ≤ length random
+  few_behind None = few_drawn c old buffer locality elapsed random
+  few_behind (Some place) =
+      let flush : Seen = passed first.layer first.step.after (Given (flush_text place) locality 0 no_random) in
+      few_drawn flush.layer flush.step.after buffer locality 0 random
+
+  few_by : (place : Option ℕ) → (completed_by c old buffer locality elapsed random place).drawn ≤ length random
+  few_by (Some place) = few_drawn c old [] locality elapsed random
+  few_by None = few_behind (given_up_behind first)
+
+  pub completed_few : (completes : Bool) → (completed completes c old (Given buffer locality elapsed random)).drawn ≤ length random
+  completed_few false = few_drawn c old buffer locality elapsed random
+  completed_few true = few_by (flush_asked c buffer)
+
+-- ---- entries
+
+-- the bytes that were drawn, and zeros, as an entry that is performed has them
+padded_is : (n : ℕ) (random : List ℕ) → n ≤ length random → padded (take n random) ≡ zeros_behind n random
+padded_is n random few = ap (λ (m : ℕ). take n random ++ replicate (256 - m) 0) (length-take-le n random few)
+
+-- the entry of a command is performed with the effect that the command had
+pub performed_again : (s : DeviceState) (c : Command) → length c.random ≡ 256 → performance s (entry_of c (effect s c)) ≡ effect s c
+performed_again s c all =
+    let few : (effect s c).drawn ≤ length c.random =
+    completed_few s.layer s.device c.buffer c.locality c.elapsed c.random all c.completes in
+    ap (λ (bytes : List ℕ). completed c.completes s.layer s.device (Given c.buffer c.locality c.elapsed bytes))
+    (padded_is (effect s c).drawn c.random few)
+    ∙ completed_again s.layer s.device c.buffer c.locality c.elapsed c.random all c.completes (effect s c).drawn refl

@@ -1,0 +1,9 @@
+-- What a text of a journal tells.
+pub mod Parts
+pub mod EntryAt
+pub mod HeadAt
+pub mod TornText
+pub mod NextAt
+pub mod Litter
+pub mod EntriesAt
+pub mod StartAt

@@ -1,0 +1,87 @@
+-- Parts of a text, and tests on it.
+use Rattle.std.proofs.Common.{◌≡◌, ℕ, zero, suc, ◌*◌, ◌<◌, ◌≤◌, Bool, true, false, List, [], ◌∷◌, ◌++◌, length, take, drop, Option, Some, None, Result, Ok, Err, refl, ap, sym, ◌∙◌, arith}
+use Rattle.std.specs.Prelude.{Decides, nat_le, nat_lt}
+use Rattle.std.proofs.lemmas.Bool.{leb-true, le-leb}
+use Rattle.std.proofs.lemmas.Bool.Decides.{Decides-and, Decides-ltb}
+use Rattle.std.proofs.lemmas.List.{take_at, take-append-drop}
+use Rattle.std.proofs.lemmas.Slice.Eq.{bytes_eq-Decides}
+use Rattle.hex.specs.Hex.{decode_of, encode_lower}
+use Rattle.hex.specs.declared.error.FromHexError.{FromHexError}
+use Rattle.hex.proofs.HexLemmas.{decode_of-encode_lower, decode_of-ok}
+use Rattle.tpm_bytes.specs.Reading.{AreBytes}
+use Rattle.tpm_kept_journal.specs.texts.Parts.{are_bytes, begins_with, hex_at, read_or_none, spelled, where_so}
+
+-- ---- values where a test holds
+
+module _ {A : Type 0} where
+  held_or : A → Option A → A
+  held_or other (Some a) = a
+  held_or other None = other
+
+  pub so_told : (b : Bool) (a : A) → b ≡ true → where_so b a ≡ Some a
+  so_told true a so = refl
+  so_told false a so = absurd cc
+
+  pub not_told : (b : Bool) (a : A) → (b ≡ true → ⊥) → where_so b a ≡ None
+  not_told true a not = absurd (not refl)
+  not_told false a not = refl
+
+  pub so_found : (b : Bool) (a other : A) → where_so b a ≡ Some other → (b ≡ true) × (a ≡ other)
+  unfolding held_or
+  so_found true a other so = (refl, ap (held_or a) so)
+  so_found false a other so = absurd cc
+
+pub Decides-leb : (a b : ℕ) → Decides (nat_le a b) (a ≤ b)
+Decides-leb a b = (leb-true a b, le-leb a b)
+
+-- ---- bytes
+
+bytes_cons : (byte : ℕ) (bytes : List ℕ) → byte < 256 → AreBytes bytes → AreBytes (byte ∷ bytes)
+bytes_cons byte bytes small are zero = small
+bytes_cons byte bytes small are (suc i) = are i
+
+bytes_nil : AreBytes []
+bytes_nil i = omega arith
+
+pub are_bytes-Decides : (bytes : List ℕ) → Decides (are_bytes bytes) (AreBytes bytes)
+are_bytes-Decides [] = (λ all. bytes_nil, λ all. refl)
+are_bytes-Decides (byte ∷ bytes) =
+    let both = Decides-and (nat_lt byte 256) (are_bytes bytes) (Decides-ltb byte 256) (are_bytes-Decides bytes) in (
+      λ all. (
+          let parts = both.0 all in
+          bytes_cons byte bytes parts.0 parts.1
+          ),
+      λ are. both.1 (are 0, λ i. are (suc i)),
+    )
+
+-- ---- digits
+
+pub spelled_again : (bytes : List ℕ) → AreBytes bytes → spelled (encode_lower bytes) ≡ bytes
+spelled_again bytes are = ap read_or_none (decode_of-encode_lower bytes are)
+
+read_are_bytes : (digits : List ℕ) (found : Result (List ℕ) FromHexError) → decode_of digits ≡ found → AreBytes (read_or_none found)
+read_are_bytes digits (Ok bytes) is = (decode_of-ok digits bytes is).3
+read_are_bytes digits (Err fault) is = bytes_nil
+
+pub spelled_are_bytes : (digits : List ℕ) → AreBytes (spelled digits)
+spelled_are_bytes digits = read_are_bytes digits (decode_of digits) refl
+
+-- bytes whose digits are at a place of a text
+pub hex_is_at : (place count : ℕ) (text bytes : List ℕ) → AreBytes bytes → count ≡ length bytes
+    → take (2 * length bytes) (drop place text) ≡ encode_lower bytes → hex_at place count text ≡ bytes
+hex_is_at place count text bytes are many at =
+    ap (λ (n : ℕ). hex_at place n text) many ∙ ap spelled at ∙ spelled_again bytes are
+
+-- ---- the front of a text
+
+pub begins_with-Decides : (text front : List ℕ) → Decides (begins_with text front) (text ≡ front ++ drop (length front) text)
+begins_with-Decides text front =
+    let same = bytes_eq-Decides (take (length front) text) front in (
+      λ so. sym (take-append-drop (length front) text) ∙ ap (λ (l : List ℕ). l ++ drop (length front) text) (same.0 so),
+      λ is. same.1 (ap (take (length front)) is ∙ take_at front (drop (length front) text) (length front) refl),
+    )
+
+-- a text that is another and a rest begins with the other
+pub begins : (text front rest : List ℕ) → text ≡ front ++ rest → begins_with text front ≡ true
+begins text front rest is =
+    (bytes_eq-Decides (take (length front) text) front).1 (ap (take (length front)) is ∙ take_at front rest (length front) refl)

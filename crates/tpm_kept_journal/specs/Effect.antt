@@ -1,0 +1,93 @@
+-- What a command does to a kept device.
+use Rattle.std.specs.Prelude.{◌≡◌, ℕ, Bool, true, false, List, [], ◌∷◌, is_some, not, Option, Some, None, Result, Ok, Err}
+use Rattle.tpm_completion.specs.Completed.{completed}
+use Rattle.tpm_completion.specs.Completion.{new_completion}
+use Rattle.tpm_completion.specs.Execution.{Seen}
+use Rattle.tpm_image_text.specs.Fields.{yes_no_text}
+use Rattle.tpm_image_text.specs.declared.fault.Malformed.{Malformed}
+use Rattle.tpm_journal.specs.Command.{Command, command_at, elapsed_of, entry_of, given}
+use Rattle.tpm_journal.specs.State.{time_after}
+use Rattle.tpm_journal_text.specs.Entry.{PlainEntry, entry_text, sum_after}
+use Rattle.tpm_keeping.specs.Journal.{Spot}
+use Rattle.tpm_record.specs.Cycle.{cycled}
+use Rattle.tpm_kept_journal.specs.Command.{Begins, Cycles, Executes, KeptCommand, command_of}
+use Rattle.tpm_kept_journal.specs.Seed.{begun_in}
+use Rattle.tpm_kept_journal.specs.State.{DeviceState, bytes_of, state_of_bytes}
+
+-- ---- on a state
+
+-- the command of a buffer that a device in this state is given at this clock
+abbrev pub command_on : DeviceState → (now locality : ℕ) → (completes : Bool)
+    → (random buffer : List ℕ) → Command
+command_on s now locality completes random buffer =
+    command_at buffer locality (elapsed_of now s.time) completes random
+
+-- the effect of a command of the standard, with the layer or without it; no memory is refused
+abbrev pub effect : DeviceState → Command → Seen
+effect s c = completed c.completes s.layer s.device (given c)
+
+-- the state after an effect, so much time later
+abbrev pub left_by : DeviceState → (elapsed : ℕ) → Seen → DeviceState
+left_by s elapsed seen =
+    record { time = time_after s.time elapsed; layer = seen.layer; device = seen.step.after }
+
+-- the state after a power cycle: the completing layer begins anew
+abbrev pub cycled_at : DeviceState → (now start : ℕ) → DeviceState
+cycled_at s now start =
+    record { time = now; layer = new_completion start; device = cycled s.device }
+
+-- the state that began, or the one that was
+abbrev pub begun_or : Option DeviceState → DeviceState → DeviceState
+begun_or (Some begun) s = begun
+begun_or None s = s
+
+-- the state after a command: one of the standard, a power cycle, or a beginning anew, which may be
+-- refused
+abbrev pub moved : DeviceState → KeptCommand → DeviceState
+moved s (Executes now locality completes random buffer) =
+    let c = command_on s now locality completes random buffer in
+    left_by s c.elapsed (effect s c)
+moved s (Cycles now start) = cycled_at s now start
+moved s (Begins seed) = begun_or (begun_in seed) s
+
+-- the response: to a power cycle none, and to a beginning anew a byte, 1 if it began
+abbrev pub answer : DeviceState → KeptCommand → List ℕ
+answer s (Executes now locality completes random buffer) =
+    (effect s (command_on s now locality completes random buffer)).step.response
+answer s (Cycles now start) = []
+answer s (Begins seed) = yes_no_text (is_some (begun_in seed))
+
+-- the entry, if the command has one
+abbrev pub entered : DeviceState → KeptCommand → Option PlainEntry
+entered s (Executes now locality completes random buffer) =
+    let c = command_on s now locality completes random buffer in
+    Some (entry_of c (effect s c))
+entered s c = None
+
+-- ---- on texts
+
+-- what is said of a state and a command, or else this, if one of the texts is none
+abbrev pub with_both : {X : Type 0} → Option DeviceState → Result KeptCommand Malformed → (other : X)
+    → (DeviceState → KeptCommand → X) → X
+with_both (Some s) (Ok c) other said = said s c
+with_both (Some s) (Err why) other said = other
+with_both None c other said = other
+
+abbrev pub after_command : (state command : List ℕ) → List ℕ
+after_command state command =
+    with_both (state_of_bytes state) (command_of command) state (λ s c. bytes_of (moved s c))
+
+abbrev pub response_to : (state command : List ℕ) → List ℕ
+response_to state command = with_both (state_of_bytes state) (command_of command) [] answer
+
+abbrev pub entry_at_spot : Spot → (command : List ℕ) → Option PlainEntry
+entry_at_spot p command = with_both (state_of_bytes p.state) (command_of command) None entered
+
+-- the text of an entry, if there is one, and the sum after it
+abbrev pub text_if : (sum : ℕ) → Option PlainEntry → List ℕ
+text_if sum (Some e) = entry_text sum e
+text_if sum None = []
+
+abbrev pub sum_if : (sum : ℕ) → Option PlainEntry → ℕ
+sum_if sum (Some e) = sum_after sum e
+sum_if sum None = sum

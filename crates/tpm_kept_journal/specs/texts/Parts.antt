@@ -1,0 +1,31 @@
+-- Parts of a text, each at its place.
+use Rattle.std.specs.Prelude.{ℕ, ◌*◌, nat_lt, Bool, true, false, bytes_eq}
+use Rattle.std.specs.Prelude.{List, [], drop, length, take, Option, Some, None, Result, Ok, Err}
+use Rattle.std.specs.List.{list_all}
+use Rattle.hex.specs.Hex.{decode_of}
+
+-- a value, or nothing where the test fails
+abbrev pub where_so : {A : Type 0} → Bool → A → Option A
+where_so true value = Some value
+where_so false value = None
+
+-- what was read, or no bytes
+abbrev pub read_or_none : {E : Type 0} → Result (List ℕ) E → List ℕ
+read_or_none (Ok bytes) = bytes
+read_or_none (Err fault) = []
+
+-- the bytes that hex digits spell; none where they spell none
+abbrev pub spelled : (digits : List ℕ) → List ℕ
+spelled digits = read_or_none (decode_of digits)
+
+-- so many bytes in hex at a place of a text
+abbrev pub hex_at : (place count : ℕ) → (text : List ℕ) → List ℕ
+hex_at place count text = spelled (take (2 * count) (drop place text))
+
+-- whether each number of a list is below 256
+abbrev pub are_bytes : List ℕ → Bool
+are_bytes bytes = list_all (λ byte. nat_lt byte 256) bytes
+
+-- whether a text begins with this one
+abbrev pub begins_with : (text front : List ℕ) → Bool
+begins_with text front = bytes_eq (take (length front) text) front
