@@ -1,0 +1,4 @@
+pub mod Boxes
+pub mod Comparing
+pub mod Opening
+pub mod Restoring

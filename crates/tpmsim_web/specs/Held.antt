@@ -1,0 +1,19 @@
+-- What a holder owns, and what a place does.
+use base.Fml.{Fml, feq, flt, fsep}
+use Prim.Native.Nat.{◌^◌}
+use denote.RattleType.{RattleType}
+use denote.RawPtr.{Ptr, count_of, null_ptr, room_at}
+use Rattle.std.specs.Box.Ownership.{box_owns}
+use Rattle.std.specs.declared.option.Option.{Option}
+use Rattle.std.specs.declared.option.Option.TheVariants.{None, Some}
+use Rattle.tpmsim_web.specs.contracts.lent.LentAllocator.TheImpl.{ghosts}
+use Rattle.tpmsim_web.specs.declared.lent.Lent.{Lent}
+
+-- what a holder owns: the box of its device, at its pointer; or no device, and null
+abbrev pub held : (R : RattleType) → Lent → Ptr → Option R.Denot → Fml
+held R alloc at None = feq Ptr at null_ptr
+held R alloc at (Some device) = box_owns (ghosts.dealloc_token alloc) R at device
+
+-- what a place owns: memory that is not written yet, at an address that may be compared with null
+abbrev pub place_held : RattleType → Ptr → Fml
+place_held R at = fsep (room_at R at) (flt (count_of at) (2 ^ 63))

@@ -1,0 +1,101 @@
+//! The one pointer by which a page holds a device.
+
+ghost use Rattle.std.specs.Prelude.{◌≡◌};
+ghost use Rattle.std.specs.Option.{MatchOption};
+ghost use Rattle.std.specs.declared.option.Option.{Option};
+ghost use Rattle.std.specs.declared.option.Option.TheVariants.{None, Some};
+ghost use Rattle.tpmsim_web.specs.Held.{held, place_held};
+ghost use Rattle.tpmsim_web.specs.contracts.device.Device.{the_row as device_row};
+ghost use Rattle.tpmsim_web.specs.declared.device.Device.{Device};
+
+use crate::device::Device;
+use crate::lent::Lent;
+use std::marker::Model;
+use std::mem;
+
+/// The pointer by which a page holds a device: it leads to the device's place, which the holder
+/// owns, or is null without a device. The page sees one pointer, since the allocator has no bytes.
+#[repr(C)]
+#[derive(Drop)]
+pub struct Holder {
+    at: *mut u8,
+    alloc: Lent,
+    ghost device: { Option Device },
+}
+
+impl Model for Holder {
+    ghost also_owns = { λ h. held device_row h.alloc h.at h.device };
+}
+
+/// A place for a device, which the page lends: free memory, which may be compared with null.
+#[repr(C)]
+#[derive(Drop)]
+pub struct Place {
+    at: *mut u8,
+}
+
+impl Model for Place {
+    ghost also_owns = { λ place. place_held device_row place.at };
+}
+
+impl Holder {
+    /// A holder with this device, which is written to the place.
+    pub fn new(place: Place, device: Device) -> Holder
+        ensures { result.device ≡ Some device }
+    {
+        let at = place.at as *mut Device;
+        unsafe { std::ptr::write(at, device) };
+        Holder {
+            at: place.at,
+            alloc: Lent,
+        }
+    }
+
+    /// A holder with no device.
+    pub fn empty(alloc: Lent) -> Holder
+        ensures { result.device ≡ None }
+    {
+        Holder {
+            at: std::ptr::null_mut(),
+            alloc,
+        }
+    }
+
+    /// A holder with this device, which stays in its place.
+    pub fn of(device: Box<Device, Lent>) -> Holder
+        ensures { result.device ≡ Some device.value }
+    {
+        let (at, alloc) = Box::into_raw_with_allocator(device);
+        Holder {
+            at: at as *mut u8,
+            alloc,
+        }
+    }
+
+    /// The device of the holder, if there is one.
+    pub fn into_box(self) -> Option<Box<Device, Lent>>
+        ensures { MatchOption result (self.device ≡ None) (λ b. self.device ≡ Some b.value) }
+    {
+        let Holder { at, alloc } = self;
+        if at.is_null() {
+            return None;
+        }
+        Some(unsafe { Box::from_raw(alloc, at as *mut Device) })
+    }
+
+    /// Takes the device out, if there is one, and leaves the holder with none.
+    pub fn take(&mut self) -> Option<Box<Device, Lent>>
+        ensures taken { MatchOption result (self.old.device ≡ None)
+            (λ b. self.old.device ≡ Some b.value) }
+        ensures left { self.new.device ≡ None }
+    {
+        mem::replace(self, Holder::empty(Lent)).into_box()
+    }
+
+    /// Puts a device in.
+    pub fn put(&mut self, device: Box<Device, Lent>)
+        ensures { self.new.device ≡ Some device.value }
+    {
+        let _before = mem::replace(self, Holder::of(device)).into_box();
+    }
+}
