@@ -2,8 +2,7 @@
 
 use crate::fault::SpellFault;
 use crate::word::put_bytes;
-use std::alloc::AllocError;
-use std::fmt::Write;
+use std::fmt::{self, Write};
 use tpm_bytes::Cursor;
 use tpm_types::Handle;
 use tpm_types_command::AuthEntry;
@@ -12,17 +11,17 @@ use tpm_types_command::AuthEntry;
 const ENTRIES: u8 = 3;
 
 /// Adds a handle to the line: the name of a permanent entity, or eight hex digits.
-fn put_handle(handle: Handle, line: &mut String) -> Result<(), AllocError> {
+fn put_handle<W: Write>(handle: Handle, line: &mut W) -> fmt::Result {
     if handle == Handle::OWNER {
-        line.push_str("OWNER")
+        line.write_str("OWNER")
     } else if handle == Handle::NULL {
-        line.push_str("NULL")
+        line.write_str("NULL")
     } else if handle == Handle::LOCKOUT {
-        line.push_str("LOCKOUT")
+        line.write_str("LOCKOUT")
     } else if handle == Handle::ENDORSEMENT {
-        line.push_str("ENDORSEMENT")
+        line.write_str("ENDORSEMENT")
     } else if handle == Handle::PLATFORM {
-        line.push_str("PLATFORM")
+        line.write_str("PLATFORM")
     } else {
         let number = handle.number;
         write!(line, "{number:08x}")
@@ -30,17 +29,21 @@ fn put_handle(handle: Handle, line: &mut String) -> Result<(), AllocError> {
 }
 
 /// Adds this many handles to the line.
-pub fn put_handles(count: usize, fields: &mut Cursor, line: &mut String) -> Result<(), SpellFault> {
+pub fn put_handles<W: Write>(
+    count: usize,
+    fields: &mut Cursor,
+    line: &mut W,
+) -> Result<(), SpellFault> {
     for _ in 0..count {
         let number = fields.u32()?;
-        line.push_str(" ")?;
+        line.write_str(" ")?;
         put_handle(Handle { number }, line)?;
     }
     Ok(())
 }
 
 /// Adds the entries of an authorization area to the line.
-pub fn put_area(fields: &mut Cursor, line: &mut String) -> Result<(), SpellFault> {
+pub fn put_area<W: Write>(fields: &mut Cursor, line: &mut W) -> Result<(), SpellFault> {
     let size = fields.u32()?;
     let mut area = Cursor::new(fields.take(size as usize)?);
     for _ in 0..ENTRIES {
@@ -53,14 +56,14 @@ pub fn put_area(fields: &mut Cursor, line: &mut String) -> Result<(), SpellFault
 }
 
 /// Adds an entry to the line: of a password, in the one form that a password has, or of a session.
-fn put_entry(entry: &AuthEntry, line: &mut String) -> Result<(), AllocError> {
+fn put_entry<W: Write>(entry: &AuthEntry, line: &mut W) -> fmt::Result {
     let attributes = entry.attributes.octet;
     if entry.session == Handle::PASSWORD && entry.nonce.is_empty() && attributes == 1 {
-        line.push_str(" pw:")?;
+        line.write_str(" pw:")?;
     } else {
-        line.push_str(" s:")?;
+        line.write_str(" s:")?;
         put_handle(entry.session, line)?;
-        line.push_str(":")?;
+        line.write_str(":")?;
         put_bytes(entry.nonce, line)?;
         write!(line, ":{attributes:02x}:")?;
     }

@@ -2,7 +2,7 @@
 
 ghost use Rattle.std.specs.Prelude.{◌≡◌};
 
-use std::alloc::AllocError;
+use std::fmt;
 use tpm_bytes::{Short, SizedFault};
 use tpm_types::Rc;
 
@@ -11,15 +11,16 @@ use tpm_types::Rc;
 pub enum SpellFault {
     /// No line was found that spells the buffer.
     NoLine,
+    /// There is no memory for the line, or not enough.
     NoMemory,
 }
 
-impl From<AllocError> for SpellFault {
+impl From<fmt::Error> for SpellFault {
     ghost use Rattle.tpm_line.specs.declared.fault.SpellFault.TheVariants.{NoMemory};
 
     ghost from_gives = { λ _ fault. fault ≡ NoMemory };
 
-    fn from(_error: AllocError) -> SpellFault {
+    fn from(_error: fmt::Error) -> SpellFault {
         SpellFault::NoMemory
     }
 }

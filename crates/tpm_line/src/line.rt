@@ -1,28 +1,53 @@
 //! The line of a buffer: it is written by what the buffer says, and compared with the buffer.
 
-ghost use Rattle.std.specs.Prelude.{◌≡◌, IfOk, Ok, true};
+ghost use Rattle.std.specs.Prelude.{◌≡◌, IfOk, Ok, OnOk, true};
 ghost use Rattle.std.specs.String.{string_bytes};
 ghost use Rattle.tpm_text.specs.Line.{assembled};
 
 use crate::entry::{put_area, put_handles};
 use crate::fault::SpellFault;
 use crate::parameter::put_parameters;
+use arrayvec::ArrayString;
 use std::alloc::Global;
+use std::fmt::Write;
 use tpm_bytes::Cursor;
 use tpm_commands::CommandCode;
 use tpm_text::{Draft, assemble_in};
 use tpm_types_command::Tag;
+
+/// How many bytes a line of a script may have.
+pub const LINE_LIMIT: usize = 65_536;
 
 /// A line that spells this buffer. NoLine says that none was found, and the contract does not say
 /// when.
 pub fn line_of(alloc: Global, buffer: &[u8]) -> Result<String, SpellFault>
     ensures { IfOk result (λ line. assembled (string_bytes line) ≡ Ok buffer.now) }
 {
-    let line = spell(alloc, buffer)?;
-    if !is_spelled(line.as_bytes(), buffer) {
-        return Err(SpellFault::NoLine);
-    }
+    let mut line = String::new(alloc);
+    spell(buffer, &mut line)?;
+    check(line.as_bytes(), buffer)?;
     Ok(line)
+}
+
+/// Writes a line that spells this buffer, as [`line_of`] does, to memory of the caller's. NoMemory:
+/// the line would have more than LINE_LIMIT bytes.
+pub fn write_line(buffer: &[u8], line: &mut ArrayString<LINE_LIMIT>) -> Result<(), SpellFault>
+    ensures { OnOk result (assembled line.new.bytes ≡ Ok buffer.now) }
+{
+    line.clear();
+    spell(buffer, line)?;
+    check(line.as_str().as_bytes(), buffer)
+}
+
+/// Checks that a line spells this buffer.
+fn check(line: &[u8], buffer: &[u8]) -> Result<(), SpellFault>
+    ensures { OnOk result (assembled line.now ≡ Ok buffer.now) }
+{
+    if is_spelled(line, buffer) {
+        Ok(())
+    } else {
+        Err(SpellFault::NoLine)
+    }
 }
 
 /// Whether a line spells this buffer.
@@ -36,20 +61,18 @@ fn is_spelled(line: &[u8], buffer: &[u8]) -> bool
     }
 }
 
-/// The line of the words for the parts of a buffer. Bytes that are left over are not looked at.
-fn spell(alloc: Global, buffer: &[u8]) -> Result<String, SpellFault> {
+/// Writes the words for the parts of a buffer. Bytes that are left over are not looked at.
+fn spell<W: Write>(buffer: &[u8], line: &mut W) -> Result<(), SpellFault> {
     let fields = &mut Cursor::new(buffer);
     let tag = fields.u16()?;
     let _size = fields.u32()?;
     let Some(code) = CommandCode::named(fields.u32()?) else {
         return Err(SpellFault::NoLine);
     };
-    let mut line = String::new(alloc);
-    line.push_str(code.name())?;
-    put_handles(code.shape().handles.len(), fields, &mut line)?;
+    line.write_str(code.name())?;
+    put_handles(code.shape().handles.len(), fields, line)?;
     if Tag::named(tag) == Some(Tag::Sessions) {
-        put_area(fields, &mut line)?;
+        put_area(fields, line)?;
     }
-    put_parameters(code, fields, &mut line)?;
-    Ok(line)
+    put_parameters(code, fields, line)
 }

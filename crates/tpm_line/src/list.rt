@@ -18,18 +18,18 @@ pub enum Element {
 }
 
 /// Adds the elements of a list to the line, joined by `+`, or `-` for none.
-pub fn put_list(
+pub fn put_list<W: Write>(
     element: Element,
     fields: &mut Cursor,
-    line: &mut String,
+    line: &mut W,
 ) -> Result<(), SpellFault> {
     let count = fields.u32()?;
     if count == 0 {
-        line.push_str("-")?;
+        line.write_str("-")?;
     }
     for place in 0..count {
         if place > 0 {
-            line.push_str("+")?;
+            line.write_str("+")?;
         }
         match element {
             Element::Bank => put_bank(fields, line)?,
@@ -41,11 +41,11 @@ pub fn put_list(
 }
 
 /// Adds the PCRs that are selected in a bank to the line.
-fn put_bank(fields: &mut Cursor, line: &mut String) -> Result<(), SpellFault> {
+fn put_bank<W: Write>(fields: &mut Cursor, line: &mut W) -> Result<(), SpellFault> {
     let hash = read_hash(fields)?;
     let _size = fields.u8()?;
     let selected = u32::from_le_bytes([fields.u8()?, fields.u8()?, fields.u8()?, 0]);
-    line.push_str(hash_word(hash))?;
+    line.write_str(hash_word(hash))?;
     let mut separator = ":";
     for pcr in 0..PCR_COUNT as u32 {
         if selected >> pcr & 1 == 1 {
@@ -57,10 +57,10 @@ fn put_bank(fields: &mut Cursor, line: &mut String) -> Result<(), SpellFault> {
 }
 
 /// Adds a digest with its hash algorithm to the line.
-fn put_digest(fields: &mut Cursor, line: &mut String) -> Result<(), SpellFault> {
+fn put_digest<W: Write>(fields: &mut Cursor, line: &mut W) -> Result<(), SpellFault> {
     let hash = read_hash(fields)?;
-    line.push_str(hash_word(hash))?;
-    line.push_str(":")?;
+    line.write_str(hash_word(hash))?;
+    line.write_str(":")?;
     put_digits(fields.take(hash.size())?, line)?;
     Ok(())
 }

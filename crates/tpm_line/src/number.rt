@@ -1,7 +1,6 @@
 //! Numbers in words: decimal, but for codes, sets of bits and handles.
 
-use std::alloc::AllocError;
-use std::fmt::Write;
+use std::fmt::{self, Write};
 use tpm_commands::CommandCode;
 
 /// The form in which a number is written.
@@ -27,7 +26,7 @@ impl Form {
 }
 
 /// Adds a number to the line.
-pub fn put_number(number: u64, form: Form, line: &mut String) -> Result<(), AllocError> {
+pub fn put_number<W: Write>(number: u64, form: Form, line: &mut W) -> fmt::Result {
     match form {
         Form::Decimal => write!(line, "{number}"),
         Form::Hexadecimal => write!(line, "{number:#x}"),

@@ -4,18 +4,19 @@ use crate::fault::SpellFault;
 use crate::list::{Element, put_list};
 use crate::number::{Form, put_number};
 use crate::word::{put_buffer, put_hash, put_symmetric};
+use std::fmt::Write;
 use tpm_bytes::Cursor;
 use tpm_commands::{CommandCode, ParameterKind};
 
 /// Adds the parameters of a command to the line.
-pub fn put_parameters(
+pub fn put_parameters<W: Write>(
     code: CommandCode,
     fields: &mut Cursor,
-    line: &mut String,
+    line: &mut W,
 ) -> Result<(), SpellFault> {
     let kinds = code.shape().parameters;
     for place in 0..kinds.len() {
-        line.push_str(" ")?;
+        line.write_str(" ")?;
         put_parameter(kinds[place], Form::of(code, place), fields, line)?;
     }
     Ok(())
@@ -23,11 +24,11 @@ pub fn put_parameters(
 
 /// Adds a parameter of a kind to the line, in this form where it is a number of four bytes or
 /// fewer.
-fn put_parameter(
+fn put_parameter<W: Write>(
     kind: ParameterKind,
     form: Form,
     fields: &mut Cursor,
-    line: &mut String,
+    line: &mut W,
 ) -> Result<(), SpellFault> {
     match kind {
         ParameterKind::SessionType | ParameterKind::U8 | ParameterKind::YesNo => {

@@ -1,6 +1,6 @@
 -- A device that is restored from the state text of a device is that device, with its layer and its
 -- history; and what is told of a text from which none is restored.
-use Rattle.std.proofs.Common.{◌≡◌, ◌≢◌, ℕ, List, Err, sym, ap, subst, ◌∙◌}
+use Rattle.std.proofs.Common.{◌≡◌, ℕ, List, Err, sym, ap, subst, ◌∙◌}
 use Rattle.tpm_machine.specs.Follows.{Follows}
 use Rattle.tpm_machine.specs.History.{History}
 use Rattle.tpm_record.specs.Record.{Record}
@@ -14,19 +14,18 @@ use Rattle.tpm_state_text.specs.declared.fault.RestoreFault.TheVariants as unres
 use Rattle.tpm_state_text.specs.declared.fault.StateFault.{StateFault}
 use Rattle.tpmsim_web.specs.Restoring.{IsOfState, RestoresDevice, journal_restored}
 use Rattle.tpmsim_web.specs.State.{record_of, whole_state}
-use Rattle.tpmsim_web.specs.Told.{no_memory, restore_number, state_number}
+use Rattle.tpmsim_web.specs.Told.{restore_number, state_number}
 use Rattle.tpmsim_web.specs.declared.device.Device.{Device}
 
 -- the number of a text's first fault
-pub fault_told : {B : Type 0} (device_in : B → Device) (text : List ℕ) (fault : RestoreFault) (told : ℕ) → told ≡ restore_number fault → RestoresDevice device_in text (Err fault) → told ≢ no_memory → (f : StateFault) × (told ≡ state_number f) × (state_of_text text ≡ Err f)
-fault_told device_in text (unrestored.Text f) told is read other = (f, is, read)
-fault_told device_in text unrestored.NoMemory told is read other = absurd (other is)
+pub fault_told : (device : Device) (text : List ℕ) (fault : RestoreFault) (told : ℕ) → told ≡ restore_number fault → RestoresDevice device text (Err fault) → (f : StateFault) × (told ≡ state_number f) × (state_of_text text ≡ Err f)
+fault_told device text (unrestored.Text f) told is read = (f, is, read)
+fault_told device text unrestored.NoMemory told is never = absurd never
 
 -- the text of a device has no fault
-pub only_memory : {B : Type 0} (device_in : B → Device) (text : List ℕ) (fault : RestoreFault) (told : ℕ) (state : WholeState) → told ≡ restore_number fault → RestoresDevice device_in text (Err fault) → IsWholeState state → text ≡ state_text state → told ≡ no_memory
-only_memory device_in text (unrestored.Text f) told state number read is same =
-    absurd (no_fault state text is same f read)
-only_memory device_in text unrestored.NoMemory told state number read is same = number
+pub never_faulty : (device : Device) (text : List ℕ) (fault : RestoreFault) (state : WholeState) → RestoresDevice device text (Err fault) → IsWholeState state → text ≡ state_text state → ⊥
+never_faulty device text (unrestored.Text f) state read is same = no_fault state text is same f read
+never_faulty device text unrestored.NoMemory state never is same = never
 
 module _ (text : List ℕ) (device : Device) (restored : IsOfState text device) where
   -- the state that was read is the one that was written

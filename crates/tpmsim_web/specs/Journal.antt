@@ -1,0 +1,122 @@
+-- What a device does with its journal.
+use Rattle.std.specs.Prelude.{◌≡◌, ◌==◌, ◌≤◌, ◌<◌, ℕ, Bool, false, if◌then◌else◌, List, length, take, Option, Some, None, Result, Ok, Err}
+use Rattle.tpm_journal.specs.Execution.{Seen}
+use Rattle.tpm_machine.specs.Follows.{After, Follows}
+use Rattle.tpm_image_text.specs.Image.{image_text}
+use Rattle.tpm_image_text.specs.NonVolatile.{kept_of}
+use Rattle.tpm_image_text.specs.declared.version.Version.TheVariants.{Two}
+use Rattle.tpm_journal.specs.Checkpoint.{checkpointed, state_beside}
+use Rattle.tpm_journal.specs.Command.{Command, Executed, command_at, elapsed_of, entry_of}
+use Rattle.tpm_journal.specs.Opening.{IsJournal, OpensJournal}
+use Rattle.tpm_journal.specs.Starting.{start_by}
+use Rattle.tpm_journal.specs.State.{journal_after, journal_begun}
+use Rattle.tpm_completion.specs.declared.completion.Completion.{Completion}
+use Rattle.tpm_journal.specs.declared.journal.Journal.{Journal}
+use Rattle.tpm_journal.specs.declared.opening.OpenFault.{OpenFault}
+use Rattle.tpm_journal_text.specs.Entry.{entry_text}
+use Rattle.tpm_journal_text.specs.Head.{head_text}
+use Rattle.tpm_journal_text.specs.declared.head.HeadKind.TheVariants.{State}
+use Rattle.tpm_record.specs.Cycle.{cycled}
+use Rattle.tpm_record.specs.Record.{Record}
+use Rattle.tpm_step.specs.Events.{Cycled}
+use Rattle.tpm_step.specs.Execution.{Executes}
+use Rattle.tpm_state_text.specs.State.{state_text}
+use Rattle.tpmsim_web.specs.State.{command_seen, cycle_seen, record_of}
+use Rattle.tpmsim_web.specs.declared.device.Answered.{Answered}
+use Rattle.tpmsim_web.specs.declared.device.Device.{Device}
+
+-- the image that a device has as power comes on
+abbrev pub image_at_power : Device → List ℕ
+image_at_power device = image_text Two (kept_of (cycled (record_of device)))
+
+-- The power of a device was cycled, and its new journal begins with this clock.
+pub record BeginsJournal (before : Device) (now : ℕ) (after : Device) : Type 0 where
+  pub executes : Executes false (record_of before) Cycled (cycle_seen after)
+  pub history : After Follows (record_of before) Cycled (cycle_seen after)
+  pub journal : after.journal ≡ journal_begun now (image_at_power before)
+
+-- A device has the record and the journal that it had.
+abbrev pub IsAsBefore : (before after : Device) → Type 0
+IsAsBefore before after = (record_of after ≡ record_of before) × (after.journal ≡ before.journal)
+
+-- A device begins its journal where the room has space for the head, whose size is `size`, and is
+-- otherwise as it was.
+abbrev pub BeginsIfRoom : (before : Device) → (now room size : ℕ) → (after : Device) → Type 0
+BeginsIfRoom before now room size after =
+    (size ≤ room → BeginsJournal before now after) × (room < size → IsAsBefore before after)
+
+-- the clock of a checkpoint at this time: that of the journal, so that no time is lost, or the host's
+-- if no journal has begun yet, whose sum is 0 then
+abbrev pub checkpoint_clock : Device → (now : ℕ) → ℕ
+checkpoint_clock device now = if device.journal.sum == 0 then now else device.journal.time
+
+-- the head of a device's checkpoint
+abbrev pub checkpoint_head : Device → (now : ℕ) → List ℕ
+checkpoint_head device now =
+    head_text State (checkpoint_clock device now)
+    (state_text (state_beside device.journal (record_of device)))
+
+-- The journal of a device begins anew with a checkpoint, from which it starts, and its device with
+-- it. The device and its completing layer are as they were.
+pub record Checkpoints (before : Device) (now : ℕ) (after : Device) : Type 0 where
+  pub device : record_of after ≡ record_of before
+  pub journal : after.journal
+      ≡ checkpointed before.journal (checkpoint_clock before now) (record_of before)
+  pub starts : start_by State (checkpoint_clock before now)
+      (state_text (state_beside before.journal (record_of before)))
+      ≡ Ok (record { journal = after.journal; device = record_of after })
+
+-- The journal of a device begins anew if the head fits into the buffer, and else stays.
+abbrev pub CheckpointsIfFits : (before : Device) → (now space size : ℕ) → (after : Device) → Type 0
+CheckpointsIfFits before now space size after =
+    (size ≤ space → Checkpoints before now after) × (space < size → IsAsBefore before after)
+
+-- the command of a buffer that a device is given at this clock, with the completing layer or
+-- without it
+abbrev pub command_by : Device → (buffer : List ℕ) → (locality now : ℕ) → (completes : Bool)
+    → (random : List ℕ) → Command
+command_by device buffer locality now completes random =
+    command_at buffer locality (elapsed_of now device.journal.time) completes random
+
+-- the effect of a command whose response stands at the front of a room
+abbrev pub seen_in : (room : List ℕ) → Answered → (after : Device) → Seen
+seen_in room answered after = record {
+  step = command_seen room answered after;
+  layer = after.journal.layer;
+  drawn = answered.drawn;
+}
+
+-- a journal whose layer is another, with the sum and the time that it has
+abbrev pub journal_with : Journal → Completion → Journal
+journal_with journal layer = record journal { layer = layer }
+
+-- A device executed a command, with its completing layer or without it. Its response stands at the
+-- front of one room, and its entry, of `size` bytes, at the front of another. The execution says
+-- what was executed on the device, and what history it follows then.
+pub record Records (before : Device) (c : Command) (response : List ℕ) (answered : Answered)
+    (size : ℕ) (entry : List ℕ) (after : Device) : Type 0
+  where
+    pub executes : Executed false before.journal.layer (record_of before) c
+        (seen_in response answered after)
+    pub written : take size entry ≡ entry_text before.journal.sum
+        (entry_of c (seen_in response answered after))
+    pub fits : size ≤ length entry
+    pub journal : after.journal ≡ journal_after before.journal
+        (entry_of c (seen_in response answered after)) after.journal.layer
+
+-- A device is that of a journal, whose head and entries have `taken` bytes.
+abbrev pub IsOfJournal : List ℕ → (taken : ℕ) → Device → Type 0
+IsOfJournal text taken device =
+    IsJournal text (record { journal = device.journal; taken = taken }) (record_of device)
+
+-- A text is not opened as a journal, because of this fault.
+abbrev pub HasFault : List ℕ → OpenFault → Type 0
+HasFault text fault = (new : Record) × OpensJournal text (Err fault) new
+
+-- A device was opened from a journal, of which `taken` bytes are head and entries; or the text has
+-- this fault; or memory was refused.
+abbrev pub OpensDevice : {B : Type 0} → (B → Device) → List ℕ → (old : ℕ)
+    → Option (Result B OpenFault) → (taken : ℕ) → Type 0
+OpensDevice device_in text old (Some (Ok opened)) taken = IsOfJournal text taken (device_in opened)
+OpensDevice device_in text old (Some (Err fault)) taken = HasFault text fault × (taken ≡ old)
+OpensDevice device_in text old None taken = taken ≡ old

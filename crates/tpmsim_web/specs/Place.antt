@@ -1,0 +1,11 @@
+-- The place that a response code tells of, as one number.
+use Rattle.std.specs.Prelude.{ℕ, ◌+◌}
+use Rattle.tpm_types.specs.declared.rc.Place.{Place}
+use Rattle.tpm_types.specs.declared.rc.Place.TheVariants as place
+
+-- no place; a handle, a parameter or a session, by its number
+abbrev pub place_number : Place → ℕ
+place_number place.Nowhere = 0
+place_number (place.Handle number) = 0x100 + number
+place_number (place.Parameter number) = 0x200 + number
+place_number (place.Session number) = 0x300 + number

@@ -1,0 +1,193 @@
+//! The exports on a device: what it executes, and its image. A call takes the device out of its
+//! holder, uses it, and puts it back, which moves only a pointer.
+
+ghost use Rattle.std.specs.Prelude.{◌≡◌, ◌≢◌, ◌<◌, ◌∷◌, [], drop, false, take};
+ghost use Rattle.std.specs.Option.{MatchOption};
+ghost use Rattle.std.specs.declared.option.Option.TheVariants.{None, Some};
+ghost use Rattle.std.specs.declared.result.Result.{Result};
+ghost use Rattle.tpm_image_text.specs.Image.{IsImage, image_text};
+ghost use Rattle.tpm_image_text.specs.KeptText.{kept_text};
+ghost use Rattle.tpm_image_text.specs.NonVolatile.{kept_of};
+ghost use Rattle.tpm_image_text.specs.Opening.{Opens};
+ghost use Rattle.tpm_image_text.specs.Saving.{PutsFront};
+ghost use Rattle.tpm_image_text.specs.declared.fault.ImageFault.{ImageFault as Fault};
+ghost use Rattle.tpm_image_text.specs.declared.version.Version.{Version};
+ghost use Rattle.tpm_image_text.specs.declared.version.Version.TheVariants.{Two};
+ghost use Rattle.tpm_machine.specs.Drawn.{drawn_by};
+ghost use Rattle.tpm_machine.specs.Follows.{After, Follows};
+ghost use Rattle.tpm_machine.specs.History.{History, PowerCycled};
+ghost use Rattle.tpm_record.specs.IsRecord.{IsRecord};
+ghost use Rattle.tpm_record.specs.Record.{Record, manufactured};
+ghost use Rattle.tpm_step.specs.Events.{Cycled, Given};
+ghost use Rattle.tpm_step.specs.Execution.{Executes};
+ghost use Rattle.tpm_text.specs.Trace.{trace_text};
+ghost use Rattle.tpmsim_web.specs.State.{command_seen, cycle_seen, record_of};
+ghost use Rattle.tpmsim_web.specs.Told.{Tells, done, no_device, no_locality};
+ghost use Rattle.tpmsim_web.specs.Version.{version_number};
+ghost use Rattle.tpmsim_web.specs.declared.device.Device.{Device};
+
+use crate::device::{Answered, Device};
+use crate::holder::{Holder, Place};
+use crate::told::{DONE, NO_DEVICE, NO_LOCALITY, fault_number};
+use std::alloc::Global;
+use std::mem;
+use tpm_step::Event;
+use tpm_types::Locality;
+
+/// The version as one number: 65,536 times major, plus 256 times minor, plus patch.
+#[unsafe(no_mangle)]
+pub extern "C" fn device_version() -> u32
+    ensures { result ≡ version_number 0 1 0 }
+{
+    0x00_01_00
+}
+
+/// How many bytes a place for a device has.
+#[unsafe(no_mangle)]
+pub extern "C" fn device_size() -> usize {
+    mem::size_of::<Device>()
+}
+
+/// Makes a new device, whose secrets are these random bytes, in the place, instead of the holder's
+/// own.
+#[unsafe(no_mangle)]
+pub extern "C" fn device_manufacture(
+    alloc: Global,
+    holder: &mut Holder,
+    place: Place,
+    random: &[u8; 256],
+)
+    ensures { (device : Device) × (holder.new.device ≡ Some device)
+        × (record_of device ≡ manufactured random.now) × Follows (record_of device) [] }
+{
+    *holder = Holder::new(place, Device::manufacture(alloc, random));
+}
+
+/// Executes a command, and writes its response and its trace to the fronts of their buffers.
+/// NO_LOCALITY: the locality is not 0 to 4. NO_DEVICE: the holder has no device. Nothing is written
+/// in both cases.
+#[unsafe(no_mangle)]
+pub extern "C" fn device_execute(
+    holder: &mut Holder,
+    buffer: &[u8],
+    locality: u8,
+    elapsed_ms: u32,
+    random: &[u8; 256],
+    response: &mut [u8; 4096],
+    answered: &mut Answered,
+    trace: &mut [u8; 64],
+) -> u8
+    ensures executes { result ≡ done → (before : Device) × (after : Device)
+        × (holder.old.device ≡ Some before) × (holder.new.device ≡ Some after)
+        × Executes false (record_of before) (Given buffer.now locality elapsed_ms random.now)
+        (command_seen response.new answered.new after)
+        × After Follows (record_of before) (Given buffer.now locality elapsed_ms random.now)
+        (command_seen response.new answered.new after)
+        × (answered.new.drawn ≡ drawn_by (record_of before)
+        (Given buffer.now locality elapsed_ms random.now) answered.new.check) }
+    ensures rest { result ≡ done
+        → drop answered.new.size response.new ≡ drop answered.new.size response.old }
+    ensures traced { result ≡ done → take answered.new.traced trace.new
+        ≡ trace_text (Given buffer.now locality elapsed_ms random.now)
+        (record { code = answered.new.code; check = answered.new.check })
+        (take answered.new.size response.new) }
+    ensures refused { result ≢ done → (holder.new.device ≡ holder.old.device)
+        × (response.new ≡ response.old) × (answered.new ≡ answered.old)
+        × (trace.new ≡ trace.old) }
+    ensures told { result ≢ done → result ≢ no_locality
+        → (result ≡ no_device) × (holder.old.device ≡ None) }
+    ensures locality { result ≡ no_locality → 4 < locality }
+{
+    let Some(locality) = Locality::new(locality) else {
+        return NO_LOCALITY;
+    };
+    let Some(mut device) = holder.take() else {
+        return NO_DEVICE;
+    };
+    let event = Event::of_command(buffer, locality, elapsed_ms, *random);
+    *answered = device.execute(&event, response, trace);
+    holder.put(device);
+    DONE
+}
+
+/// Takes power away and gives it back. NO_DEVICE: the holder has no device.
+#[unsafe(no_mangle)]
+pub extern "C" fn device_cycle_power(holder: &mut Holder) -> u8
+    ensures executes { MatchOption holder.old.device (holder.new.device ≡ None) (λ before.
+        (after : Device) × (holder.new.device ≡ Some after)
+        × Executes false (record_of before) Cycled (cycle_seen after)
+        × After Follows (record_of before) Cycled (cycle_seen after)) }
+    ensures told { MatchOption holder.old.device (result ≡ no_device) (λ before. result ≡ done) }
+{
+    let Some(mut device) = holder.take() else {
+        return NO_DEVICE;
+    };
+    device.cycle_power();
+    holder.put(device);
+    DONE
+}
+
+/// Writes the image of the device to the front of a buffer, if it fits. Returns how many bytes the
+/// image has, written or not; 0 without a device.
+#[unsafe(no_mangle)]
+pub extern "C" fn device_save(holder: &mut Holder, buffer: &mut [u8]) -> usize
+    ensures saved { MatchOption holder.old.device ((result ≡ 0) × (buffer.new ≡ buffer.old))
+        (λ device. PutsFront (image_text Two (kept_of (record_of device))) buffer.old result
+        buffer.new) }
+    ensures kept { holder.new.device ≡ holder.old.device }
+{
+    let Some(device) = holder.take() else {
+        return 0;
+    };
+    let size = device.save_into(buffer);
+    holder.put(device);
+    size
+}
+
+/// Writes what the device keeps without power, but for its clock, to the front of a buffer, if it
+/// fits. Returns how many bytes it has, written or not; 0 without a device.
+#[unsafe(no_mangle)]
+pub extern "C" fn device_kept(holder: &mut Holder, buffer: &mut [u8]) -> usize
+    ensures told { MatchOption holder.old.device ((result ≡ 0) × (buffer.new ≡ buffer.old))
+        (λ device. PutsFront (kept_text (record_of device)) buffer.old result buffer.new) }
+    ensures kept { holder.new.device ≡ holder.old.device }
+{
+    let Some(device) = holder.take() else {
+        return 0;
+    };
+    let size = device.kept_into(buffer);
+    holder.put(device);
+    size
+}
+
+/// Replaces the holder's device by that of an image, as after a power cycle. Otherwise the number
+/// is that of the first fault, or NO_DEVICE, and the holder is as it was.
+#[unsafe(no_mangle)]
+pub extern "C" fn device_open(alloc: Global, holder: &mut Holder, image: &[u8]) -> u8
+    ensures opens { MatchOption holder.old.device
+        ((result ≡ no_device) × (holder.new.device ≡ None))
+        (λ before. (opened : Result Device Fault) × Opens record_of false image.now opened
+        × Tells opened holder.old.device holder.new.device result) }
+    ensures history { result ≡ done → (version : Version) (r : Record) (history : History)
+        → IsRecord r → Follows r history → IsImage version (kept_of r) image.now
+        → (device : Device) × (holder.new.device ≡ Some device)
+        × Follows (record_of device) (PowerCycled ∷ history) }
+{
+    let Some(mut device) = holder.take() else {
+        return NO_DEVICE;
+    };
+    let opened = device.open(alloc, image);
+    holder.put(device);
+    match opened {
+        Ok(()) => DONE,
+        Err(fault) => fault_number(fault),
+    }
+}
+
+/// Forgets the device, if there is one, and leaves the holder with none.
+#[unsafe(no_mangle)]
+pub extern "C" fn device_release(holder: &mut Holder)
+    ensures { holder.new.device ≡ None }
+{
+    let _before = holder.take();
+}

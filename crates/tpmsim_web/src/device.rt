@@ -1,0 +1,234 @@
+//! A device.
+
+ghost use Rattle.std.specs.Prelude.{◌≡◌, ◌∷◌, ◌≤◌, [], IfErr, IfOk, OnErr, OnOk, drop, false, length};
+ghost use Rattle.std.specs.Prelude.{take, true};
+ghost use Rattle.tpm_completion.specs.Execution.{CompletesIf};
+ghost use Rattle.tpm_image_text.specs.Image.{IsImage, image_text};
+ghost use Rattle.tpm_image_text.specs.KeptText.{kept_text};
+ghost use Rattle.tpm_image_text.specs.NonVolatile.{kept_of};
+ghost use Rattle.tpm_image_text.specs.Opening.{Opens};
+ghost use Rattle.tpm_image_text.specs.Saving.{PutsFront};
+ghost use Rattle.tpm_image_text.specs.declared.version.Version.{Version};
+ghost use Rattle.tpm_image_text.specs.declared.version.Version.TheVariants.{Two};
+ghost use Rattle.tpm_machine.specs.Drawn.{drawn_by};
+ghost use Rattle.tpm_machine.specs.Follows.{After, Follows};
+ghost use Rattle.tpm_machine.specs.History.{History, PowerCycled};
+ghost use Rattle.tpm_record.specs.IsRecord.{IsRecord};
+ghost use Rattle.tpm_record.specs.Record.{Record, manufactured};
+ghost use Rattle.tpm_slots.specs.SlotRecord.{slot_record};
+ghost use Rattle.tpm_state_text.specs.Body.{IsWholeState};
+ghost use Rattle.tpm_state_text.specs.Sizes.{state_text_size};
+ghost use Rattle.tpm_state_text.specs.State.{state_text};
+ghost use Rattle.tpm_step.specs.Events.{Cycled, plain_event};
+ghost use Rattle.tpm_step.specs.Execution.{Executes};
+ghost use Rattle.tpm_text.specs.Trace.{IsAnswered, IsRow, trace_text};
+ghost use Rattle.tpmsim_web.specs.Journal.{journal_with, seen_in};
+ghost use Rattle.tpmsim_web.specs.Restoring.{RestoresDevice};
+ghost use Rattle.tpmsim_web.specs.State.{command_seen, cycle_seen, record_of, whole_state};
+
+use std::alloc::Global;
+use tpm_completion::execute as complete;
+use tpm_image::{ImageFault, kept_into, open_into, save_into};
+use tpm_journal::Journal;
+use tpm_machine::Machine;
+use tpm_slots::SlotKeep;
+use tpm_snapshot::{RestoreFault, completion_of, layer_of, restore_new, snapshot_into};
+use tpm_step::{Event, Outcome};
+use tpm_text::{trace_text, traceable_laws};
+
+/// A device, the outcome of its latest event, over which the next outcome is written, and the state
+/// of its journal, which has the completing layer's.
+#[derive(Drop)]
+pub struct Device {
+    pub(crate) machine: Machine<SlotKeep>,
+    pub(crate) outcome: Outcome,
+    pub(crate) journal: Journal,
+}
+
+/// What the caller of a command is told beside its response.
+#[repr(C)]
+#[derive(Clone, Copy, PartialEq, Eq)]
+pub struct Answered {
+    /// How many bytes the response has.
+    pub size: usize,
+    /// How many of the random bytes were drawn, from their front.
+    pub drawn: usize,
+    /// How many bytes the trace has; 0 if none is written.
+    pub traced: usize,
+    /// The command's code, 0 if none was found.
+    pub code: u32,
+    /// The number of the check that refused the command, 0 if none did.
+    pub check: u8,
+}
+
+/// A new machine, whose secrets are these random bytes.
+pub(crate) fn new_machine(alloc: Global, random: &[u8; 256]) -> Machine<SlotKeep>
+    ensures state { slot_record result.keep ≡ manufactured random.now }
+    ensures history { Follows (slot_record result.keep) [] }
+{
+    let Ok(machine) = Machine::manufacture(alloc, random) else {
+        unreachable!()
+    };
+    machine
+}
+
+impl Device {
+    /// A new device, whose secrets are these random bytes.
+    pub fn manufacture(alloc: Global, random: &[u8; 256]) -> Device
+        ensures state { record_of result ≡ manufactured random.now }
+        ensures history { Follows (record_of result) [] }
+    {
+        Device {
+            machine: new_machine(alloc, random),
+            outcome: Outcome::empty(),
+            journal: Journal::begun(0, 0),
+        }
+    }
+
+    /// Executes a command, and writes its response to the front of a buffer, whose rest stays, and
+    /// its trace to the front of another.
+    pub fn execute(
+        &mut self,
+        event: &Event,
+        response: &mut [u8; 4096],
+        trace: &mut [u8; 64],
+    ) -> Answered
+        ensures executes { Executes false (record_of self.old) (plain_event event.now)
+            (command_seen response.new result self.new) }
+        ensures history { After Follows (record_of self.old) (plain_event event.now)
+            (command_seen response.new result self.new) }
+        ensures drawn { result.drawn
+            ≡ drawn_by (record_of self.old) (plain_event event.now) result.check }
+        ensures rest { drop result.size response.new ≡ drop result.size response.old }
+        ensures traced { take result.traced trace.new ≡ trace_text (plain_event event.now)
+            (record { code = result.code; check = result.check }) (take result.size response.new) }
+    {
+        self.machine.execute_into(event, &mut self.outcome);
+        traceable_laws();
+        let traced = put_trace(event, &self.outcome, trace);
+        let drawn = self.machine.drawn();
+        tell(&self.outcome, drawn, traced, response)
+    }
+
+    /// Executes a command with the completing layer above the device, and writes its response to
+    /// the front of a buffer, whose rest stays.
+    pub fn complete(&mut self, event: &Event, response: &mut [u8; 4096]) -> Answered
+        ensures completes { CompletesIf false true self.old.journal.layer (record_of self.old)
+            (plain_event event.now) (seen_in response.new result self.new) }
+        ensures journal { self.new.journal
+            ≡ journal_with self.old.journal self.new.journal.layer }
+        ensures rest { drop result.size response.new ≡ drop result.size response.old }
+        ensures untraced { result.traced ≡ 0 }
+    {
+        let layer = &mut self.journal.layer;
+        complete(&mut self.machine, layer, true, event, &mut self.outcome);
+        let drawn = self.machine.drawn();
+        tell(&self.outcome, drawn, 0, response)
+    }
+
+    /// Takes power away and gives it back.
+    pub fn cycle_power(&mut self)
+        ensures executes { Executes false (record_of self.old) Cycled (cycle_seen self.new) }
+        ensures history { After Follows (record_of self.old) Cycled (cycle_seen self.new) }
+    {
+        self.machine
+            .execute_into(&Event::PowerCycle, &mut self.outcome);
+    }
+
+    /// Writes the image to the front of a buffer, if it fits. Returns how many bytes it has.
+    pub fn save_into(&self, buffer: &mut [u8]) -> usize
+        ensures { PutsFront (image_text Two (kept_of (record_of self.now))) buffer.old result
+            buffer.new }
+    {
+        save_into(&self.machine, buffer)
+    }
+
+    /// Writes what the device keeps without power, but for its clock, to the front of a buffer, if
+    /// it fits. Returns how many bytes it has.
+    pub fn kept_into(&self, buffer: &mut [u8]) -> usize
+        ensures { PutsFront (kept_text (record_of self.now)) buffer.old result buffer.new }
+    {
+        kept_into(&self.machine, buffer)
+    }
+
+    /// Becomes the device of an image, as after a power cycle. A fault leaves the device as it was.
+    pub fn open(&mut self, alloc: Global, image: &[u8]) -> Result<(), ImageFault>
+        ensures exact { Opens (λ done. record_of self.new) false image.now result }
+        ensures kept { OnErr result (self.new ≡ self.old) }
+        ensures history { (version : Version) (r : Record) (history : History) → IsRecord r
+            → Follows r history → IsImage version (kept_of r) image.now
+            → OnOk result (Follows (record_of self.new) (PowerCycled ∷ history)) }
+    {
+        let mut machine = new_machine(alloc, &[0; 256]);
+        open_into(&mut machine, image)?;
+        self.machine = machine;
+        self.journal = Journal::begun(0, 0);
+        Ok(())
+    }
+
+    /// Writes the state text to the front of a buffer, if it fits. Returns how many bytes it has.
+    pub fn snapshot_into(&self, buffer: &mut [u8]) -> usize
+        ensures put { PutsFront (state_text (whole_state self.now)) buffer.old result buffer.new }
+        ensures small { result ≤ state_text_size }
+        ensures is_state { IsWholeState (whole_state self.now) }
+    {
+        let layer = layer_of(&self.journal.layer);
+        snapshot_into(&self.machine, Some(&layer), buffer)
+    }
+
+    /// Becomes the device of a state text. A fault leaves the device as it was.
+    pub fn restore(&mut self, alloc: Global, text: &[u8]) -> Result<(), RestoreFault>
+        ensures restores { RestoresDevice self.new text.now result }
+        ensures kept { OnErr result (self.new ≡ self.old) }
+    {
+        let mut machine = new_machine(alloc, &[0; 256]);
+        let layer = restore_new(&mut machine, text)?;
+        self.machine = machine;
+        self.journal = Journal {
+            sum: 0,
+            time: 0,
+            layer: completion_of(layer.as_ref()),
+        };
+        Ok(())
+    }
+}
+
+/// Writes a response to the front of a buffer, and returns what its caller is told beside it.
+pub(crate) fn tell(
+    outcome: &Outcome,
+    drawn: usize,
+    traced: usize,
+    response: &mut [u8; 4096],
+) -> Answered
+    ensures front { take result.size response.new ≡ outcome.now.response.items }
+    ensures rest { drop result.size response.new ≡ drop result.size response.old }
+    ensures code { result.code ≡ outcome.now.row.code }
+    ensures check { result.check ≡ outcome.now.row.check }
+    ensures drawn { result.drawn ≡ drawn }
+    ensures traced { result.traced ≡ traced }
+{
+    let text = outcome.response.as_slice();
+    let (front, _) = response.split_at_mut(text.len());
+    front.copy_from_slice(text);
+    Answered {
+        size: text.len(),
+        drawn,
+        traced,
+        code: outcome.row.code,
+        check: outcome.row.check,
+    }
+}
+
+/// Writes the trace of an event to the front of a buffer. Returns how many bytes it has.
+fn put_trace(event: &Event, outcome: &Outcome, buffer: &mut [u8; 64]) -> usize
+    requires row { IsRow outcome.now.row }
+    requires response { IsAnswered (plain_event event.now) outcome.now.response.items }
+    ensures { take result buffer.new
+        ≡ trace_text (plain_event event.now) outcome.now.row outcome.now.response.items }
+{
+    let line = trace_text(event, outcome.row, outcome.response.as_slice());
+    let text = line.as_str().as_bytes();
+    let (front, _) = buffer.split_at_mut(text.len());
+    front.copy_from_slice(text);
+    text.len()
+}

@@ -1,0 +1,160 @@
+//! The exports on the journal of a device.
+
+ghost use Rattle.std.specs.Prelude.{◌≡◌, ◌≢◌, ◌<◌, ◌==◌, drop, false, length, not};
+ghost use Rattle.std.specs.Option.{MatchOption};
+ghost use Rattle.std.specs.declared.option.Option.{Option};
+ghost use Rattle.std.specs.declared.option.Option.TheVariants.{None, Some};
+ghost use Rattle.tpm_image_text.specs.Saving.{PutsFront};
+ghost use Rattle.tpm_journal.specs.Replay.{Replays};
+ghost use Rattle.tpm_journal.specs.declared.following.FollowFault.{FollowFault};
+ghost use Rattle.tpm_journal.specs.declared.opening.OpenFault.{OpenFault as Fault};
+ghost use Rattle.tpm_journal_text.specs.Head.{head_text};
+ghost use Rattle.tpm_journal_text.specs.declared.head.HeadKind.TheVariants.{Image};
+ghost use Rattle.tpmsim_web.specs.Journal.{BeginsIfRoom, CheckpointsIfFits, HasFault, IsOfJournal};
+ghost use Rattle.tpmsim_web.specs.Journal.{Records, checkpoint_head, command_by, image_at_power};
+ghost use Rattle.tpmsim_web.specs.State.{record_of};
+ghost use Rattle.tpmsim_web.specs.Told.{done, follow_number, no_device, no_locality, open_number};
+ghost use Rattle.tpmsim_web.specs.declared.device.Device.{Device};
+
+use crate::device::{Answered, Device};
+use crate::holder::Holder;
+use crate::told::{DONE, NO_DEVICE, NO_LOCALITY, follow_number, open_number};
+use std::alloc::Global;
+use tpm_types::Locality;
+
+/// Cycles the power of the device, and writes the head of its new journal to the front of a buffer.
+/// Returns how many bytes the head has, or 0 without a device. Nothing is done if the buffer is
+/// smaller.
+#[unsafe(no_mangle)]
+pub extern "C" fn journal_begin(holder: &mut Holder, now_ms: u64, buffer: &mut [u8]) -> usize
+    ensures head { MatchOption holder.old.device ((result ≡ 0) × (buffer.new ≡ buffer.old))
+        (λ before. PutsFront (head_text Image now_ms (image_at_power before)) buffer.old result
+        buffer.new) }
+    ensures begins { MatchOption holder.old.device (holder.new.device ≡ None) (λ before.
+        (after : Device) × (holder.new.device ≡ Some after)
+        × BeginsIfRoom before now_ms (length buffer.old) result after) }
+{
+    let Some(mut device) = holder.take() else {
+        return 0;
+    };
+    let size = device.begin_journal(now_ms, buffer);
+    holder.put(device);
+    size
+}
+
+/// Begins the journal of the device anew with a checkpoint, and writes its head to the front of a
+/// buffer. Returns how many bytes the head has, or 0 without a device. Nothing is done if the buffer
+/// is smaller. The head has the journal's time as its clock, or `now_ms` if no journal has begun
+/// yet.
+#[unsafe(no_mangle)]
+pub extern "C" fn journal_checkpoint(holder: &mut Holder, now_ms: u64, buffer: &mut [u8]) -> usize
+    ensures head { MatchOption holder.old.device ((result ≡ 0) × (buffer.new ≡ buffer.old))
+        (λ before. PutsFront (checkpoint_head before now_ms) buffer.old result buffer.new) }
+    ensures checkpoints { MatchOption holder.old.device (holder.new.device ≡ None) (λ before.
+        (after : Device) × (holder.new.device ≡ Some after)
+        × CheckpointsIfFits before now_ms (length buffer.old) result after) }
+{
+    let Some(mut device) = holder.take() else {
+        return 0;
+    };
+    let size = device.checkpoint(now_ms, buffer);
+    holder.put(device);
+    size
+}
+
+/// Replaces the holder's device by that of a journal, and says how many bytes of the text are the
+/// head and entries. Otherwise the number is that of the first fault, or NO_DEVICE, and the holder
+/// is as it was.
+#[unsafe(no_mangle)]
+pub extern "C" fn journal_open(
+    alloc: Global,
+    holder: &mut Holder,
+    text: &[u8],
+    taken: &mut usize,
+) -> u8
+    ensures opens { result ≡ done → (device : Device) × (holder.new.device ≡ Some device)
+        × IsOfJournal text.now taken.new device }
+    ensures refused { result ≢ done
+        → (holder.new.device ≡ holder.old.device) × (taken.new ≡ taken.old) }
+    ensures told { MatchOption holder.old.device (result ≡ no_device) (λ before. result ≢ done
+        → (fault : Fault) × (result ≡ open_number fault) × HasFault text.now fault) }
+{
+    let Some(mut device) = holder.take() else {
+        return NO_DEVICE;
+    };
+    let opened = device.open_journal(alloc, text);
+    holder.put(device);
+    match opened {
+        Ok(size) => {
+            *taken = size;
+            DONE
+        }
+        Err(fault) => open_number(fault),
+    }
+}
+
+/// Executes the entries of a text that follows what the device executed, and says how many bytes of
+/// the text they are. NO_DEVICE: the holder has no device, and nothing is done.
+#[unsafe(no_mangle)]
+pub extern "C" fn journal_follow(holder: &mut Holder, text: &[u8], taken: &mut usize) -> u8
+    ensures follows { MatchOption holder.old.device
+        ((result ≡ no_device) × (holder.new.device ≡ None) × (taken.new ≡ taken.old))
+        (λ before. (after : Device) × (fault : Option FollowFault)
+        × (holder.new.device ≡ Some after) × (result ≡ follow_number fault)
+        × Replays false before.journal (record_of before) text.now
+        (record { taken = taken.new; fault = fault }) after.journal (record_of after)) }
+{
+    let Some(mut device) = holder.take() else {
+        return NO_DEVICE;
+    };
+    let followed = device.follow(text);
+    holder.put(device);
+    *taken = followed.taken;
+    follow_number(followed.fault)
+}
+
+/// Executes a command by the host's clock, writes its response to the front of the buffer for it,
+/// and its entry to the front of another. Where `completes` is not 0, the completing layer completes
+/// what the device does. NO_LOCALITY: the locality is not 0 to 4. NO_DEVICE: the holder has no
+/// device. Nothing is written in both cases.
+#[unsafe(no_mangle)]
+pub extern "C" fn journal_execute(
+    holder: &mut Holder,
+    buffer: &[u8],
+    locality: u8,
+    now_ms: u64,
+    completes: u8,
+    random: &[u8; 256],
+    response: &mut [u8; 4096],
+    answered: &mut Answered,
+    entry: &mut [u8; 9216],
+    size: &mut usize,
+) -> u8
+    ensures records { result ≡ done → (before : Device) × (after : Device)
+        × (holder.old.device ≡ Some before) × (holder.new.device ≡ Some after)
+        × Records before
+        (command_by before buffer.now locality now_ms (not (completes == 0)) random.now)
+        response.new answered.new size.new entry.new after }
+    ensures rest { result ≡ done
+        → drop answered.new.size response.new ≡ drop answered.new.size response.old }
+    ensures untraced { result ≡ done → answered.new.traced ≡ 0 }
+    ensures refused { result ≢ done → (holder.new.device ≡ holder.old.device)
+        × (response.new ≡ response.old) × (answered.new ≡ answered.old)
+        × (entry.new ≡ entry.old) × (size.new ≡ size.old) }
+    ensures locality { result ≡ no_locality → 4 < locality }
+    ensures told { result ≢ done → result ≢ no_locality
+        → (result ≡ no_device) × (holder.old.device ≡ None) }
+{
+    let Some(locality) = Locality::new(locality) else {
+        return NO_LOCALITY;
+    };
+    let Some(mut device) = holder.take() else {
+        return NO_DEVICE;
+    };
+    let completes = completes != 0;
+    *size = device.execute_recorded(
+        buffer, locality, now_ms, completes, random, response, answered, entry,
+    );
+    holder.put(device);
+    DONE
+}

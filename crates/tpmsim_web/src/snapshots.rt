@@ -1,0 +1,74 @@
+//! The exports on the state text of a device.
+
+ghost use Rattle.std.specs.Prelude.{◌≡◌, ◌≢◌, ◌≤◌, Err, IfSome};
+ghost use Rattle.std.specs.Option.{MatchOption};
+ghost use Rattle.std.specs.declared.option.Option.TheVariants.{None, Some};
+ghost use Rattle.tpm_image_text.specs.Saving.{PutsFront};
+ghost use Rattle.tpm_machine.specs.Follows.{Follows};
+ghost use Rattle.tpm_machine.specs.History.{History};
+ghost use Rattle.tpm_state_text.specs.Body.{IsWholeState, WholeState};
+ghost use Rattle.tpm_state_text.specs.Sizes.{state_text_size};
+ghost use Rattle.tpm_state_text.specs.State.{state_of_text, state_text};
+ghost use Rattle.tpm_state_text.specs.declared.fault.StateFault.{StateFault};
+ghost use Rattle.tpmsim_web.specs.Restoring.{IsOfState};
+ghost use Rattle.tpmsim_web.specs.State.{record_of, whole_state};
+ghost use Rattle.tpmsim_web.specs.Told.{done, no_device, state_number};
+ghost use Rattle.tpmsim_web.specs.declared.device.Device.{Device};
+
+use crate::device::Device;
+use crate::holder::Holder;
+use crate::told::{DONE, NO_DEVICE, restore_number};
+use std::alloc::Global;
+
+/// Writes the state text of the device to the front of a buffer, if it fits. Returns how many bytes
+/// the text has, written or not; 0 without a device.
+#[unsafe(no_mangle)]
+pub extern "C" fn device_snapshot(holder: &mut Holder, buffer: &mut [u8]) -> usize
+    ensures written { MatchOption holder.old.device
+        ((result ≡ 0) × (buffer.new ≡ buffer.old))
+        (λ device. PutsFront (state_text (whole_state device)) buffer.old result buffer.new) }
+    ensures small { result ≤ state_text_size }
+    ensures is_state { IfSome holder.old.device (λ device. IsWholeState (whole_state device)) }
+    ensures kept { holder.new.device ≡ holder.old.device }
+{
+    let Some(device) = holder.take() else {
+        return 0;
+    };
+    let size = device.snapshot_into(buffer);
+    holder.put(device);
+    size
+}
+
+/// Replaces the holder's device by that of a state text. Otherwise the number is that of the first
+/// fault, or NO_DEVICE, and the holder is as it was.
+#[unsafe(no_mangle)]
+pub extern "C" fn device_restore(alloc: Global, holder: &mut Holder, text: &[u8]) -> u8
+    ensures restores { result ≡ done → (device : Device) × (holder.new.device ≡ Some device)
+        × IsOfState text.now device }
+    ensures refused { result ≢ done → holder.new.device ≡ holder.old.device }
+    ensures told { MatchOption holder.old.device (result ≡ no_device) (λ before. result ≢ done
+        → (fault : StateFault) × (result ≡ state_number fault)
+        × (state_of_text text.now ≡ Err fault)) }
+
+    // The text of a device restores just that device, with its layer and its history.
+    ensures taken { (state : WholeState) → IsWholeState state → text.now ≡ state_text state
+        → IfSome holder.old.device (λ before. result ≡ done) }
+    ensures again { (before : Device) → IsWholeState (whole_state before)
+        → text.now ≡ state_text (whole_state before) → result ≡ done
+        → (after : Device) × (holder.new.device ≡ Some after)
+        × (record_of after ≡ record_of before) × (after.journal.layer ≡ before.journal.layer) }
+    ensures history { (state : WholeState) (history : History) → IsWholeState state
+        → Follows state.device history → text.now ≡ state_text state → result ≡ done
+        → (after : Device) × (holder.new.device ≡ Some after)
+        × Follows (record_of after) history }
+{
+    let Some(mut device) = holder.take() else {
+        return NO_DEVICE;
+    };
+    let restored = device.restore(alloc, text);
+    holder.put(device);
+    match restored {
+        Ok(()) => DONE,
+        Err(fault) => restore_number(fault),
+    }
+}

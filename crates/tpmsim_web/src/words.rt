@@ -1,0 +1,122 @@
+//! The exports on commands and response codes in words. None of them needs a device.
+
+ghost use Rattle.std.specs.Prelude.{◌≡◌, ◌≢◌, ℕ, Err, List, Ok, take};
+ghost use Rattle.std.specs.Option.{MatchOption, option_or};
+ghost use Rattle.std.specs.Prelude.{option_map, unwrap_or};
+ghost use Rattle.tpm_commands.specs.CommandCode.{code_called, code_named, code_number};
+ghost use Rattle.tpm_help.specs.Form.{form_of};
+ghost use Rattle.tpm_help.specs.ResponseCode.{told_of};
+ghost use Rattle.tpm_help.specs.Wanted.{word_at};
+ghost use Rattle.tpm_image_text.specs.Saving.{PutsFront};
+ghost use Rattle.tpm_text.specs.Line.{assembled};
+ghost use Rattle.tpm_text.specs.declared.fault.AsmFault.{AsmFault as Fault};
+ghost use Rattle.tpmsim_web.specs.Place.{place_number};
+ghost use Rattle.tpmsim_web.specs.Reading.{TellsFault};
+
+use crate::read_line::{ReadLine, WORDS};
+use arrayvec::ArrayString;
+use tpm_commands::CommandCode;
+use tpm_help::{example_of, meaning_of, word_at};
+use tpm_image_text::put_front;
+use tpm_line::{LINE_LIMIT, write_line};
+use tpm_text::{Draft, assemble_in};
+use tpm_types::rc::Place;
+
+/// Writes the command that words spell to the front of a buffer; or tells their first fault, and
+/// what is wanted there. Returns the number of the fault, 0 for none.
+#[unsafe(no_mangle)]
+pub extern "C" fn line_assemble(
+    words: &[u8],
+    command: &mut [u8; 4096],
+    wanted: &mut [u8; 64],
+    read: &mut ReadLine,
+) -> u8
+    ensures told { result ≡ read.new.fault }
+    ensures good { result ≡ 0 → (read.new.kind ≡ 2)
+        × (assembled words.now ≡ Ok (take read.new.size command.new)) }
+    ensures bad { result ≢ 0 → (fault : Fault) × (assembled words.now ≡ Err fault)
+        × TellsFault fault (word_at words.now fault) read.new wanted.old wanted.new
+        × (command.new ≡ command.old) }
+{
+    let mut draft = Draft::new();
+    match assemble_in(words, &mut draft) {
+        Ok(bytes) => {
+            let (front, _) = command.split_at_mut(bytes.len());
+            front.copy_from_slice(bytes);
+            *read = ReadLine::good(WORDS, 0, bytes.len());
+        }
+        Err(fault) => *read = ReadLine::bad(fault, word_at(words, fault), wanted),
+    }
+    read.fault
+}
+
+/// Writes a line in words that spells a command to the front of a buffer, if it fits. Returns how
+/// many bytes the line has, written or not; 0 if none is found, and the contract does not say when.
+#[unsafe(no_mangle)]
+pub extern "C" fn line_spell(command: &[u8], buffer: &mut [u8]) -> usize
+    ensures { result ≢ 0 → (line : List ℕ) × (assembled line ≡ Ok command.now)
+        × PutsFront line buffer.old result buffer.new }
+    ensures none { result ≡ 0 → buffer.new ≡ buffer.old }
+{
+    let mut line: ArrayString<LINE_LIMIT> = ArrayString::new();
+    match write_line(command, &mut line) {
+        Ok(()) => put_front(&[], line.as_str().as_bytes(), buffer),
+        Err(_) => 0,
+    }
+}
+
+/// The number of the command of this name; 0 for none.
+#[unsafe(no_mangle)]
+pub extern "C" fn command_number(name: &[u8]) -> u32
+    ensures { result ≡ unwrap_or (option_map code_number (code_called name.now)) 0 }
+{
+    match CommandCode::called(name) {
+        Some(code) => code.number(),
+        None => 0,
+    }
+}
+
+/// Writes an example of what follows the name of the command of this number to the front of a
+/// buffer, if it fits. Returns how many bytes it has, written or not; 0 if there is no such command.
+#[unsafe(no_mangle)]
+pub extern "C" fn command_example(number: u32, example: &mut [u8; 256]) -> usize
+    ensures { MatchOption (code_named number)
+        ((result ≡ 0) × (example.new ≡ example.old))
+        (λ code. (text : List ℕ) × PutsFront text example.old result example.new) }
+{
+    match CommandCode::named(number) {
+        Some(code) => put_front(&[], example_of(code).as_bytes(), example),
+        None => 0,
+    }
+}
+
+/// Writes the name of a response code to the front of a buffer, if it fits, and the place that it
+/// tells of. Returns how many bytes the name has, written or not; 0 if there is no such code, and
+/// then nothing is written.
+#[unsafe(no_mangle)]
+pub extern "C" fn code_meaning(code: u32, name: &mut [u8; 64], place: &mut u32) -> usize
+    ensures { MatchOption (told_of code)
+        ((result ≡ 0) × (name.new ≡ name.old) × (place.new ≡ place.old))
+        (λ told. PutsFront told.0 name.old result name.new
+        × (place.new ≡ place_number told.1)) }
+{
+    match meaning_of(code) {
+        Some(meaning) => {
+            *place = place_number(meaning.place);
+            put_front(&[], meaning.name.as_bytes(), name)
+        }
+        None => 0,
+    }
+}
+
+/// A place as one number.
+fn place_number(place: Place) -> u32
+    ensures { result ≡ place_number place }
+{
+    match place {
+        Place::Nowhere => 0,
+        Place::Handle(number) => 0x100 + u32::from(number),
+        Place::Parameter(number) => 0x200 + u32::from(number),
+        Place::Session(number) => 0x300 + u32::from(number),
+    }
+}
