@@ -1,7 +1,7 @@
 #!/bin/sh
 # Makes the program in dist/: the one that `rt ci` built and proved here, and its lines in PROVED,
 # which name the kit of that, and the checksums of the sources and of the program. Needs `rt`.
-# tools/library.sh makes the library.
+# tools/library.sh makes the library, and tools/web.sh the module for web pages.
 #
 #   tools/dist.sh           makes it, where no source is newer than the program that was built here
 #   tools/dist.sh --check   says whether dist/ is of the sources as they stand and, where it names
@@ -18,6 +18,7 @@ ship x86_64
 faults() {
     faults_of_program
     faults_of_library
+    faults_of_module
     faults_of_aarch64
 }
 
@@ -84,7 +85,7 @@ case $* in
     fi
     sources=$(sources_checksum) && program=$(checksum <"$built") && mkdir -p dist || exit 1
     cp "$built" "$shipped.new" && chmod 755 "$shipped.new" && mv "$shipped.new" "$shipped" || exit 1
-    library=$(sed -n '/^library /p' "$proved" 2>/dev/null)
+    library=$(sed -n '/^library /p; /^web /p' "$proved" 2>/dev/null)
     printf 'kit: %s\nsources: %s\nprogram: %s\n' "$kit" "$sources" "$program" >"$proved"
     [ -z "$library" ] || printf '%s\n' "$library" >>"$proved"
     ;;

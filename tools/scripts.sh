@@ -121,10 +121,11 @@ for name do
     [ -n "$found" ] || say "FAILED: $name: there is no such test"
 done
 
-# is_of_library TEST: whether it is a test of the library, or of what is attached by it.
+# is_of_library TEST: whether it is a test of the library, of what is attached by it, or of the module for
+# web pages.
 is_of_library() {
     case $1 in
-    */library_*.sh | */attached_*.sh) true ;;
+    */library_*.sh | */attached_*.sh | */web/*.sh) true ;;
     *) false ;;
     esac
 }

@@ -16,6 +16,7 @@ package_of() {
     libtpms/tpm_library.h) echo libtpms-dev ;;
     man) echo man-db ;;
     nm | objdump | strip) echo binutils ;;
+    node) echo nodejs ;;
     setpriv) echo util-linux ;;
     tpm2 | tpm2_startup) echo tpm2-tools ;;
     tsc) echo node-typescript ;;

@@ -10,6 +10,7 @@ ship() {
     shipped=$distribution/tpmsim
     archive=$distribution/libtpmsim.a
     shared=$distribution/libtpmsim.so.0
+    module=$distribution/tpmsim.wasm
     proved=$distribution/PROVED
 }
 
@@ -100,4 +101,12 @@ proved_line() {
 # is_proved NAME SUM: whether dist/PROVED has this checksum under a name.
 is_proved() {
     [ -n "$2" ] && [ "$(proved_line "$1")" = "$2" ]
+}
+
+# What is wrong with the module for web pages by its checksums, a fault a line.
+faults_of_module() {
+    [ -f "$module" ] || { echo "$module is not there" && return; }
+    is_proved 'web sources' "$(sources_checksum tpmsim_web)" ||
+        echo "$module was proved of other sources than these"
+    is_proved 'web module' "$(checksum <"$module")" || echo "$module is not the module that $proved names"
 }

@@ -14,6 +14,6 @@ pub mod response_code;
 pub mod wanted;
 
 pub use example::example_of;
-pub use form::form_of;
+pub use form::{Form, form_of, form_text};
 pub use response_code::{CodeMeaning, hex_number, meaning_of};
 pub use wanted::word_at;

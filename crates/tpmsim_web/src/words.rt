@@ -16,7 +16,7 @@ ghost use Rattle.tpmsim_web.specs.Reading.{TellsFault};
 use crate::read_line::{ReadLine, WORDS};
 use arrayvec::ArrayString;
 use tpm_commands::CommandCode;
-use tpm_help::{example_of, meaning_of, word_at};
+use tpm_help::{example_of, form_text, meaning_of, word_at};
 use tpm_image_text::put_front;
 use tpm_line::{LINE_LIMIT, write_line};
 use tpm_text::{Draft, assemble_in};
@@ -72,6 +72,19 @@ pub extern "C" fn command_number(name: &[u8]) -> u32
 {
     match CommandCode::called(name) {
         Some(code) => code.number(),
+        None => 0,
+    }
+}
+
+/// Writes how the command of this number is said in words to the front of a buffer, if it fits.
+/// Returns how many bytes that has, written or not; 0 if there is no such command.
+#[unsafe(no_mangle)]
+pub extern "C" fn command_form(number: u32, form: &mut [u8; 256]) -> usize
+    ensures { MatchOption (code_named number) ((result ≡ 0) × (form.new ≡ form.old))
+        (λ code. PutsFront (form_of code) form.old result form.new) }
+{
+    match CommandCode::named(number) {
+        Some(code) => put_front(&[], form_text(code).as_str().as_bytes(), form),
         None => 0,
     }
 }

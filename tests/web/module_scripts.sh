@@ -1,0 +1,13 @@
+# The module for web pages, in node: it imports nothing, and plays each script of tests/ and examples/
+# as the program does: the answers, the traces, and the first bad line.
+tests=$(cd "$(dirname "$0")/.." && pwd -P)
+. "$tests/common/cases.sh"
+needs node
+top=${tests%/*}
+
+node "$top/web/play.mjs" "$top/dist/tpmsim.wasm" compare "$tests" "$top/examples" >told
+echo "status $?"
+sed '/ scripts, /d' told
+sed -n 's/ scripts, .*//p' told | while read -r scripts; do
+    [ "$scripts" -lt 100 ] || echo 'all scripts are played'
+done

@@ -1,0 +1,103 @@
+#!/bin/sh
+# Makes dist/tpmsim.wasm, the device as a module for web pages and for node, and its lines in dist/PROVED: the
+# prover's verdict for the module's own target, the kit, the checksums of the sources and of the module,
+# and the tool that lowered it.
+#
+# The kit links a module whose memory has 64-bit addresses. Debian's binaryen makes one of it whose memory
+# has 32-bit addresses, which every browser and node run without a flag: only that one is shipped.
+# binaryen is no step of the proof, as the linker is none.
+#
+#   tools/web.sh           makes it
+#   tools/web.sh --check   makes it again, and compares it with dist/tpmsim.wasm: the bytes, where the kit
+#                          and binaryen are those that PROVED names, and else the checksums alone
+#
+# The crates below stand built here, as `rt ci` leaves them, with no newer source: tools/build.sh builds
+# them. Needs `rt`, and Debian's binaryen.
+set -u
+cd "$(dirname "$0")/.." && top=$(pwd -P) || exit 1
+. tools/lib/proved.sh
+. tools/lib/compiling.sh
+ship x86_64
+target=wasm64-unknown-unknown
+# The stack in bytes, which lies below all that a page lends.
+stack=1048576
+work=$(mktemp -d) || exit 1
+trap 'rm -rf "$work"' EXIT
+log=$work/log
+: >"$log"
+
+# fail REASON: ends the script, and shows what was logged last.
+fail() {
+    [ ! -s "$log" ] || tail -n 20 "$log" >&2
+    echo "$0: $1" >&2
+    exit 1
+}
+
+# Proves and compiles the exports, and keeps the verdict.
+compile_exports() {
+    compile "$top" tpmsim_web "$work/exports.a" --target "$target" --cpu lime1 >"$log" 2>&1 &&
+        verdict=$(grep -o "^logic=proved functions=[0-9]* target=$target" "$log")
+}
+
+link() {
+    toolchain=$(kit_folder)/toolchain &&
+        "$(kit_folder)/bin/rattle-link" --target "$target" --toolchain "$toolchain" --stack "$stack" \
+            -o "$work/wide.wasm" "$work/exports.a" >>"$log" 2>&1
+}
+
+# The module uses these features of WebAssembly, which all browsers have, besides wide memory.
+lower() {
+    wasm-opt --enable-memory64 --enable-bulk-memory --enable-sign-ext --enable-mutable-globals \
+        --enable-nontrapping-float-to-int --memory64-lowering "$work/wide.wasm" -o "$work/tpmsim.wasm" \
+        >>"$log" 2>&1
+}
+
+# Writes the module's lines of dist/PROVED behind the others.
+tell_proved() {
+    {
+        [ ! -f "$proved" ] || sed '/^web /d' "$proved"
+        echo "web kit: $kit"
+        echo "web verdict: $verdict"
+        echo "web sources: $made_of"
+        echo "web lowering, which is no prover's step: $binaryen"
+        echo "web module: $(checksum <"$module")"
+    } >"$proved.new" && mv "$proved.new" "$proved"
+}
+
+deliver() {
+    mkdir -p dist && mv "$work/tpmsim.wasm" "$module" && chmod 644 "$module" && tell_proved
+}
+
+# What is wrong with dist/tpmsim.wasm, a fault a line.
+faults() {
+    faults_of_module
+    if ! { is_proved 'web kit' "$kit" && is_proved "web lowering, which is no prover's step" "$binaryen"; }; then
+        echo "the kit or binaryen here is another than that of $module: the bytes are not compared" >&2
+    elif ! cmp -s "$work/tpmsim.wasm" "$module"; then
+        echo "$module has other bytes than those that are made here"
+    fi
+}
+
+for tool in rt rattle wasm-opt; do
+    command -v "$tool" >/dev/null || fail "there is no $tool"
+done
+case $* in
+'' | --check) ;;
+*)
+    echo "usage: $0 [--check]" >&2
+    exit 2
+    ;;
+esac
+kit=$(rt version) && binaryen=$(wasm-opt --version) && made_of=$(sources_checksum tpmsim_web) || exit 1
+are_built tpmsim_web || fail 'a crate is not built here, or a source is newer: tools/build.sh builds them'
+compile_exports || fail 'the exports are not compiled'
+link || fail 'the module is not linked'
+lower || fail 'the module is not lowered'
+[ "$made_of" = "$(sources_checksum tpmsim_web)" ] || fail 'a source changed meanwhile'
+if [ "$*" = --check ]; then
+    faults=$(faults)
+    [ -z "$faults" ] || { printf '%s\n' "$faults" && exit 1; }
+else
+    deliver || fail 'dist/ is not written'
+    echo "tpmsim_web: $verdict"
+fi
