@@ -2,11 +2,13 @@
 //
 //   node play.mjs MODULE run SCRIPT      prints what `tpmsim run SCRIPT` prints
 //   node play.mjs MODULE trace SCRIPT    prints what `tpmsim run --trace SCRIPT` prints
+//   node play.mjs MODULE check SCRIPT    prints what `tpmsim check SCRIPT` prints
 //   node play.mjs MODULE compare FOLDER..
 //       plays each NAME.tpm of these folders beside which a NAME.out stands, and compares what comes of
 //       it with that, and with NAME.trace where there is one
-import { readFileSync, readdirSync, existsSync } from 'node:fs';
+import { existsSync, readFileSync, readdirSync } from 'node:fs';
 import { join } from 'node:path';
+import { fileURLToPath } from 'node:url';
 
 const KINDS = ['nothing', 'hex', 'words', 'locality', 'wait', 'entropy', 'power'];
 const FAULTS = ['', 'BadName', 'BadField', 'Missing', 'Range', 'TooLong'];
@@ -14,14 +16,14 @@ const FAULTS = ['', 'BadName', 'BadField', 'Missing', 'Range', 'TooLong'];
 /** The memory that is lent to the module: each buffer by its name and its size. */
 const LENT = {
     holder: 8, random: 256, response: 4096, answered: 32, trace: 64, waited: 4, written: 32768, wanted: 64, read: 32,
-    spelled: 65536,
+    spelled: 65536, form: 256, place: 4, taken: 8, text: 65536, entry: 9216,
 };
 
 /** @param {number} number */
 const rounded = (number) => (number + 15) & ~15;
 
 /** @param {Uint8Array} bytes */
-const hex = (bytes) => Buffer.from(bytes).toString('hex');
+export const hex = (bytes) => Buffer.from(bytes).toString('hex');
 
 export class Module {
     /** @param {Uint8Array} bytes those of tpmsim.wasm */
@@ -32,7 +34,7 @@ export class Module {
         this.calls = /** @type {any} */ (new WebAssembly.Instance(compiled, {}).exports);
         this.at = /** @type {Record<string, number>} */ ({});
         let end = rounded(Number(this.calls.__heap_base.value));
-        for (const [name, size] of Object.entries({ ...LENT, place: Number(this.calls.device_size()) })) {
+        for (const [name, size] of Object.entries({ ...LENT, device: Number(this.calls.device_size()) })) {
             this.at[name] = end;
             end = rounded(end + size);
         }
@@ -83,7 +85,7 @@ export class Player {
         this.commands = /** @type {Uint8Array[]} */ ([]);
         module.view.setUint32(module.at.waited, 0, true);
         module.bytes.set(Uint8Array.from({ length: 256 }, (_, place) => place), module.at.random);
-        module.calls.device_manufacture(module.to('holder'), module.to('place'), module.to('random'));
+        module.calls.device_manufacture(module.to('holder'), module.to('device'), module.to('random'));
     }
 
     /** Performs a line. @param {Uint8Array} line @returns {string} why it is bad, empty for a good line */
@@ -132,8 +134,21 @@ export class Player {
     }
 }
 
+/** Reads a script and prints what is wrong with each bad line. @param {Module} module @param {string} file */
+function check(module, file) {
+    const player = new Player(module, false);
+    player.execute = () => {};
+    player.cyclePower = () => {};
+    let number = 0;
+    for (const line of linesOf(readFileSync(file))) {
+        number += 1;
+        const fault = player.line(line);
+        if (fault !== '') console.log(`line ${number}: ${fault}`);
+    }
+}
+
 /** The lines of a text, without the 0a that ends each. @param {Uint8Array} text */
-function* linesOf(text) {
+export function* linesOf(text) {
     let start = 0;
     while (start < text.length) {
         const found = text.indexOf(10, start);
@@ -157,7 +172,7 @@ export function play(module, file, traced) {
 }
 
 /** The scripts below folders. @param {string[]} folders @returns {Generator<string>} */
-function* scriptsIn(folders) {
+export function* scriptsIn(folders) {
     for (const folder of folders) {
         for (const entry of readdirSync(folder, { withFileTypes: true }).sort((a, b) => (a.name < b.name ? -1 : 1))) {
             const path = join(folder, entry.name);
@@ -207,6 +222,10 @@ function main() {
         process.exitCode = compareAll(module, files) ? 0 : 1;
         return;
     }
+    if (task === 'check') {
+        check(module, files[0]);
+        return;
+    }
     const played = play(module, files[0], task === 'trace');
     process.stdout.write(played.printed);
     if (played.fault === '') return;
@@ -214,4 +233,4 @@ function main() {
     process.exitCode = 1;
 }
 
-main();
+if (process.argv[1] === fileURLToPath(import.meta.url)) main();

@@ -1,0 +1,38 @@
+# The module for web pages, in node: what it says of lines, commands and codes in words is what the program
+# says, byte for byte.
+tests=$(cd "$(dirname "$0")/.." && pwd -P)
+. "$tests/common/cases.sh"
+needs node
+top=${tests%/*}
+module=$top/dist/tpmsim.wasm
+codes='0 1e 100 12f 14a 901 921 922 98e 9a2 18b 28b 1c4 2d5 4d4 a95 b84 1000 ffff'
+
+# words TASK..: what the module says.
+words() {
+    node "$tests/web/module_words.mjs" "$module" "$@"
+}
+
+# same NAME: whether both said the same, and something.
+same() {
+    if [ -s "program.$1" ] && cmp "program.$1" "module.$1"; then
+        echo "$1: the same"
+    fi
+}
+
+words bent "$tests" "$top/examples" >bent.tpm
+"$top/dist/tpmsim" check bent.tpm >program.faults 2>program.error
+node "$top/web/play.mjs" "$module" check bent.tpm >module.faults
+same faults
+
+"$top/dist/tpmsim" lines >program.lines
+words lines >module.lines
+same lines
+
+for code in $codes; do
+    "$top/dist/tpmsim" code "$code" 2>program.error || echo 'no such code'
+done >program.codes
+# shellcheck disable=SC2086 # they are words
+words codes $codes >module.codes
+same codes
+
+words spelled "$tests" "$top/examples"
