@@ -3,13 +3,14 @@
 #   make check                      what a change is looked at by, and all tests that are scripts
 #   make dist                       proves and builds what dist/ has; half an hour to an hour
 #   make dist-arm64                 what dist/aarch64 has, after make dist
+#   make dist-web                   the module for web pages, after make dist
 #   make install PREFIX=/usr/local  installs what dist/ has; DESTDIR stands before PREFIX
 #   make deb                        makes the package for Debian in out/; deb-arm64 the one for ARM64
 #   make crate, make wheel          make the packages for Rust and Python in out/
 PREFIX = /usr/local
 DESTDIR =
 
-.PHONY: check dist dist-arm64 install deb deb-arm64 crate wheel
+.PHONY: check dist dist-arm64 dist-web install deb deb-arm64 crate wheel
 
 check:
 	tools/before_commit.sh
@@ -22,6 +23,9 @@ dist:
 
 dist-arm64:
 	tools/aarch64.sh
+
+dist-web:
+	tools/web.sh
 
 install:
 	DESTDIR='$(DESTDIR)' PREFIX='$(PREFIX)' tools/install.sh
