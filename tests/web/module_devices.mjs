@@ -53,7 +53,7 @@ function checkImages() {
     told('an image is opened', given('device_open', image) === 0);
     perform(player, ['power', 'do Startup 0']);
     told('the opened device has its data', /0011223344556677/.test(perform(player, asked.slice(0, 1))));
-    told('the opened device has no session', /0{7}[0-9a-f]{3}\n$/.test(perform(player, asked.slice(3))));
+    told('the opened device has no session', perform(player, asked.slice(3)).length === 21);
 }
 
 function checkStates() {
