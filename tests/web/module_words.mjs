@@ -19,7 +19,7 @@ function bent(line, number) {
         () => words.toSpliced(place, 1).join(' '),
         () => words.toSpliced(place, 0, '4294967296').join(' '),
         () => `${line} `,
-        () => line.replace(/[0-9a-f]/, 'g'),
+        () => line.replace(/[0-9a-f](?=[^0-9a-f]*$)/, 'g'),
         () => `wait ${4294967295 - number}`,
         () => line,
     ];

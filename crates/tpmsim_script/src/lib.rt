@@ -33,7 +33,7 @@ pub mod report;
 pub mod room;
 pub mod run;
 pub mod script;
-pub mod told_fault;
+mod told_fault;
 
 pub use bad_line::{BadLine, Wanted};
 pub use checker::Checker;
@@ -42,4 +42,3 @@ pub use laws::check_laws;
 pub use line::Line;
 pub use report::{Report, report_of};
 pub use run::{SCRIPT_LINES, first_bytes, new_machine, run_device, run_script};
-pub use told_fault::ToldFault;

@@ -12,6 +12,7 @@
 mod calls;
 mod completing;
 mod device;
+mod front;
 mod holder;
 mod journal;
 mod lent;
@@ -20,4 +21,5 @@ mod recording;
 mod script;
 mod snapshots;
 mod told;
+mod wanted;
 mod words;

@@ -3,7 +3,7 @@
 ghost use Rattle.std.specs.Prelude.{◌≡◌};
 ghost use Rattle.tpmsim_web.specs.Reading.{TellsFault, fault_column, fault_kind};
 
-use tpm_image_text::put_front;
+use crate::front::put_front;
 use tpm_text::AsmFault;
 
 /// What a caller is told of a line.
@@ -70,7 +70,7 @@ impl ReadLine {
         ReadLine {
             size: 0,
             column: column_of(fault),
-            wanted: put_front(&[], word.as_bytes(), wanted),
+            wanted: put_front(word.as_bytes(), wanted),
             number: 0,
             kind: NOTHING,
             fault: number_of(fault),

@@ -10,12 +10,13 @@ ghost use Rattle.tpmsim_script.specs.declared.bad_line.BadLine.{BadLine as Bad};
 ghost use Rattle.tpmsim_web.specs.Reading.{IsGood, ReadsLine, ReadsMeaning, TellsBad};
 
 use crate::read_line::{ENTROPY, HEX, LOCALITY, NOTHING, POWER, ReadLine, WAIT, WORDS};
+use crate::wanted::wanted_text;
 use std::mem;
 use tpm_text::{AsmFault, Draft, assemble_in};
 use tpmsim_script::line::{misplaced, too_large};
 use tpmsim_script::lines::LINE_LIMIT;
 use tpmsim_script::script::RANDOM_BYTES;
-use tpmsim_script::{BadLine, Line, ToldFault, Wanted};
+use tpmsim_script::{BadLine, Line, Wanted};
 
 /// Reads a line of a script, given without its 0a: what it says, with the bytes of its command or its
 /// entropy; or its fault, and what is wanted there. `waited` has the milliseconds since the last
@@ -44,8 +45,7 @@ pub extern "C" fn script_line(
 fn tell_bad(line: &[u8], bad: BadLine, wanted: &mut [u8; 64]) -> ReadLine
     ensures { TellsBad line.now bad result wanted.old wanted.new }
 {
-    let told = ToldFault::new(0, line, bad);
-    ReadLine::bad(told.fault, told.wanted, wanted)
+    ReadLine::bad(bad.fault, wanted_text(bad, line), wanted)
 }
 
 /// Reads a line.

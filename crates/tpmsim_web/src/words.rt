@@ -13,11 +13,11 @@ ghost use Rattle.tpm_text.specs.declared.fault.AsmFault.{AsmFault as Fault};
 ghost use Rattle.tpmsim_web.specs.Place.{place_number};
 ghost use Rattle.tpmsim_web.specs.Reading.{TellsFault};
 
+use crate::front::put_front;
 use crate::read_line::{ReadLine, WORDS};
 use arrayvec::ArrayString;
 use tpm_commands::CommandCode;
 use tpm_help::{example_of, form_text, meaning_of, word_at};
-use tpm_image_text::put_front;
 use tpm_line::{LINE_LIMIT, write_line};
 use tpm_text::{Draft, assemble_in};
 use tpm_types::rc::Place;
@@ -60,7 +60,7 @@ pub extern "C" fn line_spell(command: &[u8], buffer: &mut [u8]) -> usize
 {
     let mut line: ArrayString<LINE_LIMIT> = ArrayString::new();
     match write_line(command, &mut line) {
-        Ok(()) => put_front(&[], line.as_str().as_bytes(), buffer),
+        Ok(()) => put_front(line.as_str().as_bytes(), buffer),
         Err(_) => 0,
     }
 }
@@ -84,7 +84,7 @@ pub extern "C" fn command_form(number: u32, form: &mut [u8; 256]) -> usize
         (λ code. PutsFront (form_of code) form.old result form.new) }
 {
     match CommandCode::named(number) {
-        Some(code) => put_front(&[], form_text(code).as_str().as_bytes(), form),
+        Some(code) => put_front(form_text(code).as_str().as_bytes(), form),
         None => 0,
     }
 }
@@ -98,7 +98,7 @@ pub extern "C" fn command_example(number: u32, example: &mut [u8; 256]) -> usize
         (λ code. (text : List ℕ) × PutsFront text example.old result example.new) }
 {
     match CommandCode::named(number) {
-        Some(code) => put_front(&[], example_of(code).as_bytes(), example),
+        Some(code) => put_front(example_of(code).as_bytes(), example),
         None => 0,
     }
 }
@@ -116,7 +116,7 @@ pub extern "C" fn code_meaning(code: u32, name: &mut [u8; 64], place: &mut u32) 
     match meaning_of(code) {
         Some(meaning) => {
             *place = place_number(meaning.place);
-            put_front(&[], meaning.name.as_bytes(), name)
+            put_front(meaning.name.as_bytes(), name)
         }
         None => 0,
     }

@@ -1,0 +1,30 @@
+//! What is wanted where a line of a script is bad.
+
+ghost use Rattle.std.specs.Prelude.{◌≡◌, drop};
+ghost use Rattle.tpmsim_script.specs.Report.{wanted_text};
+
+use tpm_help::word_at;
+use tpmsim_script::{BadLine, Wanted};
+
+/// The words for what is wanted where a line is bad.
+pub fn wanted_text(bad: BadLine, line: &[u8]) -> &'static str
+    ensures { result.now ≡ wanted_text bad.wanted line.now bad.fault }
+{
+    match bad.wanted {
+        Wanted::Word => "do, cmd, loc, wait, entropy or power",
+        Wanted::Command => word_at(words_of(line), bad.fault),
+        Wanted::Hex => "hex",
+        Wanted::Locality => "0 to 4",
+        Wanted::Milliseconds => "u32",
+        Wanted::Entropy => "1 to 256 bytes of hex",
+        Wanted::End => "end of line",
+        Wanted::ShortLine => "at most 65536 bytes",
+    }
+}
+
+/// The words after `do` and its space.
+fn words_of(line: &[u8]) -> &[u8]
+    ensures { result.now ≡ drop 3 line.now }
+{
+    if line.len() < 3 { &[] } else { &line[3..] }
+}
