@@ -1,5 +1,5 @@
 -- What a caller is told of a line of a script, and of a command in words.
-use Rattle.std.specs.Prelude.{◌≡◌, ℕ, List, take, Option, Some, Result, Ok, Err}
+use Rattle.std.specs.Prelude.{◌≡◌, ℕ, List, take, Some, Result, Ok, Err}
 use Rattle.tpm_image_text.specs.Saving.{PutsFront}
 use Rattle.tpm_text.specs.Line.{assembled}
 use Rattle.tpm_text.specs.declared.fault.AsmFault.{AsmFault}

@@ -54,7 +54,7 @@ pub extern "C" fn line_assemble(
 /// many bytes the line has, written or not; 0 if none is found, and the contract does not say when.
 #[unsafe(no_mangle)]
 pub extern "C" fn line_spell(command: &[u8], buffer: &mut [u8]) -> usize
-    ensures { result ≢ 0 → (line : List ℕ) × (assembled line ≡ Ok command.now)
+    ensures spells { result ≢ 0 → (line : List ℕ) × (assembled line ≡ Ok command.now)
         × PutsFront line buffer.old result buffer.new }
     ensures none { result ≡ 0 → buffer.new ≡ buffer.old }
 {

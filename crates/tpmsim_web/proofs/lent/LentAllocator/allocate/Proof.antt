@@ -5,7 +5,6 @@ use mathlib.Core.Path.{refl}
 use mir.Syntax.{w64}
 use mir.Val.{vint}
 use base.Fml.{flft, ftrue}
-use contract.Running.{tables}
 use denote.Builtin.{RefOf, usize}
 use denote.Exit.{yes}
 use denote.Plain.{uint_Tells, uint_vals}
