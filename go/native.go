@@ -1,7 +1,8 @@
 package tpmsim
 
-// #cgo linux,amd64 LDFLAGS: -L${SRCDIR}/native/amd64
-// #cgo linux,arm64 LDFLAGS: -L${SRCDIR}/native/arm64
+// #cgo CFLAGS: -I${SRCDIR}/../library
+// #cgo linux,amd64 LDFLAGS: -L${SRCDIR}/../dist
+// #cgo linux,arm64 LDFLAGS: -L${SRCDIR}/../dist/aarch64
 // #cgo LDFLAGS: -l:libtpmsim.a
 // #include "tpmsim.h"
 import "C"

@@ -1,4 +1,5 @@
-//! Has the linker find libtpmsim: in the folder `TPMSIM_LIB_DIR`, else in `native/MACHINE` here.
+//! Has the linker find libtpmsim: in the folder `TPMSIM_LIB_DIR`, else in `native/MACHINE`, where a packed
+//! package has it, else in the repository's `dist/`.
 //!
 //! The build script of a package above reads that folder from `DEP_TPMSIM_LIBDIR`.
 
@@ -20,13 +21,27 @@ fn told(name: &str) -> String {
     env::var(name).unwrap_or_default()
 }
 
+/// What the repository ships for a machine.
+fn shipped(repository: &Path, machine: &str) -> PathBuf {
+    let dist = repository.join("dist");
+    match machine {
+        "x86_64" => dist,
+        other => dist.join(other),
+    }
+}
+
 /// The folder of the library.
 fn library_folder() -> PathBuf {
-    match told("TPMSIM_LIB_DIR") {
-        named if !named.is_empty() => PathBuf::from(named),
-        _ => Path::new(&told("CARGO_MANIFEST_DIR"))
-            .join("native")
-            .join(told("CARGO_CFG_TARGET_ARCH")),
+    let named = told("TPMSIM_LIB_DIR");
+    if !named.is_empty() {
+        return PathBuf::from(named);
+    }
+    let package = PathBuf::from(told("CARGO_MANIFEST_DIR"));
+    let machine = told("CARGO_CFG_TARGET_ARCH");
+    let packed = package.join("native").join(&machine);
+    match package.parent() {
+        Some(repository) if !packed.exists() => shipped(repository, &machine),
+        _ => packed,
     }
 }
 

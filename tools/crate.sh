@@ -19,10 +19,11 @@ work=$(mktemp -d) || exit 1
 trap 'rm -rf "$work"' EXIT
 PATH=$PATH:${HOME:-/root}/.cargo/bin
 command -v cargo >"$work/found" || fail 'there is no cargo'
-# A copy, as cargo writes beside what it reads; in it no link leads to dist/.
-mkdir "$work/rust" || fail 'there is no folder for a copy'
-(cd rust && cp -rL Cargo.toml README.md build.rs examples native src tests "$work/rust/") ||
-    fail 'the package is not copied'
+# A copy, as cargo writes beside what it reads, with the library of each machine.
+mkdir -p "$work/rust/native/x86_64" "$work/rust/native/aarch64" || fail 'there is no folder for a copy'
+{ (cd rust && cp -r Cargo.toml README.md build.rs examples src tests "$work/rust/") &&
+    cp dist/libtpmsim.a "$work/rust/native/x86_64/" &&
+    cp dist/aarch64/libtpmsim.a "$work/rust/native/aarch64/"; } || fail 'the package is not copied'
 unset TPMSIM_LIB_DIR
 (cd "$work/rust" && cargo package --offline --allow-dirty --target-dir "$work/target") \
     >"$work/said" 2>&1 || fail 'cargo makes no package'

@@ -4,7 +4,7 @@
 export CGO_ENABLED=1 GOFLAGS=-buildvcs=false GOPROXY=off GOSUMDB=off
 export GOCACHE="${TPMSIM_BUILT:-$room}/go" GOPATH="$room/path" CGO_LDFLAGS="-L$dist"
 
-# copy_module: makes the copy `module`, whose library no link leads to.
+# copy_module: makes the copy `module`.
 copy_module() {
     cp -rL "$tests/../go" module && rm -rf module/native && cp "$dist/tpmsim.h" module/
 }

@@ -7,7 +7,7 @@ CARGO_NET_OFFLINE=true
 TPMSIM_LIB_DIR=$dist
 export CARGO_TARGET_DIR CARGO_NET_OFFLINE TPMSIM_LIB_DIR
 
-# copy_package: makes the copy `package`, whose library no link leads to.
+# copy_package: makes the copy `package`.
 copy_package() {
     cp -rL "$tests/../rust" package && rm -rf package/target package/Cargo.lock package/native
 }

@@ -1,1 +1,0 @@
-../library/tpmsim.h
