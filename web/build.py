@@ -1,0 +1,223 @@
+#!/usr/bin/env python3
+"""Makes dist/tpmsim.html: one file with the page of web/page, the proved module dist/tpmsim.wasm, and
+what the repository's tables say. The same sources make the same bytes.
+
+    web/build.py             writes dist/tpmsim.html
+    web/build.py --check     compares it with what is there; the status is 1 if they differ
+    web/build.py --facts     prints what the tables say, as the page has it
+    web/build.py --out FILE  writes the page there; --module FILE takes the module from there
+    web/build.py --docs URL  the page's links lead to URL/table/.., instead of ../docs/table/..
+"""
+
+from __future__ import annotations
+
+import argparse
+import base64
+import hashlib
+import json
+import pathlib
+import re
+import sys
+
+HERE = pathlib.Path(__file__).resolve().parent
+TOP = HERE.parent
+sys.path.insert(0, str(TOP / "python"))
+
+from tpmsim.explain import dissection, words  # noqa: E402
+from tpmsim.standard import CC, handle_kinds, lines, nv, objects  # noqa: E402
+from tpmsim.standard.command_names import NOT_SERVED  # noqa: E402
+
+PAGE = HERE / "page"
+MOST_BYTES = 700_000
+
+# The examples in the order of the menu.
+EXAMPLES = (
+    *("measured_boot", "disk_unlock", "disk_pin", "sealing_policy", "hmac_session", "nv_secret"),
+    *("write_once", "anti_rollback", "one_command", "suspend_resume", "guest_boot"),
+)
+
+Value = dict[str, object]
+
+
+# What the tables say.
+
+
+def command_value(code: CC, sections: dict[str, str]) -> Value:
+    return {
+        "name": code.name,
+        "number": int(code),
+        "form": lines.form_of(code),
+        "section": sections[code.name],
+        "handles": [
+            {"name": it.name, "kind": it.kind.value, "isAuthorized": it.is_authorized}
+            for it in code.handles
+        ],
+        "parameters": [{"name": it.name, "kind": it.kind.value} for it in code.parameters],
+        "answeredHandles": [it.name for it in code.answered_handles],
+        "answeredParameters": [
+            {"name": it.name, "kind": it.kind.value} for it in code.answered_parameters
+        ],
+    }
+
+
+def sections_of_table() -> dict[str, str]:
+    """Where docs/table has each command, by its name."""
+    text = (TOP / "docs" / "table" / "README.md").read_text("utf-8")
+    found = re.findall(r"^\| \[TPM2_(\w+)\]\(([\w.#-]+)\) \|", text, re.MULTILINE)
+    return {name: f"docs/table/{place}" for name, place in found}
+
+
+def handle_kind_value(form: handle_kinds.HandleForm) -> Value:
+    names = {name.decode("ascii"): number for name, number in lines.HANDLE_NAMES.items()}
+    return {
+        "fixed": [name for name, number in names.items() if form.holds(number)],
+        "isPcr": form.holds(handle_kinds.PCRS[0]),
+        "first": [it for it in words.OF_FIRST_BYTE if form.holds(it << 24)],
+        "words": form.words,
+    }
+
+
+def rules_value() -> Value:
+    text = (TOP / "python" / "tpmsim" / "explain" / "rules.json").read_text("utf-8")
+    rules: Value = json.loads(text)
+    return rules
+
+
+def version() -> str:
+    text = (TOP / "python" / "pyproject.toml").read_text("utf-8")
+    found = re.search(r'^version = "([^"]+)"$', text, re.MULTILINE)
+    return found[1] if found else ""
+
+
+def facts(docs: str) -> Value:
+    sections = sections_of_table()
+    kinds = {it.value: lines.WORDS[it].name for it in lines.WORDS}
+    return {
+        "commands": [command_value(it, sections) for it in sorted(CC, key=lambda it: it.name)],
+        "otherCommands": {str(number): name for number, name in NOT_SERVED.items()},
+        "handleKinds": {
+            kind.value: handle_kind_value(form) for kind, form in handle_kinds.HANDLES.items()
+        },
+        "kindWords": kinds,
+        "rules": rules_value(),
+        "examples": [[it, (TOP / "examples" / f"{it}.tpm").read_text("utf-8")] for it in EXAMPLES],
+        "algorithms": words.ALGORITHMS,
+        "handleNames": {name.decode("ascii"): it for name, it in lines.HANDLE_NAMES.items()},
+        "ofFirstByte": words.OF_FIRST_BYTE,
+        "sessions": words.SESSIONS,
+        "entryFlags": words.ATTRIBUTES,
+        "objectFlags": {int(it): it.name for it in objects.Attribute},
+        "nvFlags": {int(it): it.name for it in nv.Attribute},
+        "nvTypes": {int(it): it.name.lower() for it in nv.Type},
+        "operations": words.OPERATIONS,
+        "starts": dissection.STARTS,
+        "tickets": dissection.TICKETS,
+        "tags": dissection.TAGS,
+        "pcrs": len(handle_kinds.PCRS),
+        "docs": docs,
+        "version": version(),
+    }
+
+
+# The page.
+
+IMPORT = re.compile(r'^import (?:[^"]*?from )?"\./([\w]+\.js)";\n', re.MULTILINE | re.DOTALL)
+EXPORT = re.compile(r"^export (?=(?:async )?(?:function|const|let|class)\b)", re.MULTILINE)
+NAMED = re.compile(r"^(?:export )?(?:async )?(?:function|const|let|class)\s+(\w+)", re.MULTILINE)
+MARK = re.compile(r"@([A-Z]+)@")
+
+
+def in_order(first: str) -> list[str]:
+    """The modules of the page, each after those that it imports."""
+    found: list[str] = []
+
+    def add(name: str) -> None:
+        for it in IMPORT.findall((PAGE / name).read_text("utf-8")):
+            if it not in found:
+                add(it)
+        if name not in found:
+            found.append(name)
+
+    add(first)
+    return found
+
+
+def check_names(texts: dict[str, str]) -> None:
+    """All modules of the page share one scope, so no two may declare the same name."""
+    owner: dict[str, str] = {}
+    for module, text in texts.items():
+        for name in NAMED.findall(text):
+            if owner.setdefault(name, module) != module:
+                sys.exit(f"build.py: {owner[name]} and {module} both declare {name}")
+
+
+COMMENT = re.compile(r"^\s*(?://[^\n]*|/\*\*.*?\*/)\n", re.MULTILINE | re.DOTALL)
+
+
+def script() -> str:
+    """The modules as one script: imports, `export`, and comments on lines of their own are left out."""
+    texts = {it: (PAGE / it).read_text("utf-8") for it in in_order("main.js")}
+    check_names(texts)
+    parts = [EXPORT.sub("", IMPORT.sub("", it)) for it in texts.values()]
+    body = "".join(COMMENT.sub("", it) for it in parts)
+    body = re.sub(r"\n{2,}", "\n", body)
+    return f'(() => {{\n"use strict";\n{body}}})();\n'
+
+
+def hash_word(text: str) -> str:
+    digest = hashlib.sha256(text.encode()).digest()
+    return f"'sha256-{base64.b64encode(digest).decode('ascii')}'"
+
+
+def policy(style: str, code: str) -> str:
+    return (
+        f"default-src 'none'; style-src {hash_word(style)}; "
+        f"script-src {hash_word(code)} 'wasm-unsafe-eval'; base-uri 'none'; form-action 'none'"
+    )
+
+
+def data_text(value: object) -> str:
+    """JSON that ends no element and begins none."""
+    spelled = json.dumps(value, separators=(",", ":"), ensure_ascii=True)
+    return re.sub("[<>&]", lambda it: f"\\u{ord(it[0]):04x}", spelled)
+
+
+def page(module: bytes, docs: str) -> str:
+    style, code = (PAGE / "page.css").read_text("utf-8"), script()
+    parts = {
+        "POLICY": policy(style, code),
+        "STYLE": style,
+        "SCRIPT": code,
+        "FACTS": data_text(facts(docs)),
+        "TUTORIAL": data_text(json.loads((PAGE / "tutorial.json").read_text("utf-8"))),
+        "MODULE": base64.b64encode(module).decode("ascii"),
+    }
+    frame = (PAGE / "page.html").read_text("utf-8")
+    return MARK.sub(lambda it: parts[it[1]], frame)
+
+
+def main() -> int:
+    parser = argparse.ArgumentParser(prog="build.py")
+    parser.add_argument("--check", action="store_true")
+    parser.add_argument("--facts", action="store_true")
+    parser.add_argument("--module", type=pathlib.Path, default=TOP / "dist" / "tpmsim.wasm")
+    parser.add_argument("--out", type=pathlib.Path, default=TOP / "dist" / "tpmsim.html")
+    parser.add_argument("--docs", default="../docs")
+    asked = parser.parse_args()
+    if asked.facts:
+        print(json.dumps(facts(asked.docs)))
+        return 0
+    made = page(asked.module.read_bytes(), asked.docs).encode()
+    if len(made) > MOST_BYTES:
+        sys.exit(f"build.py: the page has {len(made):,} bytes, over {MOST_BYTES:,}")
+    if asked.check:
+        is_same = asked.out.is_file() and asked.out.read_bytes() == made
+        print(f"{asked.out}: {'the same' if is_same else 'another one'}")
+        return 0 if is_same else 1
+    asked.out.write_bytes(made)
+    print(f"{asked.out}: {len(made):,} bytes")
+    return 0
+
+
+if __name__ == "__main__":
+    sys.exit(main())

@@ -1,0 +1,90 @@
+// Links that hold a script, files that are opened, and those that are downloaded.
+
+import { decoded, encoded, hexOf } from "./bytes.js";
+import { make } from "./dom.js";
+import { onDevice } from "./script.js";
+
+const MOST_LINK = 60000;
+const MOST_FILE = 16 * 1024 * 1024;
+const MOST_SCRIPT = 4 * 1024 * 1024;
+const FRAGMENT = /^#s=([\w-]+)$/;
+
+// TypeScript of Debian does not know these two.
+const { CompressionStream, DecompressionStream } = /** @type {any} */ (globalThis);
+
+/** @param {Uint8Array} bytes */
+const packed = (bytes) =>
+  btoa(Array.from(bytes, (it) => String.fromCharCode(it)).join("")).replace(/\+/g, "-").replace(/\//g, "_").replace(/=+$/, "");
+
+/** @param {string} text in base64, or its form for links */
+export const unpacked = (text) =>
+  Uint8Array.from(atob(text.replace(/-/g, "+").replace(/_/g, "/")), (it) => it.charCodeAt(0));
+
+/**
+ * What comes out of a stream, of which so many bytes at most are read.
+ * @param {Uint8Array} bytes @param {any} stream @param {number} most
+ */
+async function through(bytes, stream, most) {
+  const reader = new Blob([bytes]).stream().pipeThrough(stream).getReader();
+  const parts = [];
+  let size = 0;
+  for (;;) {
+    const { done, value } = await reader.read();
+    if (done) break;
+    size += value.length;
+    if (size > most) throw new RangeError("too long");
+    parts.push(value);
+  }
+  return new Uint8Array(await new Blob(parts).arrayBuffer());
+}
+
+/**
+ * The fragment of a link that holds a script, "" if the script is too long for one.
+ * @param {string} text
+ */
+export async function fragmentOf(text) {
+  const bytes = await through(encoded(text), new CompressionStream("deflate-raw"), MOST_SCRIPT);
+  const found = `#s=${packed(bytes)}`;
+  return found.length > MOST_LINK ? "" : found;
+}
+
+/**
+ * The script of a fragment: null if there is none, "" if what is there is none.
+ * @param {string} fragment
+ */
+export async function scriptOf(fragment) {
+  if (fragment.length < 2) return null;
+  const found = FRAGMENT.exec(fragment);
+  if (!found) return "";
+  try {
+    return decoded(await through(unpacked(found[1]), new DecompressionStream("deflate-raw"), MOST_SCRIPT));
+  } catch {
+    return "";
+  }
+}
+
+/** @param {string} name @param {BlobPart[]} parts */
+export function download(name, parts) {
+  const url = URL.createObjectURL(new Blob(parts, { type: "application/octet-stream" }));
+  make("a", { href: url, download: name }).click();
+  setTimeout(() => URL.revokeObjectURL(url), 10000);
+}
+
+/**
+ * The script that a file comes to, on top of the present one if it is an image or a state text.
+ * @param {File} file @param {string} present
+ * @returns {Promise<{text: string, note: string, isBad: boolean}>}
+ */
+export async function opened(file, present) {
+  if (file.size > MOST_FILE) return { text: "", note: `${file.name} has more than 16 MiB.`, isBad: true };
+  const bytes = new Uint8Array(await file.arrayBuffer());
+  const magic = decoded(bytes.subarray(0, 4));
+  if (magic === "TPMI") return onTop(present, "image", bytes, `The script begins on the device of the image ${file.name}.`);
+  if (magic === "TPMS") return onTop(present, "state", bytes, `The script goes on with the device of the state text ${file.name}.`);
+  const text = decoded(bytes).replace(/\r\n?/g, "\n").replace(/\0+$/, "");
+  return { text, note: `${file.name} is open.`, isBad: false };
+}
+
+/** @param {string} present @param {string} word @param {Uint8Array} bytes @param {string} note */
+const onTop = (present, word, bytes, note) =>
+  ({ text: onDevice(present, `# ${word} ${hexOf(bytes)}`), note, isBad: false });

@@ -1,0 +1,177 @@
+// Why a command was refused: the rules of its check, and the values that the rule compares.
+
+import { decoded, hexOf, numberOf } from "./bytes.js";
+import { byNumber, facts } from "./facts.js";
+import { commandNumber, WITH_ENTRIES } from "./fields.js";
+import { bytesWords, commandWords, grouped, handleWords, localitiesWords, PASSWORD_HANDLE } from "./words.js";
+
+/**
+ * @typedef {import("./device.js").Meaning} Meaning
+ * @typedef {import("./script.js").Step} Step
+ * @typedef {import("./state.js").State} State
+ * @typedef {{sentence: string, link: string}} Rule
+ * @typedef {{handle: number, secret: Uint8Array, isPassword: boolean}} Entry
+ */
+
+const FIRST_OWN_CHECK = 20;
+
+/** @param {string} key */
+const isRule = (key) => key in facts.rules;
+
+/**
+ * The keys of the rules that a check may have refused by.
+ * @param {number} check @param {string} command @param {Meaning | null} meaning
+ */
+function ruleKeys(check, command, meaning) {
+  const name = meaning?.name ?? "";
+  if (check === 255) return ["M"];
+  if (check > FIRST_OWN_CHECK) return [`${command}/A${check - FIRST_OWN_CHECK}`];
+  const general = `G${check}`;
+  const found = Object.keys(facts.rules).filter(
+    (key) => key === general || key === `${general}/${name}` || key.startsWith(`${general}/${name}.`),
+  );
+  if (check === 9) found.push(...conditionKeys(name));
+  if (check === 11 && !found.length) found.push(`${command}/parameters`);
+  return found;
+}
+
+/**
+ * The conditions of a policy's use that are refused by this name.
+ * @param {string} name
+ */
+const conditionKeys = (name) =>
+  Object.keys(facts.rules).filter((key) => key.startsWith("condition/") && new RegExp(`\\b${name}\\b`).test(facts.rules[key][0]));
+
+/**
+ * The rules by which a check refused a command.
+ * @param {number} check @param {Uint8Array} buffer @param {Meaning | null} meaning @param {State} before
+ * @returns {Rule[]}
+ */
+export function rulesOf(check, buffer, meaning, before) {
+  const command = byNumber.get(commandNumber(buffer))?.name ?? "";
+  let keys = ruleKeys(check, command, meaning).filter(isRule);
+  if (meaning?.name === "POLICY_FAIL") keys = [`condition/${failedCondition(buffer, meaning, before)}`];
+  return keys.map((key) => ({ sentence: facts.rules[key][0], link: facts.rules[key][1] }));
+}
+
+/** @param {Uint8Array} buffer @param {Meaning} meaning @param {State} before */
+function failedCondition(buffer, meaning, before) {
+  const use = useOf(buffer, meaning.number, before);
+  if (!use.session) return 8;
+  const command = byNumber.get(commandNumber(buffer));
+  if (command?.name === "NV_ChangeAuth" && use.session.code === null) return 5;
+  if (use.policy && hexOf(use.policy) !== hexOf(use.session.digest)) {
+    return use.session.cpHash || use.session.isWritten !== null ? whichBefore(use.session, use.index) : 8;
+  }
+  return use.session.isWritten === null ? 5 : whichBefore(use.session, use.index);
+}
+
+const WRITTEN = 1 << 29;
+
+/**
+ * Conditions 5 and 6 come before 8.
+ * @param {import("./state.js").Session} session
+ * @param {import("./state.js").Index | undefined} index
+ */
+function whichBefore(session, index) {
+  if (session.isWritten === null) return 8;
+  const isWritten = index ? Number((index.attributes & WRITTEN) !== 0) : -1;
+  return isWritten === session.isWritten ? 8 : 6;
+}
+
+/**
+ * The entries of a command.
+ * @param {Uint8Array} buffer @returns {Entry[]}
+ */
+function entriesOf(buffer) {
+  const command = byNumber.get(commandNumber(buffer));
+  if (!command || numberOf(buffer.subarray(0, 2)) !== WITH_ENTRIES) return [];
+  let at = 10 + 4 * command.handles.length;
+  const end = Math.min(buffer.length, at + 4 + numberOf(buffer.subarray(at, at + 4)));
+  const found = [];
+  for (at += 4; at + 9 <= end;) {
+    const handle = numberOf(buffer.subarray(at, at + 4));
+    at += 6 + numberOf(buffer.subarray(at + 4, at + 6)) + 1;
+    const size = numberOf(buffer.subarray(at, at + 2));
+    found.push({ handle, secret: buffer.subarray(at + 2, at + 2 + size), isPassword: handle === PASSWORD_HANDLE });
+    at += 2 + size;
+  }
+  return found;
+}
+
+/**
+ * The entity that an entry authorizes, and the session by which.
+ * @param {Uint8Array} buffer @param {number} place from 1 @param {State} before
+ */
+function useOf(buffer, place, before) {
+  const entry = entriesOf(buffer)[place - 1];
+  const handle = numberOf(buffer.subarray(6 + 4 * place, 10 + 4 * place));
+  const index = before.indices.find((it) => it.handle === handle);
+  const held = before.objects.get(handle);
+  const auth = index?.auth ?? held?.auth ?? before.auths.get(handleWords(handle));
+  return {
+    entry, handle, index, auth, policy: index?.policy ?? held?.policy,
+    session: before.sessions.find((it) => it.handle === entry?.handle),
+  };
+}
+
+/**
+ * The values that a refusal is about, each with what it is.
+ * @param {Step} step @param {Meaning | null} meaning @param {State} before
+ * @returns {[string, string][]}
+ */
+export function valuesOf(step, meaning, before) {
+  if (!meaning) return [];
+  const place = meaning.kind === "session" ? meaning.number : 1;
+  const use = useOf(step.buffer, place, before);
+  const of = handleWords(use.handle);
+  switch (meaning.name) {
+    case "AUTH_FAIL": case "BAD_AUTH": return authValues(use, of);
+    case "POLICY_FAIL": return policyValues(use, of);
+    case "LOCKOUT": return [["failed tries", `${grouped(before.failedTries)} of ${grouped(before.maxTries)}`], ["lockoutAuth", before.isClosed ? "closed" : "open"]];
+    case "PCR_CHANGED": return counterValues(use, before);
+    case "POLICY_CC": return codeValues(use, step);
+    case "LOCALITY": return localityValues(use, step);
+    case "NV_RANGE": return use.index ? [["size of the index", `${grouped(use.index.size)} bytes`]] : [];
+    default: return [];
+  }
+}
+
+/** @typedef {ReturnType<typeof useOf>} Use */
+
+/** @param {Use} use @param {string} of @returns {[string, string][]} */
+function authValues({ entry, auth }, of) {
+  if (!entry || !auth) return [];
+  const given = entry.isPassword ? "password given" : "HMAC given";
+  return [[given, bytesWords(entry.secret)], [`authValue of ${of}`, bytesWords(auth)]];
+}
+
+/** @param {Use} use @param {string} of @returns {[string, string][]} */
+function policyValues({ session, policy }, of) {
+  if (!session || !policy) return [];
+  return [["policy digest had", hexOf(session.digest)], [`authPolicy of ${of}`, hexOf(policy) || "empty"]];
+}
+
+/** @param {Use} use @param {State} before @returns {[string, string][]} */
+function counterValues({ session }, before) {
+  if (!session || session.counter === null) return [];
+  return [["update counter now", grouped(before.updateCounter)], ["at TPM2_PolicyPCR", grouped(session.counter)]];
+}
+
+/** @param {Use} use @param {Step} step @returns {[string, string][]} */
+function codeValues({ session }, step) {
+  if (!session || session.code === null) return [];
+  return [["command given", commandWords(commandNumber(step.buffer))], ["the policy allows", commandWords(session.code)]];
+}
+
+/** @param {Use} use @param {Step} step @returns {[string, string][]} */
+function localityValues({ session }, step) {
+  if (!session) return [];
+  return [["locality", String(step.locality)], ["the policy allows", localitiesWords(session.localities)]];
+}
+
+/**
+ * A field's name and bytes for a title.
+ * @param {Uint8Array} bytes
+ */
+export const asText = (bytes) => decoded(bytes);

@@ -1,0 +1,153 @@
+// A script that is played: answers and states by their events. What an edit left as it was is not
+// played anew: each 64th state is kept as its state text, and what follows goes on from there.
+
+import { decoded } from "./bytes.js";
+import { FIRST_RANDOM, isSameStep } from "./script.js";
+import { readState } from "./state.js";
+
+/**
+ * @typedef {import("./device.js").Chip} Chip
+ * @typedef {import("./device.js").Answer} Answer
+ * @typedef {import("./script.js").Step} Step
+ * @typedef {import("./state.js").State} State
+ */
+
+const EVERY = 64;
+const MOST_STATES = 256;
+const PLAYED = 0;
+const SHOWN = 1;
+const IMAGE = "TPMI";
+
+/** @type {Answer} */
+const NO_ANSWER = { response: new Uint8Array(0), drawn: 0, trace: "", code: 0, check: 0 };
+
+export class Run {
+  /** @param {Chip} chip with two devices */
+  constructor(chip) {
+    this.chip = chip;
+    /** @type {Step[]} */
+    this.steps = [];
+    /** @type {Answer[]} */
+    this.answers = [];
+    chip.manufacture(PLAYED, FIRST_RANDOM);
+    chip.manufacture(SHOWN, FIRST_RANDOM);
+    /** The state text before the event of each 64th number. */
+    this.kept = [chip.snapshot(PLAYED)];
+    this.shown = 0;
+    /** @type {Map<number, State>} */
+    this.states = new Map();
+  }
+
+  get isPlayed() {
+    return this.answers.length === this.steps.length;
+  }
+
+  /**
+   * Takes other events in place of its own.
+   * @param {Step[]} steps
+   */
+  take(steps) {
+    const most = Math.min(this.answers.length, steps.length);
+    let same = 0;
+    while (same < most && isSameStep(this.steps[same], steps[same])) same += 1;
+    this.steps = steps;
+    if (same === this.answers.length) return;
+    this.answers.length = same;
+    const from = Math.floor(same / EVERY);
+    this.kept.length = from + 1;
+    this.chip.restore(PLAYED, this.kept[from]);
+    for (let at = from * EVERY; at < same; at += 1) this.#execute(PLAYED, steps[at]);
+    for (const count of [...this.states.keys()]) if (count > same) this.states.delete(count);
+    if (this.shown > same) this.shown = -1;
+  }
+
+  /**
+   * Plays up to an event, and after it for so many milliseconds at most.
+   * @param {number} least @param {number} milliseconds
+   */
+  play(least, milliseconds) {
+    const end = performance.now() + milliseconds;
+    while (!this.isPlayed) {
+      const at = this.answers.length;
+      if (at > least && at % 16 === 0 && performance.now() > end) return;
+      if (at % EVERY === 0 && at) this.kept[at / EVERY] = this.chip.snapshot(PLAYED);
+      this.answers.push(this.#execute(PLAYED, this.steps[at]));
+    }
+  }
+
+  /** @param {number} device @param {Step} step @returns {Answer} */
+  #execute(device, step) {
+    if (step.kind === "command") {
+      return this.chip.execute(device, step.buffer, step.locality, step.elapsed, step.random);
+    }
+    if (step.kind === "power") {
+      this.chip.cyclePower(device);
+      return NO_ANSWER;
+    }
+    const fault = this.#begin(device, step.buffer);
+    return fault ? { ...NO_ANSWER, trace: fault } : NO_ANSWER;
+  }
+
+  /** @param {number} device @param {Uint8Array} text an image or a state text */
+  #begin(device, text) {
+    const isImage = decoded(text.subarray(0, 4)) === IMAGE;
+    return isImage ? this.chip.open(device, text) : this.chip.restore(device, text);
+  }
+
+  /**
+   * The second device, where so many events have happened.
+   * @param {number} count
+   */
+  #reach(count) {
+    this.play(count - 1, 0);
+    const near = Math.min(Math.floor(count / EVERY), this.kept.length - 1);
+    if (this.shown < near * EVERY || this.shown > count) {
+      this.chip.restore(SHOWN, this.kept[near]);
+      this.shown = near * EVERY;
+    }
+    for (; this.shown < count; this.shown += 1) this.#execute(SHOWN, this.steps[this.shown]);
+    return SHOWN;
+  }
+
+  /**
+   * The state where so many events have happened.
+   * @param {number} count
+   */
+  stateAt(count) {
+    let found = this.states.get(count);
+    if (!found) {
+      found = readState(this.chip.snapshot(this.#reach(count)));
+      if (this.states.size >= MOST_STATES) this.states.clear();
+      this.states.set(count, found);
+    }
+    return found;
+  }
+
+  /** @param {number} count */
+  imageAt(count) {
+    return this.chip.save(this.#reach(count));
+  }
+
+  /** @param {number} count */
+  textAt(count) {
+    return this.chip.snapshot(this.#reach(count));
+  }
+
+  /** The journal of the last time of power, from the first command on. */
+  journal() {
+    this.play(this.steps.length, 0);
+    let from = this.steps.length - 1;
+    while (from > 0 && this.steps[from].kind === "command") from -= 1;
+    const isBegun = this.steps[from] && this.steps[from].kind !== "command";
+    this.#reach(isBegun ? from + 1 : from);
+    const isImage = isBegun && decoded(this.steps[from].buffer.subarray(0, 4)) !== "TPMS";
+    const parts = [isImage || !isBegun ? this.chip.beginJournal(SHOWN) : this.chip.continueJournal(SHOWN)];
+    let now = 0n;
+    for (const step of this.steps.slice(isBegun ? from + 1 : from)) {
+      now += BigInt(step.elapsed);
+      parts.push(this.chip.executeInJournal(SHOWN, step.buffer, step.locality, now, step.random));
+    }
+    this.shown = -1;
+    return parts;
+  }
+}

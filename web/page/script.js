@@ -1,0 +1,193 @@
+// The lines of a script: what each says, and the events that they come to.
+
+import { areSame, bytesOf, hexNumber, hexOf } from "./bytes.js";
+import { RANDOM_BYTES } from "./device.js";
+
+/**
+ * An event: where the device begins, a power cycle, or a command with what passed before it.
+ * `answers` are those that the script itself has of it, as a log does.
+ * @typedef {{
+ *   kind: "begin" | "power" | "command", line: number, buffer: Uint8Array, locality: number,
+ *   elapsed: number, random: Uint8Array, answers: string[],
+ * }} Step
+ * @typedef {import("./device.js").LineFault} LineFault
+ * @typedef {{lines: string[], steps: Step[], faults: Map<number, LineFault>}} Script
+ * @typedef {import("./device.js").ReadLine} ReadLine
+ */
+
+const MOST_KEPT = 50000;
+const NOTHING = new Uint8Array(0);
+const ZEROS = new Uint8Array(RANDOM_BYTES);
+
+/** The bytes of which a script's device is manufactured: 00 to ff. */
+export const FIRST_RANDOM = Uint8Array.from({ length: RANDOM_BYTES }, (_, byte) => byte);
+
+const TRACE = /^\S+ L\d \+\d+ \S+ [0-9a-f]{8}$/;
+const GIVEN = /^# (?:\d\d:\d\d:\d\d\.\d{3} )?(\S+ L\d \+\d+ \S+ [0-9a-f]{8}|[0-9a-f]{8}|(?:8001|8002|00c4)[0-9a-f]{16,})$/;
+const REPORTED = /^# (?:image|state) ((?:[0-9a-f]{2}){42,})$/;
+const JOURNAL = /^# tpmsim journal [12] [0-9a-f]{40} [0-9a-f]{16}$/;
+const CONTENT = /^# ((?:[0-9a-f]{2}){42,})$/;
+
+/**
+ * Whether a line begins a device, as the head of a journal or of a report does.
+ * @param {string} line
+ */
+export const isHead = (line) => line.startsWith("# ") && (REPORTED.test(line) || JOURNAL.test(line));
+
+/**
+ * What each line says, by its text.
+ * @type {Map<string, ReadLine>}
+ */
+const kept = new Map();
+
+/** @param {import("./device.js").Chip} chip @param {string} text @param {number} waited */
+function lineOf(chip, text, waited) {
+  const isWait = text.startsWith("wait ");
+  const found = isWait ? undefined : kept.get(text);
+  if (found) return found;
+  const read = chip.readLine(text, isWait ? waited : 0);
+  if (kept.size > MOST_KEPT) kept.clear();
+  if (!isWait) kept.set(text, read);
+  return read;
+}
+
+/**
+ * Whether answers come before their commands, as where one comes before all commands.
+ * @param {string[]} lines
+ */
+function answersComeFirst(lines) {
+  for (const line of lines) {
+    if (line.startsWith("cmd") || line.startsWith("do ")) return false;
+    if (GIVEN.test(line)) return true;
+  }
+  return false;
+}
+
+/** Reads a script line by line. */
+class Reading {
+  /** @param {import("./device.js").Chip} chip @param {string[]} lines */
+  constructor(chip, lines) {
+    this.chip = chip;
+    this.lines = lines;
+    this.isBefore = answersComeFirst(lines);
+    /** @type {Step[]} */
+    this.steps = [];
+    /** @type {Map<number, LineFault>} */
+    this.faults = new Map();
+    this.locality = 0;
+    this.waited = 0;
+    this.random = ZEROS;
+    /** @type {string[]} */
+    this.said = [];
+  }
+
+  /** @param {number} at */
+  comment(at) {
+    const line = this.lines[at];
+    if (line.charCodeAt(1) !== 0x20) return;
+    const head = REPORTED.exec(line);
+    if (head) this.begin(at, head[1]);
+    else if (JOURNAL.test(line)) this.begin(at, CONTENT.exec(this.lines[at + 1] ?? "")?.[1] ?? "");
+    const given = head ? null : GIVEN.exec(line);
+    if (!given) return;
+    const last = this.steps[this.steps.length - 1];
+    if (this.isBefore) this.said.push(given[1]);
+    else if (last?.kind === "command") last.answers.push(given[1]);
+  }
+
+  /** @param {number} line @param {string} hex */
+  begin(line, hex) {
+    this.locality = 0;
+    this.random = ZEROS;
+    this.add("begin", line, bytesOf(hex), 0);
+  }
+
+  /** @param {Step["kind"]} kind @param {number} line @param {Uint8Array} buffer @param {number} elapsed */
+  add(kind, line, buffer, elapsed) {
+    const { locality, random, said } = this;
+    this.steps.push({ kind, line, buffer, locality, elapsed, random, answers: said });
+    this.said = [];
+  }
+
+  /** @param {number} at */
+  take(at) {
+    const text = this.lines[at];
+    if (!text || text.charCodeAt(0) === 0x23) return text ? this.comment(at) : undefined;
+    const read = lineOf(this.chip, text, this.waited);
+    if (read.fault) return void this.faults.set(at, read.fault);
+    if (read.kind === "loc") this.locality = read.number;
+    if (read.kind === "wait") this.waited = read.waited;
+    if (read.kind === "entropy") this.drawFrom(read.bytes);
+    if (read.kind === "power") this.add("power", at, NOTHING, 0);
+    if (read.kind !== "do" && read.kind !== "cmd") return undefined;
+    this.add("command", at, read.bytes, this.waited);
+    this.waited = 0;
+    return undefined;
+  }
+
+  /** @param {Uint8Array} bytes at most 256, which are repeated */
+  drawFrom(bytes) {
+    this.random = Uint8Array.from({ length: RANDOM_BYTES }, (_, at) => bytes[at % bytes.length]);
+  }
+}
+
+/** @param {import("./device.js").Chip} chip @param {string[]} lines @returns {Script} */
+export function readScript(chip, lines) {
+  const reading = new Reading(chip, lines);
+  for (let at = 0; at < lines.length; at += 1) reading.take(at);
+  return { lines, steps: reading.steps, faults: reading.faults };
+}
+
+/**
+ * Whether two events are alike, wherever they are.
+ * @param {Step} one @param {Step} other
+ */
+export function isSameStep(one, other) {
+  return one.kind === other.kind && one.locality === other.locality
+    && one.elapsed === other.elapsed && areSame(one.buffer, other.buffer)
+    && (one.random === other.random || areSame(one.random, other.random));
+}
+
+/**
+ * Whether an answer that a script has is that of the device.
+ * @param {string} given @param {import("./device.js").Answer} answer
+ */
+export function isAnswer(given, answer) {
+  if (TRACE.test(given)) return given === answer.trace;
+  const response = hexOf(answer.response);
+  return given === response || (given.length === 8 && given === response.slice(12, 20));
+}
+
+/**
+ * The script as a log: each command with its response after it.
+ * @param {Script} script @param {(import("./device.js").Answer | null)[]} answers
+ */
+export function logOf(script, answers) {
+  const of = new Map(script.steps.map((step, at) => [step.line, answers[at]]));
+  const found = [];
+  for (const [at, line] of script.lines.entries()) {
+    if (GIVEN.test(line) || script.faults.has(at)) continue;
+    found.push(line);
+    const answer = of.get(at);
+    if (answer && answer.response.length) found.push(`# ${hexOf(answer.response)}`);
+  }
+  return `${found.join("\n").replace(/\n+$/, "")}\n`;
+}
+
+/**
+ * The lines of a script on another device: without its head, and with this one.
+ * @param {string} text @param {string} head
+ */
+export function onDevice(text, head) {
+  const lines = text.split("\n");
+  const skipped = JOURNAL.test(lines[0] ?? "") ? 2 : REPORTED.test(lines[0] ?? "") ? 1 : 0;
+  return [head, ...lines.slice(skipped)].join("\n");
+}
+
+/**
+ * A word for the random bytes of a step, as an entropy line has them.
+ * @param {Uint8Array} random
+ */
+export function entropyWord(random) {
+  return random.every((byte) => byte === random[0]) ? hexNumber(random[0], 2) : hexOf(random);
+}

@@ -1,0 +1,198 @@
+// The chosen step: what was asked, what was answered and why, what it changed, and the bytes.
+
+import { hexNumber, hexOf } from "./bytes.js";
+import { bytesShown } from "./bytes_view.js";
+import { byId, cut, heading, isHexWord, listed, make } from "./dom.js";
+import { byNumber, facts } from "./facts.js";
+import { commandNumber, fieldsOfCommand, fieldsOfResponse, responseCode } from "./fields.js";
+import { rulesOf, valuesOf } from "./reason.js";
+import { entropyWord, isAnswer } from "./script.js";
+import { changesOf, isBlank } from "./state.js";
+import { checkWord, commandWords, plural, secondsWords, sizeWords } from "./words.js";
+
+/**
+ * @typedef {import("./device.js").Answer} Answer
+ * @typedef {import("./device.js").Meaning} Meaning
+ * @typedef {import("./script.js").Step} Step
+ * @typedef {import("./state.js").State} State
+ * @typedef {{step: Step, answer: Answer, line: string, before: State, after: State, told?: import("./told.js").ToldShown | null}} Chosen
+ */
+
+const MOST_CHANGES = 40;
+const BYTE_WIDTH = 21;
+const PCRS = "PCRs";
+
+/**
+ * The code of an answer in words.
+ * @param {import("./device.js").Chip} chip @param {Answer} answer
+ */
+export function codeWords(chip, answer) {
+  const code = responseCode(answer.response);
+  if (!code) return "accepted";
+  const meaning = chip.meaning(code);
+  if (!meaning) return hexNumber(code, 3);
+  return meaning.kind ? `${meaning.name}, ${meaning.kind} ${meaning.number}` : meaning.name;
+}
+
+/**
+ * The code of an answer as the table spells it, such as AUTH_FAIL/s1.
+ * @param {import("./device.js").Chip} chip @param {number} code
+ */
+export function spelledCode(chip, code) {
+  if (!code) return "SUCCESS";
+  const meaning = chip.meaning(code);
+  if (!meaning) return "no code that is known";
+  return meaning.kind ? `${meaning.name}/${meaning.kind[0]}${meaning.number}` : meaning.name;
+}
+
+/** @param {string} link */
+export const tableLink = (link, words = link.replace(/^docs\//, "").replace(/\.md#/, ", ").replace(/-/g, " ")) =>
+  make("a", { href: link.replace(/^docs/, facts.docs), target: "_blank", rel: "noopener" }, words);
+
+/** @param {import("./device.js").Chip} chip @param {Chosen} chosen */
+export function showStep(chip, chosen) {
+  const pane = byId("detail");
+  const parts = chosen.step.kind === "command" ? commandParts(chip, chosen) : otherParts(chosen);
+  pane.replaceChildren(...parts.flat().filter(Boolean));
+  pane.scrollTop = 0;
+}
+
+/** @param {string} words */
+export function showNothing(words) {
+  byId("detail").replaceChildren(make("h2", {}, "No step"), make("p", { class: "dim" }, words));
+}
+
+/** @param {Chosen} chosen */
+function otherParts({ step, answer, before, after }) {
+  const isPower = step.kind === "power";
+  const title = isPower ? "Power cycle" : "The device begins";
+  const fault = answer.trace && !isPower ? make("div", { class: "why" }, `These bytes are no device: ${answer.trace}.`) : null;
+  const words = isPower
+    ? "Power goes, and comes back: PCRs, sessions and transient objects are gone, and the device waits for TPM2_Startup."
+    : `The device is that of ${sizeWords(step.buffer.length)} in this line.`;
+  return [make("h2", {}, title), make("p", { class: "dim" }, words), fault, changesShown(before, after)];
+}
+
+/** @param {import("./device.js").Chip} chip @param {Chosen} chosen */
+function commandParts(chip, chosen) {
+  const { step, answer, before, after, told } = chosen;
+  const number = commandNumber(step.buffer);
+  const code = responseCode(answer.response);
+  const meaning = code ? chip.meaning(code) : null;
+  const fields = fieldsOfCommand(step.buffer);
+  const answered = fieldsOfResponse(answer.code, answer.response, (it) => spelledCode(chip, it));
+  return [
+    title(chip, number, answer, code),
+    make("p", { class: "dim" }, placeWords(step)),
+    make("p", { class: "words" }, wordsOf(chip, chosen)),
+    code ? whyShown(chosen, meaning) : null,
+    ...differences(chip, chosen),
+    ...(told?.parts ?? []),
+    changesShown(before, after),
+    heading("Command", sizeWords(step.buffer.length)),
+    bytesShown({ bytes: step.buffer, fields, wrong: wrongField(fields, meaning), plain: told?.plain }, perRow()),
+    heading("Response", `${sizeWords(answer.response.length)}${answer.drawn ? `, ${answer.drawn} random` : ""}`),
+    bytesShown({ bytes: answer.response, fields: answered, wrong: null }, perRow()),
+    ...(told?.after ?? []),
+  ];
+}
+
+/** @param {import("./device.js").Chip} chip @param {number} number @param {Answer} answer @param {number} code */
+function title(chip, number, answer, code) {
+  const section = byNumber.get(number)?.section;
+  const name = number ? commandWords(number) : "No command";
+  const outcome = code ? `${codeWords(chip, answer)} (${hexNumber(code, 3)})` : "accepted";
+  return make(
+    "h2", {}, section ? tableLink(section, name) : name,
+    make("span", { class: code ? "out bad" : "out" }, outcome),
+  );
+}
+
+/** @param {Step} step */
+function placeWords(step) {
+  const parts = [`line ${step.line + 1}`, `locality ${step.locality}`];
+  if (step.elapsed) parts.push(`${secondsWords(step.elapsed)} after the command before it`);
+  const entropy = entropyWord(step.random);
+  parts.push(`random bytes ${cut(entropy, 16)}`);
+  return parts.join(", ");
+}
+
+/** @param {import("./device.js").Chip} chip @param {Chosen} chosen */
+function wordsOf(chip, { step, line }) {
+  if (line.startsWith("do ")) return line.slice(3);
+  return chip.spell(step.buffer) || "No line in words spells these bytes.";
+}
+
+/** @param {Chosen} chosen @param {Meaning | null} meaning */
+function whyShown({ step, answer, before, told }, meaning) {
+  if (told?.hasReason) return null;
+  const rules = rulesOf(answer.check, step.buffer, meaning, before);
+  const values = valuesOf(step, meaning, before);
+  return make(
+    "div", { class: "why" },
+    make("p", {}, `Refused by check ${checkWord(answer.check)}.`),
+    ...rules.map(({ sentence, link }) => make("p", {}, sentence, " ", tableLink(link))),
+    values.length ? listed(values) : null,
+    make("p", { class: "dim" }, make("code", {}, answer.trace)),
+  );
+}
+
+/**
+ * Where a log has another answer than the device.
+ * @param {import("./device.js").Chip} chip @param {Chosen} chosen
+ */
+function differences(chip, { step, answer }) {
+  const others = step.answers.filter((given) => !isAnswer(given, answer));
+  return others.map((given) => make(
+    "div", { class: "why" },
+    make("p", {}, "The script has another answer than this device."),
+    listed([["the script's", given], ["this device's", given.length === 8 ? hexOf(answer.response.subarray(6, 10)) : given.includes(" ") ? answer.trace : hexOf(answer.response)]]),
+  ));
+}
+
+/**
+ * The field that a code points at.
+ * @param {import("./fields.js").Field[]} fields @param {Meaning | null} meaning
+ */
+function wrongField(fields, meaning) {
+  const sort = { handle: "handle", parameter: "parameter", session: "entry", "": "" }[meaning?.kind ?? ""];
+  const those = fields.filter((it) => it.sort === sort && it.depth === 0 && (sort !== "entry" || it.isGroup));
+  return those[(meaning?.number ?? 0) - 1] ?? null;
+}
+
+/** How many bytes fit in a row of the pane. */
+function perRow() {
+  const width = byId("detail").clientWidth - 84;
+  return width >= 16 * BYTE_WIDTH ? 16 : 8;
+}
+
+/** @param {State} before @param {State} after */
+function changesShown(before, after) {
+  const isStart = before.isStarted !== after.isStarted;
+  const all = changesOf(before, after).filter((it) => !(isStart && it.group === PCRS && it.entity));
+  const list = make("dl");
+  if (isStart) list.append(make("dt", {}, PCRS), make("dd", {}, after.isStarted ? "have their values of this start" : "are gone with the power"));
+  for (const it of all.slice(0, MOST_CHANGES)) {
+    list.append(make("dt", {}, it.entity ? `${it.entity} ${it.name}` : it.name), valueChange(it));
+  }
+  const more = all.length > MOST_CHANGES ? make("p", { class: "dim" }, `And ${plural(all.length - MOST_CHANGES, "value")} more.`) : null;
+  const nothing = list.childElementCount ? null : make("p", { class: "dim" }, "Nothing but time.");
+  return [heading("What it changed"), nothing ?? list, more];
+}
+
+const MOST_BEFORE = 40;
+
+/**
+ * A value that is gone, shortly.
+ * @param {string} text
+ */
+const shortly = (text) =>
+  isBlank(text) && text.length > 16 ? `${text.slice(0, 2)}..${text.slice(0, 2)}` : cut(text, MOST_BEFORE);
+
+/** @param {import("./state.js").Change} change */
+function valueChange({ before, after }) {
+  const isHex = isHexWord(after ?? before ?? "");
+  const old = before === null ? null : make("span", { class: "dim" }, shortly(before), " → ");
+  const now = after === null ? make("span", { class: "dim" }, "gone") : make("span", { class: "new" }, after);
+  return make("dd", { class: isHex ? "hex" : false }, old, now);
+}
