@@ -119,7 +119,7 @@ function handleChoices(command, field, state) {
   const live = fact.first.flatMap((first) => handlesOf(state, first)).map((handle) => choice(hexNumber(handle, 8), entityWords(handle, state)));
   const fixed = fact.fixed.map((text) => choice(text, text === "NULL" ? "none" : `hierarchy, for ${name}`));
   const pcrs = fact.isPcr ? Array.from({ length: facts.pcrs }, (_, pcr) => choice(hexNumber(pcr, 8), `PCR ${pcr}`)) : [];
-  return [...live, ...fixed, ...pcrs];
+  return [...fixed, ...live, ...pcrs];
 }
 
 /**

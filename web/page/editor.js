@@ -35,6 +35,14 @@ export function faultWords({ name, column, wanted }) {
   return wanted ? `${place}${words}; wanted: ${wanted}` : `${place}${words}`;
 }
 
+/**
+ * A fault as `tpmsim check` has it.
+ * @param {LineFault} fault
+ */
+export function faultName({ name, column, wanted }) {
+  return `${name}${column ? ` ${column}` : ""}${wanted ? `: ${wanted}` : ""}`;
+}
+
 export class Editor {
   /** @param {import("./device.js").Chip} chip @param {Told} told */
   constructor(chip, told) {
@@ -228,7 +236,10 @@ export class Editor {
   showForm() {
     const { line, column } = this.caret();
     const text = this.lines[line] ?? "";
-    byId("form").replaceChildren(...formShown(text, column));
+    const form = byId("form");
+    form.replaceChildren(...formShown(text, column));
+    const here = form.querySelector(".on");
+    form.scrollLeft = here ? here.offsetLeft - form.clientWidth + here.offsetWidth + 40 : 0;
   }
 
   // Completion.

@@ -94,6 +94,7 @@ class Walk {
    * @param {string} name @param {number | null} size @param {number} front @param {() => void} read
    */
   group(name, size, front, read) {
+    if (this.end - this.at < front) this.take(front, name, () => "");
     /** @type {Field} */
     const field = {
       name, at: this.at, size: 0, front, meaning: "", sort: this.sort, depth: this.depth,

@@ -1,15 +1,15 @@
 // The page: a script, its chosen step, and the device after it.
 
-import { hexNumber } from "./bytes.js";
+import { hexNumber, hexOf } from "./bytes.js";
 import { Chip } from "./device.js";
 import { showDevice } from "./device_pane.js";
 import { byId, make } from "./dom.js";
-import { Editor, faultWords } from "./editor.js";
+import { Editor, faultName } from "./editor.js";
 import { byNumber, facts, learn } from "./facts.js";
 import { commandNumber, responseCode } from "./fields.js";
 import { download, fragmentOf, opened, scriptOf, unpacked } from "./files.js";
 import { Run } from "./run.js";
-import { isAnswer, logOf, readScript } from "./script.js";
+import { isAnswer, logOf, onDevice, readScript } from "./script.js";
 import { codeWords, showNothing, showStep } from "./step_pane.js";
 import { drawMarks, showSteps } from "./timeline.js";
 import { Told } from "./told.js";
@@ -49,6 +49,8 @@ class Page {
       load: (text, line) => this.load(text, line),
       outcomes: () => this.outcomes(),
       text: () => this.editor.text,
+      edit: (text, line) => this.load(text, line),
+      onImage: () => onDevice(this.editor.text, `# image ${hexOf(this.run.imageAt(this.chosen + 1))}`),
     });
   }
 
@@ -162,7 +164,7 @@ class Page {
   /** @param {number} line */
   outcome(line) {
     const fault = this.script.faults.get(line);
-    if (fault) return { text: faultWords(fault), isBad: true };
+    if (fault) return { text: faultName(fault), isBad: true };
     const at = this.stepOfLine.get(line);
     const answer = at === undefined ? undefined : this.run.answers[at];
     if (at === undefined || answer === undefined) return null;

@@ -202,7 +202,7 @@ function sessionValues(session) {
     ["cpHash", session.cpHash && hexOf(session.cpHash)],
     ["index", session.isWritten === null ? null : session.isWritten ? "must be written" : "must not be written"],
     ["localities", session.localities === ALL_LOCALITIES ? null : localitiesWords(session.localities)],
-    ["PCRs checked at", session.counter === null ? null : `update counter ${grouped(session.counter)}`],
+    ["update counter", session.counter === null ? null : `${grouped(session.counter)}, at TPM2_PolicyPCR`],
     ["demands", DEMANDS[session.demand]],
   ]);
 }

@@ -45,8 +45,15 @@ export function spelledCode(chip, code) {
   return meaning.kind ? `${meaning.name}/${meaning.kind[0]}${meaning.number}` : meaning.name;
 }
 
+/**
+ * A section of docs/table, in words.
+ * @param {string} link
+ */
+const sectionWords = (link) =>
+  link.replace(/^docs\/table\//, "Table, ").replace(/\.md#/, ": ").replace(/[-_]/g, " ");
+
 /** @param {string} link */
-export const tableLink = (link, words = link.replace(/^docs\//, "").replace(/\.md#/, ", ").replace(/-/g, " ")) =>
+export const tableLink = (link, words = sectionWords(link)) =>
   make("a", { href: link.replace(/^docs/, facts.docs), target: "_blank", rel: "noopener" }, words);
 
 /** @param {import("./device.js").Chip} chip @param {Chosen} chosen */

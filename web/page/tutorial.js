@@ -3,16 +3,20 @@
 import { byId, make } from "./dom.js";
 
 /**
- * A task is done once an event of the script has this command, and this code, after an edit.
+ * A task is done once so many events have this command and this code, and the text has this text.
  * @typedef {{
  *   title: string, text: string[], task: string, script: string[], line: number,
- *   done: {name: string, code: string, least?: number} | {has: string},
+ *   done: {name?: string, code?: string, least?: number, has?: string}, show: Show,
  * }} Lesson
- * @typedef {{load: (text: string, line: number) => void, outcomes: () => {name: string, code: string}[], text: () => string}} Page
+ * @typedef {{append?: string, replace?: [string, string], image?: boolean}} Show how a task is done
+ * @typedef {{
+ *   load: (text: string, line: number) => void, outcomes: () => {name: string, code: string}[],
+ *   text: () => string, edit: (text: string, line: number) => void, onImage: () => string,
+ * }} Shell what the tutorial does to the page
  */
 
 export class Tutorial {
-  /** @param {Lesson[]} lessons @param {Page} page */
+  /** @param {Lesson[]} lessons @param {Shell} page */
   constructor(lessons, page) {
     this.lessons = lessons;
     this.page = page;
@@ -60,9 +64,18 @@ export class Tutorial {
       "div", { class: "foot" },
       make("output", { id: "lesson-done" }, `Step ${this.at + 1} of ${this.lessons.length}`),
       make("button", { type: "button", disabled: this.at === 0, onclick: () => this.open(this.at - 1) }, "Back"),
-      make("button", { type: "button", onclick: () => this.open(this.at), title: "The script as it was" }, "Reset"),
+      make("button", { type: "button", id: "lesson-show", onclick: () => this.#showTask() }, "Show me"),
       make("button", { type: "button", id: "lesson-next", onclick: () => (isLast ? this.close() : this.open(this.at + 1)) }, isLast ? "Finish" : "Next"),
     );
+  }
+
+  /** Does the task. */
+  #showTask() {
+    const { script, show } = this.lessons[this.at];
+    const text = shownText(`${script.join("\n")}\n`, show, this.page);
+    const lines = text.split("\n");
+    const before = script.findIndex((line, at) => line !== lines[at]);
+    this.page.edit(text, show.image ? 3 : before < 0 ? script.length : before);
   }
 
   /** Looks whether the task of the lesson is done. */
@@ -78,11 +91,21 @@ export class Tutorial {
   }
 }
 
-/** @param {Lesson} lesson @param {Page} page */
+/** @param {Lesson} lesson @param {Pick<Shell, "outcomes" | "text">} page */
 export function isDone({ done }, page) {
-  if ("has" in done) return page.text().includes(done.has);
+  if (done.has && !page.text().includes(done.has)) return false;
+  if (!done.name) return true;
   const found = page.outcomes().filter((it) => it.name === done.name && it.code === done.code);
   return found.length >= (done.least ?? 1);
+}
+
+/**
+ * The script of a lesson, with its task done.
+ * @param {string} text @param {Show} show @param {Pick<Shell, "onImage">} page
+ */
+export function shownText(text, show, page) {
+  if (show.replace) return text.replace(...show.replace);
+  return show.append ? `${text}${show.append}\n` : page.onImage();
 }
 
 /**

@@ -75,7 +75,9 @@ class Walk:
 
     @contextmanager
     def group(self, name: str, size: int | None = None, front: int = 0) -> Iterator[None]:
-        """A structure, of a size that is known or of what is read within."""
+        """A structure, of a size that is known or of what is read within. Cut where its size is."""
+        if self.end - self.at < front:
+            self.take(front, name, lambda it: "")
         field = Field(name, self.at, 0, front, "", self.sort, self.depth, True)
         self.fields.append(field)
         end, self.at = self.end, self.at + front

@@ -1,0 +1,11 @@
+# The page in dist/, without a browser: it is what web/build.py makes; its policy has the hashes of its
+# style and its script; its links lead to sections of docs/table; and its colours can be read.
+tests=$(cd "$(dirname "$0")/.." && pwd -P)
+. "$tests/common/cases.sh"
+needs python3
+
+top=${tests%/*}
+python3 "$top/web/build.py" --out one.html >said && python3 "$top/web/build.py" --out other.html >>said || exit 1
+cmp one.html other.html && echo 'twice the same bytes'
+cmp one.html "$top/dist/tpmsim.html" && echo 'those of dist/tpmsim.html'
+python3 "$tests/web/page_built.py" "$top/dist/tpmsim.html" "$top/web/page/page.css"

@@ -1,0 +1,47 @@
+"""Prints, as lines of JSON, commands of the scripts of tests/ and examples/ with their responses, and
+the fields of both by tpmsim.explain: what page_fields.mjs compares the page's with.
+"""
+
+import json
+import pathlib
+
+from tpmsim.explain import dissection
+from tpmsim.records.reader import Command, steps_of
+
+TOP = pathlib.Path(__file__).resolve().parents[2]
+MOST_BYTES = 200_000
+
+
+def values(fields):
+    return [
+        [it.name, it.at, it.size, it.front, it.meaning, it.sort, it.depth, it.is_group]
+        for it in fields
+    ]
+
+
+def responses_of(path):
+    lines = path.read_text("latin-1").splitlines()
+    return [bytes.fromhex(it) for it in lines if it.startswith(("8001", "8002", "00c4"))]
+
+
+def main():
+    seen = set()
+    for script in sorted([*TOP.glob("tests/**/*.tpm"), *TOP.glob("examples/*.tpm")]):
+        answers = script.with_suffix(".out")
+        if not answers.exists() or script.stat().st_size > MOST_BYTES:
+            continue
+        commands = [it for it in steps_of(script.read_bytes()) if isinstance(it, Command)]
+        for command, response in zip(commands, responses_of(answers)):
+            if (command.buffer, response) in seen:
+                continue
+            seen.add((command.buffer, response))
+            number = int.from_bytes(command.buffer[6:10], "big")
+            code = int.from_bytes(response[6:10], "big")
+            asked = dissection.fields_of_command(command.buffer)
+            answered = dissection.fields_of_response(number, response)
+            told = command.buffer.hex(), response.hex(), dissection.code_words(code)
+            print(json.dumps([*told, values(asked), values(answered)]))
+
+
+if __name__ == "__main__":
+    main()

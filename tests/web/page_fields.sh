@@ -1,0 +1,10 @@
+# The fields of commands and responses: as the page has them in JavaScript, and tools/explain.py in
+# Python, of all scripts.
+tests=$(cd "$(dirname "$0")/.." && pwd -P)
+. "$tests/common/cases.sh"
+needs node python3
+
+python3 "$tests/../web/build.py" --facts >facts.json || exit 1
+python3 "$tests/web/page_fields.py" >cases || exit 1
+cp -R "$tests/../web/page" page && echo '{ "type": "module" }' >page/package.json || exit 1
+node "$tests/web/page_fields.mjs" page facts.json cases

@@ -1,0 +1,6 @@
+# The types of the page's JavaScript, which its comments have.
+tests=$(cd "$(dirname "$0")/.." && pwd -P)
+. "$tests/common/cases.sh"
+needs tsc
+
+tsc -p "${tests%/*}/web/page/tsconfig.json" && echo 'types hold'
