@@ -106,6 +106,11 @@ class BrowserPage {
     }
   }
 
+  /** Puts the page before the others, which alone gets keys. */
+  front() {
+    return this.send("Page.bringToFront");
+  }
+
   text(id) {
     return this.value(`document.getElementById(${JSON.stringify(id)}).innerText`);
   }
@@ -124,6 +129,7 @@ class BrowserPage {
 
   /** Puts a script in place of the present one, as if it was typed. */
   async write(text) {
+    await this.front();
     await this.value("(document.getElementById('text').focus(), document.getElementById('text').select())");
     await this.value("delete document.documentElement.dataset.played");
     await this.type(text);

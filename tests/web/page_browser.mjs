@@ -1,0 +1,299 @@
+// Tries the page in Chromium without a window: page_browser.mjs ADDRESS. It prints a line for each
+// thing that holds or not, and the status is 1 if one does not.
+
+import fs from "node:fs";
+import { ALT, Browser, CTRL, sleep } from "./browser.mjs";
+
+const address = process.argv[2];
+const browser = await Browser.start();
+const pages = [];
+let isWrong = false;
+
+function say(holds, what, more = "") {
+  console.log(`${holds ? "yes" : "NO"}: ${what}${holds ? "" : ` (${more})`}`);
+  isWrong ||= !holds;
+}
+
+async function open(options = {}, fragment = "") {
+  const page = await browser.open(address + fragment, options);
+  await page.until("document.documentElement.dataset.played !== undefined");
+  pages.push(page);
+  return page;
+}
+
+const click = (page, id) => page.value(`document.getElementById("${id}").click()`);
+const bad = (page) => page.value("[...document.querySelectorAll('.side .out.bad')].map((it) => it.textContent)");
+const script = (page) => page.value("document.getElementById('text').value");
+const facts = (page) => page.value("JSON.parse(document.getElementById('facts').textContent)");
+
+/** Puts a file on the page, as if it was dropped. */
+const drop = (page, name, bytes) => page.value(`(async () => {
+  const bytes = Uint8Array.from(atob(${JSON.stringify(Buffer.from(bytes).toString("base64"))}), (it) => it.charCodeAt(0));
+  const data = new DataTransfer();
+  data.items.add(new File([bytes], ${JSON.stringify(name)}));
+  document.dispatchEvent(new DragEvent("drop", { dataTransfer: data, bubbles: true, cancelable: true }));
+  await new Promise((done) => setTimeout(done, 300));
+})()`);
+
+/** The bytes of a download. */
+const taken = (page, what) => page.value(`new Promise((done) => {
+  const before = URL.createObjectURL;
+  URL.createObjectURL = (blob) => {
+    blob.arrayBuffer().then((it) => done(btoa(String.fromCharCode(...new Uint8Array(it)))));
+    URL.createObjectURL = before;
+    return before.call(URL, blob);
+  };
+  const menu = document.getElementById("download");
+  menu.value = "${what}";
+  menu.dispatchEvent(new Event("change"));
+})`).then((it) => Buffer.from(it, "base64"));
+
+async function examples(page) {
+  const wrong = [];
+  for (const [name, text] of (await facts(page)).examples) {
+    await page.value(`(delete document.documentElement.dataset.played, document.getElementById("examples").value = "${name}", document.getElementById("examples").dispatchEvent(new Event("change")))`);
+    await page.until("document.documentElement.dataset.played !== undefined");
+    const wanted = fs.readFileSync(`../../examples/${name}.trace`, "latin1").split("\n").filter((it) => / L\d \+/.test(it)).length;
+    const steps = (await page.value("document.getElementById('slider').max")) - 0 + 1;
+    const powers = text.split("\n").filter((it) => it === "power").length;
+    if (steps !== wanted + powers || (await script(page)) !== text) wrong.push(`${name}: ${steps} steps, ${wanted} in the trace`);
+  }
+  say(!wrong.length, "every example plays, with as many steps as its trace has", wrong.join("; "));
+}
+
+const FAULTS = [
+  ["do Foo", "BadName: command"], ["do GetRandom x", "BadField 11: u16"], ["do GetRandom", "Missing: u16"],
+  ["do GetRandom 70000", "Range 11: u16"], ["cmd 8", "BadField 1: hex"], ["loc 9", "Range 1: 0 to 4"],
+  ["entropy", "Missing: 1 to 256 bytes of hex"], ["hello", "BadName: do, cmd, loc, wait, entropy or power"],
+  [`do NV_Write OWNER 01000001 pw:- ${"00".repeat(4090)} 0`, "TooLong"],
+];
+
+async function faults(page) {
+  await page.write(`${FAULTS.map(([line]) => line).join("\n")}\nwait 4294967295\nwait 1\n`);
+  const shown = await bad(page);
+  const wanted = [...FAULTS.map(([, fault]) => fault), "Range 1: u32"];
+  say(JSON.stringify(shown) === JSON.stringify(wanted), "every fault is beside its line, as tpmsim check has it", shown.join("; "));
+  await page.write("do Startup 0\ndo NV_Write OWNER 01000001 pw:- zz 0");
+  say((await page.text("under")) === "column 30: not what is wanted; wanted: Buffer", "the fault of the caret's line is under it", await page.text("under"));
+}
+
+async function keyboard(page) {
+  await page.write("do Startup 0\ndo NV_DefineSpace OWNER pw:- - 01000001000b0002000200000008\n");
+  for (const letter of "do NV_W") await page.type(letter);
+  await page.until("!document.getElementById('choices').hidden");
+  say((await page.text("choices")).startsWith("NV_Write"), "a command is completed", await page.text("choices"));
+  await page.key("Enter");
+  await page.until("document.getElementById('choices').innerText.includes('OWNER')");
+  await page.key("Enter");
+  await page.until("document.getElementById('choices').innerText.includes('01000001')");
+  await page.key("Tab");
+  say((await script(page)).endsWith("\ndo NV_Write OWNER 01000001 "), "a handle of the device is completed", await script(page));
+  await page.key("Escape");
+  await page.type("pw:- 0011 0");
+  await page.key(" ", CTRL);
+  const at = () => page.text("counter");
+  await page.key("ArrowUp", ALT);
+  const up = await at();
+  await page.key("ArrowDown", ALT);
+  say(up === "2 of 3" && (await at()) === "3 of 3", "Alt and the arrows go through the steps", `${up}, ${await at()}`);
+  await page.key("F6");
+  const inDetail = await page.value("document.activeElement.id");
+  await page.key("k");
+  await page.key("k");
+  say(inDetail === "detail" && (await at()) === "1 of 3", "F6 goes to the step, and k back", `${inDetail}, ${await at()}`);
+  await page.key("/");
+  say((await page.value("document.activeElement.id")) === "text", "a slash goes to the script");
+  await page.value("document.querySelector('#detail table').focus()");
+  await page.key("ArrowDown");
+  say((await page.value("document.querySelectorAll('.dump .on').length")) === 2, "an arrow in the table lights the field's bytes");
+  await page.value("document.getElementById('slider').focus()");
+  await page.key("ArrowRight");
+  say((await at()) === "2 of 3", "an arrow on the slider goes on", await at());
+  await page.value("document.activeElement.blur()");
+  await page.key("?");
+  say(await page.value("document.getElementById('keys').open"), "a question mark shows the keys");
+}
+
+async function names(page) {
+  const { nodes } = await page.send("Accessibility.getFullAXTree", {});
+  const role = (it) => it.role?.value;
+  const nameless = nodes.filter((it) => !it.ignored && ["button", "combobox", "slider", "textbox", "tab", "dialog", "link", "listbox", "article", "region"].includes(role(it)) && !it.name?.value);
+  say(!nameless.length, "all that can be used has a name", nameless.map(role).join(" "));
+}
+
+async function refusal(page) {
+  await page.write("do Startup 0\ndo NV_DefineSpace OWNER pw:- - 01000001000b0002000200000008\ndo NV_Read OWNER 01000001 pw:- 8 0");
+  const text = await page.text("detail");
+  const link = await page.value("document.querySelector('#detail .why a').getAttribute('href')");
+  say(text.includes("Refused by check A3.") && text.includes("nvIndex has no WRITTEN"), "a refusal has its check and its sentence", text.slice(0, 200));
+  say(link === "../docs/table/nv.md#checks-of-a-read", "and a link to its row", link);
+  await click(page, "back");
+  const device = await page.text("device");
+  say(device.includes("01000001") && device.includes("not written") && device.includes("changed"), "the device after it has the index, set off", device.slice(0, 300));
+}
+
+async function sizes() {
+  for (const width of [360, 768, 1920]) {
+    for (const isDark of [false, true]) {
+      const page = await open({ width, height: 800, isDark });
+      const wide = [];
+      for (const pane of width === 360 ? ["script", "detail", "device"] : ["script"]) {
+        await click(page, `tab-${pane}`);
+        for (let step = 0; step < 6; step += 1) await click(page, "forth");
+        if (await page.value("document.documentElement.scrollWidth > innerWidth")) wide.push(pane);
+        if (await page.value("[...document.querySelectorAll('article, aside, #lesson')].some((it) => it.scrollWidth > it.clientWidth + 1)")) wide.push(`${pane} within`);
+      }
+      say(!wide.length, `${width} pixels, ${isDark ? "dark" : "light"}: nothing is wider than the window`, wide.join(" "));
+      await page.close();
+    }
+  }
+}
+
+async function lessons(page) {
+  await page.front();
+  await click(page, "tutorial");
+  const wrong = [];
+  for (let at = 1; at <= 10; at += 1) {
+    const title = await page.text("lesson-title");
+    if (!title.startsWith(`${at}. `) || (await page.text("lesson-done")) === "Done.") wrong.push(title);
+    await click(page, "lesson-show");
+    await page.until("document.getElementById('lesson-done').innerText === 'Done.'", 3000).catch(() => wrong.push(`${title}: not done`));
+    await click(page, "lesson-next");
+  }
+  say(!wrong.length, "ten lessons are gone through, and each sees its task done", wrong.join("; "));
+  say(await page.value("document.getElementById('lesson').hidden"), "the tutorial ends");
+}
+
+async function links() {
+  const text = "do Startup 0\ndo GetRandom 8\n";
+  const one = await open();
+  await one.write(text);
+  await one.until("location.hash.length > 4");
+  const fragment = await one.value("location.hash");
+  const two = await open({}, fragment);
+  say((await script(two)) === text, "a link holds the script", fragment);
+  const wrong = [];
+  let seed = 1;
+  const random = (most) => (seed = (seed * 48271) % 2147483647) % most;
+  for (let count = 0; count < 60; count += 1) {
+    const bytes = [...fragment].map((it) => (random(6) ? it : String.fromCharCode(33 + random(90)))).join("");
+    const length = random(4) ? bytes.length : random(bytes.length);
+    await two.value(`(location.hash = ${JSON.stringify(bytes.slice(0, length))})`);
+    await sleep(15);
+    if (two.said.length) wrong.push(bytes);
+  }
+  for (const it of ["#", "#s=", "#s=!!!!", "#t=abc", "#%", `#s=${"A".repeat(70000)}`]) await two.value(`(location.hash = ${JSON.stringify(it)})`);
+  await sleep(200);
+  say(!wrong.length && (await two.text("counter")).includes(" of "), "bent fragments do no harm", wrong.join(" "));
+}
+
+const HOSTILE = "</script><script>globalThis.harm = 1</script><img src=x onerror=globalThis.harm=1>";
+
+async function hostile(page) {
+  await page.front();
+  const before = await page.value("document.querySelectorAll('script, img').length");
+  const hex = Buffer.from(HOSTILE).toString("hex");
+  const log = `# ${HOSTILE}\ndo Startup 0\n${HOSTILE}\ndo PCR_Event 00000007 pw:${Buffer.from("<b>x</b>").toString("hex")} ${hex}\n# <b>80010000000a00000000</b>\ncmd ${hex}\n# 80010000000a0000ffff\n`;
+  await drop(page, `${HOSTILE}.tpm`, log);
+  for (let step = 0; step < 3; step += 1) await click(page, "forth");
+  const after = await page.value("document.querySelectorAll('script, img, #texts b, #detail img').length");
+  say(after === before && (await page.value("globalThis.harm")) === undefined, "nothing of a hostile log becomes markup", `${before} and ${after}`);
+  say((await page.text("detail")).includes("The script has another answer than this device."), "a log's other answer is shown", (await page.text("detail")).slice(0, 300));
+}
+
+async function files(page) {
+  await page.write("do Startup 0\ndo NV_DefineSpace OWNER pw:- - 01000001000b0002000200000008\ndo NV_Write OWNER 01000001 pw:- 0011223344556677 0\n");
+  const got = {};
+  for (const what of ["script", "log", "journal", "image", "state"]) got[what] = await taken(page, what);
+  fs.mkdirSync("taken", { recursive: true });
+  for (const [name, bytes] of Object.entries(got)) fs.writeFileSync(`taken/${name}`, bytes);
+  say(got.script.toString() === (await script(page)), "the script is downloaded");
+  say(/\n# 8001[0-9a-f]+\ndo NV_DefineSpace/.test(got.log.toString()), "the log has its answers", got.log.toString().slice(0, 200));
+  await page.write("do Startup 0\ndo NV_Read OWNER 01000001 pw:- 8 0\n");
+  await drop(page, "tpm.image", got.image);
+  say((await script(page)).startsWith("# image 54504d49") && (await page.text("detail")).length > 0, "a dropped image begins the script", (await script(page)).slice(0, 60));
+  await click(page, "forth");
+  await click(page, "forth");
+  say((await page.text("detail")).includes("0011223344556677"), "the device is that of the image", (await page.text("detail")).slice(0, 300));
+  await page.write("do NV_Read OWNER 01000001 pw:- 8 0\n");
+  await drop(page, "tpm.state", got.state);
+  await click(page, "forth");
+  say((await page.text("detail")).includes("0011223344556677"), "a dropped state text goes on", (await page.text("detail")).slice(0, 300));
+  await drop(page, "journal", got.journal);
+  say((await bad(page)).length === 0 && (await page.text("counter")).endsWith("of 4"), "a dropped journal plays, and answers as it says", `${await bad(page)} ${await page.text("counter")}`);
+  await drop(page, "bad.image", Buffer.concat([got.image.subarray(0, 80), Buffer.alloc(40)]));
+  say((await bad(page))[0]?.startsWith("no device: "), "a damaged image is said to be none", (await bad(page)).join(" "));
+}
+
+async function speed() {
+  const page = await open();
+  const lines = ["do Startup 0"];
+  const words = ["GetRandom 32", `PCR_Extend 0000000a pw:- sha256:${"ab".repeat(32)}`, "PCR_Read sha256:10", "NV_ReadPublic 01000001", "ReadClock"];
+  while (lines.length < 10000) lines.push(`do ${words[lines.length % words.length]}`);
+  const took = await page.value(`(async () => {
+    const area = document.getElementById("text");
+    delete document.documentElement.dataset.played;
+    const begun = performance.now();
+    area.value = ${JSON.stringify(lines.join("\n"))};
+    area.dispatchEvent(new Event("input"));
+    while (document.documentElement.dataset.played !== "10000") await new Promise((done) => setTimeout(done));
+    return performance.now() - begun;
+  })()`);
+  say(took < 2000, "10,000 commands are there within two seconds", `${Math.round(took)} ms`);
+  const edit = await page.value(`(() => {
+    const area = document.getElementById("text");
+    area.focus();
+    const at = area.value.length >> 1;
+    area.setSelectionRange(at, at);
+    const times = [];
+    for (const text of ["\\n", "#", " ", "x"]) {
+      const begun = performance.now();
+      area.setRangeText(text, area.selectionStart, area.selectionEnd, "end");
+      area.dispatchEvent(new Event("input"));
+      document.body.getBoundingClientRect();
+      times.push(performance.now() - begun);
+    }
+    return Math.min(...times);
+  })()`);
+  say(edit < 50, "an edit in their middle is shown within 50 ms", `${Math.round(edit)} ms`);
+  if (process.env.FIGURES) console.log(`10,000 commands ${Math.round(took)} ms, an edit ${Math.round(edit)} ms`);
+}
+
+async function paint() {
+  const times = [];
+  let shift = 0;
+  for (let count = 0; count < 3; count += 1) {
+    const page = await open();
+    await sleep(300);
+    times.push(await page.value("performance.getEntriesByName('first-contentful-paint')[0]?.startTime ?? 9999"));
+    shift = Math.max(shift, await page.value(`new Promise((done) => {
+      let sum = 0;
+      new PerformanceObserver((list) => list.getEntries().forEach((it) => (sum += it.value))).observe({ type: "layout-shift", buffered: true });
+      setTimeout(() => done(sum), 100);
+    })`));
+    await page.close();
+  }
+  say(Math.min(...times) < 300, "first paint within 300 ms", `${times.map(Math.round)} ms`);
+  say(shift < 0.01, "nothing shifts", shift);
+  if (process.env.FIGURES) console.log(`first paint ${times.map(Math.round)} ms, shift ${shift}`);
+}
+
+const page = await open();
+await examples(page);
+await faults(page);
+await keyboard(await open());
+await names(page);
+await refusal(page);
+await lessons(page);
+await hostile(page);
+await files(page);
+await links();
+await sizes();
+await speed();
+await paint();
+const said = pages.flatMap((it) => it.said);
+say(!said.length, "nothing on any console", said.join("; "));
+const asked = pages.flatMap((it) => it.asked).filter((it) => !it.startsWith(address) && !it.startsWith("blob:"));
+say(!asked.length, "nothing was asked for but the page", asked.join(" "));
+await browser.close();
+process.exitCode = isWrong ? 1 : 0;
