@@ -18,6 +18,7 @@ import json
 import pathlib
 import re
 import sys
+from dataclasses import dataclass
 
 HERE = pathlib.Path(__file__).resolve().parent
 TOP = HERE.parent
@@ -121,46 +122,61 @@ def facts(docs: str) -> Value:
 
 # The page.
 
-IMPORT = re.compile(r'^import (?:[^"]*?from )?"\./([\w]+\.js)";\n', re.MULTILINE | re.DOTALL)
-EXPORT = re.compile(r"^export (?=(?:async )?(?:function|const|let|class)\b)", re.MULTILINE)
-NAMED = re.compile(r"^(?:export )?(?:async )?(?:function|const|let|class)\s+(\w+)", re.MULTILINE)
+IMPORT = re.compile(r'^import (?:\{([^}]*)\} from )?"([./\w]+\.js)";\n', re.MULTILINE)
+EXPORT = re.compile(
+    r"^export ((?:async )?(?:function\*?|const|let|class)\s+(\w+))", re.MULTILINE
+)
+COMMENT = re.compile(r"^[ \t]*(?://[^\n]*|/\*\*(?:(?!\*/).)*\*/)\n", re.MULTILINE | re.DOTALL)
 MARK = re.compile(r"@([A-Z]+)@")
 
 
-def in_order(first: str) -> list[str]:
+@dataclass(frozen=True)
+class Script:
+    """A module of JavaScript: its name in the page, what it imports from which, and its text."""
+
+    name: str
+    imports: list[tuple[str, str]]
+    exports: list[str]
+    body: str
+
+    @property
+    def text(self) -> str:
+        """The module as a function that returns what it exports."""
+        taken = "".join(f"const {{{names}}} = {of};\n" for names, of in self.imports if names)
+        given = ", ".join(self.exports)
+        return f"const {self.name} = (() => {{\n{taken}{self.body}return {{ {given} }};\n}})();\n"
+
+
+def name_of(path: pathlib.Path) -> str:
+    return "of_" + re.sub(r"\W", "_", str(path.relative_to(TOP).with_suffix("")))
+
+
+def read_script(path: pathlib.Path) -> tuple[Script, list[pathlib.Path]]:
+    text = path.read_text("utf-8")
+    found = [(names, (path.parent / of).resolve()) for names, of in IMPORT.findall(text)]
+    imports = [
+        (re.sub(r"\s+", " ", names.replace(" as ", ": ")).strip(), name_of(of)) for names, of in found
+    ]
+    exports = [name for _, name in EXPORT.findall(text)]
+    body = re.sub(r"\n{2,}", "\n", COMMENT.sub("", EXPORT.sub(r"\1", IMPORT.sub("", text))))
+    if re.search(r"^(?:import|export)\b", body, re.MULTILINE):
+        sys.exit(f"build.py: {path.name} has an import or an export in another form")
+    return Script(name_of(path), imports, exports, body), [of for _, of in found]
+
+
+def scripts(first: pathlib.Path, done: dict[pathlib.Path, Script]) -> dict[pathlib.Path, Script]:
     """The modules of the page, each after those that it imports."""
-    found: list[str] = []
-
-    def add(name: str) -> None:
-        for it in IMPORT.findall((PAGE / name).read_text("utf-8")):
-            if it not in found:
-                add(it)
-        if name not in found:
-            found.append(name)
-
-    add(first)
-    return found
-
-
-def check_names(texts: dict[str, str]) -> None:
-    """All modules of the page share one scope, so no two may declare the same name."""
-    owner: dict[str, str] = {}
-    for module, text in texts.items():
-        for name in NAMED.findall(text):
-            if owner.setdefault(name, module) != module:
-                sys.exit(f"build.py: {owner[name]} and {module} both declare {name}")
-
-
-COMMENT = re.compile(r"^\s*(?://[^\n]*|/\*\*.*?\*/)\n", re.MULTILINE | re.DOTALL)
+    found, below = read_script(first)
+    for it in below:
+        if it not in done:
+            scripts(it, done)
+    done[first] = found
+    return done
 
 
 def script() -> str:
-    """The modules as one script: imports, `export`, and comments on lines of their own are left out."""
-    texts = {it: (PAGE / it).read_text("utf-8") for it in in_order("main.js")}
-    check_names(texts)
-    parts = [EXPORT.sub("", IMPORT.sub("", it)) for it in texts.values()]
-    body = "".join(COMMENT.sub("", it) for it in parts)
-    body = re.sub(r"\n{2,}", "\n", body)
+    """The modules as one script, without the comments on lines of their own."""
+    body = "".join(it.text for it in scripts(PAGE / "main.js", {}).values())
     return f'(() => {{\n"use strict";\n{body}}})();\n'
 
 

@@ -1,11 +1,10 @@
-"""The page of a log: that its text is all there, that nothing of a log is markup, and that nothing is
-fetched. tools/interop/page.sh opens it in a browser.
+"""The page of a log: that the log and what is told of it are there, and that nothing of a log is markup.
+tests/web/page_browser.sh opens it in a browser.
 """
 
 import html.parser
 import json
 import pathlib
-import re
 import unittest
 
 from explained_logs import EXAMPLE, lines_with
@@ -14,7 +13,7 @@ from tpmsim.explain.play import Play
 from tpmsim.explain.text import Counts
 
 # A log may hold anything: in its name, in comments, in words and in bytes that are a text.
-HOSTILE = "</script><script>alert(1)</script><!--<img src=x onerror=alert(2)>&amp;@DATA@"
+HOSTILE = "</script><script>alert(1)</script><!--<img src=x onerror=alert(2)>&amp;@FACTS@"
 LOG = f"""# {HOSTILE}
 do Startup 0
 do NV_DefineSpace OWNER pw:- {b'</script><b>'.hex()} 01000001000b0002000200000008
@@ -23,118 +22,71 @@ do NV_Write OWNER 01000001 pw:{HOSTILE[:32].encode().hex()} {b'<!--'.hex()} 0
 """
 
 
-def page_of(name, log, answers=None, play=None):
-    return page.of_log(name, play or Play(None, answers, None, True), log, Counts())
-
-
-def data_of(text):
-    """What a page shows, as its first script has it."""
-    return json.loads(Elements(text).scripts[0])
+def page_of(name, log, answers=None, image=None):
+    return page.of_log(name, Play(image, answers, None, True), log, Counts())
 
 
 class Elements(html.parser.HTMLParser):
-    """The elements of a page with their attributes, the text of its scripts, and that of the last of
-    each other element.
-    """
+    """The elements of a page with their attributes, and the text of each, by its id or else its tag."""
 
     def __init__(self, text):
         super().__init__()
-        self.found, self.scripts, self.inside, self.texts = [], [], None, {}
+        self.found, self.texts, self.inside = [], {}, ""
         self.feed(text)
         self.close()
 
     def handle_starttag(self, tag, attrs):
         self.found.append((tag, dict(attrs)))
-        self.inside = tag
-        self.texts[tag] = ""
-        if tag == "script":
-            self.scripts.append("")
-
-    def handle_endtag(self, tag):
-        self.inside = None
+        self.inside = dict(attrs).get("id", tag)
 
     def handle_data(self, data):
-        if self.inside == "script":
-            self.scripts[-1] += data
-        elif self.inside:
-            self.texts[self.inside] += data
+        self.texts[self.inside] = self.texts.get(self.inside, "") + data
+
+
+def log_of(text):
+    """The log that a page has."""
+    return json.loads(Elements(text).texts["log"])
 
 
 class Page(unittest.TestCase):
     def test_escaping(self):
-        plain = Elements(page_of("a.tpm", b"do Startup 0\n"))
+        plain = Elements(page.FILE.read_text("utf-8"))
         parsed = Elements(page_of(HOSTILE, LOG.encode()))
-        self.assertEqual([tag for tag, _ in parsed.found], [tag for tag, _ in plain.found])
+        self.assertEqual(parsed.found, plain.found)
         name = pathlib.PurePath(HOSTILE).name
         self.assertEqual(parsed.texts["title"], f"{name}, explained")
-        self.assertEqual(parsed.texts["h1"], name)
-        self.assertEqual(len(parsed.scripts), 2)
-        data = parsed.scripts[0]
-        self.assertNotRegex(data, "[<>&]")
-        value = json.loads(data)
-        self.assertEqual(value["name"], name)
-        self.assertTrue(any(HOSTILE in it for it in value["texts"]))
-        self.assertEqual(parsed.scripts[1], plain.scripts[1])
-
-    def test_nothing_is_fetched(self):
-        text = page_of("disk_unlock.tpm", EXAMPLE.read_bytes())
-        found = Elements(text).found
-        attributes = set().union(*(it for _, it in found))
-        self.assertFalse(attributes & {"src", "href", "srcset", "action"})
-        self.assertFalse({tag for tag, _ in found} & {"link", "img", "iframe", "base"})
-        rules = next(it["content"] for tag, it in found if it.get("http-equiv"))
-        self.assertTrue(rules.startswith("default-src 'none'; "))
-        self.assertNotRegex(text, r"https?://|@import|url\(")
-
-    def test_script_writes_no_markup(self):
-        for name in page.SCRIPTS:
-            text = (page.FILES / name).read_text()
-            self.assertNotRegex(text, r"innerHTML|outerHTML|insertAdjacent|document\.write|eval\(")
+        self.assertEqual(parsed.texts["script"], plain.texts["script"])
+        self.assertNotRegex(parsed.texts["log"], "[<>&]")
+        value = json.loads(parsed.texts["log"])
+        self.assertEqual((value["name"], value["script"]), (name, LOG))
 
     def test_content(self):
         answers = EXAMPLE.with_suffix(".trace").read_bytes()
-        value = data_of(page_of("x/disk_unlock.tpm", EXAMPLE.read_bytes(), answers))
-        texts, events = value["texts"], value["events"]
-        self.assertEqual((value["name"], len(events)), ("disk_unlock.tpm", 47))
-        refused = [it for it in events if "x" in it]
+        value = log_of(page_of("x/disk_unlock.tpm", EXAMPLE.read_bytes(), answers))
+        self.assertEqual(value["name"], "disk_unlock.tpm")
+        self.assertEqual(value["script"].encode(), EXAMPLE.read_bytes())
+        told = {int(line): it for line, it in value["events"].items()}
         unseals, loads = lines_with("do Unseal"), lines_with("do Load")
-        self.assertEqual([it["l"] for it in refused], [unseals[0], *unseals[2:], *loads[-2:]])
-        self.assertEqual([texts[it["x"]] for it in refused][3], "POLICY_FAIL/s1")
-        self.assertIn("The PCRs differ: PCR 7.", refused[3]["y"][0])
-        self.assertEqual([it["m"] for it in events if "m" in it][:5], [0, 7, 4, 11, 11])
-        handles = [it[0] for it in value["entities"]]
-        self.assertEqual(handles.count("80000001"), 2, "two starts have an object of this handle")
-        for at, it in enumerate(value["entities"]):
-            uses = [n for n, event in enumerate(events) if at in event.get("u", ())]
-            self.assertEqual(it[2], uses)
-
-    def test_fields_cover_all_bytes(self):
-        value = data_of(page_of("", EXAMPLE.read_bytes()))
-        for event in value["events"]:
-            for hex_text, shape, meanings in (event[it] for it in ("q", "r") if it in event):
-                fields = value["shapes"][shape]
-                self.assertEqual(len(fields), len(meanings))
-                covered = sum(it[3] if it[6] else it[2] for it in fields)
-                self.assertEqual(2 * covered, len(hex_text))
-
-    def test_state(self):
-        """The state behind the last event, put together from all changes, is the device's own."""
-        play = Play(None, None, None, True)
-        value = data_of(page_of("", EXAMPLE.read_bytes(), play=play))
-        state = {}
-        for flat in (value["first"], *(it["d"] for it in value["events"])):
-            for key, text_number in zip(flat[::2], flat[1::2]):
-                state[tuple(value["keys"][key])] = text_number
-        shown = {key: value["texts"][it] for key, it in state.items() if it >= 0}
-        self.assertEqual(shown["PCRs", "PCR 7", "SHA-256"], play.model.banks[0x000B][7].hex())
-        self.assertEqual({key[1] for key in shown if key[0] == "Sessions"}, {"03000000"})
+        refused = [line for line, it in told.items() if "reason" in it]
+        self.assertEqual(refused, sorted([unseals[0], *unseals[2:], *loads[-2:]]))
+        self.assertEqual(value["line"], refused[0])
+        self.assertIn("The PCRs differ: PCR 7.", told[refused[3]]["reason"]["words"])
+        self.assertFalse(any("differs" in it for it in told.values()))
 
     def test_differences(self):
-        (event,) = data_of(page_of("", b"do Startup 0\n# 00000100\n"))["events"]
-        self.assertEqual(event["z"], [["the response code is another one", "00000100", "00000000"]])
+        value = log_of(page_of("", b"do Startup 0\n# 00000100\n"))
+        wanted = [["the response code is another one", "00000100", "00000000"]]
+        self.assertEqual(value["events"]["1"]["differs"], wanted)
 
-    def test_shipped_files(self):
-        names = {it.name for it in page.FILES.iterdir()}
-        self.assertEqual(names, {"page.html", "page.css", *page.SCRIPTS})
-        for it in page.FILES.iterdir():
-            self.assertFalse(re.search(r"[^\x00-\x7f]", it.read_text()), it.name)
+    def test_start(self):
+        image = log_of(page_of("", b"do Startup 0\n", image=None))["start"]
+        self.assertEqual(image, "")
+
+    def test_random_bytes_of_another_log(self):
+        """A log of another TPM has no entropy lines: the page is told what the answers show."""
+        log = b"cmd 80010000000c000001440000\ncmd 80010000000c0000017b0004\n# 80010000001000000000000401020304\n"
+        value = log_of(page_of("", log))
+        self.assertTrue(value["events"]["2"]["random"].startswith("01020304"))
+        self.assertNotIn("differs", value["events"]["2"])
+        value = log_of(page_of("", b"entropy 00\n" + log))
+        self.assertIn("differs", value["events"]["3"])

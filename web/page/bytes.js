@@ -45,6 +45,7 @@ export function numberOf(bytes) {
 
 /** @param {Uint8Array} one @param {Uint8Array} other */
 export function areSame(one, other) {
+  if (one === other) return true;
   return one.length === other.length && one.every((byte, at) => byte === other[at]);
 }
 

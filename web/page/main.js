@@ -14,6 +14,7 @@ import { codeWords, showNothing, showStep } from "./step_pane.js";
 import { drawMarks, showSteps } from "./timeline.js";
 import { Told } from "./told.js";
 import { Tutorial } from "./tutorial.js";
+import { usesShown } from "./uses.js";
 import { plural } from "./words.js";
 
 const FIRST_EXAMPLE = "measured_boot";
@@ -84,12 +85,20 @@ class Page {
   /** Reads the text, and plays up to the chosen event. */
   take() {
     this.script = readScript(this.chip, this.editor.lines);
+    this.told.complete(this.script.steps);
     this.stepOfLine = new Map(this.script.steps.map((step, at) => [step.line, at]));
     this.run.take(this.script.steps);
   }
 
-  edited() {
+  /** Leaves what was told of a log behind, and the device that it began on. */
+  leaveLog() {
+    if (!this.told.log) return;
+    if (this.told.start) this.run.begin(null);
     this.told.leave();
+  }
+
+  edited() {
+    this.leaveLog();
     this.take();
     this.chosen = this.nearest(this.editor.caret().line);
     this.run.play(this.chosen, SLICE.first);
@@ -158,7 +167,9 @@ class Page {
     showDevice(before, after, step ? `after line ${step.line + 1}` : "new");
     if (!step) return showNothing("The script has no command yet. Type one, such as do Startup 0, or open an example.");
     const line = script.lines[step.line];
-    return showStep(chip, { step, answer: run.answers[chosen], line, before, after, told: this.told.at(chosen) });
+    const uses = usesShown(script.steps, run.answers, chosen, (it) => this.choose(it, true));
+    const answer = run.answers[chosen];
+    return showStep(chip, { step, answer, line, before, after, uses, told: this.told.at(step.line) });
   }
 
   /** @param {number} line */
@@ -223,6 +234,19 @@ class Page {
 
   // Files and links.
 
+  /**
+   * Opens the log that tools/explain.py put into the page.
+   * @param {import("./told.js").Log} log
+   */
+  openLog(log) {
+    if (this.told.start) this.run.begin(this.told.start);
+    document.title = `${log.name}, explained`;
+    this.load(log.script, log.line - 1);
+    this.run.play(this.script.steps.length, 0);
+    this.playOn();
+    this.say(log.summary, false);
+  }
+
   keepLink() {
     clearTimeout(this.linkWait);
     this.linkWait = setTimeout(async () => replaceFragment(await fragmentOf(this.editor.text)), LINK_WAIT);
@@ -255,7 +279,7 @@ class Page {
     const { text, note, isBad } = await opened(file, this.editor.text);
     if (!isBad) {
       this.tutorial.close();
-      this.told.leave();
+      this.leaveLog();
       this.load(text);
       this.keepLink();
     }
@@ -314,7 +338,7 @@ function listenToMenus(page) {
   for (const [name] of facts.examples) examples.append(make("option", { value: name }, name.replace(/_/g, " ")));
   examples.addEventListener("change", () => {
     page.tutorial.close();
-    page.told.leave();
+    page.leaveLog();
     page.load(exampleOf(examples.value));
     page.keepLink();
     examples.value = "";
@@ -443,7 +467,7 @@ async function start() {
   }
   const page = new Page(chip);
   listen(page);
-  if (page.told.script) page.load(page.told.script, page.told.line);
+  if (page.told.log) page.openLog(page.told.log);
   else if (!(await page.openLink())) page.load(exampleOf(FIRST_EXAMPLE), 0);
   document.documentElement.dataset.ready = String(Math.round(performance.now()));
 }

@@ -1,6 +1,6 @@
 // Why a command was refused: the rules of its check, and the values that the rule compares.
 
-import { decoded, hexOf, numberOf } from "./bytes.js";
+import { hexOf, numberOf } from "./bytes.js";
 import { byNumber, facts } from "./facts.js";
 import { commandNumber, WITH_ENTRIES } from "./fields.js";
 import { bytesWords, commandWords, grouped, handleWords, localitiesWords, PASSWORD_HANDLE } from "./words.js";
@@ -13,25 +13,22 @@ import { bytesWords, commandWords, grouped, handleWords, localitiesWords, PASSWO
  * @typedef {{handle: number, secret: Uint8Array, isPassword: boolean}} Entry
  */
 
-const FIRST_OWN_CHECK = 20;
 
 /** @param {string} key */
 const isRule = (key) => key in facts.rules;
 
 /**
  * The keys of the rules that a check may have refused by.
- * @param {number} check @param {string} command @param {Meaning | null} meaning
+ * @param {string} check @param {string} command @param {Meaning | null} meaning
  */
 function ruleKeys(check, command, meaning) {
   const name = meaning?.name ?? "";
-  if (check === 255) return ["M"];
-  if (check > FIRST_OWN_CHECK) return [`${command}/A${check - FIRST_OWN_CHECK}`];
-  const general = `G${check}`;
+  if (check.startsWith("A")) return [`${command}/${check}`];
   const found = Object.keys(facts.rules).filter(
-    (key) => key === general || key === `${general}/${name}` || key.startsWith(`${general}/${name}.`),
+    (key) => key === check || key === `${check}/${name}` || key.startsWith(`${check}/${name}.`),
   );
-  if (check === 9) found.push(...conditionKeys(name));
-  if (check === 11 && !found.length) found.push(`${command}/parameters`);
+  if (check === "G9") found.push(...conditionKeys(name));
+  if (check === "G11" && !found.length) found.push(`${command}/parameters`);
   return found;
 }
 
@@ -44,7 +41,7 @@ const conditionKeys = (name) =>
 
 /**
  * The rules by which a check refused a command.
- * @param {number} check @param {Uint8Array} buffer @param {Meaning | null} meaning @param {State} before
+ * @param {string} check @param {Uint8Array} buffer @param {Meaning | null} meaning @param {State} before
  * @returns {Rule[]}
  */
 export function rulesOf(check, buffer, meaning, before) {
@@ -98,6 +95,12 @@ function entriesOf(buffer) {
   }
   return found;
 }
+
+/**
+ * The handles of the entries.
+ * @param {Uint8Array} buffer
+ */
+export const entryHandles = (buffer) => entriesOf(buffer).map((it) => it.handle);
 
 /**
  * The entity that an entry authorizes, and the session by which.
@@ -169,9 +172,3 @@ function localityValues({ session }, step) {
   if (!session) return [];
   return [["locality", String(step.locality)], ["the policy allows", localitiesWords(session.localities)]];
 }
-
-/**
- * A field's name and bytes for a title.
- * @param {Uint8Array} bytes
- */
-export const asText = (bytes) => decoded(bytes);

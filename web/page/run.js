@@ -19,7 +19,7 @@ const SHOWN = 1;
 const IMAGE = "TPMI";
 
 /** @type {Answer} */
-const NO_ANSWER = { response: new Uint8Array(0), drawn: 0, trace: "", code: 0, check: 0 };
+const NO_ANSWER = { response: new Uint8Array(0), drawn: 0, trace: "", code: 0, check: "ok" };
 
 export class Run {
   /** @param {Chip} chip with two devices */
@@ -29,13 +29,31 @@ export class Run {
     this.steps = [];
     /** @type {Answer[]} */
     this.answers = [];
-    chip.manufacture(PLAYED, FIRST_RANDOM);
-    chip.manufacture(SHOWN, FIRST_RANDOM);
-    /** The state text before the event of each 64th number. */
-    this.kept = [chip.snapshot(PLAYED)];
+    /**
+     * The state text before the event of each 64th number.
+     * @type {Uint8Array[]}
+     */
+    this.kept = [];
     this.shown = 0;
     /** @type {Map<number, State>} */
     this.states = new Map();
+    chip.manufacture(SHOWN, FIRST_RANDOM);
+    this.begin(null);
+  }
+
+  /**
+   * Begins anew, on the device of an image or a state text if there is one.
+   * @param {Uint8Array | null} text
+   */
+  begin(text) {
+    this.chip.manufacture(PLAYED, FIRST_RANDOM);
+    if (text) this.#begin(PLAYED, text);
+    this.steps = [];
+    this.answers = [];
+    this.kept = [this.chip.snapshot(PLAYED)];
+    this.chip.restore(SHOWN, this.kept[0]);
+    this.shown = 0;
+    this.states.clear();
   }
 
   get isPlayed() {
@@ -78,7 +96,9 @@ export class Run {
   /** @param {number} device @param {Step} step @returns {Answer} */
   #execute(device, step) {
     if (step.kind === "command") {
-      return this.chip.execute(device, step.buffer, step.locality, step.elapsed, step.random);
+      const { buffer, locality, elapsed, random } = step;
+      if (step.completes) return this.chip.complete(device, buffer, locality, elapsed, random);
+      return this.chip.execute(device, buffer, locality, elapsed, random);
     }
     if (step.kind === "power") {
       this.chip.cyclePower(device);
@@ -142,10 +162,10 @@ export class Run {
     this.#reach(isBegun ? from + 1 : from);
     const isImage = isBegun && decoded(this.steps[from].buffer.subarray(0, 4)) !== "TPMS";
     const parts = [isImage || !isBegun ? this.chip.beginJournal(SHOWN) : this.chip.continueJournal(SHOWN)];
-    let now = 0n;
+    let now = 0;
     for (const step of this.steps.slice(isBegun ? from + 1 : from)) {
-      now += BigInt(step.elapsed);
-      parts.push(this.chip.executeInJournal(SHOWN, step.buffer, step.locality, now, step.random));
+      now += step.elapsed;
+      parts.push(this.chip.executeInJournal(SHOWN, step, now));
     }
     this.shown = -1;
     return parts;

@@ -5,10 +5,11 @@ import { RANDOM_BYTES } from "./device.js";
 
 /**
  * An event: where the device begins, a power cycle, or a command with what passed before it.
- * `answers` are those that the script itself has of it, as a log does.
+ * `answers` are those that the script itself has of it, as a log does. With `completes` the completing
+ * layer was there.
  * @typedef {{
  *   kind: "begin" | "power" | "command", line: number, buffer: Uint8Array, locality: number,
- *   elapsed: number, random: Uint8Array, answers: string[],
+ *   elapsed: number, random: Uint8Array, answers: string[], completes: boolean,
  * }} Step
  * @typedef {import("./device.js").LineFault} LineFault
  * @typedef {{lines: string[], steps: Step[], faults: Map<number, LineFault>}} Script
@@ -26,6 +27,9 @@ const TRACE = /^\S+ L\d \+\d+ \S+ [0-9a-f]{8}$/;
 const GIVEN = /^# (?:\d\d:\d\d:\d\d\.\d{3} )?(\S+ L\d \+\d+ \S+ [0-9a-f]{8}|[0-9a-f]{8}|(?:8001|8002|00c4)[0-9a-f]{16,})$/;
 const REPORTED = /^# (?:image|state) ((?:[0-9a-f]{2}){42,})$/;
 const JOURNAL = /^# tpmsim journal [12] [0-9a-f]{40} [0-9a-f]{16}$/;
+const MARK = /^# ([0-9a-f]{52}) [0-9a-f]{16}$/;
+const COMPLETED = "# completed";
+const SUM = "sum ";
 const CONTENT = /^# ((?:[0-9a-f]{2}){42,})$/;
 
 /**
@@ -39,6 +43,12 @@ export const isHead = (line) => line.startsWith("# ") && (REPORTED.test(line) ||
  * @type {Map<string, ReadLine>}
  */
 const kept = new Map();
+
+/**
+ * The random bytes of each entropy line that was read.
+ * @type {WeakMap<Uint8Array, Uint8Array>}
+ */
+const repeated = new WeakMap();
 
 /** @param {import("./device.js").Chip} chip @param {string} text @param {number} waited */
 function lineOf(chip, text, waited) {
@@ -79,6 +89,7 @@ class Reading {
     this.random = ZEROS;
     /** @type {string[]} */
     this.said = [];
+    this.completes = false;
   }
 
   /** @param {number} at */
@@ -88,11 +99,23 @@ class Reading {
     const head = REPORTED.exec(line);
     if (head) this.begin(at, head[1]);
     else if (JOURNAL.test(line)) this.begin(at, CONTENT.exec(this.lines[at + 1] ?? "")?.[1] ?? "");
-    const given = head ? null : GIVEN.exec(line);
+    const mark = MARK.exec(line);
+    if (mark) this.mark(mark[1]);
+    if (line === COMPLETED) this.completes = true;
+    const given = head || mark ? null : GIVEN.exec(line);
     if (!given) return;
     const last = this.steps[this.steps.length - 1];
     if (this.isBefore) this.said.push(given[1]);
     else if (last?.kind === "command") last.answers.push(given[1]);
+  }
+
+  /**
+   * The mark of a journal, before its command: whether the layer was there, and the response's sum.
+   * @param {string} hex
+   */
+  mark(hex) {
+    this.completes = hex.slice(10, 12) !== "00";
+    this.said.push(SUM + hex.slice(36));
   }
 
   /** @param {number} line @param {string} hex */
@@ -104,9 +127,10 @@ class Reading {
 
   /** @param {Step["kind"]} kind @param {number} line @param {Uint8Array} buffer @param {number} elapsed */
   add(kind, line, buffer, elapsed) {
-    const { locality, random, said } = this;
-    this.steps.push({ kind, line, buffer, locality, elapsed, random, answers: said });
+    const { locality, random, said, completes } = this;
+    this.steps.push({ kind, line, buffer, locality, elapsed, random, answers: said, completes });
     this.said = [];
+    this.completes = false;
   }
 
   /** @param {number} at */
@@ -127,7 +151,9 @@ class Reading {
 
   /** @param {Uint8Array} bytes at most 256, which are repeated */
   drawFrom(bytes) {
-    this.random = Uint8Array.from({ length: RANDOM_BYTES }, (_, at) => bytes[at % bytes.length]);
+    const found = repeated.get(bytes) ?? Uint8Array.from({ length: RANDOM_BYTES }, (_, at) => bytes[at % bytes.length]);
+    repeated.set(bytes, found);
+    this.random = found;
   }
 }
 
@@ -144,8 +170,20 @@ export function readScript(chip, lines) {
  */
 export function isSameStep(one, other) {
   return one.kind === other.kind && one.locality === other.locality
-    && one.elapsed === other.elapsed && areSame(one.buffer, other.buffer)
-    && (one.random === other.random || areSame(one.random, other.random));
+    && one.elapsed === other.elapsed && one.completes === other.completes
+    && areSame(one.buffer, other.buffer) && areSame(one.random, other.random);
+}
+
+const FNV = { basis: 0xcbf29ce484222325n, prime: 0x100000001b3n, bits: 64 };
+
+/**
+ * The sum that a journal has of a response: FNV-1a of 64 bits.
+ * @param {Uint8Array} bytes
+ */
+function sumOf(bytes) {
+  let sum = FNV.basis;
+  for (const byte of bytes) sum = BigInt.asUintN(FNV.bits, (sum ^ BigInt(byte)) * FNV.prime);
+  return sum.toString(16).padStart(16, "0");
 }
 
 /**
@@ -153,7 +191,8 @@ export function isSameStep(one, other) {
  * @param {string} given @param {import("./device.js").Answer} answer
  */
 export function isAnswer(given, answer) {
-  if (TRACE.test(given)) return given === answer.trace;
+  if (TRACE.test(given)) return given === answer.trace || !answer.trace;
+  if (given.startsWith(SUM)) return given === SUM + sumOf(answer.response);
   const response = hexOf(answer.response);
   return given === response || (given.length === 8 && given === response.slice(12, 20));
 }
@@ -166,7 +205,7 @@ export function logOf(script, answers) {
   const of = new Map(script.steps.map((step, at) => [step.line, answers[at]]));
   const found = [];
   for (const [at, line] of script.lines.entries()) {
-    if (GIVEN.test(line) || script.faults.has(at)) continue;
+    if (GIVEN.test(line) || MARK.test(line) || script.faults.has(at)) continue;
     found.push(line);
     const answer = of.get(at);
     if (answer && answer.response.length) found.push(`# ${hexOf(answer.response)}`);

@@ -8,14 +8,14 @@ import { commandNumber, fieldsOfCommand, fieldsOfResponse, responseCode } from "
 import { rulesOf, valuesOf } from "./reason.js";
 import { entropyWord, isAnswer } from "./script.js";
 import { changesOf, isBlank } from "./state.js";
-import { checkWord, commandWords, plural, secondsWords, sizeWords } from "./words.js";
+import { commandWords, plural, secondsWords, sizeWords } from "./words.js";
 
 /**
  * @typedef {import("./device.js").Answer} Answer
  * @typedef {import("./device.js").Meaning} Meaning
  * @typedef {import("./script.js").Step} Step
  * @typedef {import("./state.js").State} State
- * @typedef {{step: Step, answer: Answer, line: string, before: State, after: State, told?: import("./told.js").ToldShown | null}} Chosen
+ * @typedef {{step: Step, answer: Answer, line: string, before: State, after: State, told?: import("./told.js").ToldShown | null, uses: Node | null}} Chosen
  */
 
 const MOST_CHANGES = 40;
@@ -101,6 +101,7 @@ function commandParts(chip, chosen) {
     heading("Response", `${sizeWords(answer.response.length)}${answer.drawn ? `, ${answer.drawn} random` : ""}`),
     bytesShown({ bytes: answer.response, fields: answered, wrong: null }, perRow()),
     ...(told?.after ?? []),
+    chosen.uses,
   ];
 }
 
@@ -137,7 +138,7 @@ function whyShown({ step, answer, before, told }, meaning) {
   const values = valuesOf(step, meaning, before);
   return make(
     "div", { class: "why" },
-    make("p", {}, `Refused by check ${checkWord(answer.check)}.`),
+    make("p", {}, `Refused by check ${answer.check}.`),
     ...rules.map(({ sentence, link }) => make("p", {}, sentence, " ", tableLink(link))),
     values.length ? listed(values) : null,
     make("p", { class: "dim" }, make("code", {}, answer.trace)),

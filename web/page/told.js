@@ -1,6 +1,8 @@
-// A log that tools/explain.py explained: its reasons, by the numbers of its events. The page plays the
+// A log that tools/explain.py explained: its reasons, by the lines of its commands. The page plays the
 // log as it plays any script; an edit leaves the reasons behind.
 
+import { bytesOf } from "./bytes.js";
+import { RANDOM_BYTES } from "./device.js";
 import { heading, listed, make } from "./dom.js";
 import { tableLink } from "./step_pane.js";
 
@@ -9,16 +11,21 @@ import { tableLink } from "./step_pane.js";
  * @typedef {{words: string, facts: Fact[], sentence: string, link: string}} Reason
  * @typedef {{
  *   reason?: Reason, notes?: Reason[], entries?: [number, Fact[]][], plain?: [number, string],
- *   differs?: [string, string, string][], layer?: string,
+ *   differs?: [string, string, string][], layer?: string, random?: string,
  * }} Event
  * @typedef {{
  *   parts: Node[], after: Node[], hasReason: boolean, plain: {at: number, bytes: Uint8Array} | null,
  * }} ToldShown what the pane of a step shows of it
- * @typedef {{name: string, script: string, line: number, summary: string, events: Record<string, Event>} | null} Log
+ * @typedef {{
+ *   name: string, script: string, line: number, start: string, summary: string,
+ *   events: Record<string, Event>,
+ * }} Log the text of the log, the line to begin at, the device if the log does not say it, and what is
+ *   told of the command in each line
+
  */
 
 export class Told {
-  /** @param {Log} log */
+  /** @param {Log | null} log */
   constructor(log) {
     this.log = log;
   }
@@ -31,17 +38,33 @@ export class Told {
     return this.log?.line ?? -1;
   }
 
+  /** The image or the state text that the log begins on. */
+  get start() {
+    return this.log?.start ? bytesOf(this.log.start) : null;
+  }
+
   leave() {
     this.log = null;
   }
 
   /**
-   * What is told of an event.
-   * @param {number} at
+   * Random bytes that the log itself does not say.
+   * @param {import("./script.js").Step[]} steps
+   */
+  complete(steps) {
+    for (const step of steps) {
+      const random = this.log?.events[step.line + 1]?.random;
+      if (random) step.random = bytesOf(random.padEnd(2 * RANDOM_BYTES, "0"));
+    }
+  }
+
+  /**
+   * What is told of the command in a line, from 0.
+   * @param {number} line
    * @returns {ToldShown | null}
    */
-  at(at) {
-    const event = this.log?.events[at];
+  at(line) {
+    const event = this.log?.events[line + 1];
     if (!event) return null;
     return { parts: partsOf(event), after: entriesShown(event), hasReason: event.reason !== undefined, plain: plainOf(event) };
   }
@@ -66,7 +89,7 @@ function reasonShown({ words, facts, sentence, link }, kind) {
 
 /** @param {Fact[]} those */
 const factsShown = (those) =>
-  listed(those.map(([label, value, sort]) => [label, sort ? make("span", { class: "new" }, value) : value]));
+  listed(those.map(([label, value, sort]) => [label, sort ? make("span", { class: sort === "had" ? "had" : "new" }, value) : value]));
 
 /**
  * What the HMACs of the command are of.
@@ -82,5 +105,5 @@ const entriesShown = (event) =>
 function plainOf({ plain }) {
   if (!plain) return null;
   const [at, hex] = plain;
-  return { at, bytes: Uint8Array.from(hex.match(/../g) ?? [], (it) => parseInt(it, 16)) };
+  return { at, bytes: bytesOf(hex) };
 }

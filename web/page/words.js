@@ -123,13 +123,3 @@ export function pcrWords(bits) {
   }
   return found.length ? `PCR ${found.join(", ")}` : "no PCR";
 }
-
-/**
- * The name of a check, as a trace has it.
- * @param {number} check
- */
-export function checkWord(check) {
-  if (check === 0) return "ok";
-  if (check === 255) return "M";
-  return check > 20 ? `A${check - 20}` : `G${check}`;
-}
