@@ -127,6 +127,7 @@ EXPORT = re.compile(
     r"^export ((?:async )?(?:function\*?|const|let|class)\s+(\w+))", re.MULTILINE
 )
 COMMENT = re.compile(r"^[ \t]*(?://[^\n]*|/\*\*(?:(?!\*/).)*\*/)\n", re.MULTILINE | re.DOTALL)
+INDENT = re.compile(r"^[ \t]+|\n+(?=\n)", re.MULTILINE)
 MARK = re.compile(r"@([A-Z]+)@")
 
 
@@ -158,7 +159,9 @@ def read_script(path: pathlib.Path) -> tuple[Script, list[pathlib.Path]]:
         (re.sub(r"\s+", " ", names.replace(" as ", ": ")).strip(), name_of(of)) for names, of in found
     ]
     exports = [name for _, name in EXPORT.findall(text)]
-    body = re.sub(r"\n{2,}", "\n", COMMENT.sub("", EXPORT.sub(r"\1", IMPORT.sub("", text))))
+    body = INDENT.sub("", COMMENT.sub("", EXPORT.sub(r"\1", IMPORT.sub("", text))))
+    if any(line.replace('"`"', "").count("`") % 2 for line in body.splitlines()):
+        sys.exit(f"build.py: {path.name} has a text of several lines, whose indentation would go")
     if re.search(r"^(?:import|export)\b", body, re.MULTILINE):
         sys.exit(f"build.py: {path.name} has an import or an export in another form")
     return Script(name_of(path), imports, exports, body), [of for _, of in found]
@@ -175,7 +178,7 @@ def scripts(first: pathlib.Path, done: dict[pathlib.Path, Script]) -> dict[pathl
 
 
 def script() -> str:
-    """The modules as one script, without the comments on lines of their own."""
+    """The modules as one script, without indentation and the comments on lines of their own."""
     body = "".join(it.text for it in scripts(PAGE / "main.js", {}).values())
     return f'(() => {{\n"use strict";\n{body}}})();\n'
 
