@@ -1,8 +1,9 @@
 // The editor: a text area whose text is transparent, over the same lines in colours; beside each line
 // its number and what came of it. Only the rows that can be seen are there.
 
+import { colouredLine, faultPlace, faultWords } from "./coloured.js";
 import { byId, cut, make } from "./dom.js";
-import { byName, facts } from "./facts.js";
+import { formShown } from "./form.js";
 import { completionOf, tokensOf } from "./completion.js";
 
 /**
@@ -19,29 +20,6 @@ const ROW = 20;
 const TOP = 8;
 const MARGIN_ROWS = 6;
 const LONG_LINE = 1500;
-const FAULT_WORDS = {
-  BadName: "no such name", BadField: "not what is wanted", Missing: "more is wanted",
-  Range: "too large", TooLong: "too long",
-};
-const LINE_WORD = /^(do|cmd|wait|loc|entropy|power)(?= |$)/;
-
-/**
- * A fault in words.
- * @param {LineFault} fault
- */
-export function faultWords({ name, column, wanted }) {
-  const words = FAULT_WORDS[/** @type {keyof typeof FAULT_WORDS} */ (name)] ?? name;
-  const place = column ? `column ${column}: ` : "";
-  return wanted ? `${place}${words}; wanted: ${wanted}` : `${place}${words}`;
-}
-
-/**
- * A fault as `tpmsim check` has it.
- * @param {LineFault} fault
- */
-export function faultName({ name, column, wanted }) {
-  return `${name}${column ? ` ${column}` : ""}${wanted ? `: ${wanted}` : ""}`;
-}
 
 export class Editor {
   /** @param {import("./device.js").Chip} chip @param {Told} told */
@@ -345,92 +323,3 @@ function needsMore(line) {
   const isEntryWanted = entries < command.handles.filter((it) => it.isAuthorized).length;
   return tokens.length < wanted || isEntryWanted;
 }
-
-/**
- * The columns of a fault in its line, from 0.
- * @param {string} text @param {LineFault} fault
- */
-export function faultPlace(text, { column, name }) {
-  const word = LINE_WORD.exec(text);
-  const front = word ? word[0].length + 1 : 0;
-  if (name === "Missing" || name === "TooLong") return { from: text.length, to: text.length };
-  const from = Math.min(text.length, front + Math.max(0, column - 1));
-  const end = text.indexOf(" ", from);
-  return { from, to: end < 0 ? text.length : end };
-}
-
-/**
- * A line in colours.
- * @param {string} text @param {LineFault | undefined} fault
- */
-function colouredLine(text, fault) {
-  if (text.startsWith("#")) return [make("span", { class: "t-comment" }, text)];
-  const word = LINE_WORD.exec(text)?.[0] ?? "";
-  const wrong = fault ? faultPlace(text, fault) : null;
-  const pieces = [{ text: word, at: 0, kind: "t-word" }];
-  const rest = text.slice(word.length + 1);
-  if (word === "do" && rest) {
-    for (const it of tokensOf(rest).tokens) pieces.push({ text: it.text, at: 3 + it.at, kind: `t-${it.sort}` });
-  } else {
-    pieces.push({ text: text.slice(word.length), at: word.length, kind: "" });
-  }
-  return spaced(pieces, wrong);
-}
-
-/** @param {{text: string, at: number, kind: string}[]} pieces @param {{from: number, to: number} | null} wrong */
-function spaced(pieces, wrong) {
-  const found = [];
-  let at = 0;
-  for (const it of pieces) {
-    if (it.at > at) found.push(" ".repeat(it.at - at));
-    const isWrong = wrong !== null && it.at >= wrong.from && it.at < Math.max(wrong.to, wrong.from + 1);
-    const kinds = [it.kind, isWrong ? "t-fault" : ""].join(" ").trim();
-    if (it.text) found.push(make("span", { class: kinds || false }, it.text));
-    at = it.at + it.text.length;
-  }
-  return found;
-}
-
-// The form of a command, under the text.
-
-/** @param {string} text @param {number} column */
-function formShown(text, column) {
-  if (text.startsWith("do ")) {
-    const { tokens, command, entries } = tokensOf(text.slice(3));
-    if (command) return commandForm(command, tokens, entries, column - 3);
-  }
-  return [OTHER_FORMS[LINE_WORD.exec(text)?.[0] ?? ""] ?? OTHER_FORMS[""]];
-}
-
-/** @type {Record<string, string>} */
-const OTHER_FORMS = {
-  "": "Each line is a command: do, a name, handles, entries, parameters. # begins a comment. Ctrl+Space shows what may come next.",
-  do: "do and a command in words, such as do GetRandom 8", cmd: "cmd and the bytes of a command in hex",
-  wait: "wait and so many milliseconds, which pass before the next command",
-  loc: "loc and the locality of later commands, 0 to 4",
-  entropy: "entropy and 1 to 256 bytes in hex: the random bytes of later commands",
-  power: "power is a power cycle: power goes, and comes back",
-};
-
-/** @param {import("./facts.js").CommandFact} command @param {import("./completion.js").Token[]} tokens @param {number} entries @param {number} column */
-function commandForm(command, tokens, entries, column) {
-  const here = [...tokens].reverse().find((it) => it.at <= column) ?? tokens[0];
-  const wanted = command.handles.filter((it) => it.isAuthorized).length;
-  const isEntryNext = here.sort === "parameter" && entries < wanted;
-  const isOn = (/** @type {string} */ sort, /** @type {number} */ field) =>
-    (isEntryNext ? sort === "entry" && field === entries : here.sort === sort && here.field === field);
-  const parts = [formPart(command.name, "command", here.sort === "name")];
-  command.handles.forEach((it, at) => parts.push(formPart(it.name, facts.handleKinds[it.kind].words, isOn("handle", at))));
-  for (let at = 0; at < Math.max(wanted, entries); at += 1) parts.push(formPart("entry", "pw:HEX, or s:SESSION:NONCE:ATTRIBUTES:HMAC", isOn("entry", at)));
-  command.parameters.forEach((it, at) => parts.push(formPart(it.name, facts.kindWords[it.kind] ?? it.kind, isOn("parameter", at))));
-  return parts;
-}
-
-/** @param {string} name @param {string} words @param {boolean} isOn */
-const formPart = (name, words, isOn) => make("span", { class: isOn ? "on" : false }, name, make("small", {}, words));
-
-/**
- * Whether a name is that of a command.
- * @param {string} name
- */
-export const isCommand = (name) => byName.has(name);
