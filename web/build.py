@@ -94,7 +94,7 @@ def facts(docs: str) -> Value:
     sections = sections_of_table()
     kinds = {it.value: lines.WORDS[it].name for it in lines.WORDS}
     return {
-        "commands": [command_value(it, sections) for it in sorted(CC, key=lambda it: it.name)],
+        "commands": [command_value(it, sections) for it in sorted(CC, key=lambda it: str(it.name))],
         "otherCommands": {str(number): name for number, name in NOT_SERVED.items()},
         "handleKinds": {
             kind.value: handle_kind_value(form) for kind, form in handle_kinds.HANDLES.items()
@@ -123,9 +123,7 @@ def facts(docs: str) -> Value:
 # The page.
 
 IMPORT = re.compile(r'^import (?:\{([^}]*)\} from )?"([./\w]+\.js)";\n', re.MULTILINE)
-EXPORT = re.compile(
-    r"^export ((?:async )?(?:function\*?|const|let|class)\s+(\w+))", re.MULTILINE
-)
+EXPORT = re.compile(r"^export ((?:async )?(?:function\*?|const|let|class)\s+(\w+))", re.MULTILINE)
 COMMENT = re.compile(r"^[ \t]*(?://[^\n]*|/\*\*(?:(?!\*/).)*\*/)\n", re.MULTILINE | re.DOTALL)
 INDENT = re.compile(r"^[ \t]+|\n+(?=\n)", re.MULTILINE)
 MARK = re.compile(r"@([A-Z]+)@")
@@ -156,7 +154,8 @@ def read_script(path: pathlib.Path) -> tuple[Script, list[pathlib.Path]]:
     text = path.read_text("utf-8")
     found = [(names, (path.parent / of).resolve()) for names, of in IMPORT.findall(text)]
     imports = [
-        (re.sub(r"\s+", " ", names.replace(" as ", ": ")).strip(), name_of(of)) for names, of in found
+        (re.sub(r"\s+", " ", names.replace(" as ", ": ")).strip(), name_of(of))
+        for names, of in found
     ]
     exports = [name for _, name in EXPORT.findall(text)]
     body = INDENT.sub("", COMMENT.sub("", EXPORT.sub(r"\1", IMPORT.sub("", text))))

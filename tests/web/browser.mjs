@@ -107,8 +107,9 @@ class BrowserPage {
   }
 
   /** Puts the page before the others, which alone gets keys. */
-  front() {
-    return this.send("Page.bringToFront");
+  async front() {
+    await this.send("Page.bringToFront");
+    await this.until("document.hasFocus()");
   }
 
   text(id) {

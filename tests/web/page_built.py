@@ -59,7 +59,9 @@ def policy_is_exact(page):
 
 def has_no_handlers(page):
     names = {name for _, attrs in page.found for name in attrs}
-    return not [it for it in names if it.startswith("on") or it in ("style", "src", "href", "action")]
+    return not [
+        it for it in names if it.startswith("on") or it in ("style", "src", "href", "action")
+    ]
 
 
 def code_of(page):
@@ -105,7 +107,9 @@ TEXTS = {
 
 def luminance(colour):
     parts = [int(colour[at : at + 2], 16) / 255 for at in (1, 3, 5)]
-    red, green, blue = (it / 12.92 if it <= 0.04045 else ((it + 0.055) / 1.055) ** 2.4 for it in parts)
+    red, green, blue = (
+        it / 12.92 if it <= 0.04045 else ((it + 0.055) / 1.055) ** 2.4 for it in parts
+    )
     return 0.2126 * red + 0.7152 * green + 0.0722 * blue
 
 

@@ -1,0 +1,17 @@
+# Scripts as the page plays them, in node: answers, logs, edits, the lessons' tasks; and the devices that it
+# reads, as the device in Python has them.
+tests=$(cd "$(dirname "$0")/.." && pwd -P)
+. "$tests/common/cases.sh"
+needs node python3
+
+top=${tests%/*}
+python3 "$top/web/build.py" --facts >facts.json || exit 1
+mkdir -p web js && cp -R "$top/web/page" web/page && cp -R "$top/js/src" js/src || exit 1
+echo '{ "type": "module" }' >package.json
+find "$tests" "$top/examples" -name '*.tpm' -size -100k | sort >names
+while read -r name; do
+    [ ! -f "${name%.tpm}.out" ] || echo "$name"
+done <names >scripts
+xargs node "$tests/web/page_states.mjs" web/page facts.json "$top/dist/tpmsim.wasm" \
+    "$top/web/page/tutorial.json" states <scripts || exit 1
+python3 "$tests/web/page_states.py" states
