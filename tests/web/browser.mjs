@@ -123,8 +123,9 @@ class BrowserPage {
   async key(key, modifiers = 0) {
     const isLetter = key.length === 1;
     const it = { key, code: isLetter ? (key === " " ? "Space" : `Key${key.toUpperCase()}`) : key, modifiers, windowsVirtualKeyCode: CODES[key] ?? key.toUpperCase().charCodeAt(0) };
-    const text = isLetter && !(modifiers & (ALT | CTRL)) ? { text: key } : {};
-    await this.send("Input.dispatchKeyEvent", { type: isLetter && text.text ? "keyDown" : "rawKeyDown", ...it, ...text });
+    const typed = key === "Enter" ? "\r" : isLetter ? key : "";
+    const text = typed && !(modifiers & (ALT | CTRL)) ? { text: typed } : {};
+    await this.send("Input.dispatchKeyEvent", { type: text.text ? "keyDown" : "rawKeyDown", ...it, ...text });
     await this.send("Input.dispatchKeyEvent", { type: "keyUp", ...it });
   }
 

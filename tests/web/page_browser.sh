@@ -1,11 +1,16 @@
 # The page in a browser without a window: examples, faults, keys, names for screen readers, lessons, a
-# hostile log, files, links, sizes, times; and what it downloads, by the program.
+# hostile log, files, links, an explained log, sizes, times; and what it downloads, by the program.
 tests=$(cd "$(dirname "$0")/.." && pwd -P)
 . "$tests/common/cases.sh"
 needs chromium node python3
 
-mkdir -p web/one && cd web/one && ln -s "$tests/../examples" ../../examples || exit 1
-FIGURES='' node "$tests/web/page_browser.mjs" "file://$(cd "${tests%/*}/dist" && pwd -P)/tpmsim.html" || status=1
-"$program" replay taken/journal >replayed && grep -c '^8' replayed
-"$program" run taken/script >played && grep -v '^#' taken/log >/dev/null && sed -n 's/^# \(80.*\)/\1/p' taken/log | cmp - played && echo 'the log has the answers of the program'
-exit "${status:-0}"
+top=${tests%/*}
+mkdir -p web/one && cd web/one && ln -s "$top/examples" ../../examples || exit 1
+"$top/tools/explain.py" --html "$top/examples/hmac_session.tpm" >explained.html || exit 1
+status=0
+node "$tests/web/page_browser.mjs" "file://$top/dist/tpmsim.html" "file://$PWD/explained.html" || status=1
+"$program" replay taken/journal >replayed && echo "the program replays the journal: $(grep -c '^8' replayed) answers"
+"$program" run taken/script >played || status=1
+sed -n 's/^# \(80.*\)/\1/p' taken/log >logged
+cmp logged played && echo 'the log has the answers of the program'
+exit "$status"
