@@ -18,6 +18,7 @@ import json
 import pathlib
 import re
 import sys
+import zlib
 from dataclasses import dataclass
 
 HERE = pathlib.Path(__file__).resolve().parent
@@ -200,6 +201,22 @@ def data_text(value: object) -> str:
     return re.sub("[<>&]", lambda it: f"\\u{ord(it[0]):04x}", spelled)
 
 
+def deflated(module: bytes) -> bytes:
+    """The module, packed as DecompressionStream("deflate-raw") unpacks it."""
+    packer = zlib.compressobj(9, zlib.DEFLATED, -zlib.MAX_WBITS)
+    return packer.compress(module) + packer.flush()
+
+
+MODULE = re.compile(r'(<script [^>]*id="module">)([^<]*)(</script>)')
+
+
+def unpacked(text: str) -> str:
+    """The page with its module in hex: another zlib may pack it in other bytes."""
+    return MODULE.sub(
+        lambda it: it[1] + zlib.decompress(base64.b64decode(it[2]), -zlib.MAX_WBITS).hex() + it[3], text
+    )
+
+
 def page(module: bytes, docs: str) -> str:
     style, code = (PAGE / "page.css").read_text("utf-8"), script()
     parts = {
@@ -208,7 +225,7 @@ def page(module: bytes, docs: str) -> str:
         "SCRIPT": code,
         "FACTS": data_text(facts(docs)),
         "TUTORIAL": data_text(json.loads((PAGE / "tutorial.json").read_text("utf-8"))),
-        "MODULE": base64.b64encode(module).decode("ascii"),
+        "MODULE": base64.b64encode(deflated(module)).decode("ascii"),
     }
     frame = (PAGE / "page.html").read_text("utf-8")
     return MARK.sub(lambda it: parts[it[1]], frame)
@@ -229,7 +246,8 @@ def main() -> int:
     if len(made) > MOST_BYTES:
         sys.exit(f"build.py: the page has {len(made):,} bytes, over {MOST_BYTES:,}")
     if asked.check:
-        is_same = asked.out.is_file() and asked.out.read_bytes() == made
+        is_there = asked.out.is_file()
+        is_same = is_there and unpacked(asked.out.read_text("utf-8")) == unpacked(made.decode())
         print(f"{asked.out}: {'the same' if is_same else 'another one'}")
         return 0 if is_same else 1
     asked.out.write_bytes(made)

@@ -23,16 +23,21 @@ FORBIDDEN = re.compile(
 class Elements(html.parser.HTMLParser):
     def __init__(self, text):
         super().__init__()
-        self.found, self.texts = [], []
+        self.found, self.texts, self.is_inside = [], [], False
         self.feed(text)
         self.close()
 
     def handle_starttag(self, tag, attrs):
         self.found.append((tag, dict(attrs)))
         self.texts.append("")
+        self.is_inside = True
+
+    def handle_endtag(self, tag):
+        self.is_inside = False
 
     def handle_data(self, data):
-        self.texts[-1] += data
+        if self.is_inside:
+            self.texts[-1] += data
 
     def all_of(self, tag):
         return [(it[1], text) for it, text in zip(self.found, self.texts) if it[0] == tag]

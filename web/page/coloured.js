@@ -12,10 +12,11 @@ const FAULT_WORDS = {
 };
 
 /**
- * A fault in words.
+ * A fault in words; `isAtEnd` if nothing is where it is.
  * @param {LineFault} fault
  */
-export function faultWords({ name, column, wanted }) {
+export function faultWords({ name, column, wanted }, isAtEnd = false) {
+  if (isAtEnd && wanted) return `more is wanted: ${wanted}`;
   const words = FAULT_WORDS[/** @type {keyof typeof FAULT_WORDS} */ (name)] ?? name;
   const place = column ? `column ${column}: ` : "";
   return wanted ? `${place}${words}; wanted: ${wanted}` : `${place}${words}`;

@@ -117,7 +117,8 @@ function handleChoices(command, field, state) {
   const { name, kind } = command.handles[field];
   const fact = facts.handleKinds[kind];
   const live = fact.first.flatMap((first) => handlesOf(state, first)).map((handle) => choice(hexNumber(handle, 8), entityWords(handle, state)));
-  const fixed = fact.fixed.map((text) => choice(text, text === "NULL" ? "none" : `hierarchy, for ${name}`));
+  const names = [...fact.fixed].sort((one, other) => Number(other === "NULL") - Number(one === "NULL"));
+  const fixed = names.map((text) => choice(text, text === "NULL" ? "none" : `hierarchy, for ${name}`));
   const pcrs = fact.isPcr ? Array.from({ length: facts.pcrs }, (_, pcr) => choice(hexNumber(pcr, 8), `PCR ${pcr}`)) : [];
   return [...fixed, ...live, ...pcrs];
 }

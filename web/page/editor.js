@@ -197,8 +197,8 @@ export class Editor {
     const isTyping = fault?.name === "Missing" && column === this.lines[line]?.length && this.completion !== null;
     under.hidden = !fault || isTyping;
     if (!fault || isTyping) return;
-    under.textContent = faultWords(fault);
     const at = faultPlace(this.lines[line], fault).from;
+    under.textContent = faultWords(fault, at >= this.lines[line].length && fault.name !== "TooLong");
     const left = this.#leftOf(at);
     under.style.left = `${Math.max(8, Math.min(left, this.area.clientWidth - 220))}px`;
     under.style.top = `${TOP + (line + 1) * ROW - this.area.scrollTop + 2}px`;

@@ -39,6 +39,12 @@ async function through(bytes, stream, most) {
 }
 
 /**
+ * What was packed as raw deflate, of which so many bytes at most are read.
+ * @param {Uint8Array} bytes @param {number} most
+ */
+export const inflated = (bytes, most) => through(bytes, new DecompressionStream("deflate-raw"), most);
+
+/**
  * The fragment of a link that holds a script, "" if the script is too long for one.
  * @param {string} text
  */
@@ -57,7 +63,7 @@ export async function scriptOf(fragment) {
   const found = FRAGMENT.exec(fragment);
   if (!found) return "";
   try {
-    return decoded(await through(unpacked(found[1]), new DecompressionStream("deflate-raw"), MOST_SCRIPT));
+    return decoded(await inflated(unpacked(found[1]), MOST_SCRIPT));
   } catch {
     return "";
   }

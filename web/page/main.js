@@ -3,9 +3,11 @@
 import { Chip } from "./device.js";
 import { byId, make } from "./dom.js";
 import { facts, learn } from "./facts.js";
-import { unpacked } from "./files.js";
+import { inflated, unpacked } from "./files.js";
 import { byKey, showKeys, showPane, tabKey } from "./keys.js";
 import { exampleOf, Page } from "./page.js";
+
+const MOST_MODULE = 4 * 1024 * 1024;
 
 /** @param {Page} page */
 function listen(page) {
@@ -80,7 +82,7 @@ async function start() {
   showPane("script");
   let chip;
   try {
-    chip = await Chip.load(unpacked(byId("module").textContent.trim()), 2);
+    chip = await Chip.load(await inflated(unpacked(byId("module").textContent), MOST_MODULE), 2);
   } catch (error) {
     byId("note").textContent = `This browser does not run the device, which is WebAssembly. ${error}`;
     byId("note").classList.add("bad");
