@@ -98,7 +98,7 @@ class BrowserPage {
     return result.value;
   }
 
-  async until(expression, milliseconds = 15000) {
+  async until(expression, milliseconds = 60000) {
     const end = Date.now() + milliseconds;
     while (!(await this.value(expression))) {
       if (Date.now() > end) throw new Error(`never came: ${expression}\n${this.said.join("\n")}`);
