@@ -39,6 +39,9 @@ class Elements(html.parser.HTMLParser):
         self.found.append((tag, dict(attrs)))
         self.inside = dict(attrs).get("id", tag)
 
+    def handle_endtag(self, tag):
+        self.inside = ""
+
     def handle_data(self, data):
         self.texts[self.inside] = self.texts.get(self.inside, "") + data
 
