@@ -65,7 +65,7 @@ const FAULTS = [
   ["do Foo", "BadName: command"], ["do GetRandom x", "BadField 11: u16"], ["do GetRandom", "Missing: u16"],
   ["do GetRandom 70000", "Range 11: u16"], ["cmd 8", "BadField 1: hex"], ["loc 9", "Range 1: 0 to 4"],
   ["entropy", "Missing: 1 to 256 bytes of hex"], ["hello", "BadName: do, cmd, loc, wait, entropy or power"],
-  [`do NV_Write OWNER 01000001 pw:- ${"00".repeat(4090)} 0`, "TooLong"],
+  [`do NV_Write OWNER 01000001 pw:- ${"00".repeat(4090)} 0`, "TooLong: at most 4096 bytes"],
 ];
 
 async function faults(page) {
