@@ -10,7 +10,6 @@ finds the package from its own place, wherever ROOT is.
 
 import os
 import pathlib
-import shutil
 import sys
 
 SOURCES = pathlib.Path(__file__).resolve().parents[1] / "python"
@@ -33,10 +32,10 @@ sys.exit({function}())
 
 
 def install(root: pathlib.Path, packages: pathlib.Path, programs: pathlib.Path) -> None:
-    for source in tpmsim_wheel.sources():
-        target = root / packages / source.relative_to(SOURCES)
+    for entry in tpmsim_wheel.package():
+        target = root / packages / entry.name
         target.parent.mkdir(parents=True, exist_ok=True)
-        shutil.copyfile(source, target)
+        target.write_bytes(entry.data)
 
     described = root / packages / f"{tpmsim_wheel.stem()}.dist-info"
     described.mkdir(exist_ok=True)

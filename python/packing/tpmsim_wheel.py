@@ -21,6 +21,9 @@ SOURCES = pathlib.Path(__file__).resolve().parents[1]
 DISTRIBUTION = SOURCES.parent / "dist"
 LIBRARY, PROGRAM = "libtpmsim.so.0", "tpmsim"
 
+# The page that shows explained logs, and its place in the package.
+PAGE, PAGE_PLACE = DISTRIBUTION / "tpmsim.html", "tpmsim/explain/tpmsim.html"
+
 # The glibc that the program and the library need.
 GLIBC = 2, 34
 
@@ -60,6 +63,12 @@ def sources() -> list[pathlib.Path]:
         for pattern in patterns:
             found |= set((SOURCES / package.replace(".", "/")).glob(pattern))
     return sorted(found)
+
+
+def package() -> list[Entry]:
+    """All files of the package: its sources, and the page."""
+    files = [Entry(it.relative_to(SOURCES).as_posix(), it.read_bytes()) for it in sources()]
+    return [*files, Entry(PAGE_PLACE, PAGE.read_bytes())]
 
 
 def metadata() -> str:
@@ -102,8 +111,7 @@ def described(machine: str | None) -> list[Entry]:
 
 def contents(machine: str | None) -> Iterator[Entry]:
     """What a wheel installs: the package, and the library and the program for a machine."""
-    for source in sources():
-        yield Entry(source.relative_to(SOURCES).as_posix(), source.read_bytes())
+    yield from package()
     if machine:
         folder = shipped(machine)
         yield Entry(f"{project()['name']}/{LIBRARY}", (folder / LIBRARY).read_bytes())
@@ -170,10 +178,10 @@ def build_sdist(folder: str, settings: Settings = None) -> str:
     """pip calls it for a source distribution, which has no library."""
     path = pathlib.Path(folder, f"{stem()}.tar.gz")
     packing = sorted((SOURCES / "packing").glob("*.py"))
-    files = [SOURCES / "README.md", SOURCES / "pyproject.toml", *packing, *sources()]
+    files = [SOURCES / "README.md", SOURCES / "pyproject.toml", *packing]
     entries = [Entry(it.relative_to(SOURCES).as_posix(), it.read_bytes()) for it in files]
     with tarfile.open(path, "w:gz", format=tarfile.PAX_FORMAT) as file:
-        for entry in [Entry("PKG-INFO", metadata().encode()), *entries]:
+        for entry in [Entry("PKG-INFO", metadata().encode()), *entries, *package()]:
             about = tarfile.TarInfo(f"{stem()}/{entry.name}")
             about.size, about.mode, about.mtime = len(entry.data), entry.mode, packed_at()
             file.addfile(about, io.BytesIO(entry.data))

@@ -11,13 +11,14 @@ import pathlib
 import re
 from typing import Any
 
+from tpmsim.device.shipped import DIST
 from tpmsim.explain.play import Event, Play
 from tpmsim.explain.reason import Fact, Reason
 from tpmsim.explain.text import Counts, ends_words, layer_words
 
 Value = dict[str, Any]
 
-# The page, which web/build.py makes in dist/, and the element that its log stands in.
+# The page, as it is installed, and the element that its log stands in.
 FILE = pathlib.Path(__file__).with_name("tpmsim.html")
 NO_LOG = '<script type="application/json" id="log">null</script>'
 TITLE = re.compile("<title>[^<]*</title>")
@@ -87,7 +88,7 @@ def facts_value(facts: list[Fact]) -> list[list[str]]:
 def filled(name: str, value: Value) -> str:
     spelled = json.dumps(value, separators=(",", ":"))
     data = re.sub("[<>&]", lambda it: ESCAPES[it[0]], spelled)
-    page = FILE.read_text("utf-8")
+    page = (FILE if FILE.is_file() else DIST / FILE.name).read_text("utf-8")
     title = f"<title>{html.escape(name)}, explained</title>"
     page = TITLE.sub(lambda it: title, page, count=1)
     return page.replace(NO_LOG, NO_LOG.replace("null", data), 1)
