@@ -28,8 +28,8 @@ function listen(page) {
   listenToDrops(page);
   document.addEventListener("keydown", (event) => byKey(page, event));
   addEventListener("hashchange", () => page.openLink());
-  addEventListener("resize", () => page.show());
-  matchMedia("(prefers-color-scheme: dark)").addEventListener("change", () => page.show());
+  addEventListener("resize", () => page.redraw());
+  matchMedia("(prefers-color-scheme: dark)").addEventListener("change", () => page.redraw());
   for (const tab of document.querySelectorAll("#tabs button")) {
     tab.addEventListener("click", () => showPane(tab.getAttribute("data-pane") ?? ""));
     tab.addEventListener("keydown", (event) => tabKey(tab, /** @type {KeyboardEvent} */ (event)));

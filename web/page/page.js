@@ -159,9 +159,15 @@ export class Page {
     this.editor.paint();
   }
 
+  /** Shows all anew, as in another size or in other colours. */
+  redraw() {
+    this.show();
+    drawMarks(this.script.steps, this.run.answers);
+  }
+
   show() {
     const { chosen, run, script, chip } = this;
-    showSteps(script.steps, run.answers, chosen);
+    showSteps(script.steps, chosen);
     const step = script.steps[chosen];
     const before = run.stateAt(Math.max(0, chosen));
     const after = run.stateAt(chosen + 1);
