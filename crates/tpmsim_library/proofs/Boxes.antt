@@ -1,14 +1,29 @@
--- The box of a device, the pointer to it, and the calls between the two. `Words` has what stands
--- for each in the machine, `Calls` what each call requires and gives, and `Held` what a holder
--- owns.
+-- The box of a value, the pointer to it, and the calls between the two. `Words` has what stands
+-- for each in the machine, `Calls` what each call requires and gives, and `Held` what an owner and
+-- a holder own.
+use mathlib.Core.Path.{refl}
+use mir.Raw.{raw as bare}
+use denote.Exit.{no}
+use denote.Param.{arg, layout}
+use denote.Param.Laws.{Laws, arg_laws}
+use denote.RattleType.{RattleType}
 use Rattle.std.proofs.BoxSteps.Form.{Bx}
 use Rattle.std.specs.contracts.impls.GlobalAllocator.TheImpl.{dict, ghosts}
 use Rattle.tpmsim_library.proofs.Boxes.Calls.{plain_drop}
-use Rattle.tpmsim_library.proofs.Boxes.Words.{Content, Heap, content_laws, heap_laws}
+use Rattle.tpmsim_library.proofs.Boxes.Words.{Heap, heap_laws}
+use Rattle.tpmsim_library.proofs.device.Device.TheLaws as device_laws
+use Rattle.tpmsim_library.specs.contracts.device.Device as device
 pub mod Words
 pub mod Calls
 pub mod Held
 
--- the box in the form that std's own steps over boxes take
+-- a device, as a generic function takes it
+abbrev pub Content : RattleType
+Content = arg (bare (layout device.the_row)) no device.the_row
+
+pub content_laws : Laws Content
+content_laws = arg_laws (bare (layout device.the_row)) no device.the_row device_laws.the_row_laws refl
+
+-- the box of a device in the form that std's own steps over boxes take
 abbrev pub boxes : Bx
 boxes = record { row = Content; laws = content_laws; al = record { row = Heap; laws = heap_laws; g = ghosts; d = dict; drops = plain_drop Heap } }

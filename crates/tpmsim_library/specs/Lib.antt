@@ -4,3 +4,4 @@ pub mod Told
 pub mod Journal
 pub mod Restoring
 pub mod Version
+pub mod Keeping

@@ -24,6 +24,9 @@ no_locality = 2
 abbrev pub no_memory : ℕ
 no_memory = 3
 
+abbrev pub no_word : ℕ
+no_word = 19
+
 -- the number of the fault for which an image is not opened
 abbrev pub fault_number : ImageFault → ℕ
 fault_number fault.Short = 4

@@ -9,6 +9,7 @@ ghost use Rattle.tpmsim_library.specs.contracts.device.Device.{the_row as device
 ghost use Rattle.tpmsim_library.specs.declared.device.Device.{Device};
 
 use crate::device::Device;
+use crate::owner::Owner;
 use std::alloc::Global;
 use std::marker::Model;
 use std::mem;
@@ -28,36 +29,26 @@ impl Model for Holder {
 }
 
 impl Holder {
-    /// A holder with no device.
-    pub fn empty(alloc: Global) -> Holder
-        ensures { result.device ≡ None }
+    /// A holder of what this owner has.
+    pub fn of(owner: Owner<Device>) -> Holder
+        ensures { result.device ≡ owner.value }
     {
-        Holder {
-            at: std::ptr::null_mut(),
-            alloc,
-        }
-    }
-
-    /// A holder with this device.
-    pub fn of(device: Box<Device>) -> Holder
-        ensures { result.device ≡ Some device.value }
-    {
-        let (at, alloc) = Box::into_raw_with_allocator(device);
+        let Owner { at, alloc } = owner;
         Holder {
             at: at as *mut u8,
             alloc,
         }
     }
 
-    /// The device of the holder, if there is one.
-    pub fn into_box(self) -> Option<Box<Device>>
-        ensures { MatchOption result (self.device ≡ None) (λ b. self.device ≡ Some b.value) }
+    /// The owner of what this holder has.
+    pub fn into_owner(self) -> Owner<Device>
+        ensures { result.value ≡ self.device }
     {
         let Holder { at, alloc } = self;
-        if at.is_null() {
-            return None;
+        Owner {
+            at: at as *mut Device,
+            alloc,
         }
-        Some(unsafe { Box::from_raw(alloc, at as *mut Device) })
     }
 
     /// Takes the device out, if there is one, and leaves the holder with none.
@@ -66,14 +57,16 @@ impl Holder {
             (λ b. self.old.device ≡ Some b.value) }
         ensures left { self.new.device ≡ None }
     {
-        mem::replace(self, Holder::empty(alloc)).into_box()
+        let empty = Holder::of(Owner::empty(alloc));
+        mem::replace(self, empty).into_owner().into_box()
     }
 
     /// Puts a device in, and frees the one that was there.
     pub fn put(&mut self, device: Box<Device>)
         ensures { self.new.device ≡ Some device.value }
     {
-        let _before = mem::replace(self, Holder::of(device)).into_box();
+        let full = Holder::of(Owner::of(device));
+        let _before = mem::replace(self, full).into_owner().into_box();
     }
 }
 

@@ -20,6 +20,9 @@ pub const NO_LOCALITY: u8 = 2;
 /// Memory was refused.
 pub const NO_MEMORY: u8 = 3;
 
+/// A number is that of no force, or of no job.
+pub const NO_WORD: u8 = 19;
+
 /// The number of the fault for which an image is not opened.
 pub fn fault_number(fault: ImageFault) -> u8
     ensures { result ≡ fault_number fault }

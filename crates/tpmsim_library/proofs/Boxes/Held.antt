@@ -6,6 +6,7 @@ use Prim.Native.Nat.{ℕ}
 use mir.Raw.{raw as bare}
 use mir.Val.{Val}
 use seplogic.Ra.Ura.{Ura}
+use base.Fml.{Fml}
 use base.Fraction.{full_share}
 use base.Logic.{SProp, ent, guard, guard_i}
 use contract.Monad.{fact_use}
@@ -21,48 +22,50 @@ use Rattle.std.specs.declared.option.Option.{Option}
 use Rattle.std.specs.declared.option.Option.TheVariants.{None, Some}
 use Rattle.tpmsim_library.proofs.Boxes.Words.{Fields, fields_made, word}
 use Rattle.tpmsim_library.specs.Held.{held}
-use Rattle.tpmsim_library.specs.contracts.device.Device as device
-use Rattle.tpmsim_library.specs.contracts.holder.Holder as holder
-use Rattle.tpmsim_library.specs.declared.device.Device.{Device}
-use Rattle.tpmsim_library.specs.declared.holder.Holder.{Holder}
+use Rattle.tpmsim_library.specs.contracts.owner.Owner as owner
+use Rattle.tpmsim_library.specs.declared.owner.Owner.{Owner}
 
-abbrev pub HolderRow : RattleType
-HolderRow = holder.the_row
+abbrev pub OwnerRow : RattleType → RattleType
+OwnerRow T = owner.the_row T
 
-module _ {M : Type 1} {𝓤 : Ura M} (𝓛 : Logic 𝓤) where
+-- what a holder owns
+abbrev pub owns_at : (T : RattleType) → Global → Ptr → Option T.Denot → Fml
+owns_at T alloc at found = held T alloc at found
+
+module _ (T : RattleType) {M : Type 1} {𝓤 : Ura M} (𝓛 : Logic 𝓤) where
   -- the fields of a holder own nothing
-  pub holder_opened : (h : Holder) (words : List Val) → ent 𝓤 (sem 𝓛 (HolderRow.own_val h words)) (sem 𝓛 (held device.the_row h.alloc h.at h.device))
-  holder_opened h words = qed 𝓛 (‵ (HolderRow.own_val h words) ∷ []) ∵ fsplit ! $ drop ! $ done !
+  pub owner_opened : (h : (OwnerRow T).Denot) (words : List Val) → ent 𝓤 (sem 𝓛 ((OwnerRow T).own_val h words)) (sem 𝓛 (owns_at T h.alloc h.at h.value))
+  owner_opened h words = qed 𝓛 (‵ ((OwnerRow T).own_val h words) ∷ []) ∵ fsplit ! $ drop ! $ done !
 
-  pub holder_made : (h : Holder) → ent 𝓤 (sem 𝓛 (held device.the_row h.alloc h.at h.device)) (sem 𝓛 (HolderRow.own_val h (word h.at h.alloc ∷ [])))
-  holder_made h = qed 𝓛 (‵ (held device.the_row h.alloc h.at h.device) ∷ []) ∵
+  pub owner_made : (h : (OwnerRow T).Denot) → ent 𝓤 (sem 𝓛 (owns_at T h.alloc h.at h.value)) (sem 𝓛 ((OwnerRow T).own_val h (word h.at h.alloc ∷ [])))
+  owner_made h = qed 𝓛 (‵ (owns_at T h.alloc h.at h.value) ∷ []) ∵
       use0 𝓛 (‵ ((Struct Fields).own_val (h.at, (h.alloc, tt)) (word h.at h.alloc ∷ []))) (fields_made 𝓛 h.at h.alloc) $ fjoin ! $ done !
 
-  module _ (alloc : Global) (at : Ptr) (value : Device) where
+  module _ (alloc : Global) (at : Ptr) (value : T.Denot) where
     abbrev Boxed : SProp 𝓤
-    Boxed = sem 𝓛 (held device.the_row alloc at (Some value))
+    Boxed = sem 𝓛 (owns_at T alloc at (Some value))
 
     -- no box lies at null
     boxed_in_block : ent 𝓤 Boxed (guard 𝓤 (InBlock at) Boxed)
-    boxed_in_block = fact_use 𝓤 (InBlock at) (qed 𝓛 (‵ (held device.the_row alloc at (Some value)) ∷ []) ∵ fsplit ! $ keep ! (0 ∷ []) $
-        by ! (lies_in_block 𝓛 device.the_row full_share at value)) (guard_i 𝓤 (InBlock at) Boxed)
+    boxed_in_block = fact_use 𝓤 (InBlock at) (qed 𝓛 (‵ (owns_at T alloc at (Some value)) ∷ []) ∵ fsplit ! $ keep ! (0 ∷ []) $
+        by ! (lies_in_block 𝓛 T full_share at value)) (guard_i 𝓤 (InBlock at) Boxed)
 
     -- a pointer that may be freed may be compared with null
     boxed_testable : ent 𝓤 Boxed (guard 𝓤 (Testable at) Boxed)
-    boxed_testable = fact_use 𝓤 (Testable at) (qed 𝓛 (‵ (held device.the_row alloc at (Some value)) ∷ []) ∵ fsplit ! $ drop ! $
-        by ! (dealloc_token-Testable 𝓛 alloc (bare (layout device.the_row)) at)) (guard_i 𝓤 (Testable at) Boxed)
+    boxed_testable = fact_use 𝓤 (Testable at) (qed 𝓛 (‵ (owns_at T alloc at (Some value)) ∷ []) ∵ fsplit ! $ drop ! $
+        by ! (dealloc_token-Testable 𝓛 alloc (bare (layout T)) at)) (guard_i 𝓤 (Testable at) Boxed)
 
--- Either there is no device, and the pointer is null; or there is one, in a box, and its pointer
+-- Either nothing is held, and the pointer is null; or there is a value, in a box, and its pointer
 -- may be compared with null.
-module _ {M : Type 1} {𝓤 : Ura M} {𝓛 : Logic 𝓤} {K : Type 0} {Γ : List (Item 𝓤)} {G : Goal 𝓤 𝓛.H} where
-  pub by_device : K → (alloc : Global) (at : Ptr) (held_device : Option Device)
-      → (held_device ≡ None → at ≡ null_ptr → Seq K 𝓛 Γ G)
-      → ((value : Device) (b o : ℕ) → held_device ≡ Some value → at ≡ block_ptr b o → Testable (block_ptr b o)
-      → Seq K 𝓛 (‵ (held device.the_row alloc (block_ptr b o) (Some value)) ∷ Γ) G)
-      → Seq K 𝓛 (‵ (held device.the_row alloc at held_device) ∷ Γ) G
-  by_device t alloc at None no_device one = feq_l t (λ null. no_device refl null)
-  by_device t alloc null_ptr (Some value) no_device one =
-      use1 𝓛 (given ⊥ (‵ (held device.the_row alloc null_ptr (Some value)))) (boxed_in_block 𝓛 alloc null_ptr value) $ learn t (λ never. absurd never)
-  by_device t alloc (block_ptr b o) (Some value) no_device one =
-      use1 𝓛 (given (Testable (block_ptr b o)) (‵ (held device.the_row alloc (block_ptr b o) (Some value)))) (boxed_testable 𝓛 alloc (block_ptr b o) value) $
+module _ (T : RattleType) {M : Type 1} {𝓤 : Ura M} {𝓛 : Logic 𝓤} {K : Type 0} {Γ : List (Item 𝓤)} {G : Goal 𝓤 𝓛.H} where
+  pub by_held : K → (alloc : Global) (at : Ptr) (found : Option T.Denot)
+      → (found ≡ None → at ≡ null_ptr → Seq K 𝓛 Γ G)
+      → ((value : T.Denot) (b o : ℕ) → found ≡ Some value → at ≡ block_ptr b o → Testable (block_ptr b o)
+      → Seq K 𝓛 (‵ (owns_at T alloc (block_ptr b o) (Some value)) ∷ Γ) G)
+      → Seq K 𝓛 (‵ (owns_at T alloc at found) ∷ Γ) G
+  by_held t alloc at None nothing one = feq_l t (λ null. nothing refl null)
+  by_held t alloc null_ptr (Some value) nothing one =
+      use1 𝓛 (given ⊥ (‵ (owns_at T alloc null_ptr (Some value)))) (boxed_in_block T 𝓛 alloc null_ptr value) $ learn t (λ never. absurd never)
+  by_held t alloc (block_ptr b o) (Some value) nothing one =
+      use1 𝓛 (given (Testable (block_ptr b o)) (‵ (owns_at T alloc (block_ptr b o) (Some value)))) (boxed_testable T 𝓛 alloc (block_ptr b o) value) $
       learn t (λ testable. one value b o refl refl testable)

@@ -21,21 +21,13 @@ use denote.Struct.Struct.{Shape, Struct, Struct-Makes, Struct-Tells}
 use Rattle.std.proofs.alloc.Global.TheLaws as global_laws
 use Rattle.std.specs.contracts.alloc.Global as global
 use Rattle.std.specs.declared.alloc.Global.{Global}
-use Rattle.tpmsim_library.proofs.device.Device.TheLaws as device_laws
-use Rattle.tpmsim_library.specs.contracts.device.Device as device
 
--- the allocator and the device, as a generic function takes them
+-- the allocator, as a generic function takes it
 abbrev pub Heap : RattleType
 Heap = arg (bare (layout global.the_row)) no global.the_row
 
-abbrev pub Content : RattleType
-Content = arg (bare (layout device.the_row)) no device.the_row
-
 pub heap_laws : Laws Heap
 heap_laws = arg_laws (bare (layout global.the_row)) no global.the_row global_laws.the_row_laws refl
-
-pub content_laws : Laws Content
-content_laws = arg_laws (bare (layout device.the_row)) no device.the_row device_laws.the_row_laws refl
 
 -- the word of an allocator, and of a pointer beside one
 abbrev pub heap_word : Global → Val

@@ -1,0 +1,112 @@
+-- What C sees of a keeper: what it asks of its host, and what the host tells it.
+use Rattle.std.specs.Prelude.{◌≡◌, ◌==◌, ℕ, ◌⊎◌, if◌then◌else◌, List, [], length, Option, Some, None}
+use Rattle.tpm_keeping.specs.Holder.{Holder, Told, Done, Stands, Gone, Bytes, Failed, Starved, next_of}
+use Rattle.tpm_keeping.specs.View.{ask_of, holder_of}
+use Rattle.tpm_keeping.specs.declared.holder.End.{End}
+use Rattle.tpm_keeping.specs.declared.holder.End.TheVariants as ending
+use Rattle.tpm_keeping.specs.declared.holder.Fault.TheVariants as fault
+use Rattle.tpm_keeping.specs.declared.holder.Force.{Force}
+use Rattle.tpm_keeping.specs.declared.holder.Force.TheVariants.{Never, Power, Always}
+use Rattle.tpm_keeping.specs.declared.holder.Job.{Job}
+use Rattle.tpm_keeping.specs.declared.holder.Job.TheVariants.{Execute, Renew, Show, Begin}
+use Rattle.tpm_keeping.specs.declared.keeper.Ask.{Ask}
+use Rattle.tpm_keeping.specs.declared.keeper.Ask.TheVariants as ask
+use Rattle.tpm_kept_device.specs.View.{spot_in}
+use Rattle.tpm_kept_journal.specs.DeviceJournal.{device_journal}
+use Rattle.tpmsim_library.specs.declared.keeper.DeviceKeeper.{DeviceKeeper}
+use Rattle.tpmsim_library.specs.declared.request.Request.{Request}
+
+-- the keeper as the definitions of tpm_keeping see it
+abbrev pub view_of : DeviceKeeper → Holder
+view_of keeper = holder_of (λ device. spot_in device.parts.value) keeper.keeper
+
+-- the word of force, or the job, that has this number
+abbrev pub force_of : ℕ → Option Force
+force_of number =
+    if number == 0 then Some Never
+    else (if number == 1 then Some Power
+    else (if number == 2 then Some Always else None))
+
+abbrev pub job_of : ℕ → Option Job
+job_of number =
+    if number == 0 then Some Execute
+    else (if number == 1 then Some Renew
+    else (if number == 2 then Some Show
+    else (if number == 3 then Some Begin else None)))
+
+-- the number of how a call ended
+abbrev pub end_number : End → ℕ
+end_number ending.Done = 0
+end_number (ending.Failed fault.Idle) = 1
+end_number (ending.Failed fault.Lock) = 2
+end_number (ending.Failed fault.Look) = 3
+end_number (ending.Failed fault.Read) = 4
+end_number (ending.Failed fault.Write) = 5
+end_number (ending.Failed fault.Force) = 6
+end_number (ending.Failed fault.Make) = 7
+end_number (ending.Failed fault.Name) = 8
+end_number (ending.Failed fault.Settle) = 9
+end_number (ending.Failed fault.Absent) = 10
+end_number (ending.Failed fault.Unreadable) = 11
+end_number (ending.Failed fault.NoCommand) = 12
+end_number (ending.Failed fault.Damaged) = 13
+end_number (ending.Failed fault.Memory) = 14
+
+-- what the host is to write, and the response that may go out
+abbrev pub text_by : Ask → (out : List ℕ) → List ℕ
+text_by (ask.Put cut at) out = out
+text_by ask.Make out = out
+text_by asked out = []
+
+abbrev pub response_by : Ask → (response : List ℕ) → List ℕ
+response_by (ask.Nothing ending.Done) response = response
+response_by asked response = []
+
+abbrev pub text_of : Holder → List ℕ
+text_of k = text_by (ask_of k) k.out
+
+abbrev pub response_of : Holder → List ℕ
+response_of k = response_by (ask_of k) k.response
+
+-- a task that needs no more than its number
+abbrev pub task_of : (task : ℕ) → Request
+task_of task = record { cut = 0; at = 0; size = 0; task = task; fault = 0 }
+
+-- the request of a keeper whose text has one of these sizes, or whose response has the other
+abbrev pub request_by : Ask → (text response : ℕ) → Request
+request_by (ask.Nothing end) text response =
+    record (task_of 0) { size = response; fault = end_number end }
+request_by ask.Lock text response = task_of 1
+request_by ask.Look text response = task_of 2
+request_by (ask.Read at) text response = record (task_of 3) { at = at }
+request_by (ask.Put cut at) text response =
+    record (task_of 4) { cut = cut; at = at; size = text }
+request_by ask.Force text response = task_of 5
+request_by ask.Make text response = record (task_of 6) { size = text }
+request_by ask.Name text response = task_of 7
+request_by ask.Settle text response = task_of 8
+request_by ask.Unlock text response = task_of 9
+
+abbrev pub request_of : Holder → Request
+request_of k = request_by (ask_of k) (length (text_of k)) (length (response_of k))
+
+-- the request without a keeper: nothing, because of that
+abbrev pub no_request : Request
+no_request = record (task_of 0) { fault = 15 }
+
+-- what a host tells by a number, which is 0 if it did all: of a look and a name the file, of a read
+-- the bytes
+abbrev pub did : Ask → (file size : ℕ) → List ℕ → Told
+did ask.Look file size bytes = Stands file size
+did ask.Name file size bytes = Stands file size
+did (ask.Read at) file size bytes = Bytes bytes
+did asked file size bytes = Done
+
+abbrev pub told_by : (got : ℕ) → Ask → (file size : ℕ) → List ℕ → Told
+told_by got asked file size bytes =
+    if got == 0 then did asked file size bytes else (if got == 1 then Gone else Failed)
+
+-- A keeper goes on from what its host told, or ends for want of memory.
+abbrev pub GoesOn : (before : Holder) → Told → (after : Holder) → Type 0
+GoesOn before told after =
+    (after ≡ next_of device_journal before told) ⊎ (after ≡ next_of device_journal before Starved)

@@ -1,0 +1,74 @@
+//! The one pointer by which C holds a keeper.
+
+ghost use Rattle.std.specs.Prelude.{◌≡◌};
+ghost use Rattle.std.specs.Option.{MatchOption};
+ghost use Rattle.std.specs.declared.option.Option.{Option};
+ghost use Rattle.std.specs.declared.option.Option.TheVariants.{None, Some};
+ghost use Rattle.tpmsim_library.specs.Held.{held};
+ghost use Rattle.tpmsim_library.specs.contracts.keeper.DeviceKeeper.{the_row as keeper_row};
+ghost use Rattle.tpmsim_library.specs.declared.keeper.DeviceKeeper.{DeviceKeeper};
+
+use crate::keeper::DeviceKeeper;
+use crate::owner::Owner;
+use std::alloc::Global;
+use std::marker::Model;
+use std::mem;
+
+/// The pointer by which C holds a keeper: it leads to the keeper's box, which the holder owns, or
+/// is null where there is no keeper. C sees one pointer, since an allocator has no bytes.
+#[repr(C)]
+#[derive(Drop)]
+pub struct KeeperHolder {
+    at: *mut u8,
+    alloc: Global,
+    ghost keeper: { Option DeviceKeeper },
+}
+
+impl Model for KeeperHolder {
+    ghost also_owns = { λ h. held keeper_row h.alloc h.at h.keeper };
+}
+
+impl KeeperHolder {
+    /// A holder of what this owner has.
+    pub fn of(owner: Owner<DeviceKeeper>) -> KeeperHolder
+        ensures { result.keeper ≡ owner.value }
+    {
+        let Owner { at, alloc } = owner;
+        KeeperHolder {
+            at: at as *mut u8,
+            alloc,
+        }
+    }
+
+    /// The owner of what this holder has.
+    pub fn into_owner(self) -> Owner<DeviceKeeper>
+        ensures { result.value ≡ self.keeper }
+    {
+        let KeeperHolder { at, alloc } = self;
+        Owner {
+            at: at as *mut DeviceKeeper,
+            alloc,
+        }
+    }
+
+    /// Takes the keeper out, if there is one, and leaves the holder with none.
+    pub fn take(&mut self, alloc: Global) -> Option<Box<DeviceKeeper>>
+        ensures taken { MatchOption result (self.old.keeper ≡ None)
+            (λ b. self.old.keeper ≡ Some b.value) }
+        ensures left { self.new.keeper ≡ None }
+    {
+        let empty = KeeperHolder::of(Owner::empty(alloc));
+        mem::replace(self, empty).into_owner().into_box()
+    }
+
+    /// Puts a keeper in, and frees the one that was there.
+    pub fn put(&mut self, keeper: Box<DeviceKeeper>)
+        ensures { self.new.keeper ≡ Some keeper.value }
+    {
+        let full = KeeperHolder::of(Owner::of(keeper));
+        let _before = mem::replace(self, full).into_owner().into_box();
+    }
+}
+
+/// The keeper may be used and freed in another thread than the one that made it.
+unsafe impl Send for KeeperHolder {}

@@ -1,0 +1,167 @@
+//! The exports on the keeper of a device.
+
+ghost use Rattle.std.specs.Prelude.{◌≡◌, ◌≢◌};
+ghost use Rattle.std.specs.Option.{MatchOption};
+ghost use Rattle.std.specs.declared.option.Option.TheVariants.{None, Some};
+ghost use Rattle.tpm_image_text.specs.Saving.{PutsFront};
+ghost use Rattle.tpm_keeping.specs.Holder.{asked, newborn, rests};
+ghost use Rattle.tpm_keeping.specs.View.{ask_of};
+ghost use Rattle.tpm_keeping.specs.declared.holder.Force.{Force};
+ghost use Rattle.tpm_keeping.specs.declared.holder.Job.{Job};
+ghost use Rattle.tpmsim_library.specs.Keeping.{GoesOn, force_of, job_of};
+ghost use Rattle.tpmsim_library.specs.Keeping.{no_request, request_of, response_of, text_of};
+ghost use Rattle.tpmsim_library.specs.Keeping.{told_by, view_of};
+ghost use Rattle.tpmsim_library.specs.Told.{done, no_device, no_memory, no_word};
+ghost use Rattle.tpmsim_library.specs.declared.keeper.DeviceKeeper.{DeviceKeeper};
+
+use crate::keeper::DeviceKeeper;
+use crate::keeper_holder::KeeperHolder;
+use crate::request::{Request, force_of, job_of};
+use crate::told::{DONE, NO_DEVICE, NO_MEMORY, NO_WORD};
+use std::alloc::Global;
+
+/// Makes a keeper that has seen nothing, in place of the holder's own.
+#[unsafe(no_mangle)]
+pub extern "C" fn tpmsim_keeper_new(
+    alloc: Global,
+    holder: &mut KeeperHolder,
+    force: u8,
+    limit: u64,
+) -> u8
+    ensures made { result ≡ done → (word : Force) × (new : DeviceKeeper)
+        × (force_of force ≡ Some word) × (holder.new.keeper ≡ Some new)
+        × (view_of new ≡ newborn word limit) }
+    ensures refused { result ≢ done → holder.new.keeper ≡ holder.old.keeper }
+    ensures word { result ≡ no_word → force_of force ≡ None }
+    ensures told { result ≢ done → result ≢ no_word → result ≡ no_memory }
+{
+    let Some(force) = force_of(force) else {
+        return NO_WORD;
+    };
+    match Box::new(alloc, DeviceKeeper::new(alloc, force, limit)) {
+        Ok(new) => {
+            holder.put(new);
+            DONE
+        }
+        Err(_) => NO_MEMORY,
+    }
+}
+
+/// Begins a call. NO_MEMORY: what was left in the middle is dropped, and no call begins.
+#[unsafe(no_mangle)]
+pub extern "C" fn tpmsim_keeper_begin(
+    alloc: Global,
+    holder: &mut KeeperHolder,
+    job: u8,
+    text: &[u8],
+) -> u8
+    ensures begins { result ≡ done → (word : Job) × (before : DeviceKeeper) × (after : DeviceKeeper)
+        × (job_of job ≡ Some word) × (holder.old.keeper ≡ Some before)
+        × (holder.new.keeper ≡ Some after)
+        × (view_of after ≡ asked (rests (view_of before)) word text.now) }
+    ensures rests { result ≡ no_memory → (before : DeviceKeeper) × (after : DeviceKeeper)
+        × (holder.old.keeper ≡ Some before) × (holder.new.keeper ≡ Some after)
+        × (view_of after ≡ rests (view_of before)) }
+    ensures refused { result ≢ done → result ≢ no_memory
+        → holder.new.keeper ≡ holder.old.keeper }
+    ensures word { result ≡ no_word → job_of job ≡ None }
+    ensures told { result ≢ done → result ≢ no_memory → result ≢ no_word
+        → (result ≡ no_device) × (holder.old.keeper ≡ None) }
+{
+    let Some(job) = job_of(job) else {
+        return NO_WORD;
+    };
+    let Some(mut kept) = holder.take(alloc) else {
+        return NO_DEVICE;
+    };
+    let begun = kept.begin(job, text);
+    holder.put(kept);
+    match begun {
+        Ok(()) => DONE,
+        Err(_) => NO_MEMORY,
+    }
+}
+
+/// Says what the host is to do next.
+#[unsafe(no_mangle)]
+pub extern "C" fn tpmsim_keeper_ask(alloc: Global, holder: &mut KeeperHolder, request: &mut Request)
+    ensures asks { MatchOption holder.old.keeper (request.new ≡ no_request)
+        (λ kept. request.new ≡ request_of (view_of kept)) }
+    ensures kept { holder.new.keeper ≡ holder.old.keeper }
+{
+    let Some(kept) = holder.take(alloc) else {
+        *request = Request::none();
+        return;
+    };
+    *request = kept.request();
+    holder.put(kept);
+}
+
+/// Writes what is to be written to the front of a buffer, if it fits. Returns how many bytes it has.
+#[unsafe(no_mangle)]
+pub extern "C" fn tpmsim_keeper_text(
+    alloc: Global,
+    holder: &mut KeeperHolder,
+    buffer: &mut [u8],
+) -> usize
+    ensures written { MatchOption holder.old.keeper ((result ≡ 0) × (buffer.new ≡ buffer.old))
+        (λ kept. PutsFront (text_of (view_of kept)) buffer.old result buffer.new) }
+    ensures kept { holder.new.keeper ≡ holder.old.keeper }
+{
+    let Some(kept) = holder.take(alloc) else {
+        return 0;
+    };
+    let size = kept.text_into(buffer);
+    holder.put(kept);
+    size
+}
+
+/// Writes the response of a call that is done to the front of a buffer, if it fits. Returns how many
+/// bytes it has.
+#[unsafe(no_mangle)]
+pub extern "C" fn tpmsim_keeper_response(
+    alloc: Global,
+    holder: &mut KeeperHolder,
+    buffer: &mut [u8],
+) -> usize
+    ensures written { MatchOption holder.old.keeper ((result ≡ 0) × (buffer.new ≡ buffer.old))
+        (λ kept. PutsFront (response_of (view_of kept)) buffer.old result buffer.new) }
+    ensures kept { holder.new.keeper ≡ holder.old.keeper }
+{
+    let Some(kept) = holder.take(alloc) else {
+        return 0;
+    };
+    let size = kept.response_into(buffer);
+    holder.put(kept);
+    size
+}
+
+/// Takes what the host did or saw, and goes on.
+#[unsafe(no_mangle)]
+pub extern "C" fn tpmsim_keeper_next(
+    alloc: Global,
+    holder: &mut KeeperHolder,
+    got: u8,
+    file: u64,
+    file_size: u64,
+    bytes: &[u8],
+)
+    ensures { MatchOption holder.old.keeper (holder.new.keeper ≡ None) (λ before.
+        (after : DeviceKeeper) × (holder.new.keeper ≡ Some after)
+        × GoesOn (view_of before)
+        (told_by got (ask_of (view_of before)) file file_size bytes.now) (view_of after)) }
+{
+    let Some(mut kept) = holder.take(alloc) else {
+        return;
+    };
+    kept.next(got, file, file_size, bytes);
+    holder.put(kept);
+}
+
+/// Frees the keeper and its device, if there is one, and leaves the holder with none.
+#[unsafe(no_mangle)]
+pub extern "C" fn tpmsim_keeper_free(alloc: Global, holder: &mut KeeperHolder)
+    ensures { holder.new.keeper ≡ None }
+{
+    let _before = holder.take(alloc);
+}

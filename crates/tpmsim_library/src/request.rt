@@ -1,0 +1,147 @@
+//! The numbers by which C and a keeper speak of what a host is to do, and of what it did.
+
+ghost use Rattle.std.specs.Prelude.{◌≡◌};
+ghost use Rattle.tpm_keeping.specs.View.{told_of};
+ghost use Rattle.tpmsim_library.specs.Keeping.{end_number, force_of, job_of, no_request};
+ghost use Rattle.tpmsim_library.specs.Keeping.{request_by, task_of, told_by};
+
+use tpm_keeping::holder::{End, Fault, Force, Job};
+use tpm_keeping::keeper::{Ask, Got};
+
+/// What a host is to do next.
+#[repr(C)]
+#[derive(Clone, Copy, PartialEq, Eq)]
+pub struct Request {
+    /// To how many bytes the file is cut first.
+    pub cut: u64,
+    /// The place in the file.
+    pub at: u64,
+    /// How many bytes are to be written, or the response has.
+    pub size: usize,
+    /// The number of the task.
+    pub task: u8,
+    /// The number of how the call ended.
+    pub fault: u8,
+}
+
+/// The word of force that has this number.
+pub fn force_of(number: u8) -> Option<Force>
+    ensures { result ≡ force_of number }
+{
+    match number {
+        0 => Some(Force::Never),
+        1 => Some(Force::Power),
+        2 => Some(Force::Always),
+        _ => None,
+    }
+}
+
+/// The job that has this number.
+pub fn job_of(number: u8) -> Option<Job>
+    ensures { result ≡ job_of number }
+{
+    match number {
+        0 => Some(Job::Execute),
+        1 => Some(Job::Renew),
+        2 => Some(Job::Show),
+        3 => Some(Job::Begin),
+        _ => None,
+    }
+}
+
+/// The number of how a call ended.
+fn end_number(end: End) -> u8
+    ensures { result ≡ end_number end }
+{
+    let End::Failed(fault) = end else {
+        return 0;
+    };
+    match fault {
+        Fault::Idle => 1,
+        Fault::Lock => 2,
+        Fault::Look => 3,
+        Fault::Read => 4,
+        Fault::Write => 5,
+        Fault::Force => 6,
+        Fault::Make => 7,
+        Fault::Name => 8,
+        Fault::Settle => 9,
+        Fault::Absent => 10,
+        Fault::Unreadable => 11,
+        Fault::NoCommand => 12,
+        Fault::Damaged => 13,
+        Fault::Memory => 14,
+    }
+}
+
+impl Request {
+    /// A task that needs no more than its number.
+    fn task(task: u8) -> Request
+        ensures { result ≡ task_of task }
+    {
+        Request {
+            cut: 0,
+            at: 0,
+            size: 0,
+            task,
+            fault: 0,
+        }
+    }
+
+    /// Nothing, since there is no keeper.
+    pub fn none() -> Request
+        ensures { result ≡ no_request }
+    {
+        Request {
+            fault: 15,
+            ..Request::task(0)
+        }
+    }
+
+    /// What a keeper asks of its host, whose text has one of these sizes, or whose response has the
+    /// other.
+    pub fn of(asked: Ask, text: usize, response: usize) -> Request
+        ensures { result ≡ request_by asked text response }
+    {
+        match asked {
+            Ask::Nothing(end) => Request {
+                size: response,
+                fault: end_number(end),
+                ..Request::task(0)
+            },
+            Ask::Lock => Request::task(1),
+            Ask::Look => Request::task(2),
+            Ask::Read(at) => Request {
+                at,
+                ..Request::task(3)
+            },
+            Ask::Put { cut, at } => Request {
+                cut,
+                at,
+                size: text,
+                ..Request::task(4)
+            },
+            Ask::Force => Request::task(5),
+            Ask::Make => Request {
+                size: text,
+                ..Request::task(6)
+            },
+            Ask::Name => Request::task(7),
+            Ask::Settle => Request::task(8),
+            Ask::Unlock => Request::task(9),
+        }
+    }
+}
+
+/// What a host tells by a number, which is 0 if it did all that was asked.
+pub fn told_by<'a>(got: u8, asked: Ask, file: u64, size: u64, bytes: &'a [u8]) -> Got<'a>
+    ensures { told_of result ≡ told_by got asked file size bytes.now }
+{
+    match (got, asked) {
+        (0, Ask::Look | Ask::Name) => Got::Stands { file, size },
+        (0, Ask::Read(_)) => Got::Bytes(bytes),
+        (0, _) => Got::Done,
+        (1, _) => Got::Gone,
+        _ => Got::Failed,
+    }
+}
