@@ -1,0 +1,128 @@
+/* A host of a keeper: the loop, over whatever does a task; the texts of commands and seeds; and a
+ * host that is killed in the middle of a call. */
+#ifndef KEEPER_HOST_H
+#define KEEPER_HOST_H
+#include "common.h"
+
+/* What a host is asked for at most, what it tells of a call in which it was killed, and for one
+ * that is not killed. */
+enum { TEXT_BYTES = 128 * 1024, KILLED = 255, NEVER = -1 };
+
+/* What a host saw as it did a task. */
+typedef struct seen {
+    uint8_t got;
+    uint64_t file, file_size;
+    const uint8_t *bytes;
+    size_t size;
+} seen;
+
+/* How much of a task a host does that is killed at it: nothing, a part, or all. */
+typedef enum extent { NOTHING, A_PART, ALL } extent;
+
+/* A host: how it does a task in its folder, and what the system does for it as it dies. It is
+ * killed at this task of a call, or says of that one that it failed. */
+typedef struct host host;
+struct host {
+    tpmsim_keeper keeper;
+    void *folder;
+    seen (*does)(host *, const tpmsim_ask *, const uint8_t *text);
+    void (*leaves)(host *);
+    int killed_at;
+    extent killed_after;
+    int fails_at;
+    uint64_t clock;
+    /* Of the last call: the tasks, a letter for each, and the response. */
+    char tasks[64];
+    uint8_t response[TEXT_BYTES];
+    size_t response_size;
+};
+
+static uint8_t host_text[TEXT_BYTES];
+
+/* Does a task as far as a host comes that is killed at it. */
+static inline void host_dies(host *it, tpmsim_ask *ask, extent how_much) {
+    int is_writing = ask->task == TPMSIM_TASK_PUT || ask->task == TPMSIM_TASK_MAKE;
+    if (how_much == A_PART) ask->size /= 2;
+    if (how_much == ALL || (how_much == A_PART && is_writing)) it->does(it, ask, host_text);
+    tpmsim_keeper_free(&it->keeper);
+    it->leaves(it);
+}
+
+/* A host's loop. Returns a number of tpmsim_fault, 0 if the call is done, or KILLED. */
+static inline uint8_t host_run(host *it, uint8_t job, const uint8_t *text, size_t size) {
+    tpmsim_ask ask;
+    if (tpmsim_keeper_begin(&it->keeper, job, text, size) != TPMSIM_DONE)
+        return TPMSIM_FAULT_MEMORY;
+    for (int count = 0;; count++) {
+        tpmsim_keeper_ask(&it->keeper, &ask);
+        it->tasks[count] = "-LKRPFMNSU"[ask.task];
+        it->tasks[count + 1] = 0;
+        if (ask.task == TPMSIM_TASK_NOTHING) break;
+        must(tpmsim_keeper_text(&it->keeper, host_text, sizeof host_text) == ask.size,
+             "a text's size");
+        if (count == it->killed_at) return host_dies(it, &ask, it->killed_after), KILLED;
+        seen saw = it->does(it, &ask, host_text);
+        if (count == it->fails_at) saw.got = TPMSIM_GOT_FAILED;
+        tpmsim_keeper_next(&it->keeper, saw.got, saw.file, saw.file_size, saw.bytes, saw.size);
+    }
+    it->response_size = tpmsim_keeper_response(&it->keeper, it->response, sizeof it->response);
+    must(it->response_size == ask.size, "a response's size");
+    return ask.fault;
+}
+
+/* Has a host begin as a process does: with a keeper that has seen nothing. */
+static inline void host_starts(host *it, uint8_t force, uint64_t limit) {
+    it->killed_at = it->fails_at = NEVER;
+    must(tpmsim_keeper_new(&it->keeper, force, limit) == TPMSIM_DONE, "there is no keeper");
+}
+
+static inline uint8_t *put_number(uint8_t *at, uint64_t number) {
+    for (int i = 7; i >= 0; i--) *at++ = (uint8_t)(number >> 8 * i);
+    return at;
+}
+
+/* A seed: its kind, the clock, the number of the layer's start, and what the kind says. */
+static inline size_t put_seed(uint8_t *text, uint8_t kind, const uint8_t *content, size_t size) {
+    uint8_t *at = text;
+    *at++ = kind;
+    at = put_number(put_number(at, 1000), 7);
+    memcpy(at, content, size);
+    return (size_t)(at - text) + size;
+}
+
+/* Begins a device of random bytes, or sees that there is one. */
+static inline uint8_t host_begins(host *it) {
+    uint8_t random[RANDOM_BYTES], text[512];
+    count_up(random, 1);
+    return host_run(it, TPMSIM_JOB_BEGIN, text, put_seed(text, 0, random, sizeof random));
+}
+
+/* Executes a command of the standard: kind 0, the clock, the locality, whether the layer completes,
+ * 256 random bytes, and the command. */
+static inline uint8_t host_executes(host *it, const uint8_t *command, size_t size) {
+    uint8_t text[4096], *at = text;
+    *at++ = 0;
+    at = put_number(at, it->clock += 10);
+    *at++ = 0;
+    *at++ = 1;
+    count_up(at, (uint8_t)it->clock);
+    at += RANDOM_BYTES;
+    memcpy(at, command, size);
+    return host_run(it, TPMSIM_JOB_EXECUTE, text, (size_t)(at - text) + size);
+}
+
+/* Cycles the power: kind 1, the clock, and a number for the layer's start. */
+static inline uint8_t host_cycles(host *it) {
+    uint8_t text[17] = {1};
+    it->clock += 10;
+    put_number(put_number(text + 1, it->clock), it->clock);
+    return host_run(it, TPMSIM_JOB_EXECUTE, text, sizeof text);
+}
+
+/* Restores a state text: kind 2, and a seed. */
+static inline uint8_t host_restores(host *it, const uint8_t *state, size_t size) {
+    static uint8_t text[TEXT_BYTES];
+    text[0] = 2;
+    return host_run(it, TPMSIM_JOB_EXECUTE, text, 1 + put_seed(text + 1, 2, state, size));
+}
+#endif

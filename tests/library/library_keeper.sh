@@ -1,0 +1,16 @@
+# The calls on a device's keeper: keeper.c, over a folder in memory and over files, without sanitizers and
+# beside them.
+tests=$(cd "$(dirname "$0")/.." && pwd -P)
+. "$tests/common/cases.sh"
+. "$tests/common/library.sh"
+needs cc
+
+compile plain keeper "$archive"
+# shellcheck disable=SC2086 # they are words
+compile checked keeper "$archive" $sanitizers
+for caller in plain checked; do
+    mkdir "$room/$caller.files"
+    "$room/$caller" "$room/$caller.files" >"$room/$caller.told" || exit 1
+done
+cat "$room/plain.told"
+cmp "$room/plain.told" "$room/checked.told" && echo 'the same beside sanitizers'
