@@ -2,7 +2,7 @@
 use mathlib.Core.List.{List, [], ◌∷◌}
 use mathlib.Core.Path.{◌≡◌, refl, ap, ◌∙◌}
 use mir.Syntax.{Args, Dict, Dicts, a_type, impl, tnil, tcons, dnil, dcons}
-use mir.Val.{Val, vunit, vstruct, vcons, vnil}
+use mir.Val.{Val}
 use seplogic.Ra.Ura.{Ura}
 use base.Fml.{Fml, Lft, Share, flft, fsep, ftrue}
 use base.Fraction.{full_share}

@@ -23,7 +23,6 @@ use Rattle.std.specs.declared.option.Option.TheVariants.{None, Some}
 use Rattle.tpmsim_library.proofs.Boxes.Words.{Fields, fields_made, word}
 use Rattle.tpmsim_library.specs.Held.{held}
 use Rattle.tpmsim_library.specs.contracts.owner.Owner as owner
-use Rattle.tpmsim_library.specs.declared.owner.Owner.{Owner}
 
 abbrev pub OwnerRow : RattleType → RattleType
 OwnerRow T = owner.the_row T

@@ -9,12 +9,11 @@ use contract.Monad.{fact}
 use contract.BorrowLft.{◌⊑◌}
 use contract.Running.{tables}
 use types.ByLocal.{alloc_all, pass_all, free_all, look_at, get, get_in, lands_as, sets}
-use types.Kit.{‵, raw, ◌⊛◌, some, given, later, ◌$◌, ◌∵◌, !, qed, group, await, drop, fsplit, join, keep, learn, move, pick, split, suffices, use1, use3, done}
+use types.Kit.{‵, raw, ◌⊛◌, some, given, later, ◌$◌, ◌∵◌, !, qed, group, await, fsplit, join, keep, learn, move, pick, split, suffices, use1, use3, done}
 use types.Part.{agg, sub, whole}
 use types.Run.{and_then, enter, fld, no_more, of_opd, returns, stop}
 use denote.Exit.{no}
 use denote.Param.{bounded, param}
-use denote.RattleType.{RattleType}
 use denote.RawPtr.{Ptr}
 use denote.Signature.{plain}
 use denote.Steps.{nothing}
