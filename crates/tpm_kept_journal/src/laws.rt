@@ -1,7 +1,15 @@
-//! The law of the journal of a kept device. The function does nothing.
+//! The laws of a kept device's journal and of its states. The functions do nothing.
 
+ghost use Rattle.std.specs.Prelude.{◌≡◌, Some};
+ghost use Rattle.tpm_bytes.specs.Reading.{AreBytes};
+ghost use Rattle.tpm_journal_text.specs.Head.{head_text};
+ghost use Rattle.tpm_journal_text.specs.declared.head.HeadKind.TheVariants.{State};
 ghost use Rattle.tpm_keeping.specs.Journal.{IsJournal};
 ghost use Rattle.tpm_kept_journal.specs.DeviceJournal.{device_journal};
+ghost use Rattle.tpm_kept_journal.specs.Opening.{head_of};
+ghost use Rattle.tpm_kept_journal.specs.State.{DeviceState, IsDeviceState, bytes_of, state_of_bytes};
+ghost use Rattle.tpm_kept_journal.specs.State.{whole_of};
+ghost use Rattle.tpm_state_text.specs.State.{state_text};
 
 /// The journal of a kept device meets what a keeper needs: whatever is executed, wherever the
 /// journal is cut, and whatever a crash leaves, it opens as the device that executed the whole
@@ -10,4 +18,15 @@ ghost use Rattle.tpm_kept_journal.specs.DeviceJournal.{device_journal};
 #[tactic(auto, using(crate::proofs::JournalLaws::device_is_a_journal))]
 pub fn device_journal_laws()
     ensures { IsJournal device_journal }
+{}
+
+/// The text of a state that a device can have says just that state, and a journal in this state begins
+/// with the head that holds its state text. The other heads of device_journal are those of texts that
+/// are no states.
+#[inline(always)]
+#[tactic(auto, using(crate::proofs::States::state_told, crate::proofs::Shown::head_shown))]
+pub fn device_state_laws()
+    ensures told { (s : DeviceState) → IsDeviceState s → state_of_bytes (bytes_of s) ≡ Some s }
+    ensures head { (s : DeviceState) → IsDeviceState s → AreBytes (state_text (whole_of s))
+        → head_text State s.time (state_text (whole_of s)) ≡ head_of (bytes_of s) }
 {}

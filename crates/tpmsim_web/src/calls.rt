@@ -5,6 +5,7 @@ ghost use Rattle.std.specs.Prelude.{◌≡◌, ◌≢◌, ◌<◌, ◌∷◌, []
 ghost use Rattle.std.specs.Option.{MatchOption};
 ghost use Rattle.std.specs.declared.option.Option.TheVariants.{None, Some};
 ghost use Rattle.std.specs.declared.result.Result.{Result};
+ghost use Rattle.tpm_journal.specs.State.{journal_of};
 ghost use Rattle.tpm_image_text.specs.Image.{IsImage, image_text};
 ghost use Rattle.tpm_image_text.specs.KeptText.{kept_text};
 ghost use Rattle.tpm_image_text.specs.NonVolatile.{kept_of};
@@ -58,7 +59,8 @@ pub extern "C" fn device_manufacture(
     random: &[u8; 256],
 )
     ensures { (device : Device) × (holder.new.device ≡ Some device)
-        × (record_of device ≡ manufactured random.now) × Follows (record_of device) [] }
+        × (record_of device ≡ manufactured random.now) × Follows (record_of device) []
+        × (device.journal ≡ journal_of 0 0) }
 {
     *holder = Holder::new(place, Device::manufacture(alloc, random));
 }
@@ -84,7 +86,8 @@ pub extern "C" fn device_execute(
         × After Follows (record_of before) (Given buffer.now locality elapsed_ms random.now)
         (command_seen response.new answered.new after)
         × (answered.new.drawn ≡ drawn_by (record_of before)
-        (Given buffer.now locality elapsed_ms random.now) answered.new.check) }
+        (Given buffer.now locality elapsed_ms random.now) answered.new.check)
+        × (after.journal ≡ before.journal) }
     ensures rest { result ≡ done
         → drop answered.new.size response.new ≡ drop answered.new.size response.old }
     ensures traced { result ≡ done → take answered.new.traced trace.new
@@ -116,7 +119,8 @@ pub extern "C" fn device_cycle_power(holder: &mut Holder) -> u8
     ensures executes { MatchOption holder.old.device (holder.new.device ≡ None) (λ before.
         (after : Device) × (holder.new.device ≡ Some after)
         × Executes false (record_of before) Cycled (cycle_seen after)
-        × After Follows (record_of before) Cycled (cycle_seen after)) }
+        × After Follows (record_of before) Cycled (cycle_seen after)
+        × (after.journal ≡ before.journal)) }
     ensures told { MatchOption holder.old.device (result ≡ no_device) (λ before. result ≡ done) }
 {
     let Some(mut device) = holder.take() else {
@@ -172,6 +176,8 @@ pub extern "C" fn device_open(alloc: Global, holder: &mut Holder, image: &[u8]) 
         → IsRecord r → Follows r history → IsImage version (kept_of r) image.now
         → (device : Device) × (holder.new.device ≡ Some device)
         × Follows (record_of device) (PowerCycled ∷ history) }
+    ensures journal { result ≡ done → (device : Device) × (holder.new.device ≡ Some device)
+        × (device.journal ≡ journal_of 0 0) }
 {
     let Some(mut device) = holder.take() else {
         return NO_DEVICE;

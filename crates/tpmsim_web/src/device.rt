@@ -2,6 +2,7 @@
 
 ghost use Rattle.std.specs.Prelude.{◌≡◌, ◌∷◌, ◌≤◌, [], IfErr, IfOk, OnErr, OnOk, drop, false, length};
 ghost use Rattle.std.specs.Prelude.{take, true};
+ghost use Rattle.tpm_journal.specs.State.{journal_of};
 ghost use Rattle.tpm_completion.specs.Execution.{CompletesIf};
 ghost use Rattle.tpm_image_text.specs.Image.{IsImage, image_text};
 ghost use Rattle.tpm_image_text.specs.KeptText.{kept_text};
@@ -77,6 +78,7 @@ impl Device {
     pub fn manufacture(alloc: Global, random: &[u8; 256]) -> Device
         ensures state { record_of result ≡ manufactured random.now }
         ensures history { Follows (record_of result) [] }
+        ensures journal { result.journal ≡ journal_of 0 0 }
     {
         Device {
             machine: new_machine(alloc, random),
@@ -99,6 +101,7 @@ impl Device {
             (command_seen response.new result self.new) }
         ensures drawn { result.drawn
             ≡ drawn_by (record_of self.old) (plain_event event.now) result.check }
+        ensures journal { self.new.journal ≡ self.old.journal }
         ensures rest { drop result.size response.new ≡ drop result.size response.old }
         ensures traced { take result.traced trace.new ≡ trace_text (plain_event event.now)
             (record { code = result.code; check = result.check }) (take result.size response.new) }
@@ -130,6 +133,7 @@ impl Device {
     pub fn cycle_power(&mut self)
         ensures executes { Executes false (record_of self.old) Cycled (cycle_seen self.new) }
         ensures history { After Follows (record_of self.old) Cycled (cycle_seen self.new) }
+        ensures journal { self.new.journal ≡ self.old.journal }
     {
         self.machine
             .execute_into(&Event::PowerCycle, &mut self.outcome);
@@ -158,6 +162,7 @@ impl Device {
         ensures history { (version : Version) (r : Record) (history : History) → IsRecord r
             → Follows r history → IsImage version (kept_of r) image.now
             → OnOk result (Follows (record_of self.new) (PowerCycled ∷ history)) }
+        ensures journal { OnOk result (self.new.journal ≡ journal_of 0 0) }
     {
         let mut machine = new_machine(alloc, &[0; 256]);
         open_into(&mut machine, image)?;

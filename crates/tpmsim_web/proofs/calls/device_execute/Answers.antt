@@ -26,7 +26,7 @@ returns-clause-executes c =
     × After Follows (record_of before) (Given c.args.buffer.now l c.args.elapsed_ms c.args.random.now) done
     × (c.execute.result.drawn ≡ drawn_by (record_of before) (Given c.args.buffer.now l c.args.elapsed_ms c.args.random.now) c.execute.result.check))
     c.in-Some.ensures.1 told in
-    λ _. (before, c.execute.new.self, was, c.put.ensures, all.0, all.1, all.2)
+    λ _. (before, c.execute.new.self, was, c.put.ensures, all.0, all.1, all.2, c.execute.ensures.journal)
 
 -- the trace is that of this event
 pub returns-clause-traced : goal.returns-clause-traced
