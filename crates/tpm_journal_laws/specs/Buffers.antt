@@ -1,0 +1,19 @@
+-- Which buffers a journal records whole, and what is left of the others.
+use Rattle.std.specs.Prelude.{◌≡◌, ℕ, ◌<◌, ◌≤◌, Bool, List, length}
+use Rattle.tpm_record.specs.Record.{Record}
+use Rattle.tpm_step.specs.Events.{Given}
+use Rattle.tpm_step.specs.Step.{step_where}
+use Rattle.tpm_journal.specs.Command.{command_at, given}
+
+-- A buffer of up to 4,096 bytes is recorded whole.
+abbrev pub IsRecordedWhole : Type 0
+IsRecordedWhole = (buffer : List ℕ) (locality elapsed : ℕ) (completes : Bool) (random : List ℕ)
+    → length buffer ≤ 4096 → (command_at buffer locality elapsed completes random).buffer ≡ buffer
+
+-- The recorded command of a longer buffer has the step of the whole buffer, whether memory is
+-- refused or not.
+abbrev pub LongerAreRefusedAlike : Type 0
+LongerAreRefusedAlike = (refused : Bool) (r : Record) (buffer : List ℕ) (locality elapsed : ℕ)
+    (completes : Bool) (random : List ℕ) → 4096 < length buffer
+    → step_where refused r (given (command_at buffer locality elapsed completes random))
+    ≡ step_where refused r (Given buffer locality elapsed random)

@@ -1,0 +1,3 @@
+pub mod Meanings
+pub mod Times
+pub mod Buffers

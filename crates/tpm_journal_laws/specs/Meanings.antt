@@ -1,0 +1,46 @@
+-- What the lines of a journal mean as lines of a script.
+use Rattle.std.specs.Prelude.{◌≡◌, ℕ, List, [], ◌∷◌, ◌++◌, map, Option, Some}
+use Rattle.std.specs.List.{AllByRecursion}
+use Rattle.hex.specs.Hex.{encode_lower}
+use Rattle.tpm_journal_text.specs.Entry.{IsEntry, PlainEntry, entry_text, shown}
+use Rattle.tpm_journal_text.specs.Head.{head_sum, head_text}
+use Rattle.tpm_journal_text.specs.Journal.{entries_text}
+use Rattle.tpm_journal_text.specs.declared.head.HeadKind.{HeadKind}
+use Rattle.tpmsim_script.specs.Line.{Meaning, Executes, SetsLocality, Waits, SetsEntropy}
+use Rattle.tpmsim_script.specs.Line.{DoesNothing}
+use Rattle.tpmsim_script.specs.Line.{line_meaning, lines_of}
+
+-- what the lines of a text mean, one after another; None where a line is bad
+abbrev pub meanings_of : (text : List ℕ) → List (Option Meaning)
+meanings_of text = map line_meaning (lines_of text)
+
+-- what the lines of an entry mean, and those after them
+abbrev pub entry_meanings : PlainEntry → (rest : List (Option Meaning)) → List (Option Meaning)
+entry_meanings e rest =
+    Some DoesNothing ∷ Some (Waits e.elapsed) ∷ Some (SetsLocality e.locality)
+    ∷ Some (SetsEntropy (encode_lower (shown e.drawn)))
+    ∷ Some (Executes (encode_lower e.buffer)) ∷ rest
+
+-- what the lines of entries mean, and those after them
+abbrev pub entries_meanings : List PlainEntry → (rest : List (Option Meaning))
+    → List (Option Meaning)
+entries_meanings [] rest = rest
+entries_meanings (e ∷ entries) rest = entry_meanings e (entries_meanings entries rest)
+
+-- The lines of an entry mean what the entry says, whatever follows.
+abbrev pub EntryMeansIt : Type 0
+EntryMeansIt = (sum : ℕ) (e : PlainEntry) (rest : List ℕ) → IsEntry e
+    → meanings_of (entry_text sum e ++ rest) ≡ entry_meanings e (meanings_of rest)
+
+-- The two lines of a head do nothing, whatever follows.
+abbrev pub HeadMeansNothing : Type 0
+HeadMeansNothing = (kind : HeadKind) (clock : ℕ) (content rest : List ℕ)
+    → meanings_of (head_text kind clock content ++ rest)
+    ≡ Some DoesNothing ∷ Some DoesNothing ∷ meanings_of rest
+
+-- A journal of a head and entries means what its entries say, one after another.
+abbrev pub JournalMeansIt : Type 0
+JournalMeansIt = (kind : HeadKind) (clock : ℕ) (content : List ℕ) (entries : List PlainEntry)
+    → AllByRecursion IsEntry entries
+    → meanings_of (head_text kind clock content ++ entries_text (head_sum clock content) entries)
+    ≡ Some DoesNothing ∷ Some DoesNothing ∷ entries_meanings entries []
