@@ -1,0 +1,45 @@
+-- The examples of two devices, computed.
+use Rattle.std.proofs.Common.{◌≡◌, ◌≢◌, ℕ, [], ◌∷◌, List, get_or, refl, ap, arith}
+use Rattle.tpm_record.specs.Entity.{entity_at, object_of}
+use Rattle.tpm_record.specs.Hierarchy.{manufactured_hierarchies}
+use Rattle.std.specs.Prelude.{replicate}
+use Rattle.tpm_types.specs.declared.handle.Handle.{Handle}
+use Rattle.tpm_record.specs.Record.{Record}
+use Rattle.tpm_nv.specs.Index.{NvIndex}
+use Rattle.tpm_step.proofs.Following.{manufactured_follows}
+use Rattle.tpm_step.specs.View.{view_of}
+use Rattle.tpm_premises.specs.Devices.{AreTwoDevices, AreTwoSecrets, holding, seeded}
+
+seeds_differ : seeded 0 ≢ seeded 1
+unfolding manufactured_hierarchies
+seeds_differ e =
+    let seed : 0 ≡ 1 = ap (λ (r : Record). get_or r.fixed.hierarchies.owner.secrets.seed 0 0) e in
+    omega (arith, seed)
+
+same_views : (handle : Handle) → view_of (seeded 0) handle ≡ view_of (seeded 1) handle
+unfolding view_of entity_at object_of
+same_views handle = refl
+
+pub are_two_devices : AreTwoDevices
+are_two_devices = record {
+  alike = record {
+    first = manufactured_follows (replicate 256 0);
+    second = manufactured_follows (replicate 256 1);
+    views = same_views;
+    lockout = refl;
+  };
+  differ = seeds_differ;
+}
+
+first_byte : List (ℕ × NvIndex) → ℕ
+first_byte [] = 0
+first_byte (one ∷ others) = get_or one.1.bytes 0 0
+
+bytes_differ : holding 0 ≢ holding 1
+unfolding first_byte
+bytes_differ e =
+    let byte : 0 ≡ 1 = ap (λ (r : Record). first_byte r.nv.indices) e in
+    omega (arith, byte)
+
+pub are_two_secrets : AreTwoSecrets
+are_two_secrets = record { secrets = refl; differ = bytes_differ }

@@ -1,0 +1,5 @@
+pub mod Policies
+pub mod Uses
+pub mod Replays
+pub mod Devices
+pub mod Journals

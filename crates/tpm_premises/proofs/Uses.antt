@@ -1,0 +1,15 @@
+-- The example of a use, computed.
+use Rattle.std.proofs.Common.{refl}
+use Rattle.tpm_commands.specs.CommandCode.{shape_of}
+use Rattle.tpm_types.specs.Handle.{numbered}
+use Rattle.tpm_premises.specs.Uses.{HasUse}
+
+pub has_use : HasUse
+unfolding shape_of
+has_use = record {
+  handle = numbered 0x80000000;
+  used = refl;
+  viewed = refl;
+  no_user_with_auth = refl;
+  auth_policy = refl;
+}

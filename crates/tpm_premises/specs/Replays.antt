@@ -1,0 +1,97 @@
+-- An example of a buffer that a history has twice.
+use Rattle.std.specs.Prelude.{List, ℕ, [], ◌∷◌, ◌++◌, Some, None, replicate}
+use Rattle.tpm_mac.specs.declared.algorithm.HashAlg.TheVariants as alg
+use Rattle.tpm_commands.specs.declared.command_code.CommandCode.TheVariants as command
+use Rattle.tpm_types.specs.Handle.{null_handle, numbered}
+use Rattle.tpm_types.specs.declared.session_type.SessionType.TheVariants as type
+use Rattle.tpm_types.specs.declared.symmetric.SymmetricDefinition.TheVariants as symmetric
+use Rattle.tpm_types_command.specs.AuthEntry.{Entry}
+use Rattle.tpm_record.specs.rows.Answer.{Plain, nothing}
+use Rattle.tpm_step.specs.History.{AcceptedCommand, Done}
+use Rattle.tpm_step.specs.Replays.{IsReplay}
+use Rattle.tpm_step.specs.Sessions.{LiveSession}
+use Rattle.tpm_step.specs.View.{OfHandle}
+
+abbrev pub zeros : List ℕ
+zeros = replicate 256 0
+
+-- the parameters of an HMAC session: a nonceCaller of 16 zeros, no salt, no symmetric algorithm,
+-- and SHA-256
+abbrev pub start_parameters : List ℕ
+start_parameters =
+    0x00 ∷ 0x10 ∷ replicate 16 0 ++ 0x00 ∷ 0x00 ∷ 0x00 ∷ 0x00 ∷ 0x10 ∷ 0x00 ∷ 0x0b ∷ []
+
+-- TPM2_StartAuthSession, which started a session under the handle 02000000
+abbrev pub starting : AcceptedCommand
+starting = record {
+  command = record {
+    code = command.StartAuthSession;
+    handles = null_handle ∷ null_handle ∷ [];
+    entries = [];
+    parameters = start_parameters;
+  };
+  grants = [];
+  request = record {
+    handles = null_handle ∷ null_handle ∷ [];
+    locality = 0;
+    parameters = start_parameters;
+    random = zeros;
+  };
+  answer = record { handle = Some (numbered 0x02000000); body = Plain []; drawn = 16 };
+  views = OfHandle null_handle ∷ OfHandle null_handle ∷ [];
+  sensitive = None;
+}
+
+-- the session
+abbrev pub session : LiveSession
+session = record {
+  kind = type.Hmac;
+  hash = alg.Sha256;
+  symmetric = symmetric.Null;
+  bound = None;
+  key = [];
+  nonce_tpm = replicate 16 0;
+  earlier_nonces = [];
+  assertions = [];
+}
+
+-- an entry of the session, with continueSession and an HMAC of four bytes
+abbrev pub entry : Entry
+entry = record {
+  session = numbered 0x02000000;
+  nonce = [];
+  attributes = record { octet = 1 };
+  hmac = 1 ∷ 2 ∷ 3 ∷ 4 ∷ [];
+}
+
+-- TPM2_GetRandom of eight bytes with this entry
+abbrev pub buffer : List ℕ
+buffer =
+    0x80 ∷ 0x02 ∷ 0x00 ∷ 0x00 ∷ 0x00 ∷ 0x1d ∷ 0x00 ∷ 0x00 ∷ 0x01 ∷ 0x7b
+    ∷ 0x00 ∷ 0x00 ∷ 0x00 ∷ 0x0d ∷ 0x02 ∷ 0x00 ∷ 0x00 ∷ 0x00 ∷ 0x00 ∷ 0x00 ∷ 0x01
+    ∷ 0x00 ∷ 0x04 ∷ 1 ∷ 2 ∷ 3 ∷ 4 ∷ 0x00 ∷ 0x08 ∷ []
+
+-- the command of this buffer, as a history has it
+abbrev pub asking : AcceptedCommand
+asking = record {
+  command = record {
+    code = command.GetRandom;
+    handles = [];
+    entries = entry ∷ [];
+    parameters = 0x00 ∷ 0x08 ∷ [];
+  };
+  grants = None ∷ [];
+  request = record {
+    handles = [];
+    locality = 0;
+    parameters = 0x00 ∷ 0x08 ∷ [];
+    random = zeros;
+  };
+  answer = nothing;
+  views = [];
+  sensitive = None;
+}
+
+-- The buffer is twice in a history, and is a replay the second time.
+abbrev pub HasReplay : Type 0
+HasReplay = IsReplay buffer (Done starting ∷ []) asking [] asking 0 entry session
