@@ -3,3 +3,5 @@ pub mod Breaks
 pub mod Meanings
 pub mod Times
 pub mod Buffers
+pub mod Playing
+pub mod Executing

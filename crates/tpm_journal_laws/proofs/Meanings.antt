@@ -22,19 +22,19 @@ use Rattle.tpm_journal_laws.proofs.Numbers.{ten_digits_read}
 
 -- ---- the lines, without their ends
 
-pub mark_front : (word bytes : List ℕ) (sum : ℕ) → List ℕ
+unfoldable pub mark_front : (word bytes : List ℕ) (sum : ℕ) → List ℕ
 mark_front word bytes sum = word ++ (encode_lower bytes ++ (32 ∷ encode_lower (to_be_bytes w64 sum)))
 
-pub wait_line : PlainEntry → List ℕ
+unfoldable pub wait_line : PlainEntry → List ℕ
 wait_line e = codes "wait " ++ ten_digits e.elapsed
 
-pub loc_line : PlainEntry → List ℕ
+unfoldable pub loc_line : PlainEntry → List ℕ
 loc_line e = codes "loc " ++ (48 + e.locality) ∷ []
 
-pub entropy_line : PlainEntry → List ℕ
+unfoldable pub entropy_line : PlainEntry → List ℕ
 entropy_line e = codes "entropy " ++ encode_lower (shown e.drawn)
 
-pub cmd_line : PlainEntry → List ℕ
+unfoldable pub cmd_line : PlainEntry → List ℕ
 cmd_line e = codes "cmd " ++ encode_lower e.buffer
 
 -- ---- no byte of them ends a line
@@ -75,7 +75,7 @@ spaced : (text : List ℕ) (place : ℕ) → position_or_len (λ byte. byte == 3
 spaced text place e l =
     ap (λ n. cond (nat_lt n (length text)) (Some n) None) e ∙ ap (λ b. cond b (Some place) None) (lt-ltb place (length text) l)
 
-wait_means : (e : PlainEntry) → IsEntry e → line_meaning (wait_line e) ≡ Some (Waits e.elapsed)
+pub wait_means : (e : PlainEntry) → IsEntry e → line_meaning (wait_line e) ≡ Some (Waits e.elapsed)
 unfolding wait_line line_reading reading_with ten_digits
 wait_means e is = rw (ten_digits_read e.elapsed is.elapsed) refl
 
@@ -88,17 +88,17 @@ digit_meant (suc (suc (suc zero))) h = refl
 digit_meant (suc (suc (suc (suc zero)))) h = refl
 digit_meant (suc (suc (suc (suc (suc n))))) h = absurd (omega (arith, h))
 
-loc_means : (e : PlainEntry) → IsEntry e → line_meaning (loc_line e) ≡ Some (SetsLocality e.locality)
+pub loc_means : (e : PlainEntry) → IsEntry e → line_meaning (loc_line e) ≡ Some (SetsLocality e.locality)
 unfolding loc_line
 loc_means e is = digit_meant e.locality is.locality
 
-entropy_means : (e : PlainEntry) → line_meaning (entropy_line e) ≡ Some (SetsEntropy (encode_lower (shown e.drawn)))
+pub entropy_means : (e : PlainEntry) → line_meaning (entropy_line e) ≡ Some (SetsEntropy (encode_lower (shown e.drawn)))
 unfolding entropy_line line_reading reading_with
 entropy_means e =
     let text = codes "entropy " ++ encode_lower (shown e.drawn) in
     ap (λ at. result_ok (reading_by at text)) (spaced text 7 refl (omega (arith, length-append (codes "entropy ") (encode_lower (shown e.drawn)))))
 
-cmd_means : (e : PlainEntry) → line_meaning (cmd_line e) ≡ Some (Executes (encode_lower e.buffer))
+pub cmd_means : (e : PlainEntry) → line_meaning (cmd_line e) ≡ Some (Executes (encode_lower e.buffer))
 unfolding cmd_line line_reading reading_with
 cmd_means e =
     let text = codes "cmd " ++ encode_lower e.buffer in
@@ -157,7 +157,7 @@ head_front : (kind : HeadKind) (bytes : List ℕ) (sum : ℕ) → Unbroken (mark
 head_front Image bytes sum = mark_unbroken (head_word Image) bytes sum (refl, (refl, (refl, (refl, (refl, (refl, (refl, (refl, (refl, (refl, (refl, (refl, (refl, (refl, (refl, (refl, (refl, (refl, (refl, tt)))))))))))))))))))
 head_front State bytes sum = mark_unbroken (head_word State) bytes sum (refl, (refl, (refl, (refl, (refl, (refl, (refl, (refl, (refl, (refl, (refl, (refl, (refl, (refl, (refl, (refl, (refl, (refl, (refl, tt)))))))))))))))))))
 
-head_front_means : (kind : HeadKind) (bytes : List ℕ) (sum : ℕ) → line_meaning (mark_front (head_word kind) bytes sum) ≡ Some DoesNothing
+pub head_front_means : (kind : HeadKind) (bytes : List ℕ) (sum : ℕ) → line_meaning (mark_front (head_word kind) bytes sum) ≡ Some DoesNothing
 unfolding mark_front
 head_front_means Image bytes sum = comment_means _
 head_front_means State bytes sum = comment_means _
@@ -165,14 +165,14 @@ head_front_means State bytes sum = comment_means _
 head_grouped : (mark word digits feed rest : List ℕ) → (mark ++ word ++ digits ++ feed) ++ rest ≡ mark ++ ((word ++ digits) ++ (feed ++ rest))
 head_grouped mark word digits feed rest = simp append_assoc refl
 
-content_line : (content : List ℕ) → List ℕ
+unfoldable pub content_line : (content : List ℕ) → List ℕ
 content_line content = codes "# " ++ encode_lower content
 
-content_unbroken : (content : List ℕ) → Unbroken (content_line content)
+pub content_unbroken : (content : List ℕ) → Unbroken (content_line content)
 unfolding content_line
 content_unbroken content = unbroken_joined (codes "# ") (encode_lower content) (refl, (refl, tt)) (hex_unbroken content)
 
-content_means : (content : List ℕ) → line_meaning (content_line content) ≡ Some DoesNothing
+pub content_means : (content : List ℕ) → line_meaning (content_line content) ≡ Some DoesNothing
 unfolding content_line
 content_means content = comment_means _
 
@@ -182,13 +182,19 @@ unfolding head_text content_line
 head_split kind clock content rest =
     head_grouped (marked_line (head_word kind) (head_mark clock content) (head_sum clock content)) (codes "# ") (encode_lower content) (10 ∷ []) rest
 
-pub head_means_nothing : HeadMeansNothing
-head_means_nothing kind clock content rest =
+-- the two lines of a head
+pub head_lines : (kind : HeadKind) (clock : ℕ) (content rest : List ℕ) → lines_of (head_text kind clock content ++ rest)
+    ≡ mark_front (head_word kind) (head_mark clock content) (head_sum clock content) ∷ content_line content ∷ lines_of rest
+head_lines kind clock content rest =
     let mark = mark_front (head_word kind) (head_mark clock content) (head_sum clock content) in
     let more = content_line content ++ 10 ∷ rest in
-    ap meanings_of (head_split kind clock content rest ∙ mark_split (head_word kind) (head_mark clock content) more (head_sum clock content))
-    ∙ ap (map line_meaning) (line_first mark more (head_front kind (head_mark clock content) (head_sum clock content))
-    ∙ ap (λ (l : List (List ℕ)). mark ∷ l) (line_first (content_line content) rest (content_unbroken content)))
+    ap lines_of (head_split kind clock content rest ∙ mark_split (head_word kind) (head_mark clock content) more (head_sum clock content))
+    ∙ line_first mark more (head_front kind (head_mark clock content) (head_sum clock content))
+    ∙ ap (λ (l : List (List ℕ)). mark ∷ l) (line_first (content_line content) rest (content_unbroken content))
+
+pub head_means_nothing : HeadMeansNothing
+head_means_nothing kind clock content rest =
+    ap (map line_meaning) (head_lines kind clock content rest)
     ∙ rw (head_front_means kind (head_mark clock content) (head_sum clock content), content_means content) refl
 
 -- ---- a journal

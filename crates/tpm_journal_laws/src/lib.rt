@@ -9,6 +9,7 @@
 ghost use Rattle.tpm_journal_laws.specs.Buffers.{IsRecordedWhole, LongerAreRefusedAlike};
 ghost use Rattle.tpm_journal_laws.specs.Meanings.{EntryMeansIt, HeadMeansNothing};
 ghost use Rattle.tpm_journal_laws.specs.Meanings.{JournalMeansIt};
+ghost use Rattle.tpm_journal_laws.specs.Playing.{JournalPlays, PlaysAsExecuted};
 ghost use Rattle.tpm_journal_laws.specs.Times.{BeginsAtClock, GoesWithClock, TellsNoTimeTwice};
 
 /// The line of an entry's mark does nothing. The lines after it wait for the entry's milliseconds,
@@ -20,6 +21,15 @@ pub fn meaning_laws()
     ensures entry { EntryMeansIt }
     ensures head { HeadMeansNothing }
     ensures journal { JournalMeansIt }
+{}
+
+/// A journal plays to its end as a script, and prints what the device answers to its entries. Where
+/// an entry has the bytes that its command drew, its lines execute the command as it was executed.
+#[inline(always)]
+#[tactic(auto, using(crate::proofs::Playing::journal_plays, crate::proofs::Executing::plays_as_executed))]
+pub fn playing_laws()
+    ensures plays { JournalPlays }
+    ensures executes { PlaysAsExecuted }
 {}
 
 /// A journal's time begins at the clock of its head, and after each command it is the clock at which
