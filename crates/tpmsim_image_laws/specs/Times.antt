@@ -1,0 +1,19 @@
+-- What a stopwatch tells commands together.
+use Rattle.std.specs.Prelude.{ℕ, ◌+◌, ◌-◌, ◌/◌, ◌≤◌, List, [], ◌∷◌, None}
+use Rattle.std.specs.List.{AllByRecursion}
+use Rattle.tpmsim_image.specs.Stopwatch.{StopwatchState, after_command, told}
+
+-- the milliseconds that commands are told together, which come at these times, one after another
+abbrev pub told_together : StopwatchState → (times : List ℕ) → ℕ
+told_together s [] = 0
+told_together s (now ∷ times) = told now s + told_together (after_command now s) times
+
+-- a stopwatch before the first command
+abbrev pub new_stopwatch : StopwatchState
+new_stopwatch = record { first = None; passed = 0 }
+
+-- No more is told than passes from the first command to the latest, whether the times ascend or
+-- not.
+abbrev pub TellsNoTimeTwice : Type 0
+TellsNoTimeTwice = (first latest : ℕ) (times : List ℕ) → AllByRecursion (λ now. now ≤ latest) times
+    → told_together new_stopwatch (first ∷ times) ≤ (latest - first) / 1_000_000

@@ -1,0 +1,16 @@
+#![tactic(auto)]
+
+//! Laws of a served device: of the time that its commands are told.
+//!
+//! The laws are of the definitions of tpmsim_image: each is the contract of a function that does
+//! nothing. No crate uses this one.
+
+ghost use Rattle.tpmsim_image_laws.specs.Times.{TellsNoTimeTwice};
+
+/// No millisecond is told twice: all commands together are told at most the milliseconds from the
+/// first of them to the latest, whatever times of the host's clock they come at.
+#[inline(always)]
+#[tactic(auto, using(crate::proofs::Times::tells_no_time_twice))]
+pub fn stopwatch_laws()
+    ensures { TellsNoTimeTwice }
+{}
