@@ -36,6 +36,7 @@ digit_unbroken d = other (slice_index lower_digits d) (digit_is_no_feed d)
               let past : 0 ≡ 10 = sym (get_or_past lower_digits d 0 large) ∙ e in
               absurd (omega (arith, past))
         ]
+
     other : (byte : ℕ) → (byte ≡ 10 → ⊥) → (byte == 10) ≡ false
     other byte h = grind (arith)
 

@@ -29,6 +29,7 @@ made_front byte (x ∷ front) from (suc count) few each =
   where
     same : (n : ℕ) → n ≡ n + 0
     same n = omega arith
+
     moved : (n i : ℕ) → n + 1 + i ≡ n + suc i
     moved n i = omega arith
 

@@ -44,10 +44,37 @@ no_feed d = grind (arith, nat_tests)
 
 wait_unbroken : (e : PlainEntry) → Unbroken (wait_line e)
 unfolding wait_line ten_digits
-wait_unbroken e =
-    (refl, (refl, (refl, (refl, (refl,
-    (no_feed _, (no_feed _, (no_feed _, (no_feed _, (no_feed _,
-    (no_feed _, (no_feed _, (no_feed _, (no_feed _, (no_feed _, tt)))))))))))))))
+wait_unbroken e = (
+  refl,
+  (
+    refl,
+    (
+      refl,
+      (
+        refl,
+        (
+          refl,
+          (
+            no_feed _,
+            (
+              no_feed _,
+              (
+                no_feed _,
+                (
+                  no_feed _,
+                  (
+                    no_feed _,
+                    (no_feed _, (no_feed _, (no_feed _, (no_feed _, (no_feed _, tt))))),
+                  ),
+                ),
+              ),
+            ),
+          ),
+        ),
+      ),
+    ),
+  ),
+)
 
 loc_unbroken : (e : PlainEntry) → Unbroken (loc_line e)
 unfolding loc_line
