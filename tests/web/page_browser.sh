@@ -12,5 +12,5 @@ node "$tests/web/page_browser.mjs" "file://$top/dist/tpmsim.html" "file://$PWD/e
 "$program" replay taken/journal >replayed && echo "the program replays the journal: $(grep -c '^8' replayed) answers"
 "$program" run taken/script >played || status=1
 sed -n 's/^# \(80.*\)/\1/p' taken/log >logged
-cmp logged played && echo 'the log has the answers of the program'
+test -s logged && cmp logged played && echo 'the log has the answers of the program'
 exit "$status"
