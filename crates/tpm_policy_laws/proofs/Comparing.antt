@@ -80,5 +80,5 @@ comparison_holds r q s e =
       index = target.1;
       parameters = asked.0;
       asked = asked.1;
-      holds = policy_holds r target.0 asked.0 assertion.0 session.0 policy.0 (ok_is {E = Refused} _ assertion.0 asked.2) policy.1;
+      holds = policy_holds r target.0 asked.0 assertion.0 session.0 policy.0 (ok_is {E = Refused} (λ (x : Session). Nv (nv_parts_of r target.0 asked.0)) assertion.0 asked.2) policy.1;
     }
