@@ -95,7 +95,7 @@ extended=$(python3 -c 'import hashlib; print(hashlib.sha256(bytes(63) + b"\1").h
 device() {
     tool startup -c
     tool selftest -f
-    tool getrandom --force --hex 16
+    tool getrandom --hex -f 16
     for what in commands handles-persistent handles-pcr handles-permanent handles-transient \
         handles-nv-index pcrs; do
         tool getcap "$what"
@@ -175,7 +175,7 @@ sealing() {
 power_cycle() {
     tool shutdown -c
     made/tpmsim-power state || wrong 'the power cycle'
-    refused 100 getrandom --force --hex 16
+    refused 100 getrandom --hex -f 16
     tool startup -c
     tool nvread 0x1500016 -C o -s 8
     same data
