@@ -11,7 +11,7 @@ chmod +x none/cc
 (cd "$top" && tar cf - --exclude=out --exclude=must-fail --exclude=__pycache__ CHANGELOG.md Makefile \
     README.md HANDLES crates/tpmsim crates/tpmsim_library crates.txt attached dist \
     docs examples library packaging python/packing python/pyproject.toml python/tpmsim \
-    rust/Cargo.toml tools tpmsim .gitignore) |
+    js/package.json rust/Cargo.toml tools tpmsim .gitignore) |
     tar xf - -C copy
 cd copy || exit 1
 version=$(dist/tpmsim --version | sed 's/.* //')
