@@ -137,7 +137,13 @@ def repeated() -> None:
             with Served(*words) as served:
                 tpm = served.client()
                 draws.append((drawn(tpm), drawn(tpm), tpm.call("ReadClock")["currentTime"].time))
-        print(words, "repeats:", draws[0][:2] == draws[1][:2], "draws twice:", draws[0][0] == draws[0][1])
+        print(
+            words,
+            "repeats:",
+            draws[0][:2] == draws[1][:2],
+            "draws twice:",
+            draws[0][0] == draws[0][1],
+        )
         if words:
             print("its time stands still:", draws[0][2] == draws[1][2] == 0)
 
