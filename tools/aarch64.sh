@@ -24,8 +24,10 @@ fail() {
     exit 1
 }
 
-# compile_here CRATE FILE: compiles a crate for the other machine, and prints the prover's verdict.
+# compile_here CRATE FILE: compiles a crate for the other machine, and prints the prover's verdict. Each has a
+# log of its own, as both are compiled at the same time.
 compile_here() {
+    log=$log.$1
     compile "$top" "$1" "$work/$2" --target "$target" --cpu generic >"$log" 2>&1 &&
         verdict=$(grep -x "logic=proved .* target=$target .*" "$log") && echo "$1: $verdict"
 }
@@ -79,8 +81,10 @@ kit_version=$(rt version) && program_sources=$(sources_checksum) &&
 # shellcheck disable=SC2046 # no name of a crate has a space
 are_built $(crates_below tpmsim tpmsim_library) ||
     fail 'a crate is not built here, or a source is newer: tools/build.sh builds them'
-compile_here tpmsim program.o || fail 'the program is not compiled'
-compile_here tpmsim_library exports.a || fail 'the exports are not compiled'
+(compile_here tpmsim program.o || fail 'the program is not compiled') &
+program=$!
+(compile_here tpmsim_library exports.a || fail 'the exports are not compiled') || exit 1
+wait "$program" || exit 1
 compile_glue || fail 'the glue is not compiled'
 link_program || fail 'the program is not linked'
 link_library || fail 'the library is not put together'
