@@ -53,7 +53,7 @@ typedef struct tpmsim {
    that it had, as it was, and nothing was written. */
 enum tpmsim_told {
     TPMSIM_DONE = 0,
-    /* The handle has no device. */
+    /* The handle has no device, or no keeper. */
     TPMSIM_NO_DEVICE = 1,
     /* A locality is 0 to 4. */
     TPMSIM_NO_LOCALITY = 2,
@@ -83,7 +83,9 @@ enum tpmsim_told {
     TPMSIM_STATE_VERSION = 15,
     TPMSIM_STATE_LENGTH = 16,
     TPMSIM_STATE_DIGEST = 17,
-    TPMSIM_STATE_BODY = 18
+    TPMSIM_STATE_BODY = 18,
+    /* A number is none of tpmsim_force, or none of tpmsim_job. */
+    TPMSIM_NO_WORD = 19
 };
 
 /* Enough for each state text. */
@@ -256,6 +258,139 @@ uint8_t tpmsim_journal_execute(tpmsim *device, const uint8_t *buffer, size_t siz
                                const uint8_t random[256], uint8_t response[4096],
                                tpmsim_answered *answered, uint8_t record[TPMSIM_RECORD_ROOM],
                                size_t *record_size);
+
+/* ---- the keeper of a device in a folder
+
+   A keeper says what a host does so that a device lives in a folder, which several processes may use:
+   what to lock, read, write, force to the disk and rename, and when the response may go out. After any
+   kill, failure or crash the device is the one that executed the answered commands. A keeper does no
+   input and no output. docs/LIBRARY.md has a host's loop, and the texts of commands and seeds.
+
+   A handle of a keeper is used as one of a device: it begins as zeros, `tpmsim_keeper keeper = {0};`,
+   and has no keeper then. */
+typedef struct tpmsim_keeper {
+    void *private_;
+} tpmsim_keeper;
+
+/* When what was written is forced to the disk: never, but for a new journal; when a journal begins anew
+   too, with the folder, as at a power cycle; or before each response. */
+enum tpmsim_force { TPMSIM_FORCE_NEVER = 0, TPMSIM_FORCE_POWER = 1, TPMSIM_FORCE_ALWAYS = 2 };
+
+/* What a keeper is asked for. */
+enum tpmsim_job {
+    /* To execute the command of a text. */
+    TPMSIM_JOB_EXECUTE = 0,
+    /* To begin the journal anew, in the same state. The text does not count. */
+    TPMSIM_JOB_RENEW = 1,
+    /* To give the head of a journal that begins in this state. The text does not count. */
+    TPMSIM_JOB_SHOW = 2,
+    /* To see that there is a device, or else to begin one of the seed of a text. */
+    TPMSIM_JOB_BEGIN = 3
+};
+
+/* What the host is to do next. */
+enum tpmsim_task {
+    /* Nothing: the call has ended. */
+    TPMSIM_TASK_NOTHING = 0,
+    /* To take the folder's lock, by an open file of this process's own. If that fails, the host closes
+       the file. */
+    TPMSIM_TASK_LOCK = 1,
+    /* To open the file that is named journal, unless it is the one that is open, and to say its number
+       and its size. */
+    TPMSIM_TASK_LOOK = 2,
+    /* To read the file from `at` on: as many bytes as the host likes, and at least one. */
+    TPMSIM_TASK_READ = 3,
+    /* To cut the file to `cut` bytes, if it has more, and to write the keeper's text at `at`. */
+    TPMSIM_TASK_PUT = 4,
+    /* To force the file to the disk, by the open file that was written. */
+    TPMSIM_TASK_FORCE = 5,
+    /* To write the keeper's text to a new file, whole, and to force that to the disk. */
+    TPMSIM_TASK_MAKE = 6,
+    /* To give the new file the journal's name, and to say its number. */
+    TPMSIM_TASK_NAME = 7,
+    /* To force the folder to the disk. */
+    TPMSIM_TASK_SETTLE = 8,
+    /* To give the lock back. If that fails, the host closes its file. */
+    TPMSIM_TASK_UNLOCK = 9
+};
+
+/* Why a call was not done. */
+enum tpmsim_fault {
+    TPMSIM_FAULT_NONE = 0,
+    /* Nothing was asked for, or the call was left in the middle. */
+    TPMSIM_FAULT_IDLE = 1,
+    /* The host did not do a task. */
+    TPMSIM_FAULT_LOCK = 2,
+    TPMSIM_FAULT_LOOK = 3,
+    TPMSIM_FAULT_READ = 4,
+    TPMSIM_FAULT_WRITE = 5,
+    TPMSIM_FAULT_FORCE = 6,
+    TPMSIM_FAULT_MAKE = 7,
+    TPMSIM_FAULT_NAME = 8,
+    TPMSIM_FAULT_SETTLE = 9,
+    /* There is no journal. */
+    TPMSIM_FAULT_ABSENT = 10,
+    /* A device was to begin of what is no seed. */
+    TPMSIM_FAULT_UNREADABLE = 11,
+    /* What was to be executed is no command. */
+    TPMSIM_FAULT_NO_COMMAND = 12,
+    /* The file is no journal, or is damaged. It stays as it is. */
+    TPMSIM_FAULT_DAMAGED = 13,
+    /* malloc gave no memory. */
+    TPMSIM_FAULT_MEMORY = 14,
+    /* The handle has no keeper. */
+    TPMSIM_FAULT_NO_KEEPER = 15
+};
+
+/* The next task. What is not said of a task is 0. */
+typedef struct tpmsim_ask {
+    /* Of PUT: to how many bytes the file is cut first. */
+    uint64_t cut;
+    /* Of READ and PUT: the offset in the file. */
+    uint64_t at;
+    /* Of PUT and MAKE: how many bytes tpmsim_keeper_text writes. Of NOTHING: how many
+       tpmsim_keeper_response writes. */
+    size_t size;
+    /* A number of tpmsim_task. */
+    uint8_t task;
+    /* Of NOTHING: a number of tpmsim_fault, 0 if the call is done and the response may go out. */
+    uint8_t fault;
+} tpmsim_ask;
+
+/* What came of a task: the host did all of it; there is no journal, of LOOK; it failed, or not all was
+   done, or nobody knows. Each other number is as the last one. */
+enum tpmsim_got { TPMSIM_GOT_DONE = 0, TPMSIM_GOT_GONE = 1, TPMSIM_GOT_FAILED = 2 };
+
+/* Makes a keeper that has seen nothing, in place of the handle's own, which is freed. A journal begins
+   anew once it has `limit` bytes, and twice as many as it would begin with.
+
+   TPMSIM_DONE, TPMSIM_NO_WORD, TPMSIM_NO_MEMORY. */
+uint8_t tpmsim_keeper_new(tpmsim_keeper *keeper, uint8_t force, uint64_t limit);
+
+/* Begins a call. What was left in the middle of another is dropped: a host that left it, or is a fork of
+   one that did, closes its lock first. If memory is refused, that is dropped too, and no call begins.
+
+   TPMSIM_DONE, TPMSIM_NO_WORD, TPMSIM_NO_DEVICE, TPMSIM_NO_MEMORY. */
+uint8_t tpmsim_keeper_begin(tpmsim_keeper *keeper, uint8_t job, const uint8_t *text, size_t size);
+
+/* Says what the host is to do next. Without a keeper that is nothing, by TPMSIM_FAULT_NO_KEEPER. */
+void tpmsim_keeper_ask(tpmsim_keeper *keeper, tpmsim_ask *ask);
+
+/* Writes what PUT or MAKE writes to the front of a buffer, if all of it fits; else nothing is written.
+   How many bytes it has, written or not; 0 of each other task, and without a keeper. */
+size_t tpmsim_keeper_text(tpmsim_keeper *keeper, uint8_t *buffer, size_t size);
+
+/* Writes the response of a call that is done to the front of a buffer, if all of it fits; else nothing is
+   written. How many bytes it has, written or not; 0 before the call is done, and without a keeper. */
+size_t tpmsim_keeper_response(tpmsim_keeper *keeper, uint8_t *buffer, size_t size);
+
+/* Takes what came of the task: of LOOK and NAME the number of the file, which another file never has; of
+   LOOK how many bytes the file has; of READ the bytes. Nothing else is read. */
+void tpmsim_keeper_next(tpmsim_keeper *keeper, uint8_t got, uint64_t file, uint64_t file_size,
+                        const uint8_t *bytes, size_t size);
+
+/* Frees the keeper and its device, if there is one. The handle has none then, and may be used again. */
+void tpmsim_keeper_free(tpmsim_keeper *keeper);
 
 /* Frees the device, if there is one. The handle has none then, and may be used again. */
 void tpmsim_free(tpmsim *device);

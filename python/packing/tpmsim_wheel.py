@@ -66,9 +66,9 @@ def sources() -> list[pathlib.Path]:
 
 
 def package() -> list[Entry]:
-    """All files of the package: its sources, and the page."""
+    """All files of the package: its sources, and the page, where the repository is there."""
     files = [Entry(it.relative_to(SOURCES).as_posix(), it.read_bytes()) for it in sources()]
-    return [*files, Entry(PAGE_PLACE, PAGE.read_bytes())]
+    return [*files, Entry(PAGE_PLACE, PAGE.read_bytes())] if PAGE.is_file() else files
 
 
 def metadata() -> str:

@@ -123,16 +123,9 @@ class Completed(unittest.TestCase):
             "    by check G4.",
         )
         self.assertEqual(tuple(text.whole(stirred))[:3], told)
-        shown = page.PageData(play := Play())
-        play.watch = shown.look
-        for event in play.events(journal):
-            shown.add(event)
-        texts = list(shown.texts)
-        found = [texts[it["v"]] if "v" in it else "" for it in shown.events]
-        self.assertEqual(
-            found[1], f"The completing layer: the bytes are not used. {own} by check G4."
-        )
-        self.assertTrue(found[2].startswith("The completing layer: object 80000000 is not there."))
+        shown = page.of_log("log", Play(), journal, text.Counts())
+        self.assertIn(f"The completing layer: the bytes are not used. {own} by check G4.", shown)
+        self.assertIn("The completing layer: object 80000000 is not there.", shown)
         title = "line 17: ContextSave is refused: REFERENCE_H0 (910), by the completing layer"
         said = list(text.told(saved))
         self.assertEqual(said[0], title)

@@ -53,7 +53,7 @@ def log_of(text):
 
 class Page(unittest.TestCase):
     def test_escaping(self):
-        plain = Elements(page.FILE.read_text("utf-8"))
+        plain = Elements(page.plain())
         parsed = Elements(page_of(HOSTILE, LOG.encode()))
         self.assertEqual(parsed.found, plain.found)
         name = pathlib.PurePath(HOSTILE).name

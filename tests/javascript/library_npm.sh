@@ -2,7 +2,7 @@
 # where another project has installed it. The repository is left as it was.
 tests=$(cd "$(dirname "$0")/.." && pwd -P)
 . "$tests/common/cases.sh"
-. "$tests/javascript/common.sh"
+. "$tests/common/javascript.sh"
 needs npm tar
 
 HOME=$room/home

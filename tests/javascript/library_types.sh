@@ -2,7 +2,7 @@
 # what it declares, and a program that uses it, whose marked lines are refused.
 tests=$(cd "$(dirname "$0")/.." && pwd -P)
 . "$tests/common/cases.sh"
-. "$tests/javascript/common.sh"
+. "$tests/common/javascript.sh"
 needs tsc
 
 # types LABEL FILE WORDS..: whether a file has no fault.

@@ -24,7 +24,7 @@ install_as() {
     : >asked
     USER_NUMBER=$1 PREFIX=$2 PATH=$room/folder/bin:$PATH "$top/tools/install.sh" >said 2>&1 ||
         echo "status $?"
-    grep -v 'there is no module' said | cat - asked | sed "s|$room|ROOM|g"
+    grep -v 'there is no \(module\|tpmsim-simulator\)' said | cat - asked | sed "s|$room|ROOM|g"
 }
 
 # import: whether python3 finds the package.

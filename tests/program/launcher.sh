@@ -69,7 +69,7 @@ ship_library() (
     cd "$copy" || exit 1
     . tools/lib/proved.sh
     mkdir library
-    for file in library/tpmsim.h library/tpmsim.pc "$archive" "$shared"; do
+    for file in library/tpmsim.h library/tpmsim.hpp library/tpmsim.pc "$archive" "$shared" "$module"; do
         echo "a stand-in for $file" >"$file"
     done
     cp library/* dist/
@@ -77,6 +77,8 @@ ship_library() (
         echo "library sources: $(sources_checksum tpmsim_library)"
         echo "library archive: $(checksum <"$archive")"
         echo "library shared object: $(checksum <"$shared")"
+        echo "web sources: $(sources_checksum tpmsim_web)"
+        echo "web module: $(checksum <"$module")"
     } >>"$proved"
 )
 
@@ -147,9 +149,20 @@ start failing 'a source is newer, and rt can build nothing'
 start rt 'a source is newer, and rt can build it'
 start - 'it is built'
 
+# ship_module: puts a stand-in for the module for web pages into dist/, as if it had been made.
+ship_module() (
+    PATH=$room/rt:$room/tools
+    cd "$copy" || exit 1
+    . tools/lib/proved.sh
+    sed -i '/^web /d' "$proved"
+    printf 'web sources: %s\nweb module: %s\n' "$(sources_checksum tpmsim_web)" \
+        "$(checksum <"$module")" >>"$proved"
+)
+
 # What the gate says of dist/.
 with rt 'the gate, with other sources' "$copy/tools/dist.sh" --check
 with rt 'made anew' "$copy/tools/dist.sh"
+ship_module
 with rt 'the gate' "$copy/tools/dist.sh" --check
 with failing 'the gate, with another kit' "$copy/tools/dist.sh" --check
 cp -p "$copy/dist/libtpmsim.a" "$kept"

@@ -68,7 +68,8 @@ cut 'the front of a mark, and zeros' 150 zeros 3000
 cut 'a mark, the front of its lines, and zeros' 20 zeros 100
 cut 'the front of an entry, and more zeros than are read at once' 20 zeros 600000
 cut 'fewer bytes than a mark has, whatever they are' 0 printf x
-cut 'fewer bytes than a mark says, whatever they are' 20 echo
+cut 'fewer bytes than a mark says, whatever they are' 20 printf z
+refused 'fewer bytes than a mark says, and a line end in a wrong place' 20 echo
 refused 'as many bytes as a mark has, and no zeros' 0 printf '%072d' 1
 refused 'as many bytes as a mark says, and no entry' 20 printf '%020d' 1
 refused 'zeros, and a byte that is none' 0 sh -c 'head -c 4096 /dev/zero; printf x'

@@ -9,8 +9,8 @@ mkdir -p web/one && cd web/one && ln -s "$top/examples" ../../examples || exit 1
 "$top/tools/explain.py" --html "$top/examples/hmac_session.tpm" >explained.html || exit 1
 status=0
 node "$tests/web/page_browser.mjs" "file://$top/dist/tpmsim.html" "file://$PWD/explained.html" || status=1
-"$program" replay taken/journal >replayed && echo "the program replays the journal: $(grep -c '^8' replayed) answers"
-"$program" run taken/script >played || status=1
+"$top/dist/tpmsim" replay taken/journal >replayed && echo "the program replays the journal: $(grep -c '^8' replayed) answers"
+"$top/dist/tpmsim" run taken/script >played || status=1
 sed -n 's/^# \(80.*\)/\1/p' taken/log >logged
 test -s logged && cmp logged played && echo 'the log has the answers of the program'
 exit "$status"

@@ -10,7 +10,8 @@ mkdir -p web js && cp -R "$top/web/page" web/page && cp -R "$top/js/src" js/src 
 echo '{ "type": "module" }' >package.json
 find "$tests" "$top/examples" -name '*.tpm' -size -100k | sort >names
 while read -r name; do
-    [ ! -f "${name%.tpm}.out" ] || echo "$name"
+    # The program ends a script with a bad line there, and the page plays on.
+    [ ! -f "${name%.tpm}.out" ] || [ -f "${name%.tpm}.status" ] || echo "$name"
 done <names >scripts
 xargs node "$tests/web/page_states.mjs" web/page facts.json "$top/dist/tpmsim.wasm" \
     "$top/web/page/tutorial.json" states <scripts || exit 1

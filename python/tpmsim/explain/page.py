@@ -85,10 +85,15 @@ def facts_value(facts: list[Fact]) -> list[list[str]]:
     return [[it.label, it.value, it.sort] for it in facts]
 
 
+def plain() -> str:
+    """The page without a log: as it is installed, or as the repository ships it."""
+    return (FILE if FILE.is_file() else DIST / FILE.name).read_text("utf-8")
+
+
 def filled(name: str, value: Value) -> str:
     spelled = json.dumps(value, separators=(",", ":"))
     data = re.sub("[<>&]", lambda it: ESCAPES[it[0]], spelled)
-    page = (FILE if FILE.is_file() else DIST / FILE.name).read_text("utf-8")
+    page = plain()
     title = f"<title>{html.escape(name)}, explained</title>"
     page = TITLE.sub(lambda it: title, page, count=1)
     return page.replace(NO_LOG, NO_LOG.replace("null", data), 1)
