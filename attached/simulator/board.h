@@ -1,5 +1,4 @@
-/* What a device stands on: its power, and the signals of its platform. Both ports of a device have the
-   same board. */
+/* The power of a device, and the signals of its platform. Both ports of a device have the same board. */
 #ifndef BOARD_H
 #define BOARD_H
 #include "device.h"

@@ -120,8 +120,8 @@ enum outcome client_go_on(struct client *client, struct reason *reason) {
     return outcome;
 }
 
-/* Reads what has come and is not wanted: a socket that is closed before tells its client of a fault,
-   and the last answer may be lost. */
+/* Reads what has come and is not needed. If a socket is closed with unread bytes, its client sees a reset,
+   and may lose the last answer. */
 static void read_rest(const struct client *client) {
     enum { PARTS = 16 };
     uint8_t unwanted[4096];

@@ -1,5 +1,5 @@
-/* The time that a device in memory is told, in milliseconds since 1970: that of the host as the
-   simulator began, and, unless it stands still, what passed since by a clock that never goes back. */
+/* The time of a device in memory, in milliseconds since 1970: the host's time when the simulator began, and
+   what passed since by a clock that never goes back, unless the time stands still. */
 #ifndef CLOCK_H
 #define CLOCK_H
 #include <stdbool.h>

@@ -42,7 +42,7 @@ static bool manufacture(struct device *device, struct reason *reason) {
     return told == TPMSIM_DONE || refuse_device(told_words(told), reason);
 }
 
-/* Writes the image, where there is a file for it. */
+/* Writes the image, if there is a file for it. */
 static bool keep(struct device *device, bool always, struct reason *reason) {
     return !device->has_image || image_file_keep(&device->image, &device->handle, always, reason);
 }

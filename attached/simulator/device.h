@@ -26,7 +26,7 @@ struct device *device_open(const struct options *options, unsigned number, struc
 bool device_execute(struct device *device, const uint8_t *buffer, size_t size, uint8_t locality,
                     struct response *response, struct reason *reason);
 
-/* Takes power away from the device and gives it back. False with the reason. */
+/* Power-cycles the device. False with the reason. */
 bool device_cycle_power(struct device *device, struct reason *reason);
 
 /* Ends the device, which may be NULL; its image has its clock then. False with the reason. */

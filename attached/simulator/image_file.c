@@ -13,7 +13,7 @@
 #include <sys/file.h>
 #include <unistd.h>
 
-/* No image has as many bytes. */
+/* An image has fewer bytes. */
 enum { IMAGE_MOST = 64 * 1024 };
 
 /* Puts `end` after the path. False if that is too long. */

@@ -27,7 +27,7 @@ enum platform_request {
 /* Those of both ports. */
 enum either_request { SESSION_END = 20, STOP = 21 };
 
-/* The version that a handshake tells; and its features: commands go as they are, and there is a
+/* The version that a handshake returns, and its features: commands go as they are, and there is a
    platform. */
 enum { VERSION = 1, FEATURES = 5 };
 
@@ -50,7 +50,7 @@ static enum outcome done(struct answer *answer) {
     return GOES_ON;
 }
 
-/* The end of a request whose size is told at a place. What is too long is not read: of a command its
+/* The end of a request whose size is at an offset. What is too long is not read: of a command its
    head, of data nothing. */
 static size_t sized_end(const uint8_t *bytes, size_t size, size_t size_at, size_t most_head) {
     size_t start = size_at + NUMBER;
@@ -70,7 +70,7 @@ size_t request_size(const uint8_t *bytes, size_t size, bool is_of_platform) {
     }
 }
 
-/* Executes a command. One that is too long is told its size, and ends the connection. */
+/* Executes a command. One that is too long is answered COMMAND_SIZE, and ends the connection. */
 static enum outcome send_command(struct board *board, const uint8_t *bytes, struct answer *answer,
                                  struct reason *reason) {
     struct response response;

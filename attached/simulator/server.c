@@ -72,7 +72,7 @@ static bool has_room(struct server *server) {
     return true;
 }
 
-/* A new descriptor has the lowest number that is free, so it tells how few are left. */
+/* A new descriptor has the lowest number that is free, so it shows how few are left. */
 static bool is_one_too_many(int socket) {
     struct rlimit most;
     return getrlimit(RLIMIT_NOFILE, &most) == 0 && most.rlim_cur != RLIM_INFINITY &&
