@@ -4,4 +4,5 @@ pub mod Meanings
 pub mod Times
 pub mod Buffers
 pub mod Playing
+pub mod Damage
 pub mod Executing

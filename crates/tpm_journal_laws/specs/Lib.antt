@@ -1,3 +1,4 @@
+pub mod Damage
 pub mod Meanings
 pub mod Times
 pub mod Buffers

@@ -1,12 +1,13 @@
 #![tactic(auto)]
 
-//! Laws of journals: what the text of a journal says as a script, and how a journal goes with the
-//! host's clock and records buffers.
+//! Laws of journals: what the text of a journal says as a script, how a journal goes with the host's
+//! clock and records buffers, and what is executed of a damaged one.
 //!
 //! The laws are of the definitions of tpm_journal, tpm_journal_text and tpmsim_script: each is the
 //! contract of a function that does nothing. No crate uses this one.
 
 ghost use Rattle.tpm_journal_laws.specs.Buffers.{IsRecordedWhole, LongerAreRefusedAlike};
+ghost use Rattle.tpm_journal_laws.specs.Damage.{FrontIsFollowed};
 ghost use Rattle.tpm_journal_laws.specs.Meanings.{EntryMeansIt, HeadMeansNothing};
 ghost use Rattle.tpm_journal_laws.specs.Meanings.{JournalMeansIt};
 ghost use Rattle.tpm_journal_laws.specs.Playing.{JournalPlays, PlaysAsExecuted};
@@ -50,4 +51,12 @@ pub fn time_laws()
 pub fn buffer_laws()
     ensures whole { IsRecordedWhole }
     ensures longer { LongerAreRefusedAlike }
+{}
+
+/// A journal that is cut where it is damaged is followed to its end, to the same device: what was
+/// answered before the damage is what the entries there say.
+#[inline(always)]
+#[tactic(auto, using(crate::proofs::Damage::front_is_followed))]
+pub fn damage_laws()
+    ensures { FrontIsFollowed }
 {}

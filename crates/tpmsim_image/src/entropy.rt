@@ -1,4 +1,10 @@
-//! The file of random bytes, and a new device that is made of its bytes.
+//! Random bytes that are read, from a file for a served device, and a new device of them.
+
+ghost use Rattle.std.specs.Prelude.{◌≡◌, IfOk, ℕ, List};
+ghost use Rattle.std.specs.Io.KnownBytes.{Consumes};
+ghost use Rattle.tpm_machine.specs.State.{state_of};
+ghost use Rattle.tpm_record.specs.Record.{manufactured};
+ghost use Rattle.tpm_slots.specs.SlotRecord.{slot_record};
 
 use crate::fault::DeviceFault;
 use std::fs::File;
@@ -10,31 +16,43 @@ use tpm_slots::SlotKeep;
 /// How many random bytes are read at once: those of sixteen commands.
 const READ_SIZE: usize = 16 * 256;
 
-/// The file of random bytes.
+/// A reader of random bytes.
 #[derive(Drop)]
-pub struct Entropy {
-    reader: BufReader<File>,
+pub struct RandomReader<R> {
+    pub(crate) reader: R,
 }
 
-impl Entropy {
+/// The file of random bytes.
+pub type Entropy = RandomReader<BufReader<File>>;
+
+impl RandomReader<BufReader<File>> {
     /// Opens the file at this path, which may be a device or a pipe, but not a folder.
     pub fn open(rt: &HostRuntime, path: &str) -> Result<Entropy, DeviceFault> {
         let file = DeviceFault::Entropy.unless(open_bytes(rt, path))?;
         let reader = BufReader::with_capacity(rt.alloc(), READ_SIZE, file);
-        Ok(Entropy {
+        Ok(RandomReader {
             reader: DeviceFault::Entropy.unless(reader)?,
         })
     }
+}
 
-    /// The next 256 random bytes.
-    pub fn random(&mut self) -> io::Result<[u8; 256]> {
+impl<R: Read> RandomReader<R> {
+    /// The next 256 bytes of the reader.
+    pub fn random(&mut self) -> io::Result<[u8; 256]>
+        ensures { IfOk result (λ random. Consumes (R.remaining self.old.reader)
+            (R.remaining self.new.reader) random) }
+    {
         let mut random = [0; 256];
         self.reader.read_exact(&mut random)?;
         Ok(random)
     }
 
-    /// A new device, manufactured with the next random bytes.
-    pub fn manufacture(&mut self, rt: &HostRuntime) -> Result<Machine<SlotKeep>, DeviceFault> {
+    /// A new device, manufactured with the next 256 bytes of the reader.
+    pub fn manufacture(&mut self, rt: &HostRuntime) -> Result<Machine<SlotKeep>, DeviceFault>
+        ensures { IfOk result (λ machine. (random : List ℕ)
+            × Consumes (R.remaining self.old.reader) (R.remaining self.new.reader) random
+            × (state_of slot_record machine ≡ manufactured random)) }
+    {
         let random = DeviceFault::Entropy.unless(self.random())?;
         Ok(Machine::manufacture(rt.alloc(), &random)?)
     }

@@ -1,6 +1,6 @@
 //! The saving of a script's device to the file of its image.
 
-ghost use Rattle.std.specs.Prelude.{◌≡◌, OnErr, OnOk, is_some, true};
+ghost use Rattle.std.specs.Prelude.{◌≡◌, [], None, OnErr, OnOk, is_some, true};
 ghost use Rattle.tpm_image_text.specs.KeptText.{kept_text};
 ghost use Rattle.tpm_machine.specs.State.{state_of};
 
@@ -67,6 +67,7 @@ impl<'a> ImageSaver<'a> {
         ensures written { OnOk result (self.new
             ≡ record self.old { clock = Some (state_of K.record_of machine.now).fixed.clock }) }
         ensures failed { OnErr result (is_some self.new.fault ≡ true) }
+        ensures forgets { OnErr result ((self.new.kept ≡ []) × (self.new.clock ≡ None)) }
         ensures stays { is_some self.old.fault ≡ true → is_some self.new.fault ≡ true }
     {
         match self.file.save(self.rt, machine) {

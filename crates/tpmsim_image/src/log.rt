@@ -7,7 +7,9 @@
 //! contracts say that a log's text holds exactly the commands that it was told, in their order
 //! ([`laws`]).
 
-ghost use Rattle.std.specs.Prelude.{◌≡◌, ◌≤◌, ◌+◌, ◌++◌, [], IfOk, length, true};
+ghost use Rattle.std.specs.Prelude.{◌≡◌, ◌≤◌, ◌+◌, ◌++◌, [], ⊥, IfOk, OnErr, OnOk, false, length, true};
+ghost use Rattle.tpm_bytes.specs.Tap.{marks_of};
+ghost use Rattle.tpm_step.specs.Events.{plain_event};
 ghost use Rattle.tpm_image_text.specs.Image.{image_text};
 ghost use Rattle.tpm_image_text.specs.NonVolatile.{kept_of};
 ghost use Rattle.tpm_image_text.specs.declared.version.Version.TheVariants.{Two};
@@ -50,9 +52,10 @@ impl<W: Write + Drop> Log<W> {
     /// Begins the log of a device as power comes on, at this time of the host's clock in
     /// milliseconds.
     pub fn begin<K: Keep>(writer: W, machine: &Machine<K>, now_ms: u64) -> Result<Log<W>, Unsaved>
-        ensures { IfOk result (λ log. Begins now_ms
+        ensures begins { IfOk result (λ log. Begins now_ms
             (image_text Two (kept_of (state_of K.record_of machine.now)))
             (W.contents writer) (written_of W.contents log)) }
+        ensures goes { IfOk result (λ log. log.failed ≡ false) }
     {
         let mut text = Text::new();
         let image = write_image(machine, &mut text);
@@ -99,10 +102,29 @@ impl<W: Write> Witness for Log<W> {
         event: &Event,
         outcome: &Outcome,
     ) -> Result<(), Unsaved> {
+        self.add(event, machine.drawn(), outcome.response.as_slice())
+    }
+}
+
+impl<W: Write> Log<W> {
+    ghost use Rattle.tpmsim_image.specs.log.Executed.{entry_by, has_entry};
+    ghost use Rattle.tpmsim_image.specs.log.Log.{AddsSome, written_of};
+
+    /// Adds the entry of an event with this response, which drew `drawn` random bytes. An event
+    /// without an entry, or a write that fails, ends the log.
+    fn add(&mut self, event: &Event, drawn: usize, response: &[u8]) -> Result<(), Unsaved>
+        ensures added { OnOk result (AddsSome (written_of W.contents self.old)
+            (entry_by (plain_event event.now) drawn response.now) (written_of W.contents self.new)) }
+        ensures ended { self.old.failed ≡ true → OnOk result ⊥ }
+        ensures failed { OnErr result (self.new.failed ≡ true) }
+        ensures stays { self.old.failed ≡ true → self.new.failed ≡ true }
+        ensures takes { self.old.failed ≡ false → has_entry (plain_event event.now) drawn ≡ true
+            → OnErr result ((marks_of self.new.writer).failed ≡ true) }
+    {
         if self.failed {
             return Err(Unsaved);
         }
-        let Some(entry) = entry_of(event, machine.drawn(), outcome.response.as_slice()) else {
+        let Some(entry) = entry_of(event, drawn, response) else {
             self.failed = true;
             return Err(Unsaved);
         };

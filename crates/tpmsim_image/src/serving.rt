@@ -10,7 +10,7 @@ use crate::image_saver::ImageSaver;
 use crate::log::Logged;
 use crate::log_file::begin_log;
 use crate::socket::{Socket, bind};
-use crate::source::Source;
+use crate::source::{HostSource, Source};
 use std::fs::File;
 use std::os::unix::net::UnixStream;
 use tpm_bytes::Tap;
@@ -50,7 +50,7 @@ fn serve_machine<K: Keep>(
     rt: &HostRuntime,
     service: &Service,
     machine: Machine<K>,
-    source: &mut Source,
+    source: &mut HostSource,
     witness: &mut Logged<File, CommandSaver<'_>>,
 ) -> Result<(), DeviceFault> {
     let socket = bind(rt, service.socket)?;
@@ -66,7 +66,7 @@ fn serve_socket<K: Keep>(
     service: &Service,
     socket: &Socket,
     mux: &mut Mux<K>,
-    source: &mut Source,
+    source: &mut HostSource,
     witness: &mut Logged<File, CommandSaver<'_>>,
 ) -> Result<(), DeviceFault> {
     if let Some(path) = service.log {
@@ -81,7 +81,7 @@ fn serve_connections<K: Keep>(
     connections: u32,
     socket: &Socket,
     mux: &mut Mux<K>,
-    source: &mut Source,
+    source: &mut HostSource,
     witness: &mut Logged<File, CommandSaver<'_>>,
 ) -> Result<(), DeviceFault> {
     for _ in 0..connections {
@@ -118,7 +118,7 @@ fn exchange<K: Keep>(
     rt: &HostRuntime,
     stream: &UnixStream,
     mux: &mut Mux<K>,
-    source: &mut Source,
+    source: &mut HostSource,
     witness: &mut Logged<File, CommandSaver<'_>>,
 ) -> Result<u64, ServeFault> {
     let mut host = || source.host(rt).map_err(|_| HostFault);

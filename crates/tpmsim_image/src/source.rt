@@ -1,28 +1,35 @@
-//! The values that the host gives for each command: random bytes from a file, the time that has
+//! The values that the host passes with each command: random bytes that are read, the time that has
 //! passed, and a locality.
 
 ghost use Rattle.std.specs.Prelude.{◌≡◌, IfOk, ℕ};
+ghost use Rattle.std.specs.Io.KnownBytes.{Consumes};
 ghost use Rattle.tpmsim_image.specs.Stopwatch.{after_command, told};
 
-use crate::entropy::Entropy;
+use crate::entropy::RandomReader;
 use crate::stopwatch::Stopwatch;
+use std::fs::File;
 use std::io;
+use std::io::{BufReader, Read};
 use std::time::{Clock, Instant};
 use tpm_types::Locality;
 use tpm_wire::Host;
 
-/// The source of the values of each command: the file of random bytes, and the clock of the host.
+/// The source of the values of each command: a reader of random bytes, and the clock of the host.
 #[derive(Drop)]
-pub struct Source {
-    entropy: Entropy,
+pub struct Source<R> {
+    entropy: RandomReader<R>,
     locality: Locality,
     stopwatch: Stopwatch,
 }
 
-impl Source {
-    /// The source for commands from this locality, with random bytes of this file.
-    pub fn new(entropy: Entropy, locality: Locality) -> Source
-        ensures { result.locality ≡ locality }
+/// The source of a served device, whose random bytes are those of a file.
+pub type HostSource = Source<BufReader<File>>;
+
+impl<R: Read> Source<R> {
+    /// The source for commands from this locality, with random bytes of this reader.
+    pub fn new(entropy: RandomReader<R>, locality: Locality) -> Source<R>
+        ensures locality { result.locality ≡ locality }
+        ensures entropy { result.entropy ≡ entropy }
     {
         Source {
             entropy,
@@ -31,13 +38,16 @@ impl Source {
         }
     }
 
-    /// The values of the next command, which came now. The locality is always the same, and the
-    /// time is what the stopwatch tells at some time of the host's clock.
+    /// The values of the next command, which came now. The locality is always the same, the random
+    /// bytes are the next 256 of the reader, and the stopwatch says the time at some time of the
+    /// host's clock.
     pub fn host(&mut self, clock: &impl Clock) -> io::Result<Host>
         ensures locality { IfOk result (λ host. host.locality ≡ self.old.locality) }
         ensures elapsed { IfOk result (λ host. (now : ℕ)
             × (host.elapsed_ms ≡ told now self.old.stopwatch)
             × (self.new.stopwatch ≡ after_command now self.old.stopwatch)) }
+        ensures random { IfOk result (λ host. Consumes (R.remaining self.old.entropy.reader)
+            (R.remaining self.new.entropy.reader) host.random) }
         ensures kept { self.new.locality ≡ self.old.locality }
     {
         let elapsed_ms = self.stopwatch.tell(Instant::now(clock)?);

@@ -3,6 +3,7 @@
 ghost use Rattle.std.specs.Prelude.{◌≡◌, ◌≤◌, vec_len};
 ghost use Rattle.tpmsim_script.specs.declared.lines.TheConstants.{CAPACITY, LINE_LIMIT};
 
+use crate::answers::Answers;
 use arrayvec::ArrayVec;
 use std::alloc::{AllocError, Global};
 use std::io::Read;
@@ -54,6 +55,7 @@ impl Lines {
     ghost use Rattle.std.specs.Prelude.{IfOk, OnOk, OnErr};
     ghost use Rattle.std.specs.Io.KnownBytes.{Consumes, Keeps};
     ghost use Rattle.tpm_bytes.specs.Tap.{device_of, marks_of};
+    ghost use Rattle.tpmsim_script.specs.Answers.{backlog};
     ghost use Rattle.tpmsim_script.specs.Lines.{Agrees, Finds, IsUnbroken};
     ghost use Rattle.tpmsim_script.specs.Lines.{line_of, next_at, rest_of};
 
@@ -148,9 +150,11 @@ impl Lines {
         }
     }
 
-    /// Reads more bytes, by one read of the reader.
-    pub fn fill<R: Read>(&mut self, reader: &mut Tap<R>) -> Result<(), Failed>
-        requires { rest_of self.old ≡ [] }
+    /// Reads more bytes, by one read of the reader. Nothing is read while a line of output waits: who
+    /// writes a script may need that line before the next one.
+    pub fn fill<R: Read>(&mut self, reader: &mut Tap<R>, _answers: &Answers) -> Result<(), Failed>
+        requires rest { rest_of self.old ≡ [] }
+        requires written { backlog answers.now ≡ [] }
         ensures failed { OnErr result ((marks_of reader.new).failed ≡ true) }
         ensures line { line_of self.new ≡ line_of self.old }
         ensures more { OnOk result

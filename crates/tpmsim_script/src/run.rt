@@ -253,7 +253,7 @@ impl<K: Keep> Run<K> {
                 Next::TooLong => return Err(ScriptFault::Line(number)),
                 Next::Incomplete => {
                     self.player.flush(writer)?;
-                    if let Err(_error) = self.lines.fill(reader) {
+                    if let Err(_error) = self.lines.fill(reader, &self.player.answers) {
                         return Err(ScriptFault::Read);
                     }
                 }

@@ -1,9 +1,9 @@
 -- What a log writes is the entry of the latest execution.
-use Rattle.std.proofs.Common.{◌≡◌, ℕ, Option, Some, sym, ap, ◌∙◌, subst}
+use Rattle.std.proofs.Common.{◌≡◌, ℕ, Option, sym, ap, ◌∙◌, subst}
 use Rattle.tpm_machine.specs.Executions.{Execution}
 use Rattle.tpm_journal_text.specs.Entry.{PlainEntry}
 use Rattle.tpmsim_image.specs.log.Executed.{entry_by, entry_in}
-use Rattle.tpmsim_image.specs.log.Log.{Adds, AddsEntry, AddsSome, Written}
+use Rattle.tpmsim_image.specs.log.Log.{Adds, AddsSome, Written}
 use Rattle.tpm_machine.specs.Drawn.{drawn_by}
 use Rattle.tpm_record.specs.Record.{Record}
 use Rattle.tpm_machine.specs.Latest.{IsLatest}
@@ -17,6 +17,6 @@ entry_latest now drawn event outcome one latest =
     ∙ ap (λ (n : ℕ). entry_by event n one.seen.response) (sym latest.drawn_is)
     ∙ ap (λ (x : Stepped). entry_by event drawn x.response) latest.seen_is
 
-pub adds_latest : (now : Record) (drawn : ℕ) (event : PlainEvent) (outcome : Outcome) (one : Execution) (e : PlainEntry) (old new : Written) → IsLatest now drawn event outcome one → entry_by event drawn outcome.response.items ≡ Some e → AddsEntry old e new → Adds old one new
-adds_latest now drawn event outcome one e old new latest is adds =
-    subst (λ (o : Option PlainEntry). AddsSome old o new) (sym (entry_latest now drawn event outcome one latest ∙ is)) adds
+pub adds_latest : (now : Record) (drawn : ℕ) (event : PlainEvent) (outcome : Outcome) (one : Execution) (old new : Written) → IsLatest now drawn event outcome one → AddsSome old (entry_by event drawn outcome.response.items) new → Adds old one new
+adds_latest now drawn event outcome one old new latest adds =
+    subst (λ (o : Option PlainEntry). AddsSome old o new) (sym (entry_latest now drawn event outcome one latest)) adds

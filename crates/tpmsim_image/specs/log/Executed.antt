@@ -1,10 +1,10 @@
 -- The entry of an execution.
-use Rattle.std.specs.Prelude.{ℕ, false, List, take, Option, Some, None}
+use Rattle.std.specs.Prelude.{ℕ, ◌&&◌, nat_le, Bool, false, List, length, take, Option, Some, None}
 use Rattle.tpm_step.specs.Events.{PlainEvent, Given, Cycled}
 use Rattle.tpm_machine.specs.Executions.{Execution}
 use Rattle.tpm_machine.specs.Drawn.{drawn_by}
-use Rattle.tpm_journal_text.specs.Entry.{PlainEntry}
 use Rattle.tpm_journal_text.specs.Sum.{sum_of}
+use Rattle.tpm_journal_text.specs.Entry.{PlainEntry, entry_limit}
 
 -- the entry of an event with this response, which drew `drawn` random bytes, with no layer above
 -- the device; a power cycle has none
@@ -18,6 +18,16 @@ entry_by (Given buffer locality elapsed random) drawn response = Some (record {
   answered = sum_of response;
 })
 entry_by Cycled drawn response = None
+
+-- an entry can have this buffer, and these of the random bytes
+abbrev pub fits_entry : (buffer : List ℕ) → (drawn : ℕ) → (random : List ℕ) → Bool
+fits_entry buffer drawn random =
+    nat_le (length buffer) entry_limit && nat_le drawn (length random)
+
+-- An event has an entry if it is a command whose buffer an entry can have.
+abbrev pub has_entry : PlainEvent → (drawn : ℕ) → Bool
+has_entry (Given buffer locality elapsed random) drawn = fits_entry buffer drawn random
+has_entry Cycled drawn = false
 
 -- the entry of an execution
 abbrev pub entry_in : Execution → Option PlainEntry

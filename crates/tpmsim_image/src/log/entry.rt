@@ -1,8 +1,8 @@
 //! The entry of a command that a device executed.
 
-ghost use Rattle.std.specs.Prelude.{◌≡◌, IfSome, Some, false, take};
+ghost use Rattle.std.specs.Prelude.{◌≡◌, IfSome, None, Some, false, take};
 ghost use Rattle.tpm_journal_text.specs.Entry.{IsEntry, plain_entry};
-ghost use Rattle.tpmsim_image.specs.log.Executed.{entry_by};
+ghost use Rattle.tpmsim_image.specs.log.Executed.{entry_by, fits_entry, has_entry};
 ghost use Rattle.tpm_step.specs.Events.{plain_event};
 ghost use Rattle.tpm_types.specs.Locality.{locality_number};
 
@@ -16,6 +16,7 @@ pub(crate) fn entry_of<'a>(event: &'a Event, drawn: usize, response: &[u8]) -> O
     ensures is { IfSome result (λ entry. IsEntry (plain_entry entry)) }
     ensures value { IfSome result (λ entry.
         entry_by (plain_event event.now) drawn response.now ≡ Some (plain_entry entry)) }
+    ensures none { result ≡ None → has_entry (plain_event event.now) drawn ≡ false }
 {
     match event {
         Event::PowerCycle => None,
@@ -49,6 +50,7 @@ fn entry_of_command<'a>(
       buffer = buffer.now;
       answered = answered;
     }) }
+    ensures none { result ≡ None → fits_entry buffer.now drawn random.now ≡ false }
 {
     if buffer.len() > ENTRY_LIMIT || drawn > random.len() {
         return None;

@@ -1,0 +1,15 @@
+-- What a device executed of a damaged journal.
+use Rattle.std.specs.Prelude.{ℕ, Bool, List, take, Some, None}
+use Rattle.tpm_record.specs.Record.{Record}
+use Rattle.tpm_journal.specs.Replay.{Replays}
+use Rattle.tpm_journal.specs.declared.journal.Journal.{Journal}
+use Rattle.tpm_journal.specs.declared.following.FollowFault.TheVariants.{Damaged}
+
+-- A journal that is cut where it is damaged is followed to its end, to the same device: what was
+-- answered before the damage is what the entries there say.
+abbrev pub FrontIsFollowed : Type 0
+FrontIsFollowed =
+    (can : Bool) (before : Journal) (old : Record) (text : List ℕ) (taken : ℕ) (after : Journal)
+    (new : Record)
+    → Replays can before old text (record { taken = taken; fault = Some Damaged }) after new
+    → Replays can before old (take taken text) (record { taken = taken; fault = None }) after new

@@ -1,0 +1,15 @@
+-- The nonces that a session had. TPM 2.0 Library, Part 1, section 19.6.3 (session nonces).
+use Rattle.std.specs.Prelude.{◌≡◌, [], ◌∷◌, Some}
+use Rattle.tpm_types_command.specs.AuthEntry.{Entry}
+use Rattle.tpm_step.specs.History.{AcceptedCommand, Done, History}
+use Rattle.tpm_step.specs.Sessions.{LiveSession, sessions_by, sessions_of}
+
+-- A command whose one entry names a session adds the nonceTPM that the session had to its earlier
+-- ones, and not the new one.
+abbrev pub AddsItsNonce : Type 0
+AddsItsNonce =
+    (history : History) (c : AcceptedCommand) (e : Entry) (old new : LiveSession)
+    → c.command.entries ≡ e ∷ []
+    → sessions_by c.command.code c history (sessions_of history) e.session ≡ Some old
+    → sessions_of (Done c ∷ history) e.session ≡ Some new
+    → new.earlier_nonces ≡ old.nonce_tpm ∷ old.earlier_nonces

@@ -1,0 +1,28 @@
+-- What connections are answered.
+use Rattle.std.specs.Prelude.{Bool, List}
+use Rattle.std.specs.List.{AllByRecursion}
+use Rattle.tpm_containers.specs.Slots.{free}
+use Rattle.tpm_record.specs.IsRecord.{IsRecord}
+use Rattle.tpm_record.specs.Record.{Record}
+use Rattle.tpm_step.specs.Events.{PlainEvent}
+use Rattle.tpm_step.specs.Execution.{Executes}
+use Rattle.tpm_step.specs.Step.{outcome_step}
+use Rattle.tpm_step.specs.declared.event.Outcome.{Outcome}
+use Rattle.tpm_wire.specs.Schedule.{Call, Event, Executed, PowerCycled, Schedules, events_in}
+use Rattle.tpm_wire.specs.Wire.{Wire, new_wire}
+
+-- The machine executed an event with this outcome, from one record to another.
+pub record HasOutcome (can : Bool) (event : PlainEvent) (outcome : Outcome) : Type 0 where
+  pub before : Record
+  pub after : Record
+  pub executes : Executes can before event (outcome_step after outcome)
+
+abbrev pub IsExecuted : Bool → Event → Type 0
+IsExecuted can (Executed event outcome) = HasOutcome can event outcome
+IsExecuted can PowerCycled = Unit {0}
+
+-- Each buffer that an answered turn executed has the outcome that the connection was answered.
+abbrev pub AnswersAreOutcomes : Type 0
+AnswersAreOutcomes = (can : Bool) (r : Record) (calls : List Call) (new : Wire)
+    → IsRecord r → Schedules can (new_wire r) calls new
+    → AllByRecursion (IsExecuted can) (events_in (free 8) calls)
