@@ -7,7 +7,7 @@
 //! contracts say that a log's text holds exactly the commands that it was told, in their order
 //! ([`laws`]).
 
-ghost use Rattle.std.specs.Prelude.{◌≡◌, ◌≤◌, ◌+◌, ◌++◌, [], ⊥, IfOk, OnErr, OnOk, false, length, true};
+ghost use Rattle.std.specs.Prelude.{◌≡◌, ◌≤◌, ◌+◌, ◌++◌, [], IfOk, OnErr, OnOk, false, length, true};
 ghost use Rattle.tpm_bytes.specs.Tap.{marks_of};
 ghost use Rattle.tpm_step.specs.Events.{plain_event};
 ghost use Rattle.tpm_image_text.specs.Image.{image_text};

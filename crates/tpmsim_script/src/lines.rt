@@ -154,7 +154,7 @@ impl Lines {
     /// writes a script may need that line before the next one.
     pub fn fill<R: Read>(&mut self, reader: &mut Tap<R>, _answers: &Answers) -> Result<(), Failed>
         requires rest { rest_of self.old ≡ [] }
-        requires written { backlog answers.now ≡ [] }
+        requires written { backlog _answers.now ≡ [] }
         ensures failed { OnErr result ((marks_of reader.new).failed ≡ true) }
         ensures line { line_of self.new ≡ line_of self.old }
         ensures more { OnOk result
