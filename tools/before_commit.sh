@@ -1,6 +1,6 @@
 #!/bin/sh
 # Looks at what is cheap to look at before a commit: the layout of the crates that were changed, the
-# links of the documents, the shell scripts, and the programs in Python. As a hook of git:
+# links and the words of the documents, the shell scripts, and the programs in Python. As a hook of git:
 #
 #   ln -s ../../tools/before_commit.sh .git/hooks/pre-commit
 #
@@ -73,7 +73,12 @@ read_python() {
 }
 
 if has rt; then check 'the layout of changed crates' lay_out; else skip layout 'there is no rt'; fi
-if has python3; then check links follow_links; else skip links 'there is no python3'; fi
+if has python3; then
+    check links follow_links
+    check words tools/words.py
+else
+    skip 'links and words' 'there is no python3'
+fi
 if has shellcheck; then
     check 'shell scripts' read_shell
 else

@@ -26,10 +26,13 @@ chmod +x rt_there/rt linters_there/ruff
 
 mkdir repository
 cd repository || exit 1
-mkdir -p crates/tpm_one/src crates/tpm_two/src tests/common packaging
+mkdir -p crates/tpm_one/src crates/tpm_two/src tests/common packaging tools docs
 cp "$tests/common/links.py" tests/common/
+cp "$top/tools/words.py" tools/
+cp "$top/docs/STYLE.md" docs/
 cp "$top/packaging/tpmsim.bash" packaging/
 printf '# Head\n[itself](#head)\n' >README.md
+echo '# Words' >docs/WORDS.md
 printf '#!/bin/sh\necho good\n' >good
 printf 'import sys\nprint(sys.path)\n' >good.py
 echo 'fn one() {}' | tee crates/tpm_one/src/lib.rt >crates/tpm_two/src/lib.rt
@@ -49,7 +52,7 @@ echo '== no tool is there'
 before
 echo '== all is wrong'
 echo 'fn one() {}  ' >crates/tpm_one/src/lib.rt
-echo '[nobody](none.md)' >>README.md
+printf '%s\n' '[nobody](none.md)' 'It stands here.' >>README.md
 # shellcheck disable=SC2016 # the script has the name
 echo 'echo $word' >>good
 echo 'import unused' >>good.py
