@@ -1,20 +1,20 @@
--- What the faults of a call say.
+-- What the faults of a call say, after the path of a file or of the folder.
 use Rattle.std.specs.Prelude.{List, ℕ, codes}
 use Rattle.tpm_keeping.specs.declared.holder.Fault.{Fault}
 use Rattle.tpm_keeping.specs.declared.holder.Fault.TheVariants as fault
 
 abbrev pub sentence : Fault → List ℕ
-sentence fault.Idle = codes "nothing was asked for"
-sentence fault.Lock = codes "the lock cannot be taken"
-sentence fault.Look = codes "the journal cannot be looked at"
-sentence fault.Read = codes "the journal cannot be read"
-sentence fault.Write = codes "the journal cannot be written"
-sentence fault.Force = codes "the journal cannot be forced to the disk"
-sentence fault.Make = codes "the new journal cannot be written"
-sentence fault.Name = codes "the new journal cannot take the old one's place"
-sentence fault.Settle = codes "the folder cannot be forced to the disk"
-sentence fault.Absent = codes "there is no journal"
-sentence fault.Unreadable = codes "what a device was to begin with is no text of one"
-sentence fault.NoCommand = codes "what was to be executed is no command"
-sentence fault.Damaged = codes "the journal is damaged, and stays as it is"
-sentence fault.Memory = codes "there is not enough memory"
+sentence fault.Idle = codes "was asked for nothing"
+sentence fault.Lock = codes "cannot be locked"
+sentence fault.Look = codes "cannot be looked at"
+sentence fault.Read = codes "cannot be read"
+sentence fault.Write = codes "cannot be written"
+sentence fault.Force = codes "cannot be forced to the disk"
+sentence fault.Make = codes "cannot be made"
+sentence fault.Name = codes "cannot take the journal's place"
+sentence fault.Settle = codes "cannot be forced to the disk"
+sentence fault.Absent = codes "is not there"
+sentence fault.Unreadable = codes "cannot begin with what is no text of a device"
+sentence fault.NoCommand = codes "cannot execute what is no command"
+sentence fault.Damaged = codes "is damaged, and stays as it is"
+sentence fault.Memory = codes "wants memory that is not there"

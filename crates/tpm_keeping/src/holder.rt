@@ -35,47 +35,51 @@ pub enum Job {
 pub enum Fault {
     /// Nothing was asked for, or the call was left in the middle.
     Idle,
-    /// The host did not do what it was to do.
+    /// The host did not do what it was to do: with the lock's file,
     Lock,
+    /// the journal,
     Look,
     Read,
     Write,
     Force,
+    /// the new journal,
     Make,
     Name,
+    /// or the folder.
     Settle,
     /// There is no journal.
     Absent,
-    /// A device was to begin of what is no text of one.
+    /// The device was to begin of what is no text of one.
     Unreadable,
     /// What was to be executed is no command.
     NoCommand,
-    /// What the file holds is no journal.
+    /// What the journal's file holds is no journal.
     Damaged,
     /// Memory was refused, or a number is too large for the machine.
     Memory,
 }
 
 impl Fault {
-    /// What the fault says. A host adds the path, and what the system said.
+    /// What the fault says of a file or of the folder. A host writes its path first, and after the
+    /// sentence what the system said.
     pub fn sentence(self) -> &'static str
         ensures { result.now ≡ sentence self }
     {
         match self {
-            Fault::Idle => "nothing was asked for",
-            Fault::Lock => "the lock cannot be taken",
-            Fault::Look => "the journal cannot be looked at",
-            Fault::Read => "the journal cannot be read",
-            Fault::Write => "the journal cannot be written",
-            Fault::Force => "the journal cannot be forced to the disk",
-            Fault::Make => "the new journal cannot be written",
-            Fault::Name => "the new journal cannot take the old one's place",
-            Fault::Settle => "the folder cannot be forced to the disk",
-            Fault::Absent => "there is no journal",
-            Fault::Unreadable => "what a device was to begin with is no text of one",
-            Fault::NoCommand => "what was to be executed is no command",
-            Fault::Damaged => "the journal is damaged, and stays as it is",
-            Fault::Memory => "there is not enough memory",
+            Fault::Idle => "was asked for nothing",
+            Fault::Lock => "cannot be locked",
+            Fault::Look => "cannot be looked at",
+            Fault::Read => "cannot be read",
+            Fault::Write => "cannot be written",
+            Fault::Force => "cannot be forced to the disk",
+            Fault::Make => "cannot be made",
+            Fault::Name => "cannot take the journal's place",
+            Fault::Settle => "cannot be forced to the disk",
+            Fault::Absent => "is not there",
+            Fault::Unreadable => "cannot begin with what is no text of a device",
+            Fault::NoCommand => "cannot execute what is no command",
+            Fault::Damaged => "is damaged, and stays as it is",
+            Fault::Memory => "wants memory that is not there",
         }
     }
 }
