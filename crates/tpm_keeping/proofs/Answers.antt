@@ -11,7 +11,7 @@ use Rattle.tpm_keeping.proofs.Folder.{Moves, promised_within, same_grows}
 use Rattle.tpm_keeping.specs.declared.holder.Force.{Force}
 use Rattle.tpm_keeping.specs.declared.holder.Force.TheVariants.{Never, Power, Always}
 use Rattle.tpm_keeping.specs.declared.holder.Job.{Job}
-use Rattle.tpm_keeping.specs.declared.holder.Job.TheVariants.{Execute, Renew, Show, Begin}
+use Rattle.tpm_keeping.specs.declared.holder.Job.TheVariants.{Execute, Renew, Show, Begin, Cut}
 use Rattle.tpm_keeping.specs.declared.holder.End.{End}
 use Rattle.tpm_keeping.specs.declared.holder.End.TheVariants as ending
 use Rattle.tpm_keeping.specs.declared.holder.Phase.TheVariants.{Leaving}
@@ -28,6 +28,7 @@ promise_is j Power Execute c s = by (j.is_entered c)
 promise_is j Power Renew c s = inl (refl, refl)
 promise_is j Power Show c s = inr refl
 promise_is j Power Begin c s = inr refl
+promise_is j Power Cut c s = inr refl
 promise_is j Never job c s = inr refl
 
 pub promise_bounds : (j : Journal) (force : Force) (job : Job) (c : List ℕ) (s : Shared) → s.promised ≤ length s.history
@@ -113,6 +114,7 @@ left_safe s k Execute n le all h = (λ always. (refl, all always), safe_more s.a
 left_safe s k Renew n le all h = safe_more s.answers s.promised n le h
 left_safe s k Show n le all h = safe_more s.answers s.promised n le h
 left_safe s k Begin n le all h = safe_more s.answers s.promised n le h
+left_safe s k Cut n le all h = safe_more s.answers s.promised n le h
 
 left_each : (j : Journal) (s : Shared) (k : Holder) (job : Job) → Still j s → LastIf job j s.origin s.history s.answers k.command k.response
     → Each j s.origin s.history (with_answer job s k) × Ascend (with_answer job s k)
@@ -123,6 +125,7 @@ left_each j s k Execute still last = (
 left_each j s k Renew still last = (still.each, still.once)
 left_each j s k Show still last = (still.each, still.once)
 left_each j s k Begin still last = (still.each, still.once)
+left_each j s k Cut still last = (still.each, still.once)
 
 done_still : (j : Journal) (s : Shared) (k : Holder) → Still j s → IsDone j (sight s) k → Still j (left j ending.Done s k)
 done_still j s k still d =

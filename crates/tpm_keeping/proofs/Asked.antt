@@ -3,7 +3,7 @@ use Rattle.std.proofs.Common.{◌≡◌, ℕ, ◌+◌, ◌==◌, Bool, true, fal
 use Rattle.std.specs.List.{AllByRecursion}
 use Rattle.std.specs.Prelude.{nat_le, ◌||◌}
 use Rattle.tpm_keeping.specs.Journal.{Journal, IsJournal, Spot}
-use Rattle.tpm_keeping.specs.Holder.{Holder, Told, Done, Stands, Gone, Bytes, Failed, Starved, acts, asked_in, begins, begins_of, caught_up, enters, executes, finishes, found, goes, is_always, is_grown, is_never, is_read, knows_file, leaps, looked, newborn, next_in, reads_on, refuses, rests_in, settles}
+use Rattle.tpm_keeping.specs.Holder.{Holder, Told, Done, Stands, Gone, Bytes, Failed, Starved, acts, asked_in, begins, begins_of, caught_up, enters, executes, finishes, found, goes, is_always, is_grown, is_never, is_read, knows_file, leaps, looked, newborn, next_in, reads_on, refuses, rests_in, salvages, salvages_of, settles}
 use Rattle.tpm_keeping.specs.World.{Effect, Part, All, Event, Starts, Asks, Does, Fails, Dies, Forks, Drops, Crashes, IsStart, Shared, World, adds, leads, does, does_in, fails_in, freed, happen, happens, left, lost, put_more, starts_in, tells, with_holder}
 use Rattle.tpm_keeping.specs.Kept.{Pass}
 use Rattle.tpm_keeping.proofs.Invariant.{Fine}
@@ -11,7 +11,7 @@ use Rattle.tpm_keeping.proofs.Promises.{crash_is_front}
 use Rattle.tpm_keeping.proofs.Runs.{start_is_fine, step}
 use Rattle.tpm_keeping.specs.declared.holder.Force.{Force}
 use Rattle.tpm_keeping.specs.declared.holder.Job.{Job}
-use Rattle.tpm_keeping.specs.declared.holder.Job.TheVariants.{Execute, Renew, Show, Begin}
+use Rattle.tpm_keeping.specs.declared.holder.Job.TheVariants.{Execute, Renew, Show, Begin, Cut}
 use Rattle.tpm_keeping.specs.declared.holder.End.{End}
 use Rattle.tpm_keeping.specs.declared.holder.End.TheVariants as ending
 use Rattle.tpm_keeping.specs.declared.holder.Phase.{Phase}
@@ -55,9 +55,22 @@ acts_fair Execute test j k s ok = executes_fair test j k s ok
 acts_fair Renew test j k s ok = ok
 acts_fair Show test j k s ok = chosen test k.command (is_always k.force) Putting (settles k) ok (settles_fair test k ok)
 acts_fair Begin test j k s ok = chosen test k.command (is_always k.force) Putting (settles k) ok (settles_fair test k ok)
+acts_fair Cut test j k s ok = chosen test k.command (is_always k.force) Putting (settles k) ok (settles_fair test k ok)
+
+salvages_fair : (job : Job) (device : Option Spot) (test : List ℕ → Bool) (j : Journal) (k : Holder) → test k.command ≡ true → IsFair test (salvages j job device k)
+salvages_fair Cut None test j k ok = by (j.salvaged k.read)
+  where
+    by : (o : Option (Spot × ℕ)) → IsFair test (salvages_of j k o)
+    by None = tt
+    by (Some salvaged) = ok
+salvages_fair Cut (Some p) test j k ok = tt
+salvages_fair Execute device test j k ok = tt
+salvages_fair Renew device test j k ok = tt
+salvages_fair Show device test j k ok = tt
+salvages_fair Begin device test j k ok = tt
 
 finishes_fair : (o : Option (Spot × ℕ)) (test : List ℕ → Bool) (j : Journal) (k : Holder) → test k.command ≡ true → IsFair test (finishes j k o)
-finishes_fair None test j k ok = tt
+finishes_fair None test j k ok = salvages_fair k.job k.device test j k ok
 finishes_fair (Some found) test j k ok = acts_fair k.job test j (caught_up k found.1) found.0 ok
 
 reads_on_fair : (test : List ℕ → Bool) (j : Journal) (k : Holder) → test k.command ≡ true → IsFair test (reads_on j k)
@@ -84,6 +97,7 @@ begins_fair Begin test j k ok = by (j.begun k.command)
 begins_fair Execute test j k ok = tt
 begins_fair Renew test j k ok = tt
 begins_fair Show test j k ok = tt
+begins_fair Cut test j k ok = tt
 
 next_fair : (phase : Phase) (told : Told) (test : List ℕ → Bool) (j : Journal) (k : Holder) → k.phase ≡ phase → Fair test phase k.command → IsFair test (next_in j phase k told)
 next_fair (Ended e) told test j k is ok = subst (λ (x : Phase). Fair test x k.command) (sym is) tt
@@ -134,12 +148,14 @@ adds_pass Execute test j c ok = one_passes test c (j.is_entered c) ok
 adds_pass Renew test j c ok = tt
 adds_pass Show test j c ok = tt
 adds_pass Begin test j c ok = tt
+adds_pass Cut test j c ok = tt
 
 leads_pass : (job : Job) (test : List ℕ → Bool) (j : Journal) (c : List ℕ) → test c ≡ true → Passing test (leads j job c)
 leads_pass Execute test j c ok = other_passes test c (j.is_entered c) ok
 leads_pass Renew test j c ok = tt
 leads_pass Show test j c ok = tt
 leads_pass Begin test j c ok = tt
+leads_pass Cut test j c ok = tt
 
 put_passes : (test : List ℕ → Bool) (j : Journal) (s : Shared) (k : Holder) (count : ℕ) → test k.command ≡ true → Passing test s.history → Passing test (s.history ++ put_more j k count)
 put_passes test j s k count ok h = both_pass test s.history (put_more j k count) h (by (nat_le (length k.out) count))

@@ -11,7 +11,7 @@ use Rattle.tpm_keeping.proofs.Reading.{caught}
 use Rattle.tpm_keeping.proofs.OneStep.{again, again_reading, anew, anew_reading, more_read, more_reading}
 use Rattle.tpm_keeping.proofs.Runs.{run_is_fine, step}
 use Rattle.tpm_keeping.specs.declared.holder.Job.{Job}
-use Rattle.tpm_keeping.specs.declared.holder.Job.TheVariants.{Execute, Renew, Show, Begin}
+use Rattle.tpm_keeping.specs.declared.holder.Job.TheVariants.{Execute, Renew, Show, Begin, Cut}
 use Rattle.tpm_keeping.specs.declared.holder.Fault.TheVariants as fault
 use Rattle.tpm_keeping.specs.declared.holder.End.{End}
 use Rattle.tpm_keeping.specs.declared.holder.End.TheVariants as ending
@@ -64,6 +64,7 @@ acts_heads Execute e j s k p n is le = executes_heads e j s k p n is le
 acts_heads Renew e j s k p n is le = (is, le)
 acts_heads Show e j s k p n is le = shows_heads e j s k (acts j Show k p) n is le
 acts_heads Begin e j s k p n is le = shows_heads e j s k (acts j Begin k p) n is le
+acts_heads Cut e j s k p n is le = shows_heads e j s k (acts j Cut k p) n is le
 
 -- once all is read it acts, for the file is a journal
 reads_on_heads : (e : End) (j : Journal) (s : Shared) (k : Holder) (n : ℕ) → IsJournal j → Still j s → IsReading j (sight s) k → end_with j k.job k.command ≡ e
@@ -105,6 +106,7 @@ begins_heads Begin e j s k n is le = by (j.begun k.command) is
 begins_heads Execute e j s k n is le = (is, omega (arith, le))
 begins_heads Renew e j s k n is le = (is, omega (arith, le))
 begins_heads Show e j s k n is le = (is, omega (arith, le))
+begins_heads Cut e j s k n is le = (is, omega (arith, le))
 
 looks_heads : (e : End) (j : Journal) (s : Shared) (k : Holder) (more n : ℕ) → IsJournal j → Still j s → KnowsOf j (sight s) k
     → end_of j s.file k.job k.command ≡ e → 4 + length s.file.now.text ≤ n → HeadsFor e j s (next_in j Looking k (tells Looking s k more)) n

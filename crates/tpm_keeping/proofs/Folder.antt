@@ -11,7 +11,7 @@ use Rattle.tpm_keeping.proofs.Entries.{entered_both, run_lives, trail_lives, tra
 use Rattle.tpm_keeping.proofs.Invariant.{spot_of, Calm, begun, body, state_of, IsText, IsContent, IsFile, Each, Still, sight, IsAt, Knows, Puts, Follows, Founds, Makes}
 use Rattle.tpm_keeping.specs.declared.holder.Force.{Force}
 use Rattle.tpm_keeping.specs.declared.holder.Job.{Job}
-use Rattle.tpm_keeping.specs.declared.holder.Job.TheVariants.{Execute, Renew, Show, Begin}
+use Rattle.tpm_keeping.specs.declared.holder.Job.TheVariants.{Execute, Renew, Show, Begin, Cut}
 
 -- ---- a longer history
 
@@ -113,6 +113,7 @@ adds_entered j Execute c = by (j.is_entered c) refl
 adds_entered j Renew c = tt
 adds_entered j Show c = tt
 adds_entered j Begin c = tt
+adds_entered j Cut c = tt
 
 -- what is put is torn, or whole
 pub record IsPut (j : Journal) (s : Shared) (k : Holder) (n : ℕ) : Type 0 where
@@ -135,6 +136,7 @@ less_torn j p Execute c m laws lives (inl le) = by (j.is_entered c) refl le
 less_torn j p Renew c m laws lives (inl le) = absurd (omega (arith, le))
 less_torn j p Show c m laws lives (inl le) = absurd (omega (arith, le))
 less_torn j p Begin c m laws lives (inl le) = absurd (omega (arith, le))
+less_torn j p Cut c m laws lives (inl le) = absurd (omega (arith, le))
 
 -- the text after a put
 put_text : (j : Journal) (s : Shared) (k : Holder) (n : ℕ) (t : IsText j s.file.head s.file.start s.file.now) → Puts j s.file k.job k

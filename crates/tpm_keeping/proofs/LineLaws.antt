@@ -1,5 +1,5 @@
 -- The journal of lines meets what a keeper needs.
-use Rattle.std.proofs.Common.{◌≡◌, ℕ, zero, suc, ◌+◌, ◌<◌, true, List, [], ◌∷◌, ◌++◌, length, take, Option, Some, None, refl, sym, ap, ◌∙◌, arith, append_assoc, length-append}
+use Rattle.std.proofs.Common.{◌≡◌, ◌⊎◌, ℕ, zero, suc, ◌+◌, ◌<◌, true, List, [], ◌∷◌, ◌++◌, length, take, Option, Some, None, refl, sym, ap, ◌∙◌, arith, inl, inr, append_assoc, length-append}
 use Rattle.std.proofs.lemmas.List.{append-nil}
 use Rattle.tpm_keeping.specs.Journal.{IsJournal, Spot, entries, stepped, trail}
 use Rattle.tpm_keeping.specs.Lines.{headed_by, is_zeros, line, line_at, lines, marked, opened_by, spot_at, spot_if_all, unended, walk, with_first}
@@ -78,16 +78,16 @@ with_first_is b (Some found) s rest is =
     let same = some_is (b ∷ found.0, found.1) (s, rest) is in
     (found.0, sym (ap (λ (x : List ℕ × List ℕ). x.0) same), ap (λ (x : List ℕ). Some (found.0, x)) (ap (λ (x : List ℕ × List ℕ). x.1) same))
 
--- a text in which the first line ends at its end is that line
-all_line : (text s : List ℕ) → line_at text ≡ Some (s, []) → text ≡ line s
-all_line [] s is = absurd cc
-all_line (zero ∷ text) s is = absurd cc
-all_line (suc zero ∷ text) s is =
-    let same = some_is ([], text) (s, []) is in
-    ap (λ (x : List ℕ). 1 ∷ x) (ap (λ (x : List ℕ × List ℕ). x.1) same) ∙ ap line (ap (λ (x : List ℕ × List ℕ). x.0) same)
-all_line (suc (suc b) ∷ text) s is =
-    let rest = with_first_is b (line_at text) s [] is in
-    ap (λ (x : List ℕ). suc (suc b) ∷ x) (all_line text rest.0 rest.2) ∙ ap line (sym rest.1)
+-- a text is its first line and what follows it
+first_line : (text s rest : List ℕ) → line_at text ≡ Some (s, rest) → text ≡ line s ++ rest
+first_line [] s rest is = absurd cc
+first_line (zero ∷ text) s rest is = absurd cc
+first_line (suc zero ∷ text) s rest is =
+    let same = some_is ([], text) (s, rest) is in
+    ap (λ (x : List ℕ). 1 ∷ x) (ap (λ (x : List ℕ × List ℕ). x.1) same) ∙ ap (λ (x : List ℕ). line x ++ rest) (ap (λ (x : List ℕ × List ℕ). x.0) same)
+first_line (suc (suc b) ∷ text) s rest is =
+    let part = with_first_is b (line_at text) s rest is in
+    ap (λ (x : List ℕ). suc (suc b) ∷ x) (first_line text part.0 rest part.2) ∙ ap (λ (x : List ℕ). line x ++ rest) (sym part.1)
 
 -- a head is the line of its state
 head_is : (o : Option (List ℕ × List ℕ)) (p : Spot) → headed_by o ≡ Some p → (o ≡ Some (p.state, [])) × (spot_at 0 p.state ≡ p)
@@ -101,6 +101,65 @@ head_is (Some found) p is = by found.1 refl is
         (ap (λ (x : List ℕ). Some (found.0, x)) none ∙ ap (λ (x : List ℕ). Some (x, [])) state, ap (spot_at 0) (sym state) ∙ same)
     by (b ∷ rest) some is = absurd cc
 
+-- ---- what is salvaged
+
+-- executing ends where no line has ended, or after the last line that has, whatever follows
+walk_front : (text state part : List ℕ) (taken far : ℕ)
+    → (walk state part taken far text ≡ (state, taken))
+    ⊎ ((count : ℕ) × ((walk state part taken far text).1 ≡ far + count) × (walk state part taken far (take count text) ≡ walk state part taken far text))
+walk_front [] state part taken far = inl refl
+walk_front (zero ∷ text) state part taken far =
+    elim (walk_front text state (part ++ zero ∷ []) taken (suc far)) [
+      | inl none ↦ inl none
+      | inr front ↦ inr (suc front.0, omega (arith, front.1), front.2)
+    ]
+walk_front (suc zero ∷ text) state part taken far =
+    elim (walk_front text (state ++ part) [] (suc far) (suc far)) [
+      | inl none ↦ inr (1, ap (λ (r : List ℕ × ℕ). r.1) none ∙ omega arith, sym none)
+      | inr front ↦ inr (suc front.0, omega (arith, front.1), front.2)
+    ]
+walk_front (suc (suc b) ∷ text) state part taken far =
+    elim (walk_front text state (part ++ suc (suc b) ∷ []) taken (suc far)) [
+      | inl none ↦ inl none
+      | inr front ↦ inr (suc front.0, omega (arith, front.1), front.2)
+    ]
+
+walk_again : (state text : List ℕ) → walk state [] 0 0 (take (walk state [] 0 0 text).1 text) ≡ walk state [] 0 0 text
+walk_again state text =
+    let all = walk state [] 0 0 text in
+    elim (walk_front text state [] 0 0) [
+      | inl none ↦ ap (λ (r : List ℕ × ℕ). walk state [] 0 0 (take r.1 text)) none ∙ sym none
+      | inr front ↦ (
+          let same : all.1 ≡ front.0 = omega (arith, front.1) in
+          ap (λ (n : ℕ). walk state [] 0 0 (take n text)) same ∙ front.2
+          )
+    ]
+
+take_behind : (front rest : List ℕ) (m n : ℕ) → n ≡ length front + m → take n (front ++ rest) ≡ front ++ take m rest
+take_behind [] rest m n is = let same : n ≡ m = omega (arith, is) in ap (λ (i : ℕ). take i rest) same
+take_behind (b ∷ front) rest m zero is = absurd (omega (arith, is))
+take_behind (b ∷ front) rest m (suc n) is = ap (λ (x : List ℕ). b ∷ x) (take_behind front rest m n (omega (arith, is)))
+
+opened_front : (text : List ℕ) (p : Spot) (size : ℕ) → opened_by (line_at text) ≡ Some (p, size) → opened_by (line_at (take size text)) ≡ Some (p, size)
+opened_front text p size is = by (line_at text) refl is
+  where
+    opened_at : (s : List ℕ) → List ℕ × ℕ → Option (Spot × ℕ)
+    opened_at s r = Some (spot_at 0 r.0, suc (length s) + r.1)
+
+    by : (o : Option (List ℕ × List ℕ)) → line_at text ≡ o → opened_by o ≡ Some (p, size) → opened_by (line_at (take size text)) ≡ Some (p, size)
+    by None found is = absurd cc
+    by (Some (s, rest)) found is =
+        let all = walk s [] 0 0 rest in
+        let size' : size ≡ suc (length s) + all.1 = sym (pair_is (spot_at 0 all.0, suc (length s) + all.1) (p, size) is) in
+        let front : take size text ≡ line s ++ take all.1 rest =
+        ap (take size) (first_line text s rest found) ∙ take_behind (line s) rest all.1 size (omega (arith, size', line_size s)) in
+        ap (λ (x : List ℕ). opened_by (line_at x)) front
+        ∙ (ap opened_by (line_again s (take all.1 rest))
+        ∙ (ap (opened_at s) (walk_again s rest) ∙ is))
+      where
+        pair_is : (a b : Spot × ℕ) → Some a ≡ Some b → a.1 ≡ b.1
+        pair_is a b e = let same : a ≡ b = cc in ap (λ (x : Spot × ℕ). x.1) same
+
 pub lines_are_a_journal : IsJournal lines
 lines_are_a_journal = record {
   begins = λ seed s is. refl;
@@ -112,7 +171,7 @@ lines_are_a_journal = record {
   opens = λ head p cs tail after lives entered torn. (
       let is = head_is (line_at head) p after in
       let s = p.state in
-      let line' : head ≡ line s = all_line head s is.0 in
+      let line' : head ≡ line s = first_line head s [] is.0 ∙ append-nil (line s) in
       let n = length (entries lines p cs) in
       let all = walk_all cs p tail 0 torn in
       let size : suc (length s) + (0 + n) ≡ length head + n = omega (arith, line_size s, ap length line') in
@@ -130,6 +189,7 @@ lines_are_a_journal = record {
       ap (λ (r : List ℕ × ℕ). Some (spot_at p.chain r.0, r.1)) (walk_all cs p tail 0 torn)
       ∙ (ap (λ (q : Spot). Some (q, 0 + n)) (same_chain p cs) ∙ ap (λ (m : ℕ). Some (trail lines p cs, m)) same)
       );
+  salvages = λ text p size is. opened_front text p size is;
   nothing = λ s. refl;
   front = λ s c k lives entered le. front_unended c k le;
   littered = λ s tail k litter torn is. cut_unended tail k litter torn is;

@@ -17,7 +17,7 @@ use Rattle.tpm_keeping.specs.declared.holder.Fault.TheVariants as fault
 use Rattle.tpm_keeping.specs.declared.holder.Force.{Force}
 use Rattle.tpm_keeping.specs.declared.holder.Force.TheVariants.{Power}
 use Rattle.tpm_keeping.specs.declared.holder.Job.{Job}
-use Rattle.tpm_keeping.specs.declared.holder.Job.TheVariants.{Execute, Renew, Show, Begin}
+use Rattle.tpm_keeping.specs.declared.holder.Job.TheVariants.{Execute, Renew, Show, Begin, Cut}
 use Rattle.tpm_keeping.specs.declared.holder.End.TheVariants as ending
 use Rattle.tpm_keeping.specs.declared.holder.Phase.{Phase}
 use Rattle.tpm_keeping.specs.declared.holder.Phase.TheVariants.{Ended, Locking, Looking, Reading, Putting, Forcing, Making, Naming, Settling, Leaving}
@@ -134,6 +134,7 @@ begins_fits Begin j s p k laws is none next lock below calm = by (j.begun k.comm
 begins_fits Execute j s p k laws is none next lock below calm = dropped_fits j s p k fault.Absent next lock
 begins_fits Renew j s p k laws is none next lock below calm = dropped_fits j s p k fault.Absent next lock
 begins_fits Show j s p k laws is none next lock below calm = dropped_fits j s p k fault.Absent next lock
+begins_fits Cut j s p k laws is none next lock below calm = dropped_fits j s p k fault.Absent next lock
 
 -- what it looks at again: the file that it knows, from where it executed it
 abbrev pub again : Shared → Holder → Holder
@@ -253,6 +254,7 @@ last_put Renew j s c response still named quiet gives = tt
 last_put Show j s c response still named quiet gives =
     gives ∙ ap j.head (state_is j s still named ∙ ap (run j s.origin) (sym (append-nil s.history)))
 last_put Begin j s c response still named quiet gives = tt
+last_put Cut j s c response still named quiet gives = tt
 
 put_all : (j : Journal) (s : Shared) (k : Holder) (t : Shared) (new : List (List ℕ)) (b : Bool) → is_always k.force ≡ b → (a : HasAll j s.file k.force k.file k.place k.unsure)
     → k.out ≡ k.unsure ++ entries j (spot_of j s.file) new → t.file.number ≡ s.file.number
@@ -380,6 +382,7 @@ last_named Renew j s c response still named gives = tt
 last_named Show j s c response still named gives =
     gives ∙ ap j.head (state_is j s still named ∙ ap (run j s.origin) (sym (append-nil (s.history ++ []) ∙ append-nil s.history)))
 last_named Begin j s c response still named gives = tt
+last_named Cut j s c response still named gives = tt
 
 -- the new journal, in which all is forced
 pub record IsNew (j : Journal) (origin : List ℕ) (s : Shared) (k : Holder) : Type 0 where

@@ -11,7 +11,7 @@ use Rattle.tpm_keeping.proofs.Folder.{state_is}
 use Rattle.tpm_keeping.specs.declared.holder.Force.{Force}
 use Rattle.tpm_keeping.specs.declared.holder.Force.TheVariants.{Never, Power, Always}
 use Rattle.tpm_keeping.specs.declared.holder.Job.{Job}
-use Rattle.tpm_keeping.specs.declared.holder.Job.TheVariants.{Execute, Renew, Show, Begin}
+use Rattle.tpm_keeping.specs.declared.holder.Job.TheVariants.{Execute, Renew, Show, Begin, Cut}
 use Rattle.tpm_keeping.specs.declared.holder.End.TheVariants as ending
 use Rattle.tpm_keeping.specs.declared.holder.Phase.TheVariants.{Reading, Putting, Settling, Leaving}
 
@@ -274,6 +274,7 @@ acts_fits Show j s p k still is lock below calm all =
     let state = state_of j s.file in
     shows_fits j s p k (j.head state) Show is refl refl lock below calm all (ap j.head (state_is j s still all.named)) refl
 acts_fits Begin j s p k still is lock below calm all = shows_fits j s p k [] Begin is refl refl lock below calm all tt tt
+acts_fits Cut j s p k still is lock below calm all = shows_fits j s p k [] Cut is refl refl lock below calm all tt tt
 
 pub reads_on_fits : (j : Journal) (s : Shared) (p : ℕ) (k : Holder) → IsJournal j → Still j s → (s.locked ≡ true) × (s.locker ≡ p) → k.file < s.next
     → Calm (sight s) k.settled k.file → IsReading j (sight s) k → Fits j s p (reads_on j k)

@@ -5,7 +5,7 @@ use Rattle.tpm_keeping.specs.Journal.{Journal, Spot, started, stepped}
 use Rattle.tpm_keeping.specs.declared.holder.Force.{Force}
 use Rattle.tpm_keeping.specs.declared.holder.Force.TheVariants.{Never, Always}
 use Rattle.tpm_keeping.specs.declared.holder.Job.{Job}
-use Rattle.tpm_keeping.specs.declared.holder.Job.TheVariants.{Execute, Renew, Show, Begin}
+use Rattle.tpm_keeping.specs.declared.holder.Job.TheVariants.{Execute, Renew, Show, Begin, Cut}
 use Rattle.tpm_keeping.specs.declared.holder.Fault.{Fault}
 use Rattle.tpm_keeping.specs.declared.holder.Fault.TheVariants as fault
 use Rattle.tpm_keeping.specs.declared.holder.End.TheVariants as ending
@@ -186,6 +186,7 @@ acts j Execute k p = executes j k p
 acts j Renew k p = renews j k p.state []
 acts j Show k p = shows k p (j.head p.state)
 acts j Begin k p = shows k p []
+acts j Cut k p = shows k p []
 
 -- so much of what was read is executed
 abbrev pub caught_up : Holder → (taken : ℕ) → Holder
@@ -195,8 +196,18 @@ caught_up k taken = record k {
   read = [];
 }
 
+-- What was read is damaged. It stays as it is, unless a cut has read all of it: then the state after
+-- its front that is whole begins a new journal.
+abbrev pub salvages_of : Journal → Holder → Option (Spot × ℕ) → Holder
+salvages_of j k None = dropped fault.Damaged k
+salvages_of j k (Some salvaged) = renews j (caught_up k salvaged.1) salvaged.0.state []
+
+abbrev pub salvages : Journal → Job → Option Spot → Holder → Holder
+salvages j Cut None k = salvages_of j k (j.salvaged k.read)
+salvages j job device k = dropped fault.Damaged k
+
 abbrev pub finishes : Journal → Holder → Option (Spot × ℕ) → Holder
-finishes j k None = dropped fault.Damaged k
+finishes j k None = salvages j k.job k.device k
 finishes j k (Some found) = acts j k.job (caught_up k found.1) found.0
 
 abbrev pub found : Journal → Option Spot → List ℕ → Option (Spot × ℕ)
@@ -233,7 +244,7 @@ looked j k file size =
 -- There is no journal: one begins, if that is asked for.
 abbrev pub begins_of : Journal → Holder → Option (List ℕ) → Holder
 begins_of j k None = dropped fault.Unreadable k
-begins_of j k (Some s) = renews j k s []
+begins_of j k (Some s) = renews j (record k { place = 0 }) s []
 
 abbrev pub begins : Journal → Job → Holder → Holder
 begins j Begin k = begins_of j k (j.begun k.command)

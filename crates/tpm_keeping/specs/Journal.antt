@@ -32,6 +32,8 @@ pub record Journal : Type 0 where
   -- the spot to which a text leads, by itself or from a spot, and how many of its bytes
   pub opened : List ℕ → Option (Spot × ℕ)
   pub followed : Spot → List ℕ → Option (Spot × ℕ)
+  -- the same of what is whole of a damaged text: of its front, as far as that is a journal
+  pub salvaged : List ℕ → Option (Spot × ℕ)
   -- at a spot, this text is what is left of an entry that was not written whole
   pub is_torn : Spot → List ℕ → Bool
   -- what a crash of the host may leave after a file's bytes, as zeros, and what no entry looks like
@@ -86,6 +88,9 @@ pub record IsJournal (j : Journal) : Type 0 where
   pub follows : (p : Spot) (cs : List (List ℕ)) (tail : List ℕ)
       → j.is_state p.state ≡ true → Entered j cs → j.is_torn (trail j p cs) tail ≡ true
       → j.followed p (entries j p cs ++ tail) ≡ Some (trail j p cs, length (entries j p cs))
+  -- what is salvaged is the device of a front
+  pub salvages : (text : List ℕ) (p : Spot) (size : ℕ) → j.salvaged text ≡ Some (p, size)
+      → j.opened (take size text) ≡ Some (p, size)
   -- nothing is torn, and so is the front of an entry that is not whole
   pub nothing : (p : Spot) → j.is_torn p [] ≡ true
   pub front : (p : Spot) (c : List ℕ) (k : ℕ)

@@ -1,7 +1,7 @@
 -- A small journal, which shows that one can meet what a keeper needs. A text is a line: each byte
 -- two more than it is, and a 1 at its end. So no line has a zero, and a line without its end is
 -- none. A state is all that was executed. A command that begins with a zero has no entry, and no
--- bytes are no command.
+-- bytes are no command. What has a line opens, and what is salvaged is that.
 use Rattle.std.specs.Prelude.{ℕ, zero, suc, ◌+◌, Bool, true, false, List, [], ◌∷◌, ◌++◌, length, Option, Some, None}
 use Rattle.tpm_keeping.specs.Journal.{Journal, Spot}
 
@@ -87,6 +87,7 @@ lines = record {
   opened = λ text. opened_by (line_at text);
   followed = λ p text.
       Some (spot_at p.chain (walk p.state [] 0 0 text).0, (walk p.state [] 0 0 text).1);
+  salvaged = λ text. opened_by (line_at text);
   is_torn = λ p text. unended text;
   is_litter = λ text. is_zeros text;
 }

@@ -45,7 +45,7 @@ ask_of k = elim k.phase [
   | Reading ↦ ask.Read k.seen
   | Putting ↦ ask.Put k.place (sure k)
   | Forcing ↦ ask.Force
-  | Making ↦ ask.Make
+  | Making ↦ ask.Make k.place
   | Naming ↦ ask.Name
   | Settling ↦ ask.Settle
   | Leaving e ↦ ask.Unlock

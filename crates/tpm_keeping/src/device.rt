@@ -39,6 +39,12 @@ pub trait Device: Drop + Sized {
             (journal.followed (spot self.old) text.now ≡ None)
             (λ taken. journal.followed (spot self.old) text.now ≡ Some (spot self.new, taken))) };
 
+    /// The device of the front of a damaged journal that is whole, and how many bytes it executed;
+    /// None where there is none.
+    fn salvage(alloc: Global, text: &[u8]) -> Result<Option<(Self, usize)>, Exhausted>
+        ensures { IfOk result (λ salvaged. MatchOption salvaged (journal.salvaged text.now ≡ None)
+            (λ found. journal.salvaged text.now ≡ Some (spot found.0, found.1))) };
+
     /// Whether a text is one of a command.
     fn is_command(command: &[u8]) -> bool
         ensures { result ≡ journal.is_command command.now };

@@ -28,6 +28,10 @@ pub enum Job {
     Show,
     /// To see that there is a device: to open it, or to begin one of random bytes or of a text.
     Begin,
+    /// To see that there is a device, and if the journal is damaged, to begin a new journal in the
+    /// state after its front that is whole. A device in memory whose file is damaged is dropped
+    /// first: then the job has to be asked for again.
+    Cut,
 }
 
 /// Why a call was not done.

@@ -32,8 +32,9 @@ pub enum Ask {
     Put { cut: u64, at: u64 },
     /// To force the file to the disk.
     Force,
-    /// To write the keeper's text to a new file, whole, and to force it to the disk.
-    Make,
+    /// To write the keeper's text to a new file, whole, and to force it to the disk. The device has
+    /// executed the first `whole` bytes of the old journal, or 0 where there is none.
+    Make { whole: u64 },
     /// To give the new file the journal's name, and to tell its number.
     Name,
     /// To force the folder to the disk.
@@ -116,7 +117,7 @@ impl<D: Device> Keeper<D> {
                 at: self.sure(),
             },
             Phase::Forcing => Ask::Force,
-            Phase::Making => Ask::Make,
+            Phase::Making => Ask::Make { whole: self.place },
             Phase::Naming => Ask::Name,
             Phase::Settling => Ask::Settle,
             Phase::Leaving(_) => Ask::Unlock,

@@ -6,7 +6,7 @@ ghost use Rattle.std.specs.declared.option.Option.TheVariants.{None, Some};
 ghost use Rattle.tpm_keeping.specs.Holder.{acts, begins, caught_up, dropped, enters, executes, finishes};
 ghost use Rattle.tpm_keeping.specs.Holder.{found, has_named, has_put, has_read, is_grown, leaps, looked};
 ghost use Rattle.tpm_keeping.specs.Holder.{reads_on, renews, settles, shows};
-ghost use Rattle.tpm_keeping.specs.Holder.{begins_of};
+ghost use Rattle.tpm_keeping.specs.Holder.{begins_of, salvages};
 ghost use Rattle.tpm_keeping.specs.declared.holder.Fault.TheVariants.{Memory};
 ghost use Rattle.tpm_keeping.specs.View.{holder_of};
 
@@ -83,19 +83,52 @@ impl<D: Device> Keeper<D> {
         ensures err { OnErr result (dropped Memory (holder_of D.spot self.new)
             ≡ dropped Memory (holder_of D.spot self.old)) }
     {
-        let found = match self.device.take() {
-            None => D::open(self.alloc, &self.read)?,
-            Some(mut device) => match device.follow(&self.read)? {
-                Some(taken) => Some((device, taken)),
-                None => None,
-            },
+        let Some(mut device) = self.device.take() else {
+            return self.opens();
         };
-        let Some((device, taken)) = found else {
+        let Some(taken) = device.follow(&self.read)? else {
             self.give_up(Fault::Damaged);
             return Ok(());
         };
         self.caught_up(taken)?;
         self.acts(device)
+    }
+
+    /// Opens the device of what was read, which is the whole file, and acts.
+    fn opens(&mut self) -> Result<(), Exhausted>
+        requires { self.old.device ≡ None }
+        ensures ok { OnOk result (holder_of D.spot self.new ≡ finishes D.journal
+            (holder_of D.spot self.old) (D.journal.opened self.old.read.items)) }
+        ensures err { OnErr result (dropped Memory (holder_of D.spot self.new)
+            ≡ dropped Memory (holder_of D.spot self.old)) }
+    {
+        let Some((device, taken)) = D::open(self.alloc, &self.read)? else {
+            return self.salvages();
+        };
+        self.caught_up(taken)?;
+        self.acts(device)
+    }
+
+    /// What was read, which is the whole file, is damaged. A cut goes on with the device of its
+    /// front that is whole, in a new journal.
+    fn salvages(&mut self) -> Result<(), Exhausted>
+        ensures ok { OnOk result (holder_of D.spot self.new ≡ salvages D.journal self.old.job None
+            (holder_of D.spot self.old)) }
+        ensures err { OnErr result (dropped Memory (holder_of D.spot self.new)
+            ≡ dropped Memory (holder_of D.spot self.old)) }
+    {
+        let salvaged = match self.job {
+            Job::Cut => D::salvage(self.alloc, &self.read)?,
+            _ => None,
+        };
+        let Some((device, taken)) = salvaged else {
+            self.give_up(Fault::Damaged);
+            return Ok(());
+        };
+        self.caught_up(taken)?;
+        self.out.clear();
+        self.response.clear();
+        self.renews(device)
     }
 
     /// So much of what was read is executed. A holder that forces before each answer keeps it,
@@ -138,7 +171,7 @@ impl<D: Device> Keeper<D> {
                 device.show(&mut self.response)?;
                 self.shows(device)
             }
-            Job::Begin => self.shows(device),
+            Job::Begin | Job::Cut => self.shows(device),
         }
     }
 
@@ -283,6 +316,7 @@ impl<D: Device> Keeper<D> {
             self.give_up(Fault::Unreadable);
             return Ok(());
         };
+        self.place = 0;
         self.renews(device)
     }
 

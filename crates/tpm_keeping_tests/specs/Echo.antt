@@ -1,7 +1,7 @@
 -- A device without a state, which answers each command with the command. Its journal has a byte for
--- the head and one for each entry. A command that begins with a zero has no entry, and no bytes are
--- no command.
-use Rattle.std.specs.Prelude.{◌≡◌, ℕ, zero, suc, Bool, true, false, List, [], ◌∷◌, length, Option, Some, None}
+-- the head and one for each entry; it is damaged where its first entry is another byte. A command
+-- that begins with a zero has no entry, and no bytes are no command.
+use Rattle.std.specs.Prelude.{ℕ, zero, suc, ◌==◌, Bool, true, false, cond, List, [], ◌∷◌, length, Option, Some, None}
 use Rattle.tpm_keeping.specs.Journal.{Journal, Spot}
 
 abbrev pub nothing : Spot
@@ -27,12 +27,18 @@ headed_at (b ∷ c ∷ text) = None
 
 abbrev pub opened_at : List ℕ → Option (Spot × ℕ)
 opened_at [] = None
-opened_at (b ∷ text) = Some (nothing, suc (length text))
+opened_at (b ∷ []) = Some (nothing, 1)
+opened_at (b ∷ c ∷ text) = cond (c == 101) (Some (nothing, suc (suc (length text)))) None
 
 -- where nothing follows, it is the spot that it was
-abbrev pub followed_at : Spot → List ℕ → Spot × ℕ
-followed_at p [] = (p, 0)
-followed_at p (b ∷ text) = (nothing, suc (length text))
+abbrev pub followed_at : Spot → List ℕ → Option (Spot × ℕ)
+followed_at p [] = Some (p, 0)
+followed_at p (b ∷ text) = cond (b == 101) (Some (nothing, suc (length text))) None
+
+-- of what is damaged, the head is whole
+abbrev pub salvaged_at : List ℕ → Option (Spot × ℕ)
+salvaged_at [] = None
+salvaged_at (b ∷ text) = Some (nothing, 1)
 
 abbrev pub echo : Journal
 echo = record {
@@ -48,7 +54,8 @@ echo = record {
   first = λ s. 0;
   after_head = λ text. headed_at text;
   opened = λ text. opened_at text;
-  followed = λ p text. Some (followed_at p text);
+  followed = λ p text. followed_at p text;
+  salvaged = λ text. salvaged_at text;
   is_torn = λ p text. is_empty text;
   is_litter = λ text. is_empty text;
 }

@@ -1,8 +1,8 @@
 -- The journal of the device that echoes meets what a keeper needs.
-use Rattle.std.proofs.Common.{◌≡◌, ℕ, zero, suc, ◌+◌, ◌<◌, Bool, true, false, List, [], ◌∷◌, ◌++◌, length, take, Some, None, Option, refl, sym, ap, ◌∙◌, subst, arith}
+use Rattle.std.proofs.Common.{◌≡◌, ℕ, zero, suc, ◌+◌, ◌<◌, true, List, [], ◌∷◌, ◌++◌, length, take, Some, refl, sym, ap, ◌∙◌, arith}
 use Rattle.std.proofs.lemmas.List.{append-nil}
-use Rattle.tpm_keeping.specs.Journal.{Journal, IsJournal, Spot, entries, run, started, stepped, trail}
-use Rattle.tpm_keeping_tests.specs.Echo.{echo, followed_at, headed_at, is_empty, nothing, opened_at}
+use Rattle.tpm_keeping.specs.Journal.{IsJournal, Spot, entries, started, trail}
+use Rattle.tpm_keeping_tests.specs.Echo.{echo, followed_at, headed_at, is_empty, nothing, opened_at, salvaged_at}
 
 none : (text : List ℕ) → is_empty text ≡ true → text ≡ []
 none [] is = refl
@@ -14,10 +14,25 @@ still [] = refl
 still (c ∷ cs) = still cs
 
 followed : (p : Spot) (cs : List (List ℕ))
-    → followed_at p (entries echo p cs) ≡ (trail echo p cs, length (entries echo p cs))
+    → followed_at p (entries echo p cs) ≡ Some (trail echo p cs, length (entries echo p cs))
 followed p [] = refl
 followed p (c ∷ cs) =
-    ap (λ (q : Spot). (q, suc (length (entries echo nothing cs)))) (sym (still cs))
+    ap (λ (q : Spot). Some (q, suc (length (entries echo nothing cs)))) (sym (still cs))
+
+opened : (b : ℕ) (p : Spot) (cs : List (List ℕ))
+    → opened_at (b ∷ entries echo p cs) ≡ Some (nothing, suc (length (entries echo p cs)))
+opened b p [] = refl
+opened b p (c ∷ cs) = refl
+
+salvages : (text : List ℕ) (p : Spot) (size : ℕ) → salvaged_at text ≡ Some (p, size)
+    → opened_at (take size text) ≡ Some (p, size)
+salvages [] p size is = absurd cc
+salvages (b ∷ text) p size is =
+    let one : 1 ≡ size = size_is (nothing, 1) (p, size) is in
+    ap (λ (n : ℕ). opened_at (take n (b ∷ text))) (sym one) ∙ is
+  where
+    size_is : (a b : Spot × ℕ) → Some a ≡ Some b → a.1 ≡ b.1
+    size_is a b e = let same : a ≡ b = cc in ap (λ (x : Spot × ℕ). x.1) same
 
 begun : (s : List ℕ) → is_empty s ≡ true → started echo s ≡ nothing
 begun s is = ap (λ (x : List ℕ). started echo x) (none s is)
@@ -53,17 +68,18 @@ echo_is_a_journal = record {
       let end : nothing ≡ trail echo p cs =
       sym (still cs) ∙ ap (λ (q : Spot). trail echo q cs) (sym is.2) in
       ap (λ (x : List ℕ). opened_at (x ++ (all ++ tail))) is.1
-      ∙ (ap (λ (x : List ℕ). Some (nothing, suc (length x))) text
+      ∙ (ap (λ (x : List ℕ). opened_at (is.0 ∷ x)) text
+      ∙ (opened is.0 p cs
       ∙ (ap (λ (n : ℕ). Some (nothing, n)) size
-      ∙ ap (λ (q : Spot). Some (q, length head + length all)) end))
+      ∙ ap (λ (q : Spot). Some (q, length head + length all)) end)))
       );
   follows = λ p cs tail lives entered torn. (
       let all = entries echo p cs in
       let text : all ++ tail ≡ all =
       ap (λ (x : List ℕ). all ++ x) (none tail torn) ∙ append-nil all in
-      ap (λ (x : List ℕ). Some (followed_at p x)) text
-      ∙ ap (λ (r : Spot × ℕ). Some r) (followed p cs)
+      ap (followed_at p) text ∙ followed p cs
       );
+  salvages = λ text p size is. salvages text p size is;
   nothing = λ p. refl;
   front = λ p c k lives entered le. short k le;
   littered = λ p tail k litter torn is. littered tail k litter torn is;

@@ -11,6 +11,8 @@ const FAR: u64 = 1000;
 
 const NO_JOURNAL: End = End::Failed(Fault::Absent);
 
+const DAMAGED: End = End::Failed(Fault::Damaged);
+
 /// A call with this command ends so, by just this, and leaves this journal.
 fn ends<R: Abort>(
     rt: &R,
@@ -102,7 +104,7 @@ fn what_is_no_command_is_refused(rt: HostRuntime) {
 fn without_a_journal_only_begin_is_done(rt: HostRuntime) {
     let mut folder = Folder::new(rt.alloc());
     let mut never = Keeper::new(rt.alloc(), Force::Never, FAR);
-    for job in [Job::Execute, Job::Renew, Job::Show] {
+    for job in [Job::Execute, Job::Renew, Job::Show, Job::Cut] {
         ends(
             &rt,
             &mut folder,
@@ -185,4 +187,88 @@ fn a_small_limit_does_not_renew_a_small_journal(rt: HostRuntime) {
     check(&rt, &mut folder, &mut keeper, Job::Begin, b"LKMNU", b"h");
     check(&rt, &mut folder, &mut keeper, Job::Execute, b"LKPU", b"he");
     check(&rt, &mut folder, &mut keeper, Job::Execute, b"LKMNU", b"he");
+}
+
+#[test]
+fn a_cut_of_a_whole_journal_changes_nothing(rt: HostRuntime) {
+    let mut folder = Folder::new(rt.alloc());
+    let mut never = Keeper::new(rt.alloc(), Force::Never, FAR);
+    check(&rt, &mut folder, &mut never, Job::Begin, b"LKMNU", b"h");
+    check(&rt, &mut folder, &mut never, Job::Execute, b"LKPU", b"he");
+    check(&rt, &mut folder, &mut never, Job::Cut, b"LKU", b"he");
+    let mut always = Keeper::new(rt.alloc(), Force::Always, FAR);
+    check(&rt, &mut folder, &mut always, Job::Cut, b"LKRPFSU", b"he");
+    answers(&rt, &always, b"");
+}
+
+// The front that is whole is the head. Only a cut goes on with it, in a new journal.
+#[test]
+fn a_cut_begins_a_damaged_journal_anew(rt: HostRuntime) {
+    let mut folder = Folder::new(rt.alloc());
+    let mut other = Keeper::new(rt.alloc(), Force::Never, FAR);
+    check(&rt, &mut folder, &mut other, Job::Begin, b"LKMNU", b"h");
+    assert!(&rt; folder.journal.extend_from_slice(b"xe").is_ok());
+    let mut power = Keeper::new(rt.alloc(), Force::Power, FAR);
+    for job in [Job::Execute, Job::Renew, Job::Show, Job::Begin] {
+        ends(
+            &rt,
+            &mut folder,
+            &mut power,
+            job,
+            b"command",
+            DAMAGED,
+            b"LKRU",
+            b"hxe",
+        );
+    }
+    check(&rt, &mut folder, &mut power, Job::Cut, b"LKRMNSU", b"h");
+    assert!(&rt; folder.whole == 1);
+    answers(&rt, &power, b"");
+    check(&rt, &mut folder, &mut power, Job::Execute, b"LKPU", b"he");
+}
+
+// What is in memory is the device of other bytes, so it is dropped. The next cut reads the file.
+#[test]
+fn a_device_in_memory_is_dropped_before_a_cut(rt: HostRuntime) {
+    let mut folder = Folder::new(rt.alloc());
+    let mut never = Keeper::new(rt.alloc(), Force::Never, FAR);
+    check(&rt, &mut folder, &mut never, Job::Begin, b"LKMNU", b"h");
+    assert!(&rt; folder.journal.push(b'x').is_ok());
+    ends(
+        &rt,
+        &mut folder,
+        &mut never,
+        Job::Cut,
+        b"",
+        DAMAGED,
+        b"LKRU",
+        b"hx",
+    );
+    check(&rt, &mut folder, &mut never, Job::Cut, b"LKRMNU", b"h");
+}
+
+// No front of a file without bytes is a journal.
+#[test]
+fn nothing_is_salvaged_of_an_empty_file(rt: HostRuntime) {
+    let mut folder = Folder::new(rt.alloc());
+    let mut never = Keeper::new(rt.alloc(), Force::Never, FAR);
+    folder.number = 1;
+    for job in [Job::Begin, Job::Cut] {
+        ends(&rt, &mut folder, &mut never, job, b"", DAMAGED, b"LKU", b"");
+    }
+}
+
+// A new journal says how much of the old one its device executed.
+#[test]
+fn a_new_journal_follows_a_whole_one(rt: HostRuntime) {
+    let mut folder = Folder::new(rt.alloc());
+    let mut never = Keeper::new(rt.alloc(), Force::Never, FAR);
+    check(&rt, &mut folder, &mut never, Job::Begin, b"LKMNU", b"h");
+    assert!(&rt; folder.whole == 0);
+    check(&rt, &mut folder, &mut never, Job::Execute, b"LKPU", b"he");
+    check(&rt, &mut folder, &mut never, Job::Renew, b"LKMNU", b"h");
+    assert!(&rt; folder.whole == 2);
+    folder.number = 0;
+    check(&rt, &mut folder, &mut never, Job::Begin, b"LKMNU", b"h");
+    assert!(&rt; folder.whole == 0);
 }

@@ -7,8 +7,11 @@ ghost use Rattle.tpm_keeping_tests.specs.EchoLaws.{echo_is_a_journal};
 use std::alloc::Global;
 use tpm_keeping::device::{Device, Exhausted};
 
+/// What its journal has for each entry.
+const ENTRY: u8 = 101;
+
 /// Answers each command with the command. One that begins with a zero has no entry, and no bytes
-/// are no command.
+/// are no command. A journal whose first entry is another byte is damaged.
 #[derive(Drop)]
 pub struct Echo;
 
@@ -27,11 +30,24 @@ impl Device for Echo {
         if text.is_empty() {
             return Ok(None);
         }
-        Ok(Some((Echo, text.len())))
+        match text.get(1) {
+            Some(entry) if *entry != ENTRY => Ok(None),
+            _ => Ok(Some((Echo, text.len()))),
+        }
     }
 
     fn follow(&mut self, text: &[u8]) -> Result<Option<usize>, Exhausted> {
-        Ok(Some(text.len()))
+        match text.first() {
+            Some(entry) if *entry != ENTRY => Ok(None),
+            _ => Ok(Some(text.len())),
+        }
+    }
+
+    fn salvage(_alloc: Global, text: &[u8]) -> Result<Option<(Echo, usize)>, Exhausted> {
+        if text.is_empty() {
+            return Ok(None);
+        }
+        Ok(Some((Echo, 1)))
     }
 
     fn is_command(command: &[u8]) -> bool {
@@ -51,7 +67,7 @@ impl Device for Echo {
         out: &mut Vec<u8>,
         response: &mut Vec<u8>,
     ) -> Result<(), Exhausted> {
-        let (Ok(()), Ok(())) = (out.push(101), response.extend_from_slice(command)) else {
+        let (Ok(()), Ok(())) = (out.push(ENTRY), response.extend_from_slice(command)) else {
             return Err(Exhausted);
         };
         Ok(())

@@ -12,13 +12,15 @@ const STEPS: u32 = 40;
 /// As many bytes as are read at once.
 const PART: usize = 3;
 
-/// The journal, the new file that has no name yet, and a letter for each thing that the host did in
-/// the last call; an exclamation mark where the keeper said that it had no memory.
+/// The journal, the new file that has no name yet, how much of the old journal was whole when that
+/// was made, and a letter for each thing that the host did in the last call; an exclamation mark
+/// where the keeper said that it had no memory.
 #[derive(Drop)]
 pub struct Folder {
     pub number: u64,
     pub journal: Vec<u8>,
     fresh: Vec<u8>,
+    pub whole: u64,
     pub did: Vec<u8>,
 }
 
@@ -30,7 +32,7 @@ fn letter(ask: Ask) -> u8 {
         Ask::Read(_) => b'R',
         Ask::Put { .. } => b'P',
         Ask::Force => b'F',
-        Ask::Make => b'M',
+        Ask::Make { .. } => b'M',
         Ask::Name => b'N',
         Ask::Settle => b'S',
         Ask::Unlock => b'U',
@@ -44,6 +46,7 @@ impl Folder {
             number: 0,
             journal: Vec::new(alloc),
             fresh: Vec::new(alloc),
+            whole: 0,
             did: Vec::new(alloc),
         }
     }
@@ -87,7 +90,8 @@ impl Folder {
                 self.journal.truncate(at as usize);
                 self.journal.extend_from_slice(keeper.out())?;
             }
-            Ask::Make => {
+            Ask::Make { whole } => {
+                self.whole = whole;
                 self.fresh.clear();
                 self.fresh.extend_from_slice(keeper.out())?;
             }
