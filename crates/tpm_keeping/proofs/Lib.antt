@@ -9,4 +9,5 @@ pub mod Runs
 pub mod Ending
 pub mod LineLaws
 pub mod Promises
+pub mod Cutting
 pub mod Asked

@@ -2,7 +2,7 @@
 use Rattle.std.specs.Prelude.{◌≡◌, ◌⊎◌, ℕ, Bool, false, true, cond, ◌+◌, ◌<◌, ◌≤◌, ◌==◌, List, [], ◌∷◌, ◌++◌, length, map, take, Option, Some, None}
 use Rattle.std.specs.List.{AllByRecursion}
 use Rattle.tpm_keeping.specs.Journal.{Journal, Spot, run}
-use Rattle.tpm_keeping.specs.Holder.{Holder, is_always}
+use Rattle.tpm_keeping.specs.Holder.{Holder, Told, Bytes, is_always}
 use Rattle.tpm_keeping.specs.World.{Answer, Asks, Does, Event, File, Shared, World}
 use Rattle.tpm_keeping.specs.declared.holder.Job.{Job}
 use Rattle.tpm_keeping.specs.declared.holder.Job.TheVariants.{Execute, Begin}
@@ -98,6 +98,19 @@ turns p mores = map (λ (more : ℕ). Does p more) mores
 -- A call has ended so, and the lock is free.
 abbrev pub HasEnded : World → (p : ℕ) → End → Type 0
 HasEnded w p e = ((w.holders p).phase ≡ Ended e) × (w.shared.locked ≡ false)
+
+-- ---- a cut
+
+-- what a holder has read of the file that it does not know yet, with what the host tells
+abbrev pub text_read : Phase → Holder → Told → List ℕ
+text_read Reading k (Bytes bytes) = k.read ++ bytes
+text_read phase k told = []
+
+-- A holder's text begins a journal in the state to which a front of this text leads.
+pub record KeepsFront (j : Journal) (text : List ℕ) (k : Holder) : Type 0 where
+  pub spot : Spot
+  pub is : j.opened (take k.place text) ≡ Some (spot, k.place)
+  pub out : k.out ≡ j.head spot.state
 
 -- ---- what was asked for
 

@@ -1,20 +1,20 @@
 //! What holds after every run of every holder.
 
-ghost use Rattle.std.specs.Prelude.{◌≡◌, ◌+◌, ◌<◌, ◌≤◌, ◌∷◌, ℕ, Bool, List, false, length, true};
+ghost use Rattle.std.specs.Prelude.{◌≡◌, ◌+◌, ◌<◌, ◌≤◌, ◌∷◌, ℕ, Bool, List, None, false, length, true};
 ghost use Rattle.std.specs.List.{AllByRecursion};
 ghost use Rattle.tpm_keeping.specs.Holder.{Holder, Told, next_of};
 ghost use Rattle.tpm_keeping.specs.Journal.{IsJournal, Journal};
 ghost use Rattle.tpm_keeping.specs.Journal.{run};
-ghost use Rattle.tpm_keeping.specs.Kept.{Advances, HasEnded, IsKept, KeepsPromises, Pass, end_of};
-ghost use Rattle.tpm_keeping.specs.Kept.{rank, turns};
+ghost use Rattle.tpm_keeping.specs.Kept.{Advances, HasEnded, IsKept, KeepsFront, KeepsPromises};
+ghost use Rattle.tpm_keeping.specs.Kept.{Pass, end_of, rank, text_read, turns};
 ghost use Rattle.tpm_keeping.specs.Lines.{lines};
 ghost use Rattle.tpm_keeping.specs.World.{Asks, Event, IsStart, World, happen};
 ghost use Rattle.tpm_keeping.specs.World.{happens};
 ghost use Rattle.tpm_keeping.specs.declared.holder.End.{End};
 ghost use Rattle.tpm_keeping.specs.declared.holder.End.TheVariants.{Done};
 ghost use Rattle.tpm_keeping.specs.declared.holder.Job.{Job};
-ghost use Rattle.tpm_keeping.specs.declared.holder.Job.TheVariants.{Show};
-ghost use Rattle.tpm_keeping.specs.declared.holder.Phase.TheVariants.{Ended, Leaving};
+ghost use Rattle.tpm_keeping.specs.declared.holder.Job.TheVariants.{Cut, Show};
+ghost use Rattle.tpm_keeping.specs.declared.holder.Phase.TheVariants.{Ended, Leaving, Making};
 
 /// Whatever the holders of one device are asked for, wherever each is killed, whatever fails and
 /// whenever the host crashes: the journal opens as the device that executed the history, each
@@ -68,6 +68,15 @@ pub fn snapshots_are_true()
         → ((happen j events start).holders p).job ≡ Show
         → ((happen j events start).holders p).response ≡ j.head
         (run j (happen j events start).shared.origin (happen j events start).shared.history) }
+{}
+
+/// What a cut writes in place of a damaged journal is the head of the state to which a front of the
+/// journal leads: that front has as many bytes as the keeper then says that the device executed.
+pub fn cuts_keep_a_front()
+    ensures { (j : Journal) (k : Holder) (told : Told) → IsJournal j → k.job ≡ Cut
+        → rank k.phase < 3 → (k.device ≡ None → k.place ≡ 0)
+        → (next_of j k told).phase ≡ Making
+        → KeepsFront j (text_read k.phase k told) (next_of j k told) }
 {}
 
 /// There is a journal that meets what a keeper needs.
