@@ -39,17 +39,21 @@ pub enum Job {
 pub enum Fault {
     /// Nothing was asked for, or the call was left in the middle.
     Idle,
-    /// The host did not do what it was to do: with the lock's file,
+    /// The host did not take the lock.
     Lock,
-    /// the journal,
+    /// The host did not look at the journal.
     Look,
+    /// The host did not read the journal, or the journal became shorter.
     Read,
+    /// The host did not write the journal.
     Write,
+    /// The host did not force the journal to the disk.
     Force,
-    /// the new journal,
+    /// The host did not write a new journal, or did not force it to the disk.
     Make,
+    /// The host did not give the new journal the journal's name.
     Name,
-    /// or the folder.
+    /// The host did not force the folder to the disk.
     Settle,
     /// There is no journal.
     Absent,
@@ -64,8 +68,8 @@ pub enum Fault {
 }
 
 impl Fault {
-    /// What the fault says of a file or of the folder. A host writes its path first, and after the
-    /// sentence what the system said.
+    /// What the fault says, to be written after a path: the lock's for `Lock`, the new journal's for
+    /// `Make` and `Name`, the folder's for `Settle`, else the journal's.
     pub fn sentence(self) -> &'static str
         ensures { result.now ≡ sentence self }
     {
