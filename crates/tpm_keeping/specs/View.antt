@@ -8,6 +8,7 @@ use Rattle.tpm_keeping.specs.declared.keeper.Ask.TheVariants as ask
 use Rattle.tpm_keeping.specs.declared.keeper.Got.{Got}
 use Rattle.tpm_keeping.specs.declared.keeper.Got.TheVariants as got
 use Rattle.tpm_keeping.specs.declared.keeper.Keeper.{Keeper}
+use Rattle.tpm_keeping.specs.declared.holder.Phase.{Phase}
 use Rattle.tpm_keeping.specs.declared.holder.Phase.TheVariants.{Ended, Locking, Looking, Reading, Putting, Forcing, Making, Naming, Settling, Leaving}
 
 abbrev pub holder_of : {D : Type 0} → (D → Spot) → Keeper D → Holder
@@ -37,16 +38,17 @@ told_of (got.Bytes bytes) = holder.Bytes bytes.now
 told_of got.Failed = holder.Failed
 
 -- what the host is to do in a phase
+abbrev pub ask_in : Phase → Holder → Ask
+ask_in (Ended e) k = ask.Nothing e
+ask_in Locking k = ask.Lock
+ask_in Looking k = ask.Look
+ask_in Reading k = ask.Read k.seen
+ask_in Putting k = ask.Put k.place (sure k)
+ask_in Forcing k = ask.Force
+ask_in Making k = ask.Make k.place
+ask_in Naming k = ask.Name
+ask_in Settling k = ask.Settle
+ask_in (Leaving e) k = ask.Unlock
+
 abbrev pub ask_of : Holder → Ask
-ask_of k = elim k.phase [
-  | Ended e ↦ ask.Nothing e
-  | Locking ↦ ask.Lock
-  | Looking ↦ ask.Look
-  | Reading ↦ ask.Read k.seen
-  | Putting ↦ ask.Put k.place (sure k)
-  | Forcing ↦ ask.Force
-  | Making ↦ ask.Make k.place
-  | Naming ↦ ask.Name
-  | Settling ↦ ask.Settle
-  | Leaving e ↦ ask.Unlock
-]
+ask_of k = ask_in k.phase k

@@ -25,6 +25,9 @@
 use Rattle.std.specs.Prelude.{◌≡◌, ℕ, zero, suc, ◌+◌, ◌-◌, ◌<◌, ◌≤◌, ◌==◌, ◌&&◌, Bool, true, false, cond, List, [], ◌∷◌, ◌++◌, drop, length, max, min, nat_le, take, Option, Some, None}
 use Rattle.tpm_keeping.specs.Journal.{Entered, Journal, Spot, entries, run, started, trail, whole_in}
 use Rattle.tpm_keeping.specs.Holder.{Holder, Told, Done, Stands, Gone, Bytes, Failed, Starved, asked, is_never, newborn, next_in, rests, sure}
+use Rattle.tpm_keeping.specs.View.{ask_in}
+use Rattle.tpm_keeping.specs.declared.keeper.Ask.{Ask}
+use Rattle.tpm_keeping.specs.declared.keeper.Ask.TheVariants as ask
 use Rattle.tpm_keeping.specs.declared.holder.Force.{Force}
 use Rattle.tpm_keeping.specs.declared.holder.Force.TheVariants.{Power, Always}
 use Rattle.tpm_keeping.specs.declared.holder.Job.{Job}
@@ -32,7 +35,7 @@ use Rattle.tpm_keeping.specs.declared.holder.Job.TheVariants.{Execute, Renew}
 use Rattle.tpm_keeping.specs.declared.holder.End.{End}
 use Rattle.tpm_keeping.specs.declared.holder.End.TheVariants as ending
 use Rattle.tpm_keeping.specs.declared.holder.Phase.{Phase}
-use Rattle.tpm_keeping.specs.declared.holder.Phase.TheVariants.{Ended, Locking, Looking, Reading, Putting, Forcing, Making, Naming, Settling, Leaving}
+use Rattle.tpm_keeping.specs.declared.holder.Phase.TheVariants.{Ended, Locking, Putting, Leaving}
 
 -- what a file holds, and the commands whose entries are whole in it
 pub record Content : Type 0 where
@@ -143,6 +146,11 @@ abbrev pub put_dropped : File → Holder → (count : ℕ) → Bool
 put_dropped f k count =
     cond (nat_le (length k.out) count && nat_le (sure k) (min f.forced k.place)) false f.is_dropped
 
+-- a text after its end is cut and bytes are written, where the request says
+abbrev pub put_by : Ask → (text bytes : List ℕ) → List ℕ
+put_by (ask.Put cut at) text bytes = written (take cut text) at bytes
+put_by asked text bytes = text
+
 abbrev pub put_on : Journal → File → Holder → (count : ℕ) → File
 put_on j f k count = record {
   number = f.number;
@@ -150,7 +158,7 @@ put_on j f k count = record {
   start = f.start;
   before = f.before;
   now = record {
-    text = written (take k.place f.now.text) (sure k) (take count k.out);
+    text = put_by (ask_in Putting k) f.now.text (take count k.out);
     commands = f.now.commands ++ put_more j k count;
   };
   past = f.now ∷ f.past;
@@ -204,25 +212,33 @@ named_from j origin s k =
 abbrev pub named : Journal → Shared → Holder → Shared
 named j s k = named_from j (cond (s.file.number == 0) (state_in k.device) s.origin) s k
 
--- what is done of what a holder is to do
+-- what a host does of a request of a holder
+abbrev pub does_asked : Journal → Ask → Shared → Holder → Effect → Shared
+does_asked j (ask.Put cut at) s k (Part count) = put j s k count
+does_asked j (ask.Put cut at) s k All = put j s k (length k.out)
+does_asked j ask.Force s k (Part count) = lost s
+does_asked j ask.Force s k All = record s { file = forced s.file }
+does_asked j (ask.Make whole) s k (Part count) =
+    record s { fresh = take count k.out; fresh_forced = 0 }
+does_asked j (ask.Make whole) s k All =
+    record s { fresh = k.out; fresh_forced = length k.out }
+does_asked j ask.Name s k All = named j s k
+does_asked j ask.Settle s k All = record s { older = [] }
+does_asked j asked s k effect = s
+
 abbrev pub does : Journal → Phase → Shared → Holder → Effect → Shared
-does j Putting s k (Part count) = put j s k count
-does j Putting s k All = put j s k (length k.out)
-does j Forcing s k (Part count) = lost s
-does j Forcing s k All = record s { file = forced s.file }
-does j Making s k (Part count) = record s { fresh = take count k.out; fresh_forced = 0 }
-does j Making s k All = record s { fresh = k.out; fresh_forced = length k.out }
-does j Naming s k All = named j s k
-does j Settling s k All = record s { older = [] }
-does j phase s k effect = s
+does j phase s k effect = does_asked j (ask_in phase k) s k effect
 
 -- what the host then tells
-abbrev pub tells : Phase → Shared → Holder → (more : ℕ) → Told
-tells Looking s k more =
+abbrev pub tells_asked : Ask → Shared → (more : ℕ) → Told
+tells_asked ask.Look s more =
     cond (s.file.number == 0) Gone (Stands s.file.number (length s.file.now.text))
-tells Reading s k more = Bytes (take (suc more) (drop k.seen s.file.now.text))
-tells Naming s k more = Stands s.file.number (length s.file.now.text)
-tells phase s k more = Done
+tells_asked (ask.Read from) s more = Bytes (take (suc more) (drop from s.file.now.text))
+tells_asked ask.Name s more = Stands s.file.number (length s.file.now.text)
+tells_asked asked s more = Done
+
+abbrev pub tells : Phase → Shared → Holder → (more : ℕ) → Told
+tells phase s k more = tells_asked (ask_in phase k) s more
 
 -- ---- what a call that is done promises
 
