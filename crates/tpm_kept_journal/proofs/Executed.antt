@@ -1,19 +1,20 @@
 -- What a device has executed is what the journal's functions say.
-use Rattle.std.proofs.Common.{◌≡◌, ℕ, Bool, false, List, [], Option, Some, None, Result, Ok, Err, refl, sym, ap, ◌∙◌}
+use Rattle.std.proofs.Common.{◌≡◌, ◌≤◌, ℕ, Bool, false, List, [], length, Option, Some, None, Result, Ok, Err, refl, subst, sym, ap, ◌∙◌, arith}
 use Rattle.tpm_completion.specs.Execution.{Seen}
 use Rattle.tpm_completion.proofs.Exactly.{exactly}
 use Rattle.tpm_image_text.specs.declared.fault.Malformed.{Malformed}
-use Rattle.tpm_journal.specs.Command.{Command, Executed, entry_of, given}
+use Rattle.tpm_journal.specs.Command.{Command, Executed, command_at, elapsed_of, entry_of, given}
 use Rattle.tpm_journal.specs.State.{journal_after}
 use Rattle.tpm_journal.specs.declared.journal.Journal.{Journal}
 use Rattle.tpm_journal_text.specs.Entry.{PlainEntry, entry_text, sum_after}
 use Rattle.tpm_keeping.specs.Journal.{Spot, stepped}
 use Rattle.tpm_record.specs.Record.{Record}
 use Rattle.tpm_kept_journal.specs.Command as kept
-use Rattle.tpm_kept_journal.specs.Command.{KeptCommand, command_of}
+use Rattle.tpm_kept_journal.specs.Command.{KeptCommand, Moment, command_of}
 use Rattle.tpm_kept_journal.specs.DeviceJournal.{device_journal}
-use Rattle.tpm_kept_journal.specs.Effect.{answer, command_on, effect, entered, entry_at_spot, left_by, moved, sum_if, text_if, with_both}
+use Rattle.tpm_kept_journal.specs.Effect.{answer, clock_at, command_on, effect, entered, entry_at_spot, left_by, moved, reported, sum_if, text_if, with_both}
 use Rattle.tpm_kept_journal.specs.State.{DeviceState, IsDeviceState, bytes_of, spot_of, state_in, state_of_bytes}
+use Rattle.tpm_kept_journal.proofs.Replay.{completed_few}
 use Rattle.tpm_kept_journal.proofs.States.{state_told}
 use Rattle.tpm_kept_journal.proofs.Walks.{spot_made}
 
@@ -43,29 +44,50 @@ module _ (j : Journal) (r : Record) (is : IsDeviceState (state_in j r)) (text : 
 
 -- ---- a command of the standard
 
-module _ (j : Journal) (r : Record) (is : IsDeviceState (state_in j r)) (text : List ℕ) (now locality : ℕ) (completes : Bool) (random buffer : List ℕ)
-    (read : command_of text ≡ Ok (kept.Executes now locality completes random buffer)) (seen : Seen)
-    (done : Executed false j.layer r (command_on (state_in j r) now locality completes random buffer) seen) where
+-- which came at a moment, and was executed by this clock
+module _ (j : Journal) (r : Record) (is : IsDeviceState (state_in j r)) (text : List ℕ) (moment : Moment) (locality : ℕ) (completes : Bool)
+    (random buffer : List ℕ) (read : command_of text ≡ Ok (kept.Executes moment locality completes random buffer)) (seen : Seen) (clock : ℕ)
+    (told : clock ≡ clock_at moment j.time)
+    (done : Executed false j.layer r (command_at buffer locality (elapsed_of clock j.time) completes random) seen) where
+  abbrev given_command : Command
+  given_command = command_at buffer locality (elapsed_of clock j.time) completes random
+
   abbrev command : Command
-  command = command_on (state_in j r) now locality completes random buffer
+  command = command_on (state_in j r) moment locality completes random buffer
 
   abbrev c : KeptCommand
-  c = kept.Executes now locality completes random buffer
+  c = kept.Executes moment locality completes random buffer
+
+  same : given_command ≡ command
+  same = ap (λ (now : ℕ). command_at buffer locality (elapsed_of now j.time) completes random) told
 
   seen_is : seen ≡ effect (state_in j r) command
-  seen_is = exactly false completes j.layer r (given command) seen done refl
+  seen_is =
+      exactly false completes j.layer r (given command) seen
+      (subst (λ (x : Command). Executed false j.layer r x seen) same done) refl
 
-  pub executed_spot : (after : Journal) → after ≡ journal_after j (entry_of command seen) seen.layer
+  pub executed_few : length random ≡ 256 → seen.drawn ≤ 256
+  executed_few many =
+      omega (
+        arith,
+        ap (λ (x : Seen). x.drawn) seen_is,
+        completed_few j.layer r command.buffer locality command.elapsed random many completes,
+        many,
+      )
+
+  pub executed_spot : (after : Journal) → after ≡ journal_after j (entry_of given_command seen) seen.layer
       → spot_of after seen.step.after ≡ stepped device_journal (spot_of j r) text
   executed_spot after leads =
       ap (λ (k : Journal). spot_of k seen.step.after) leads
+      ∙ ap (λ (x : Command). spot_of (journal_after j (entry_of x seen) seen.layer) seen.step.after) same
       ∙ ap (λ (x : Seen). spot_made (bytes_of (left_by (state_in j r) command.elapsed x)) (sum_after j.sum (entry_of command x))) seen_is
       ∙ step_is j r is text c read
 
-  pub executed_entry : entry_text j.sum (entry_of command seen) ≡ device_journal.entry (spot_of j r) text
+  pub executed_entry : entry_text j.sum (entry_of given_command seen) ≡ device_journal.entry (spot_of j r) text
   executed_entry =
-      ap (λ (x : Seen). entry_text j.sum (entry_of command x)) seen_is
+      ap (λ (x : Command). entry_text j.sum (entry_of x seen)) same
+      ∙ ap (λ (x : Seen). entry_text j.sum (entry_of command x)) seen_is
       ∙ ap (text_if j.sum) (entry_is j r is text c read)
 
-  pub executed_response : seen.step.response ≡ device_journal.response (spot_of j r).state text
-  executed_response = ap (λ (x : Seen). x.step.response) seen_is ∙ response_is j r is text c read
+  pub executed_response : reported seen ≡ device_journal.response (spot_of j r).state text
+  executed_response = ap reported seen_is ∙ response_is j r is text c read

@@ -7,6 +7,7 @@ use Rattle.tpm_keeping.specs.Journal.{Entered, IsJournal, Spot}
 use Rattle.tpm_kept_journal.specs.DeviceJournal.{device_journal}
 use Rattle.tpm_kept_journal.specs.texts.TornText.{are_zeros, is_torn_text}
 use Rattle.tpm_kept_journal.proofs.Heads.{heads, opened_after}
+use Rattle.tpm_kept_journal.proofs.Salvaging.{salvages}
 use Rattle.tpm_kept_journal.proofs.Walks.{Further, Leads, Nowhere, all, end_of, leads, walked_all}
 use Rattle.tpm_kept_journal.proofs.texts.TornText.{is_torn_text-Decides, zeros_are}
 
@@ -47,6 +48,7 @@ device_is_a_journal = record {
   heads = λ s is. heads s;
   opens = λ head p cs tail starts is are torn. opens head p cs tail starts are torn;
   follows = λ p cs tail is are torn. follows p cs tail are torn;
+  salvages = λ text p size is. salvages text p size is;
   nothing = λ p. torn_so p.chain [] (torn_nothing p.chain);
   front = λ p c k is entered less. front_torn p c k (leads p c entered) less;
   littered = λ p tail k litter torn is. littered p.chain tail k litter torn is;

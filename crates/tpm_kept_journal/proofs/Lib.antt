@@ -9,4 +9,5 @@ pub mod Layers
 pub mod Following
 pub mod Executed
 pub mod Starting
+pub mod Salvaging
 pub mod Shown

@@ -117,14 +117,14 @@ module _ (text : List ℕ) (kind : HeadKind) (clock : ℕ) (content rest : List 
       ap (opened_behind text) (ap started_at begins.is ∙ head_starts head_of_text rest begins.has ∙ is)
 
   -- and a device starts by it
-  opens_by : (start : Start) → start_by kind clock content ≡ Ok start
+  pub opens_by : (start : Start) → start_by kind clock content ≡ Ok start
       → opened_text text ≡ walked (spot_of start.journal start.device) (length head) rest
   opens_by start is =
       behind (Some (spot_of start.journal start.device, length head)) (ap (spot_by (length head)) is)
       ∙ ap (λ (l : List ℕ). walked (spot_of start.journal start.device) (length head) (drop (length head) l)) begins.is
       ∙ ap (walked (spot_of start.journal start.device) (length head)) (drop_at head rest (length head) refl)
 
-  opens_not : (why : OpenFault) → start_by kind clock content ≡ Err why → opened_text text ≡ None
+  pub opens_not : (why : OpenFault) → start_by kind clock content ≡ Err why → opened_text text ≡ None
   opens_not why is = behind None (ap (spot_by (length head)) is)
 
 -- ---- where it does not

@@ -91,10 +91,10 @@ pub data Leads (p : Spot) (c : List ℕ) : Type 0 where
 
 module _ (p : Spot) (c : List ℕ) (found : IsEntered c) where
   abbrev given_command : KeptCommand
-  given_command = Executes found.now found.locality found.completes found.random found.buffer
+  given_command = Executes found.moment found.locality found.completes found.random found.buffer
 
   abbrev command : DeviceState → Command
-  command s = command_on s found.now found.locality found.completes found.random found.buffer
+  command s = command_on s found.moment found.locality found.completes found.random found.buffer
 
   abbrev entry : DeviceState → PlainEntry
   entry s = entry_of (command s) (effect s (command s))
@@ -129,7 +129,7 @@ module _ (p : Spot) (c : List ℕ) (found : IsEntered c) where
       ap (λ (b : List ℕ). spot_made b (sum_if p.chain (entry_at_spot p c))) (said p.state (λ s c. bytes_of (moved s c)) s is)
       ∙ ap (λ (o : Option PlainEntry). spot_made (bytes_of (moved s given_command)) (sum_if p.chain o)) entry_is in
       Further (entry s)
-      (entry_of_given s found.now found.locality found.completes found.random found.buffer (effect s (command s)) found.given)
+      (entry_of_given s found.moment found.locality found.completes found.random found.buffer (effect s (command s)) found.given)
       (ap (text_if p.chain) entry_is)
       (ap (performed_on p.chain (entry s)) is ∙ performed s ∙ ap (λ (q : Spot). Some q) (sym step))
 

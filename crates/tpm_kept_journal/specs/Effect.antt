@@ -1,5 +1,6 @@
 -- What a command does to a kept device.
-use Rattle.std.specs.Prelude.{◌≡◌, ℕ, Bool, true, false, List, [], ◌∷◌, is_some, not, Option, Some, None, Result, Ok, Err}
+use Rattle.std.specs.Prelude.{◌≡◌, ℕ, Bool, true, false, List, [], ◌∷◌, ◌++◌, is_some, not, Option, Some, None, Result, Ok, Err}
+use Rattle.std.specs.Int.{w16, w32, to_be_bytes}
 use Rattle.tpm_completion.specs.Completed.{completed}
 use Rattle.tpm_completion.specs.Completion.{new_completion}
 use Rattle.tpm_completion.specs.Execution.{Seen}
@@ -10,17 +11,22 @@ use Rattle.tpm_journal.specs.State.{time_after}
 use Rattle.tpm_journal_text.specs.Entry.{PlainEntry, entry_text, sum_after}
 use Rattle.tpm_keeping.specs.Journal.{Spot}
 use Rattle.tpm_record.specs.Cycle.{cycled}
-use Rattle.tpm_kept_journal.specs.Command.{Begins, Cycles, Executes, KeptCommand, command_of}
+use Rattle.tpm_kept_journal.specs.Command.{After, At, Begins, Cycles, Executes, KeptCommand, Moment, command_of}
 use Rattle.tpm_kept_journal.specs.Seed.{begun_in}
 use Rattle.tpm_kept_journal.specs.State.{DeviceState, bytes_of, state_of_bytes}
 
 -- ---- on a state
 
--- the command of a buffer that a device in this state is given at this clock
-abbrev pub command_on : DeviceState → (now locality : ℕ) → (completes : Bool)
+-- the host's clock at a moment, if the command before it came at this time; at most 2^64 - 1
+abbrev pub clock_at : Moment → (time : ℕ) → ℕ
+clock_at (At now) time = now
+clock_at (After elapsed) time = time_after time elapsed
+
+-- the command of a buffer that a device in this state is given at this moment
+abbrev pub command_on : DeviceState → Moment → (locality : ℕ) → (completes : Bool)
     → (random buffer : List ℕ) → Command
-command_on s now locality completes random buffer =
-    command_at buffer locality (elapsed_of now s.time) completes random
+command_on s moment locality completes random buffer =
+    command_at buffer locality (elapsed_of (clock_at moment s.time) s.time) completes random
 
 -- the effect of a command of the standard, with the layer or without it; no memory is refused
 abbrev pub effect : DeviceState → Command → Seen
@@ -44,23 +50,33 @@ begun_or None s = s
 -- the state after a command: one of the standard, a power cycle, or a beginning anew, which may be
 -- refused
 abbrev pub moved : DeviceState → KeptCommand → DeviceState
-moved s (Executes now locality completes random buffer) =
-    let c = command_on s now locality completes random buffer in
+moved s (Executes moment locality completes random buffer) =
+    let c = command_on s moment locality completes random buffer in
     left_by s c.elapsed (effect s c)
 moved s (Cycles now start) = cycled_at s now start
 moved s (Begins seed) = begun_or (begun_in seed) s
 
--- the response: to a power cycle none, and to a beginning anew a byte, 1 if it began
+-- the report of an effect: the command's code in four bytes, the number of the check that refused
+-- it in one, and how many random bytes it drew in two
+abbrev pub report_of : Seen → List ℕ
+report_of seen =
+    to_be_bytes w32 seen.step.row.code ++ (seen.step.row.check ∷ to_be_bytes w16 seen.drawn)
+
+abbrev pub reported : Seen → List ℕ
+reported seen = report_of seen ++ seen.step.response
+
+-- the response: to a command of the standard its report and what the device answers, to a power
+-- cycle none, and to a beginning anew a byte, 1 if it began
 abbrev pub answer : DeviceState → KeptCommand → List ℕ
-answer s (Executes now locality completes random buffer) =
-    (effect s (command_on s now locality completes random buffer)).step.response
+answer s (Executes moment locality completes random buffer) =
+    reported (effect s (command_on s moment locality completes random buffer))
 answer s (Cycles now start) = []
 answer s (Begins seed) = yes_no_text (is_some (begun_in seed))
 
 -- the entry, if the command has one
 abbrev pub entered : DeviceState → KeptCommand → Option PlainEntry
-entered s (Executes now locality completes random buffer) =
-    let c = command_on s now locality completes random buffer in
+entered s (Executes moment locality completes random buffer) =
+    let c = command_on s moment locality completes random buffer in
     Some (entry_of c (effect s c))
 entered s c = None
 

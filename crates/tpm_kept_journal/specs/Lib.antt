@@ -4,4 +4,5 @@ pub mod Seed
 pub mod Command
 pub mod Effect
 pub mod Opening
+pub mod Salvage
 pub mod DeviceJournal

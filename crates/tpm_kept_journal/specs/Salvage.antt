@@ -1,0 +1,28 @@
+-- Which device is salvaged of a damaged text of a journal.
+use Rattle.std.specs.Prelude.{ℕ, ◌+◌, List, drop, length, take, Option, Some, None}
+use Rattle.tpm_journal_text.specs.Head.{head_sum}
+use Rattle.tpm_journal_text.specs.Journal.{entries_text}
+use Rattle.tpm_keeping.specs.Journal.{Spot}
+use Rattle.tpm_kept_journal.specs.Opening.{opened_text}
+use Rattle.tpm_kept_journal.specs.texts.EntriesAt.{entries_at}
+use Rattle.tpm_kept_journal.specs.texts.HeadAt.{PlainHead, head_at, text_of_head}
+
+-- how many bytes the entries at the front of a text have, where `sum` is the sum of the marks before
+abbrev pub entries_size : (sum : ℕ) → List ℕ → ℕ
+entries_size sum text = length (entries_text sum (entries_at sum text))
+
+-- how many bytes a head has with the entries after it; 0 without a head
+abbrev pub size_with : Option PlainHead → List ℕ → ℕ
+size_with (Some h) text =
+    let size = length (text_of_head h) in
+    size + entries_size (head_sum h.clock h.content) (drop size text)
+size_with None text = 0
+
+-- how many bytes at the front of a text are whole: its head, and the entries after it
+unfoldable pub whole_size : List ℕ → ℕ
+whole_size text = size_with (head_at text) text
+
+-- the spot to which these lead, and how many bytes they have: none without a head by which a device
+-- starts, and if the device answers otherwise than an entry says
+unfoldable pub salvaged_text : List ℕ → Option (Spot × ℕ)
+salvaged_text text = opened_text (take (whole_size text) text)
