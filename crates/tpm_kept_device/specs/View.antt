@@ -1,20 +1,28 @@
 -- The types of the code, as the definitions see them.
-use Rattle.std.specs.Prelude.{◌≡◌, ℕ, List, Option, Some, None}
+use Rattle.std.specs.Prelude.{◌≡◌, ℕ, List, ◌++◌, Option, Some, None}
+use Rattle.tpm_completion.specs.Execution.{Seen, seen_of}
 use Rattle.tpm_keeping.specs.Journal.{Spot}
 use Rattle.tpm_slots.specs.SlotRecord.{slot_record}
 use Rattle.tpm_types.specs.Locality.{locality_number}
-use Rattle.tpm_kept_journal.specs.Command.{Begins, Cycles, Executes, KeptCommand}
+use Rattle.tpm_kept_journal.specs.Command.{After, At, Begins, Cycles, Executes, KeptCommand, Moment}
+use Rattle.tpm_kept_journal.specs.Effect.{reported}
 use Rattle.tpm_kept_journal.specs.Seed.{Seed}
 use Rattle.tpm_kept_journal.specs.State.{DeviceState, spot_of, state_in}
 use Rattle.tpm_kept_device.specs.declared.command.Command.{Command}
 use Rattle.tpm_kept_device.specs.declared.command.Command.TheVariants as command
+use Rattle.tpm_kept_device.specs.declared.command.Moment as declared_moment
+use Rattle.tpm_kept_device.specs.declared.command.Moment.TheVariants as moment
 use Rattle.tpm_kept_device.specs.declared.seed.Seed as declared
 use Rattle.tpm_kept_device.specs.declared.parts.Parts.{Parts}
 
+abbrev pub plain_moment : declared_moment.Moment → Moment
+plain_moment (moment.At now) = At now
+plain_moment (moment.After elapsed) = After elapsed
+
 -- a command, wherever its bytes lie in memory
 abbrev pub plain_command : Command → KeptCommand
-plain_command (command.Execute now locality completes random buffer) =
-    Executes now (locality_number locality) completes random.now buffer.now
+plain_command (command.Execute moment locality completes random buffer) =
+    Executes (plain_moment moment) (locality_number locality) completes random.now buffer.now
 plain_command (command.Cycle now start) = Cycles now start
 plain_command (command.Begin seed) = Begins seed.now
 
@@ -33,6 +41,13 @@ state_of parts = state_in parts.journal (slot_record parts.machine.keep)
 
 abbrev pub spot_in : Parts → Spot
 spot_in parts = spot_of parts.journal (slot_record parts.machine.keep)
+
+-- what a device shows of its latest command: the report, and the response
+abbrev pub seen_in : Parts → Seen
+seen_in parts = seen_of slot_record parts.machine parts.journal.layer parts.outcome
+
+abbrev pub answer_in : Parts → List ℕ
+answer_in parts = reported (seen_in parts)
 
 -- A device began in this state, or there is none.
 abbrev pub BeginsAs : {B : Type 0} → (B → Parts) → Option DeviceState → Option B → Type 0

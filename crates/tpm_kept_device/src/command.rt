@@ -4,20 +4,43 @@ ghost use Rattle.std.specs.Prelude.{◌≡◌, IfOk};
 ghost use Rattle.std.specs.Int.{w8};
 ghost use Rattle.tpm_bytes.specs.Reading.{AreBytes, Gives, Reads};
 ghost use Rattle.tpm_image_text.specs.Fields.{bytes_in, number_in, passing};
-ghost use Rattle.tpm_kept_journal.specs.Command.{IsGiven, command_in, command_of, cycled_in, executed_in, is_locality};
-ghost use Rattle.tpm_kept_device.specs.View.{plain_command};
+ghost use Rattle.tpm_kept_journal.specs.Command.{IsGiven, command_in, command_of, cycled_in, is_locality};
+ghost use Rattle.tpm_kept_journal.specs.Command.{executed_after_in, executed_at_in, executed_in};
+ghost use Rattle.tpm_kept_journal.specs.Effect.{clock_at};
+ghost use Rattle.tpm_kept_device.specs.View.{plain_command, plain_moment};
 ghost use Rattle.tpm_types.specs.Locality.{locality_number};
 
 use tpm_bytes::Cursor;
-use tpm_image_text::{Malformed, read_bool, read_u8, read_u64};
+use tpm_image_text::{Malformed, read_bool, read_u8, read_u32, read_u64};
 use tpm_types::Locality;
 
-/// A command to a kept device. Each has the host's clock in milliseconds.
+/// When a command of the standard comes, in milliseconds.
+#[derive(Clone, Copy)]
+pub(crate) enum Moment {
+    /// At this time of the host's clock.
+    At(u64),
+    /// So long after the command before it.
+    After(u32),
+}
+
+impl Moment {
+    /// The host's clock, if the command before came at this time.
+    pub(crate) fn clock(self, time: u64) -> u64
+        ensures { result ≡ clock_at (plain_moment self) time }
+    {
+        match self {
+            Moment::At(now_ms) => now_ms,
+            Moment::After(elapsed_ms) => time.saturating_add(u64::from(elapsed_ms)),
+        }
+    }
+}
+
+/// A command to a kept device.
 #[derive(Clone, Copy)]
 pub(crate) enum Command<'a> {
     /// A command of the standard.
     Execute {
-        now_ms: u64,
+        moment: Moment,
         locality: Locality,
         /// Whether the layer completes what the device does.
         completes: bool,
@@ -25,7 +48,8 @@ pub(crate) enum Command<'a> {
         random: &'a [u8],
         buffer: &'a [u8],
     },
-    /// A power cycle. The number of the layer's start is one that no start had before.
+    /// A power cycle at this time of the host's clock. The number of the layer's start is one that
+    /// no start had before.
     Cycle {
         now_ms: u64,
         start: u64,
@@ -52,24 +76,42 @@ fn read_any<'a>(text: &'a [u8]) -> Result<Command<'a>, Malformed>
 {
     let mut left = Cursor::new(text);
     match read_u8(&mut left)? {
-        0 => read_executed(&mut left),
+        0 => read_executed_at(&mut left),
         1 => read_cycled(&mut left),
         2 => Ok(Command::Begin { seed: left.rest() }),
+        3 => read_executed_after(&mut left),
         _ => Err(Malformed),
     }
 }
 
-/// Reads a command of the standard, after its kind.
-#[tactic(auto, unfolding(tpm_kept_journal::specs::Command::executed_in))]
-fn read_executed<'a>(text: &mut Cursor<'a>) -> Result<Command<'a>, Malformed>
-    ensures { Gives plain_command (executed_in text.old) result }
+/// Reads a command of the standard that comes at a time of the clock, after its kind.
+#[tactic(auto, unfolding(tpm_kept_journal::specs::Command::executed_at_in))]
+fn read_executed_at<'a>(text: &mut Cursor<'a>) -> Result<Command<'a>, Malformed>
+    ensures { Gives plain_command (executed_at_in text.old) result }
 {
     let now_ms = read_u64(text)?;
+    read_executed(Moment::At(now_ms), text)
+}
+
+/// Reads a command of the standard that comes so long after the one before it, after its kind.
+#[tactic(auto, unfolding(tpm_kept_journal::specs::Command::executed_after_in))]
+fn read_executed_after<'a>(text: &mut Cursor<'a>) -> Result<Command<'a>, Malformed>
+    ensures { Gives plain_command (executed_after_in text.old) result }
+{
+    let elapsed_ms = read_u32(text)?;
+    read_executed(Moment::After(elapsed_ms), text)
+}
+
+/// Reads a command of the standard that comes at this moment, after the moment.
+#[tactic(auto, unfolding(tpm_kept_journal::specs::Command::executed_in))]
+fn read_executed<'a>(moment: Moment, text: &mut Cursor<'a>) -> Result<Command<'a>, Malformed>
+    ensures { Gives plain_command (executed_in (plain_moment moment) text.old) result }
+{
     let locality = read_locality(text)?;
     let completes = read_bool(text)?;
     let random = read_random(text)?;
     Ok(Command::Execute {
-        now_ms,
+        moment,
         locality,
         completes,
         random,

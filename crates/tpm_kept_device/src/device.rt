@@ -39,6 +39,13 @@ impl Device for KeptDevice {
         }
     }
 
+    fn salvage(alloc: Global, text: &[u8]) -> Result<Option<(KeptDevice, usize)>, Exhausted> {
+        match Parts::salvage(alloc, text)? {
+            Some((parts, taken)) => Ok(Some((KeptDevice { alloc, parts }, taken))),
+            None => Ok(None),
+        }
+    }
+
     fn follow(&mut self, text: &[u8]) -> Result<Option<usize>, Exhausted> {
         Ok(self.parts.follow(text))
     }

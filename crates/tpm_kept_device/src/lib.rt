@@ -9,6 +9,7 @@
 
 mod command;
 pub mod device;
+mod front;
 pub mod parts;
 mod seed;
 

@@ -12,18 +12,21 @@ ghost use Rattle.tpm_keeping.specs.Journal.{started, stepped};
 ghost use Rattle.tpm_kept_journal.specs.DeviceJournal.{device_journal};
 ghost use Rattle.tpm_kept_journal.specs.Effect.{command_on, cycled_at};
 ghost use Rattle.tpm_kept_journal.specs.Opening.{head_of, head_sum_of, opened_text, walked};
+ghost use Rattle.tpm_kept_journal.specs.Salvage.{salvaged_text};
 ghost use Rattle.tpm_kept_journal.specs.Seed.{begun_in, state_made, state_opened, state_restored};
 ghost use Rattle.tpm_kept_journal.specs.State.{IsDeviceState, bytes_of, whole_of};
-ghost use Rattle.tpm_kept_device.specs.View.{BeginsAs, plain_seed, spot_in, state_of};
+ghost use Rattle.tpm_kept_device.specs.View.{BeginsAs, answer_in, plain_seed, spot_in, state_of};
 ghost use Rattle.tpm_image_text.specs.Image.{image_of};
 ghost use Rattle.tpm_bytes.specs.Reading.{AreBytes};
 ghost use Rattle.tpm_journal_text.specs.Head.{content_limit, head_sum, head_text};
 ghost use Rattle.tpm_journal_text.specs.declared.head.HeadKind.TheVariants.{State};
+ghost use Rattle.tpm_machine.specs.State.{latest_drawn};
 ghost use Rattle.tpm_record.specs.Record.{manufactured};
 ghost use Rattle.tpm_slots.specs.SlotRecord.{slot_record};
 ghost use Rattle.tpm_state_text.specs.State.{state_of_text, state_text};
 
 use crate::command::{Command, read_command};
+use crate::front::whole_size;
 use crate::seed::{Seed, read_seed};
 use std::alloc::Global;
 use tpm_completion::Completion;
@@ -157,6 +160,17 @@ impl Parts {
         }
     }
 
+    /// Opens the device of the head and the entries at the front of a journal, whatever is after
+    /// them; None if they are none.
+    #[tactic(auto, unfolding(tpm_kept_journal::specs::Salvage::salvaged_text))]
+    pub fn salvage(alloc: Global, text: &[u8]) -> Result<Option<(Box<Parts>, usize)>, Exhausted>
+        ensures { IfOk result (λ opened. MatchOption opened (salvaged_text text.now ≡ None)
+            (λ found. salvaged_text text.now ≡ Some (spot_in found.0.value, found.1))) }
+    {
+        let (front, _) = text.split_at(whole_size(text));
+        Parts::open(alloc, front)
+    }
+
     /// Opens the device of a journal in place of a new device of zeros. At None nothing is said of
     /// the device.
     fn open_in_place(&mut self, text: &[u8]) -> Option<usize>
@@ -203,31 +217,46 @@ impl Parts {
     {
         let size = self.perform(command);
         let (entry, _) = self.entry.split_at(size);
-        let answer = self.outcome.response.as_slice();
+        let Ok(()) = out.extend_from_slice(entry) else {
+            return Err(Exhausted);
+        };
+        self.put_answer(response)
+    }
+
+    /// Appends the report of the latest command, and its response.
+    fn put_answer(&self, out: &mut Vec<u8>) -> Result<(), Exhausted>
+        requires { latest_drawn self.now.machine ≤ 256 }
+        ensures { OnOk result (out.new.items ≡ out.old.items ++ answer_in self.now) }
+    {
+        let row = self.outcome.row;
+        let drawn = self.machine.drawn() as u16;
         match (
-            out.extend_from_slice(entry),
-            response.extend_from_slice(answer),
+            out.extend_from_slice(&row.code.to_be_bytes()),
+            out.push(row.check),
+            out.extend_from_slice(&drawn.to_be_bytes()),
+            out.extend_from_slice(self.outcome.response.as_slice()),
         ) {
-            (Ok(()), Ok(())) => Ok(()),
+            (Ok(()), Ok(()), Ok(()), Ok(())) => Ok(()),
             _ => Err(Exhausted),
         }
     }
 
     /// Executes a command that has an entry. The entry, of as many bytes as is returned, is in the
-    /// buffer, and the response in the outcome.
+    /// buffer, the response in the outcome, and the report in that and in the machine.
     fn perform(&mut self, command: &[u8]) -> usize
         requires { device_journal.is_entered command.now ≡ true }
         ensures spot { spot_in self.new ≡ stepped device_journal (spot_in self.old) command.now }
         ensures entry { take result self.new.entry
             ≡ device_journal.entry (spot_in self.old) command.now }
         ensures fits { result ≤ length self.new.entry }
-        ensures response { self.new.outcome.response.items
+        ensures response { answer_in self.new
             ≡ device_journal.response (spot_in self.old).state command.now }
+        ensures few { latest_drawn self.new.machine ≤ 256 }
     {
         self.read_widths();
         let Ok(
             Command::Execute {
-                now_ms,
+                moment,
                 locality,
                 completes,
                 random,
@@ -237,6 +266,7 @@ impl Parts {
         else {
             return 0;
         };
+        let now_ms = moment.clock(self.journal.time);
         self.random.copy_from_slice(random);
         self.journal.execute(
             &mut self.machine,

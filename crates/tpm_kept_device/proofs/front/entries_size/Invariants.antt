@@ -1,0 +1,11 @@
+use Rattle.std.proofs.Common.{◌≡◌, ◌≤◌, ◌+◌, ◌-◌, drop, length}
+use Rattle.tpm_kept_journal.specs.Salvage.{entries_size}
+use Rattle.tpm_kept_device.proofs.front.entries_size.Given as goal
+
+-- The entries so far are at the front of the text.
+abbrev pub invariant-loop-size : goal.invariant-loop-size
+invariant-loop-size l =
+    (l.taken ≤ length l.text) × (entries_size l.fn.sum l.text ≡ l.taken + entries_size l.after (drop l.taken l.text))
+
+abbrev pub decreases-loop-size : goal.decreases-loop-size
+decreases-loop-size l = length l.text - l.taken

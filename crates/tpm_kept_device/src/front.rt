@@ -1,0 +1,40 @@
+//! The front of a journal that is whole.
+
+ghost use Rattle.std.specs.Prelude.{◌≡◌, ◌≤◌, length};
+ghost use Rattle.tpm_kept_journal.specs.Salvage.{entries_size, whole_size};
+
+use tpm_journal_text::{BYTES_ROOM, CONTENT_LIMIT, ENTRY_ROOM, Next, read_entry, read_head};
+
+/// How many bytes at the front of a text are whole: its head, and the entries after it; 0 without a
+/// head.
+pub(crate) fn whole_size(text: &[u8]) -> usize
+    ensures value { result ≡ whole_size text.now }
+    ensures within { result ≤ length text.now }
+{
+    let mut content = [0; CONTENT_LIMIT];
+    let Some(head) = read_head(text, &mut content) else {
+        return 0;
+    };
+    let (_, rest) = text.split_at(head.size);
+    head.size + entries_size(head.sum, rest)
+}
+
+/// How many bytes the entries at the front of a text have. `sum` is the sum of the marks before it.
+fn entries_size(sum: u64, text: &[u8]) -> usize
+    ensures value { result ≡ entries_size sum text.now }
+    ensures within { result ≤ length text.now }
+{
+    let mut bytes = [0; BYTES_ROOM];
+    let mut room = [0; ENTRY_ROOM];
+    let mut after = sum;
+    let mut taken = 0;
+    loop {
+        let (_, left) = text.split_at(taken);
+        let (size, next) = match read_entry(after, left, &mut bytes, &mut room) {
+            Next::Torn | Next::Damaged => return taken,
+            Next::Whole { entry: _, size, sum } => (size, sum),
+        };
+        taken += size;
+        after = next;
+    }
+}
