@@ -1,20 +1,20 @@
 -- A command of the standard that is read from a text has an entry.
-use Rattle.std.proofs.Common.{◌≡◌, ◌≤◌, ◌<◌, ◌%◌, ◌*◌, ◌^◌, ◌==◌, ℕ, Bool, true, false, List, [], ◌∷◌, length, take, Option, Some, None, Result, Ok, Err, refl, subst, sym, ap, ◌∙◌, cond, arith}
-use Rattle.std.specs.Prelude.{bit_xor, nat_le, not}
+use Rattle.std.proofs.Common.{◌≡◌, ◌<◌, ◌^◌, ◌==◌, ℕ, Bool, true, false, List, [], ◌∷◌, length, Result, Ok, Err, refl, subst, ap, ◌∙◌, cond, arith}
+use Rattle.std.specs.Prelude.{not}
 use Rattle.std.specs.Int.{w8, w32, w64}
 use Rattle.std.proofs.lemmas.Bool.{leb-true}
-use Rattle.tpm_bytes.specs.Reading.{AreBytes, ◌>>=◌, or_fault, refused_if}
-use Rattle.tpm_bytes.proofs.Fields.{Takes, bind_ok, bytes_take, ok_is, or_fault_ok, wide8, wide32}
+use Rattle.tpm_bytes.specs.Reading.{AreBytes, ◌>>=◌, refused_if}
+use Rattle.tpm_bytes.proofs.Fields.{bind_ok, bytes_take, ok_is, or_fault_ok, wide8, wide32}
 use Rattle.tpm_image_text.specs.Fields.{bytes_in, malformed, number_in, passing, yes_no_in}
 use Rattle.tpm_image_text.specs.declared.fault.Malformed.{Malformed}
 use Rattle.tpm_image_text.proofs.FieldSpelling.{number_in_spelled, passing_spelled, wide64, yes_no_spelled}
 use Rattle.tpm_completion.specs.Execution.{Seen}
-use Rattle.tpm_journal.specs.Command.{command_at, elapsed_of, entry_of}
+use Rattle.tpm_journal.specs.Command.{entry_of}
 use Rattle.tpm_journal.proofs.Commands.{entry_is}
-use Rattle.tpm_journal_text.specs.Entry.{IsEntry, PlainEntry}
-use Rattle.tpm_journal_text.specs.Sum.{offset_basis, sum_from, sum_of, with_byte}
+use Rattle.tpm_journal_text.specs.Entry.{IsEntry}
+use Rattle.tpm_journal_text.specs.Sum.{offset_basis, sum_from, with_byte}
 use Rattle.tpm_kept_journal.specs.Command.{After, At, Begins, Cycles, Executes, IsGiven, KeptCommand, Moment, by_kind, command_in, command_of, cycled_in, executed_after_in, executed_at_in, executed_in, is_entered_read, is_locality}
-use Rattle.tpm_kept_journal.specs.Effect.{clock_at, command_on, effect, entered}
+use Rattle.tpm_kept_journal.specs.Effect.{clock_at, command_on}
 use Rattle.tpm_kept_journal.specs.State.{DeviceState}
 use Rattle.tpm_kept_journal.specs.texts.Parts.{are_bytes}
 use Rattle.tpm_kept_journal.proofs.texts.Parts.{are_bytes-Decides}

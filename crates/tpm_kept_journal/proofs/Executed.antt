@@ -1,5 +1,5 @@
 -- What a device has executed is what the journal's functions say.
-use Rattle.std.proofs.Common.{◌≡◌, ◌≤◌, ℕ, Bool, false, List, [], length, Option, Some, None, Result, Ok, Err, refl, subst, sym, ap, ◌∙◌, arith}
+use Rattle.std.proofs.Common.{◌≡◌, ◌≤◌, ℕ, Bool, false, List, [], length, Option, Some, None, Result, Ok, refl, subst, sym, ap, ◌∙◌, arith}
 use Rattle.tpm_completion.specs.Execution.{Seen}
 use Rattle.tpm_completion.proofs.Exactly.{exactly}
 use Rattle.tpm_image_text.specs.declared.fault.Malformed.{Malformed}
@@ -7,7 +7,7 @@ use Rattle.tpm_journal.specs.Command.{Command, Executed, command_at, elapsed_of,
 use Rattle.tpm_journal.specs.State.{journal_after}
 use Rattle.tpm_journal.specs.declared.journal.Journal.{Journal}
 use Rattle.tpm_journal_text.specs.Entry.{PlainEntry, entry_text, sum_after}
-use Rattle.tpm_keeping.specs.Journal.{Spot, stepped}
+use Rattle.tpm_keeping.specs.Journal.{stepped}
 use Rattle.tpm_record.specs.Record.{Record}
 use Rattle.tpm_kept_journal.specs.Command as kept
 use Rattle.tpm_kept_journal.specs.Command.{KeptCommand, Moment, command_of}

@@ -1,21 +1,19 @@
 -- A device that executes the entries of a text goes where the text leads.
-use Rattle.std.proofs.Common.{◌≡◌, ◌≢◌, ◌≤◌, ◌<◌, ◌+◌, ◌==◌, ◌^◌, ℕ, zero, suc, Bool, true, false, List, [], ◌∷◌, ◌++◌, length, drop, take, map, get_or, Option, Some, None, Result, Ok, Err, refl, subst, sym, ap, ◌∙◌, append_assoc, arith, length-append, eq-eqb, eqb-true}
-use Rattle.std.specs.Prelude.{IfSome}
+use Rattle.std.proofs.Common.{◌≡◌, ◌<◌, ◌+◌, ◌==◌, ℕ, zero, suc, Bool, true, false, List, [], ◌∷◌, ◌++◌, length, drop, map, get_or, Option, Some, None, refl, subst, sym, ap, ◌∙◌, append_assoc, arith, length-append, eq-eqb, eqb-true}
 use Rattle.std.specs.List.{AllByRecursion}
 use Rattle.std.proofs.lemmas.List.{length-take-le, take-append-drop}
-use Rattle.tpm_completion.specs.Completed.{completed}
-use Rattle.tpm_completion.specs.Execution.{Behind, Completes, CompletesBy, CompletesIf, Passes, Seen, given_up_behind}
+use Rattle.tpm_completion.specs.Execution.{Behind, Completes, CompletesBy, CompletesIf, Seen, given_up_behind}
 use Rattle.tpm_completion.specs.Room.{flush_asked}
 use Rattle.tpm_completion.specs.declared.completion.Completion.{Completion}
 use Rattle.tpm_completion.proofs.Exactly.{exactly}
 use Rattle.tpm_journal.specs.Command.{IsPerformed, event_of}
 use Rattle.tpm_journal.specs.Replay.{AnswersAre, EndsIn, LeadsBy, Performance, Replays, answer_said, entry_in, response_sum}
-use Rattle.tpm_journal.specs.State.{journal_after, time_after}
+use Rattle.tpm_journal.specs.State.{journal_after}
 use Rattle.tpm_journal.specs.declared.following.FollowFault.{FollowFault}
 use Rattle.tpm_journal.specs.declared.following.FollowFault.TheVariants.{Damaged, Otherwise}
 use Rattle.tpm_journal.specs.declared.following.Followed.{Followed}
 use Rattle.tpm_journal.specs.declared.journal.Journal.{Journal}
-use Rattle.tpm_journal_text.specs.Entry.{IsEntry, PlainEntry, entry_text, sum_after}
+use Rattle.tpm_journal_text.specs.Entry.{IsEntry, entry_text, sum_after}
 use Rattle.tpm_journal_text.specs.Journal.{IsDamaged, IsTorn, entries_text}
 use Rattle.tpm_journal_text.specs.Sum.{sum_of}
 use Rattle.tpm_journal_text.proofs.Standing.{entry_text_some}
@@ -23,7 +21,6 @@ use Rattle.tpm_keeping.specs.Journal.{Spot}
 use Rattle.tpm_record.specs.IsRecord.{IsRecord}
 use Rattle.tpm_record.specs.Record.{Record}
 use Rattle.tpm_step.specs.Events.{Cycled, Given, PlainEvent}
-use Rattle.tpm_snapshot.specs.Layer.{layer_of}
 use Rattle.tpm_kept_journal.specs.Effect.{left_by}
 use Rattle.tpm_kept_journal.specs.Opening.{Fails, found_at, found_next, performance, performed_on, walk, walked}
 use Rattle.tpm_kept_journal.specs.State.{DeviceState, IsDeviceState, bytes_of, spot_of, state_in, state_of_bytes}
@@ -33,7 +30,7 @@ use Rattle.tpm_kept_journal.proofs.Layers.{IsFine, completed_fine, fine_layer, l
 use Rattle.tpm_kept_journal.proofs.States.{state_told}
 use Rattle.tpm_kept_journal.proofs.Walks.{found_torn, spot_made, walk_ends, walk_entry, walk_fails, walk_otherwise}
 use Rattle.tpm_kept_journal.proofs.texts.NextAt.{next_only}
-use Rattle.tpm_kept_journal.proofs.texts.Parts.{not_told, so_told}
+use Rattle.tpm_kept_journal.proofs.texts.Parts.{so_told}
 use Rattle.tpm_kept_journal.proofs.texts.TornText.{is_torn_text-Decides}
 
 -- ---- the record after an effect is one

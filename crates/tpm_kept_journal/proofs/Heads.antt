@@ -1,14 +1,12 @@
 -- The head of a state starts a device in that state, whatever comes after the head.
-use Rattle.std.proofs.Common.{◌≡◌, ◌≤◌, ◌<◌, ◌+◌, ◌==◌, ◌&&◌, ◌^◌, ℕ, suc, Bool, true, false, cond, List, [], ◌∷◌, ◌++◌, length, drop, take, Option, Some, None, Result, Ok, Err, refl, subst, sym, ap, ◌∙◌, append-nil, arith, drop_at, take_at, take_all, get_or-drop, length-append, length-drop, eq-eqb, eqb-true, le-leb, drop_of_length-le}
+use Rattle.std.proofs.Common.{◌≡◌, ◌≤◌, ◌+◌, ◌==◌, ◌&&◌, ℕ, suc, Bool, true, false, cond, List, [], ◌∷◌, ◌++◌, length, take, Option, Some, None, Result, Ok, Err, refl, sym, ap, ◌∙◌, append-nil, arith, drop_at, take_at, take_all, get_or-drop, length-append, length-drop, eq-eqb, eqb-true, le-leb, drop_of_length-le}
 use Rattle.std.specs.Prelude.{is_some, nat_le}
-use Rattle.std.specs.Int.{w64, from_be_bytes, to_be_bytes}
+use Rattle.std.specs.Int.{w64, to_be_bytes}
 use Rattle.std.proofs.lemmas.Bool.{false≢true}
-use Rattle.std.proofs.lemmas.Bool.Decides.{Decides-and}
 use Rattle.std.proofs.lemmas.List.{take-append-drop, length-take-le}
 use Rattle.tpm_bytes.specs.Reading.{AreBytes}
 use Rattle.tpm_bytes.proofs.Fields.{AreBytes-take}
 use Rattle.tpm_image_text.proofs.FieldSpelling.{wide64}
-use Rattle.tpm_completion.specs.declared.completion.Completion.{Completion}
 use Rattle.tpm_journal.specs.Starting.{Start, start_by, start_by_state}
 use Rattle.tpm_journal.specs.declared.opening.OpenFault.{OpenFault}
 use Rattle.tpm_journal_text.specs.Head.{HasHead, content_limit, head_sum, head_text}
@@ -16,17 +14,16 @@ use Rattle.tpm_journal_text.specs.Marked.{marked_line}
 use Rattle.tpm_journal_text.specs.declared.head.HeadKind.{HeadKind}
 use Rattle.tpm_journal_text.specs.declared.head.HeadKind.TheVariants.{Image, State}
 use Rattle.tpm_keeping.specs.Journal.{Spot}
-use Rattle.tpm_record.specs.Record.{Record}
-use Rattle.tpm_snapshot.specs.Layer.{completion_of, layer_of}
+use Rattle.tpm_snapshot.specs.Layer.{completion_of}
 use Rattle.tpm_state_text.specs.Body.{WholeState}
 use Rattle.tpm_state_text.specs.State.{state_of_text, state_text}
 use Rattle.tpm_state_text.specs.declared.fault.StateFault.{StateFault}
 use Rattle.tpm_state_text.specs.declared.layer.Layer.{Layer}
 use Rattle.tpm_state_text.proofs.StateLaws.{front_short, text_found}
 use Rattle.tpm_kept_journal.specs.Opening.{after_head_text, head_of, head_sum_of, is_state_text, no_head, opened_behind, opened_text, spot_by, started_at, started_by, started_no_head, walked, whole_head}
-use Rattle.tpm_kept_journal.specs.State.{DeviceState, bytes_of, content_in, spot_of, state_of_bytes, time_in, whole_of}
+use Rattle.tpm_kept_journal.specs.State.{DeviceState, bytes_of, content_in, state_of_bytes, time_in}
 use Rattle.tpm_kept_journal.specs.texts.HeadAt.{PlainHead, head_at, text_of_head}
-use Rattle.tpm_kept_journal.specs.texts.Parts.{are_bytes, where_so}
+use Rattle.tpm_kept_journal.specs.texts.Parts.{are_bytes}
 use Rattle.tpm_kept_journal.proofs.States.{IsStateText, layer_back, text_says}
 use Rattle.tpm_kept_journal.proofs.Walks.{spot_made}
 use Rattle.tpm_kept_journal.proofs.texts.HeadAt.{head_again, head_found}

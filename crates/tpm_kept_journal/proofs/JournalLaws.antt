@@ -1,6 +1,6 @@
 -- The journal of a kept device meets what a keeper needs.
-use Rattle.std.proofs.Common.{◌≡◌, ◌<◌, ◌+◌, ℕ, Bool, true, List, [], ◌++◌, length, take, replicate, Some, refl, subst, sym, ap, ◌∙◌, append-nil, arith}
-use Rattle.tpm_journal_text.specs.Entry.{IsEntry, PlainEntry, entry_text}
+use Rattle.std.proofs.Common.{◌≡◌, ◌<◌, ◌+◌, ℕ, true, List, [], ◌++◌, length, take, replicate, Some, refl, sym, ap, ◌∙◌, append-nil, arith}
+use Rattle.tpm_journal_text.specs.Entry.{entry_text}
 use Rattle.tpm_journal_text.specs.Journal.{IsTorn}
 use Rattle.tpm_journal_text.proofs.Tails.{torn_again, torn_entry, torn_nothing}
 use Rattle.tpm_keeping.specs.Journal.{Entered, IsJournal, Spot}

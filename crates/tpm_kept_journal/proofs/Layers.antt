@@ -1,9 +1,9 @@
 -- All that a completing layer remembers stays a number of 64 bits.
-use Rattle.std.proofs.Common.{◌≡◌, ◌≤◌, ◌<◌, ◌+◌, ◌-◌, ◌^◌, ◌==◌, ◌&&◌, ℕ, zero, suc, Bool, true, false, cond, List, [], ◌∷◌, ◌++◌, length, map, replicate, get_or, set, Option, Some, None, Result, Ok, Err, refl, subst, sym, ap, ◌∙◌, arith, inl, inr, length-append, length-set, ltb-true, eqb-true}
-use Rattle.std.specs.Prelude.{is_some, nat_lt, not}
+use Rattle.std.proofs.Common.{◌≡◌, ◌<◌, ◌+◌, ◌-◌, ◌^◌, ◌==◌, ◌&&◌, ℕ, zero, suc, Bool, true, false, cond, List, [], length, replicate, get_or, Option, Some, None, Result, Ok, Err, refl, subst, sym, ◌∙◌, arith, inl, inr, length-set, ltb-true, eqb-true}
+use Rattle.std.specs.Prelude.{nat_lt}
 use Rattle.std.specs.List.{All}
 use Rattle.std.proofs.lemmas.Bool.{cases_lt, false≢true}
-use Rattle.std.proofs.lemmas.List.{get_or_past, length-map, length-replicate}
+use Rattle.std.proofs.lemmas.List.{get_or_past, length-map}
 use Rattle.std.proofs.lemmas.List.Elements.{All-map, All-set}
 use Rattle.tpm_bytes.specs.Numbers.{numbers_below}
 use Rattle.tpm_bytes.specs.Reading.{number_at}
@@ -21,13 +21,13 @@ use Rattle.tpm_state_text.specs.declared.layer.Layer.{Layer}
 use Rattle.tpm_state_text.specs.Layer.{IsHeld, IsLayer}
 use Rattle.tpm_completion.specs.Capability.{asked_at, capability_told}
 use Rattle.tpm_completion.specs.Command.{Command, plain_command}
-use Rattle.tpm_completion.specs.Completed.{behind, completed, completed_by, completed_with, done_behind, passed}
+use Rattle.tpm_completion.specs.Completed.{completed, completed_by, completed_with, done_behind, passed}
 use Rattle.tpm_completion.specs.Completion.{forgotten, new_completion, no_context, object_held, object_kept, session_context, session_kept}
 use Rattle.tpm_completion.specs.Context.{token_at}
-use Rattle.tpm_completion.specs.Execution.{Seen, given_up_behind, no_random, reply_behind}
+use Rattle.tpm_completion.specs.Execution.{Seen, given_up_behind, no_random}
 use Rattle.tpm_completion.specs.Reply.{capability_asked, command_reply, listed, probed, reply, reply_by, save_asked, served, stands, stirred}
-use Rattle.tpm_completion.specs.Room.{flush_asked, flush_in, has_context, flush_noted, flush_of, flush_text, noted}
-use Rattle.tpm_completion.specs.Saving.{Reply, context_given, counted, loaded, loaded_by, next_number, object_loaded, object_numbered, object_saved, place_named, refused, saved, session_loaded, session_numbered, session_saved, token_loaded, with_object, with_session}
+use Rattle.tpm_completion.specs.Room.{flush_asked, flush_in, has_context, flush_of, flush_text, noted}
+use Rattle.tpm_completion.specs.Saving.{Reply, counted, loaded, loaded_by, next_number, object_loaded, object_numbered, object_saved, place_named, refused, saved, session_loaded, session_numbered, session_saved, token_loaded, with_object, with_session}
 use Rattle.tpm_completion.specs.declared.capability.Asked.{Asked}
 use Rattle.tpm_completion.specs.declared.completion.Completion.{Completion}
 use Rattle.tpm_completion.specs.declared.completion.Held.{Held}

@@ -1,16 +1,16 @@
 -- A command whose entry is performed has the effect that it had.
-use Rattle.std.proofs.Common.{◌≡◌, ◌≤◌, ◌-◌, ◌&&◌, ℕ, Bool, true, false, List, [], ◌∷◌, ◌++◌, length, replicate, take, Option, Some, None, Result, Ok, Err, refl, subst, sym, ap, ◌∙◌, get_or, arith, if◌then◌else◌}
+use Rattle.std.proofs.Common.{◌≡◌, ◌≤◌, ◌-◌, ◌&&◌, ℕ, Bool, true, false, List, [], ◌∷◌, ◌++◌, length, replicate, take, Option, Some, None, Result, Ok, Err, refl, sym, ap, ◌∙◌, get_or, arith, if◌then◌else◌}
 use Rattle.std.specs.Int.{w32, to_be_bytes}
 use Rattle.std.proofs.lemmas.Bool.{false≢true}
 use Rattle.std.proofs.lemmas.List.{length-append, length-replicate, length-take-le}
 use Rattle.std.proofs.lemmas.Slice.Eq.{bytes_eq-Decides}
 use Rattle.tpm_completion.specs.Answer.{is_refusal, refusal}
-use Rattle.tpm_completion.specs.Completed.{again_behind, behind, completed, completed_by, completed_with, done_behind, gave_up_behind, noted_behind, passed}
+use Rattle.tpm_completion.specs.Completed.{behind, completed, completed_by, done_behind, gave_up_behind, noted_behind, passed}
 use Rattle.tpm_completion.specs.Completion.{forgotten}
 use Rattle.tpm_completion.specs.Execution.{Seen, given_up_behind, no_random}
 use Rattle.tpm_completion.specs.Room.{flush_asked, flush_text, given_up, longest, wants_room}
 use Rattle.tpm_completion.specs.declared.completion.Completion.{Completion}
-use Rattle.tpm_journal.specs.Command.{Command, entry_of, event_of, given, padded}
+use Rattle.tpm_journal.specs.Command.{Command, entry_of, given, padded}
 use Rattle.tpm_journal.specs.draw_laws.Bytes.{AgreeOnDrawn, zeros_behind}
 use Rattle.tpm_journal.proofs.draw_laws.Executions.{draws_alike, steps_alike}
 use Rattle.tpm_journal.proofs.draw_laws.Fronts.{front_kept}

@@ -1,5 +1,5 @@
 -- What is salvaged of a text is the device of a front of it.
-use Rattle.std.proofs.Common.{◌≡◌, ◌≤◌, ◌<◌, ◌+◌, ℕ, zero, suc, Bool, true, List, [], ◌++◌, length, drop, take, Option, Some, None, Result, Ok, Err, refl, subst, sym, ap, ◌∙◌, arith, length-append}
+use Rattle.std.proofs.Common.{◌≡◌, ◌≤◌, ◌<◌, ◌+◌, ℕ, zero, suc, List, [], ◌++◌, length, drop, take, Option, Some, None, Result, Ok, Err, refl, sym, ap, ◌∙◌, arith, length-append}
 use Rattle.std.proofs.lemmas.List.{length-take, length-take-le, take-take}
 use Rattle.std.proofs.Math.Seq.{take-append-add}
 use Rattle.tpm_journal.specs.Starting.{Start, start_by}
@@ -9,12 +9,11 @@ use Rattle.tpm_journal_text.specs.Head.{HasHead, head_sum}
 use Rattle.tpm_journal_text.proofs.Standing.{entry_text_some}
 use Rattle.tpm_journal_text.proofs.Tails.{torn_nothing}
 use Rattle.tpm_keeping.specs.Journal.{Spot}
-use Rattle.tpm_kept_journal.specs.Opening.{Ends, Fails, Found, Goes, found_at, found_by, found_next, opened_text, performed_on, walk, walked}
+use Rattle.tpm_kept_journal.specs.Opening.{Ends, Fails, found_at, found_by, found_next, opened_text, performed_on, walk, walked}
 use Rattle.tpm_kept_journal.specs.Salvage.{entries_size, salvaged_text, size_with, whole_size}
 use Rattle.tpm_kept_journal.specs.State.{spot_of, state_of_bytes}
 use Rattle.tpm_kept_journal.specs.texts.HeadAt.{PlainHead, head_at, text_of_head}
 use Rattle.tpm_kept_journal.specs.texts.NextAt.{Damaged, IsNext, PlainNext, Torn, Whole, next_at}
-use Rattle.tpm_kept_journal.specs.texts.TornText.{is_torn_text}
 use Rattle.tpm_kept_journal.proofs.Starting.{opens_by, opens_not}
 use Rattle.tpm_kept_journal.proofs.Walks.{found_torn, walk_ends, walk_entry, walk_fails}
 use Rattle.tpm_kept_journal.proofs.texts.HeadAt.{head_found}

@@ -1,9 +1,8 @@
 -- The head that a device writes of its state is the one that its state's text has.
-use Rattle.std.proofs.Common.{◌≡◌, ◌≤◌, ◌<◌, ◌&&◌, ◌^◌, ℕ, suc, zero, Bool, true, false, cond, List, [], ◌∷◌, ◌++◌, length, drop, Option, Some, None, Result, Ok, Err, refl, subst, sym, ap, ◌∙◌, arith, drop_at, le-leb}
-use Rattle.std.specs.Prelude.{is_some, nat_le}
+use Rattle.std.proofs.Common.{◌≡◌, ◌≤◌, ◌&&◌, ℕ, suc, zero, Bool, true, cond, List, [], ◌∷◌, ◌++◌, length, sym, ap, ◌∙◌, arith, le-leb}
+use Rattle.std.specs.Prelude.{is_some}
 use Rattle.std.specs.Int.{w64, to_be_bytes}
 use Rattle.tpm_bytes.specs.Reading.{AreBytes}
-use Rattle.tpm_image_text.proofs.FieldSpelling.{wide64}
 use Rattle.tpm_journal_text.proofs.Bytes.{all_small}
 use Rattle.tpm_journal_text.specs.Head.{content_limit, head_sum, head_text}
 use Rattle.tpm_journal_text.specs.declared.head.HeadKind.TheVariants.{State}

@@ -1,5 +1,5 @@
 -- A device that was opened from a text is the one to which the text leads.
-use Rattle.std.proofs.Common.{◌≡◌, ◌<◌, ◌+◌, ◌==◌, ◌^◌, ℕ, suc, Bool, true, false, cond, List, [], ◌∷◌, ◌++◌, length, drop, Option, Some, None, Result, Ok, Err, refl, subst, sym, ap, ◌∙◌, arith, drop_at, eqb-true}
+use Rattle.std.proofs.Common.{◌≡◌, ◌<◌, ◌+◌, ◌==◌, ◌^◌, ℕ, Bool, true, false, cond, List, [], ◌∷◌, length, drop, Option, Some, None, Result, Ok, Err, refl, subst, sym, ap, ◌∙◌, arith, drop_at, eqb-true}
 use Rattle.std.specs.Prelude.{IfSome}
 use Rattle.tpm_bytes.specs.Reading.{AreBytes}
 use Rattle.tpm_bytes.proofs.Fields.{ok_is}
@@ -8,23 +8,22 @@ use Rattle.tpm_image_text.specs.NonVolatile.{IsNonVolatile, NonVolatile, powered
 use Rattle.tpm_image_text.specs.declared.fault.ImageFault.{ImageFault}
 use Rattle.tpm_image_text.proofs.ImageLaws.{image_taken}
 use Rattle.tpm_completion.specs.declared.completion.Completion.{Completion}
-use Rattle.tpm_journal.specs.Opening.{IsJournal, OpensJournal, Reads}
+use Rattle.tpm_journal.specs.Opening.{OpensJournal, Reads}
 use Rattle.tpm_journal.specs.Starting.{BeginsWith, HoldsFault, Start, start_by, start_by_image, start_by_state}
-use Rattle.tpm_journal.specs.State.{journal_begun, journal_resumed, layer_in}
+use Rattle.tpm_journal.specs.State.{layer_in}
 use Rattle.tpm_journal.specs.declared.following.FollowFault.{FollowFault}
 use Rattle.tpm_journal.specs.declared.following.Followed.{Followed}
 use Rattle.tpm_journal.specs.declared.journal.Journal.{Journal}
 use Rattle.tpm_journal.specs.declared.opening.OpenFault.{OpenFault}
 use Rattle.tpm_journal.specs.declared.opening.OpenFault.TheVariants as fault
 use Rattle.tpm_journal.specs.declared.opening.Opened.{Opened}
-use Rattle.tpm_journal_text.specs.Head.{HasHead, head_mark, head_sum, head_text}
-use Rattle.tpm_journal_text.specs.Sum.{offset_basis, sum_from}
+use Rattle.tpm_journal_text.specs.Head.{head_mark, head_sum, head_text}
+use Rattle.tpm_journal_text.specs.Sum.{offset_basis}
 use Rattle.tpm_journal_text.specs.declared.head.HeadKind.{HeadKind}
 use Rattle.tpm_journal_text.specs.declared.head.HeadKind.TheVariants.{Image, State}
 use Rattle.tpm_keeping.specs.Journal.{Spot}
 use Rattle.tpm_record.specs.IsRecord.{IsRecord}
 use Rattle.tpm_record.specs.Record.{Record}
-use Rattle.tpm_snapshot.specs.Layer.{completion_of, layer_of}
 use Rattle.tpm_state_text.specs.Body.{IsWholeState, WholeState}
 use Rattle.tpm_state_text.specs.Layer.{IsLayer}
 use Rattle.tpm_state_text.specs.State.{state_of_text}
@@ -34,8 +33,8 @@ use Rattle.tpm_state_text.proofs.StateLaws.{text_found}
 use Rattle.tpm_step.proofs.PowerCycles.{none_taken, starting_banks}
 use Rattle.tpm_types.specs.Limits.{object_limit, session_limit}
 use Rattle.tpm_kept_journal.specs.Opening.{opened_behind, opened_text, spot_by, started_at, started_by, started_no_head, walked}
-use Rattle.tpm_kept_journal.specs.State.{DeviceState, IsDeviceState, spot_of, state_in}
-use Rattle.tpm_kept_journal.specs.texts.HeadAt.{PlainHead, head_at, text_of_head}
+use Rattle.tpm_kept_journal.specs.State.{IsDeviceState, spot_of, state_in}
+use Rattle.tpm_kept_journal.specs.texts.HeadAt.{PlainHead, head_at}
 use Rattle.tpm_kept_journal.proofs.Entries.{sum_small}
 use Rattle.tpm_kept_journal.proofs.Following.{Tells, followed_so}
 use Rattle.tpm_kept_journal.proofs.Heads.{head_starts}

@@ -1,20 +1,17 @@
 -- The state of a device is the one that its text says.
-use Rattle.std.proofs.Common.{◌≡◌, ◌≤◌, ◌<◌, ◌^◌, ◌&&◌, ℕ, Bool, true, false, List, [], ◌∷◌, ◌++◌, length, drop, take, map, Option, Some, None, Result, Ok, Err, refl, subst, sym, ap, ◌∙◌, arith, drop_at, take_at}
-use Rattle.std.specs.Prelude.{IfSome}
+use Rattle.std.proofs.Common.{◌≡◌, ◌<◌, ◌^◌, ℕ, List, [], ◌∷◌, map, Option, Some, None, Result, Ok, Err, refl, ap, ◌∙◌, drop_at, take_at}
 use Rattle.std.specs.Int.{w64, from_be_bytes, to_be_bytes}
-use Rattle.tpm_bytes.specs.Reading.{AreBytes}
-use Rattle.tpm_bytes.proofs.Fields.{AreBytes-take}
 use Rattle.tpm_image_text.proofs.FieldSpelling.{wide64}
 use Rattle.tpm_completion.specs.declared.completion.Completion.{Completion}
 use Rattle.tpm_record.specs.Record.{Record}
 use Rattle.tpm_snapshot.specs.Layer.{completion_of, held_in, held_of, layer_of}
 use Rattle.tpm_snapshot.proofs.Layers.{layer_again}
-use Rattle.tpm_state_text.specs.Body.{IsWholeState, WholeState}
+use Rattle.tpm_state_text.specs.Body.{WholeState}
 use Rattle.tpm_state_text.specs.State.{state_of_text, state_text}
 use Rattle.tpm_state_text.specs.declared.fault.StateFault.{StateFault}
 use Rattle.tpm_state_text.specs.declared.layer.Held.{Held as HeldText}
 use Rattle.tpm_state_text.specs.declared.layer.Layer.{Layer}
-use Rattle.tpm_state_text.proofs.StateLaws.{text_found, text_told}
+use Rattle.tpm_state_text.proofs.StateLaws.{text_told}
 use Rattle.tpm_kept_journal.specs.State.{DeviceState, IsDeviceState, bytes_of, content_in, state_by, state_of_bytes, state_with, time_in, whole_of}
 
 -- ---- the state of a text

@@ -1,6 +1,5 @@
 -- Entries that were written are executed again, one after another.
-use Rattle.std.proofs.Common.{◌≡◌, ◌≤◌, ◌<◌, ◌+◌, ◌==◌, ℕ, zero, suc, Bool, true, false, List, [], ◌∷◌, ◌++◌, length, drop, take, Option, Some, None, Result, Ok, Err, refl, subst, sym, ap, ◌∙◌, append_assoc, arith, drop_at, length-append, eq-eqb}
-use Rattle.std.specs.List.{AllByRecursion}
+use Rattle.std.proofs.Common.{◌≡◌, ◌<◌, ◌+◌, ◌==◌, ℕ, zero, suc, true, List, [], ◌∷◌, ◌++◌, length, drop, Option, Some, None, Result, refl, subst, sym, ap, ◌∙◌, append_assoc, arith, drop_at, length-append, eq-eqb}
 use Rattle.tpm_completion.specs.Execution.{Seen}
 use Rattle.tpm_image_text.specs.declared.fault.Malformed.{Malformed}
 use Rattle.tpm_journal.specs.Command.{Command, entry_of}
@@ -11,7 +10,7 @@ use Rattle.tpm_keeping.specs.Journal.{Entered, Spot, entries, stepped, trail}
 use Rattle.tpm_kept_journal.specs.Command.{Executes, KeptCommand, command_of}
 use Rattle.tpm_kept_journal.specs.DeviceJournal.{device_journal}
 use Rattle.tpm_kept_journal.specs.Effect.{command_on, effect, entered, entry_at_spot, left_by, moved, sum_if, text_if, with_both}
-use Rattle.tpm_kept_journal.specs.Opening.{Ends, Fails, Found, Goes, found_at, found_by, found_next, performance, performed_on, walk, walked}
+use Rattle.tpm_kept_journal.specs.Opening.{Ends, Fails, Found, Goes, found_at, found_by, found_next, performed_on, walk, walked}
 use Rattle.tpm_kept_journal.specs.State.{DeviceState, bytes_of, state_of_bytes}
 use Rattle.tpm_kept_journal.specs.texts.NextAt.{Torn, Whole}
 use Rattle.tpm_kept_journal.specs.texts.Parts.{where_so}

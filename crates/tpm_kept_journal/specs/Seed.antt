@@ -1,9 +1,9 @@
 -- What a device begins of, as a text: random bytes, an image, or a state text.
-use Rattle.std.specs.Prelude.{ℕ, ◌==◌, Bool, List, length, if◌then◌else◌, Option, Some, None, Result, Ok, Err}
+use Rattle.std.specs.Prelude.{ℕ, ◌==◌, List, length, if◌then◌else◌, Option, Some, None, Result, Ok, Err}
 use Rattle.std.specs.Int.{w8, w64}
 use Rattle.tpm_bytes.specs.Reading.{◌>>=◌}
 use Rattle.tpm_completion.specs.Completion.{new_completion}
-use Rattle.tpm_image_text.specs.Fields.{malformed, number_in}
+use Rattle.tpm_image_text.specs.Fields.{number_in}
 use Rattle.tpm_image_text.specs.Image.{image_of}
 use Rattle.tpm_image_text.specs.NonVolatile.{NonVolatile, powered_on}
 use Rattle.tpm_image_text.specs.declared.fault.ImageFault.{ImageFault}

@@ -1,11 +1,10 @@
 -- The head by which a journal starts is the one at the front of its text.
-use Rattle.std.proofs.Common.{◌≡◌, ℕ, List, ◌++◌, length, drop, Option, Some, None, Result, Ok, Err, refl, ap, sym, ◌∙◌}
-use Rattle.std.proofs.lemmas.List.{drop_at}
-use Rattle.tpm_journal.specs.Starting.{BeginsWith, HoldsFault, Start, Starts, StartsNot, start_by, starting_head}
+use Rattle.std.proofs.Common.{◌≡◌, ℕ, List, Option, Some, None, Ok, Err, ap, ◌∙◌}
+use Rattle.tpm_journal.specs.Starting.{BeginsWith, HoldsFault, Start, Starts, StartsNot}
 use Rattle.tpm_journal.specs.declared.opening.OpenFault.{OpenFault}
 use Rattle.tpm_journal.specs.declared.opening.OpenFault.TheVariants as fault
 use Rattle.tpm_journal_text.specs.declared.head.HeadKind.{HeadKind}
-use Rattle.tpm_kept_journal.specs.texts.HeadAt.{PlainHead, head_at, text_of_head}
+use Rattle.tpm_kept_journal.specs.texts.HeadAt.{PlainHead, head_at}
 use Rattle.tpm_kept_journal.specs.texts.StartAt.{start_at, start_of}
 use Rattle.tpm_kept_journal.proofs.texts.HeadAt.{head_at_front, no_head}
 
