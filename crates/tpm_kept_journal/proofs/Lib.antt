@@ -10,4 +10,5 @@ pub mod Following
 pub mod Executed
 pub mod Starting
 pub mod Salvaging
+pub mod Longest
 pub mod Shown

@@ -12,25 +12,26 @@ use Rattle.tpm_keeping.specs.Journal.{Spot}
 use Rattle.tpm_kept_journal.specs.Opening.{Ends, Fails, found_at, found_by, found_next, opened_text, performed_on, walk, walked}
 use Rattle.tpm_kept_journal.specs.Salvage.{entries_size, salvaged_text, size_with, whole_size}
 use Rattle.tpm_kept_journal.specs.State.{spot_of, state_of_bytes}
+use Rattle.tpm_kept_journal.specs.texts.EntryAt.{entry_at}
 use Rattle.tpm_kept_journal.specs.texts.HeadAt.{PlainHead, head_at, text_of_head}
 use Rattle.tpm_kept_journal.specs.texts.NextAt.{Damaged, IsNext, PlainNext, Torn, Whole, next_at}
 use Rattle.tpm_kept_journal.proofs.Starting.{opens_by, opens_not}
 use Rattle.tpm_kept_journal.proofs.Walks.{found_torn, walk_ends, walk_entry, walk_fails}
 use Rattle.tpm_kept_journal.proofs.texts.HeadAt.{head_found}
-use Rattle.tpm_kept_journal.proofs.texts.NextAt.{next_is}
+use Rattle.tpm_kept_journal.proofs.texts.NextAt.{next_is, torn_tells}
 use Rattle.tpm_kept_journal.proofs.texts.TornText.{is_torn_text-Decides}
 
 -- ---- what is at the front of a text
 
--- From a spot a text goes on with an entry that leads to another spot; or it ends; or it does not
--- follow.
-data Finding (p : Spot) (text : List ℕ) : Type 0 where
+-- From a spot a text goes on with an entry that leads to another spot; or it ends, without an entry;
+-- or it does not follow.
+pub data Finding (p : Spot) (text : List ℕ) : Type 0 where
   AtEntry : (e : PlainEntry) (q : Spot) (rest : List ℕ) → IsEntry e → text ≡ entry_text p.chain e ++ rest
       → performed_on p.chain e (state_of_bytes p.state) ≡ Some q → Finding p text
-  AtEnd : found_at p text ≡ Ends → Finding p text
+  AtEnd : entry_at p.chain text ≡ None → found_at p text ≡ Ends → Finding p text
   AtFault : found_at p text ≡ Fails → Finding p text
 
-finding : (p : Spot) (text : List ℕ) → Finding p text
+pub finding : (p : Spot) (text : List ℕ) → Finding p text
 unfolding found_at
 finding p text = by (next_at p.chain text) refl (next_is p.chain text)
   where
@@ -41,15 +42,15 @@ finding p text = by (next_at p.chain text) refl (next_is p.chain text)
 
     by : (next : PlainNext) → next_at p.chain text ≡ next → IsNext p.chain text next → Finding p text
     by (Whole e) at is = by_entry e at is (performed_on p.chain e (state_of_bytes p.state)) refl
-    by Torn at is = AtEnd (ap (found_next p) at)
+    by Torn at is = AtEnd (torn_tells p.chain text is).0 (ap (found_next p) at)
     by Damaged at is = AtFault (ap (found_next p) at)
 
 -- ---- entries
 
-abbrev there : Spot → ℕ → Option (Spot × ℕ)
+abbrev pub there : Spot → ℕ → Option (Spot × ℕ)
 there p n = Some (p, n)
 
-abbrev taken_of : Option (Spot × ℕ) → ℕ
+abbrev pub taken_of : Option (Spot × ℕ) → ℕ
 taken_of None = 0
 taken_of (Some found) = found.1
 
@@ -108,7 +109,7 @@ found_front bound p q taken n text leads next (AtEntry e s rest is t performed) 
     let on : walk bound s (taken + length (entry_text p.chain e)) rest ≡ Some (q, n) =
     sym (ap (walk (suc bound) p taken) t ∙ walk_entry bound p s e taken rest is performed) ∙ leads in
     front_goes p q s taken n e rest text is t performed (next s (taken + length (entry_text p.chain e)) rest on)
-found_front bound p q taken n text leads next (AtEnd ends) = front_ends bound p q taken n text leads ends
+found_front bound p q taken n text leads next (AtEnd none ends) = front_ends bound p q taken n text leads ends
 found_front bound p q taken n text leads next (AtFault fails) =
     let none : there q n ≡ None = sym leads ∙ walk_fails bound p taken text fails in
     absurd cc

@@ -138,7 +138,7 @@ started_none (first ∷ second ∷ text) are none =
     by true same = absurd (omega (arith, are 0, eqb-true first 256 same))
     by false same = ap started_by none
 
-opens_none : (text : List ℕ) → AreBytes text → head_at text ≡ None → opened_text text ≡ None
+pub opens_none : (text : List ℕ) → AreBytes text → head_at text ≡ None → opened_text text ≡ None
 unfolding opened_text
 opens_none text are none = ap (opened_behind text) (started_none text are none)
 

@@ -1,12 +1,13 @@
 //! The laws of a kept device's journal and of its states. The functions do nothing.
 
-ghost use Rattle.std.specs.Prelude.{◌≡◌, Some};
+ghost use Rattle.std.specs.Prelude.{◌≡◌, ◌≤◌, ℕ, List, Some, take};
 ghost use Rattle.tpm_bytes.specs.Reading.{AreBytes};
 ghost use Rattle.tpm_journal_text.specs.Head.{head_text};
 ghost use Rattle.tpm_journal_text.specs.declared.head.HeadKind.TheVariants.{State};
-ghost use Rattle.tpm_keeping.specs.Journal.{IsJournal};
+ghost use Rattle.tpm_keeping.specs.Journal.{IsJournal, Spot};
 ghost use Rattle.tpm_kept_journal.specs.DeviceJournal.{device_journal};
-ghost use Rattle.tpm_kept_journal.specs.Opening.{head_of};
+ghost use Rattle.tpm_kept_journal.specs.Opening.{head_of, opened_text};
+ghost use Rattle.tpm_kept_journal.specs.Salvage.{salvaged_text};
 ghost use Rattle.tpm_kept_journal.specs.State.{DeviceState, IsDeviceState, bytes_of, state_of_bytes};
 ghost use Rattle.tpm_kept_journal.specs.State.{whole_of};
 ghost use Rattle.tpm_state_text.specs.State.{state_text};
@@ -29,4 +30,14 @@ pub fn device_state_laws()
     ensures told { (s : DeviceState) → IsDeviceState s → state_of_bytes (bytes_of s) ≡ Some s }
     ensures head { (s : DeviceState) → IsDeviceState s → AreBytes (state_text (whole_of s))
         → head_text State s.time (state_text (whole_of s)) ≡ head_of (bytes_of s) }
+{}
+
+/// What is salvaged of a text of bytes is the device of the longest front that opens.
+#[inline(always)]
+#[tactic(auto, using(crate::proofs::Salvaging::salvages, crate::proofs::Longest::longest))]
+pub fn salvage_laws()
+    ensures front { (text : List ℕ) (p : Spot) (n : ℕ) → salvaged_text text ≡ Some (p, n)
+        → opened_text (take n text) ≡ Some (p, n) }
+    ensures longest { (text : List ℕ) (p q : Spot) (n m k : ℕ) → AreBytes text
+        → salvaged_text text ≡ Some (p, n) → opened_text (take m text) ≡ Some (q, k) → k ≤ n }
 {}

@@ -98,7 +98,7 @@ entries_found sum text = up_to_are (length text) sum text (omega arith)
 
 -- ---- entries and what is after them
 
-texts_joined : (sum : ℕ) (front back : List PlainEntry) → entries_text sum (front ++ back) ≡ entries_text sum front ++ entries_text (sum_after_all sum front) back
+pub texts_joined : (sum : ℕ) (front back : List PlainEntry) → entries_text sum (front ++ back) ≡ entries_text sum front ++ entries_text (sum_after_all sum front) back
 texts_joined sum [] back = refl
 texts_joined sum (e ∷ front) back =
     ap (λ (l : List ℕ). entry_text sum e ++ l) (texts_joined (sum_after sum e) front back)
