@@ -5,13 +5,9 @@
 #include "keeper_files.h"
 #include "keeper_known.h"
 #include "keeper_memory.h"
+#include "keeper_stack.h"
 #include <poll.h>
-#include <pthread.h>
-#include <sys/mman.h>
 #include <sys/wait.h>
-
-/* MOST_STACK is what the header says of a call. A host and a thread take the rest. */
-enum { STACK_BYTES = 512 * 1024, MOST_STACK = 96 * 1024, HOST_STACK = 20 * 1024 };
 
 static memory folder, other_folder;
 static files disk;
@@ -185,7 +181,7 @@ static void check_refusals(void) {
     printf("no word %u", tpmsim_keeper_new(&empty, 3, FAR));
     printf(", no keeper %u", tpmsim_keeper_begin(&empty, TPMSIM_JOB_SHOW, none, 1));
     memory_host(&alive, &folder, TPMSIM_FORCE_ALWAYS, FAR);
-    printf(", no job %u", tpmsim_keeper_begin(&alive.keeper, 4, none, 1));
+    printf(", no job %u", tpmsim_keeper_begin(&alive.keeper, 5, none, 1));
     printf(", no device %u", host_run(&alive, TPMSIM_JOB_SHOW, none, 0));
     printf(", no seed %u", host_run(&alive, TPMSIM_JOB_BEGIN, none, 1));
     start(&alive);
@@ -321,29 +317,6 @@ static void *call_all(void *unused) {
     return unused;
 }
 
-/* How many bytes of stack the calls take, and the host around them. */
-static void check_stack(void) {
-#ifndef __SANITIZE_ADDRESS__
-    pthread_attr_t attributes;
-    pthread_t thread;
-    size_t at = 0;
-    int flags = MAP_PRIVATE | MAP_ANONYMOUS;
-    uint8_t *stack = mmap(NULL, STACK_BYTES, PROT_READ | PROT_WRITE, flags, -1, 0);
-    must(stack != MAP_FAILED, "there is no memory");
-    memset(stack, FILLED, STACK_BYTES);
-    must(pthread_attr_init(&attributes) == 0 &&
-             pthread_attr_setstack(&attributes, stack, STACK_BYTES) == 0 &&
-             pthread_create(&thread, &attributes, call_all, NULL) == 0 &&
-             pthread_join(thread, NULL) == 0,
-         "there is no thread");
-    while (at < STACK_BYTES && stack[at] == FILLED) at++;
-    must(STACK_BYTES - at <= MOST_STACK + HOST_STACK, "the calls take more stack than they may");
-    munmap(stack, STACK_BYTES);
-#else
-    call_all(NULL);
-#endif
-}
-
 int main(int count, char **words) {
     must(count == 2, "usage: keeper FOLDER");
     memory_host(&alive, &other_folder, TPMSIM_FORCE_NEVER, FAR);
@@ -358,7 +331,7 @@ int main(int count, char **words) {
     check_damage();
     check_refusals();
     check_none();
-    check_stack();
+    check_stack(call_all);
     check_failures();
     check_files(words[1]);
     return 0;

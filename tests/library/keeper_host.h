@@ -31,8 +31,11 @@ struct host {
     extent killed_after;
     int fails_at;
     uint64_t clock;
-    /* Of the last call: the tasks, a letter for each, and the response. */
+    /* Of the last call: the tasks, a letter for each; how many bytes of the old journal the device
+     * executed, if a new one was made; the report; and the response after it. */
     char tasks[64];
+    uint64_t whole;
+    uint8_t report[TPMSIM_REPORT_SIZE];
     uint8_t response[TEXT_BYTES];
     size_t response_size;
 };
@@ -58,6 +61,7 @@ static inline uint8_t host_run(host *it, uint8_t job, const uint8_t *text, size_
         it->tasks[count] = "-LKRPFMNSU"[ask.task];
         it->tasks[count + 1] = 0;
         if (ask.task == TPMSIM_TASK_NOTHING) break;
+        if (ask.task == TPMSIM_TASK_MAKE) it->whole = ask.cut;
         must(tpmsim_keeper_text(&it->keeper, host_text, sizeof host_text) == ask.size,
              "a text's size");
         if (count == it->killed_at) return host_dies(it, &ask, it->killed_after), KILLED;
@@ -97,18 +101,40 @@ static inline uint8_t host_begins(host *it) {
     return host_run(it, TPMSIM_JOB_BEGIN, text, put_seed(text, 0, random, sizeof random));
 }
 
-/* Executes a command of the standard: kind 0, the clock, the locality, whether the layer completes,
- * 256 random bytes, and the command. */
-static inline uint8_t host_executes(host *it, const uint8_t *command, size_t size) {
-    uint8_t text[4096], *at = text;
-    *at++ = 0;
-    at = put_number(at, it->clock += 10);
+/* Takes the report from the front of the response to a command of the standard. */
+static inline void host_takes_report(host *it) {
+    must(it->response_size >= TPMSIM_REPORT_SIZE, "a response without a report");
+    memcpy(it->report, it->response, TPMSIM_REPORT_SIZE);
+    it->response_size -= TPMSIM_REPORT_SIZE;
+    memmove(it->response, it->response + TPMSIM_REPORT_SIZE, it->response_size);
+}
+
+/* Executes a command of the standard whose text is filled up to its moment. After that come the
+ * locality, whether the layer completes, 256 random bytes, and the command. */
+static inline uint8_t host_gives(host *it, uint8_t *text, uint8_t *at, const uint8_t *command,
+                                 size_t size) {
     *at++ = 0;
     *at++ = 1;
     count_up(at, (uint8_t)it->clock);
     at += RANDOM_BYTES;
     memcpy(at, command, size);
-    return host_run(it, TPMSIM_JOB_EXECUTE, text, (size_t)(at - text) + size);
+    uint8_t fault = host_run(it, TPMSIM_JOB_EXECUTE, text, (size_t)(at - text) + size);
+    if (fault == TPMSIM_FAULT_NONE) host_takes_report(it);
+    return fault;
+}
+
+/* Executes a command of the standard by the clock: kind 0, and the clock. */
+static inline uint8_t host_executes(host *it, const uint8_t *command, size_t size) {
+    uint8_t text[4096] = {0};
+    return host_gives(it, text, put_number(text + 1, it->clock += 10), command, size);
+}
+
+/* Executes one so many milliseconds after the command before it: kind 3, and these in four bytes. */
+static inline uint8_t host_waits(host *it, uint32_t elapsed, const uint8_t *command, size_t size) {
+    uint8_t text[4096] = {3}, number[8];
+    put_number(number, elapsed);
+    memcpy(text + 1, number + 4, 4);
+    return host_gives(it, text, text + 5, command, size);
 }
 
 /* Cycles the power: kind 1, the clock, and a number for the layer's start. */

@@ -1,14 +1,16 @@
 -- What C sees of a keeper: what it asks of its host, and what the host tells it.
 use Rattle.std.specs.Prelude.{◌≡◌, ◌==◌, ℕ, ◌⊎◌, if◌then◌else◌, List, [], length, Option, Some, None}
 use Rattle.tpm_keeping.specs.Holder.{Holder, Told, Done, Stands, Gone, Bytes, Failed, Starved, next_of}
+use Rattle.tpm_keeping.specs.Sentence.{sentence}
 use Rattle.tpm_keeping.specs.View.{ask_of, holder_of}
 use Rattle.tpm_keeping.specs.declared.holder.End.{End}
 use Rattle.tpm_keeping.specs.declared.holder.End.TheVariants as ending
+use Rattle.tpm_keeping.specs.declared.holder.Fault.{Fault}
 use Rattle.tpm_keeping.specs.declared.holder.Fault.TheVariants as fault
 use Rattle.tpm_keeping.specs.declared.holder.Force.{Force}
 use Rattle.tpm_keeping.specs.declared.holder.Force.TheVariants.{Never, Power, Always}
 use Rattle.tpm_keeping.specs.declared.holder.Job.{Job}
-use Rattle.tpm_keeping.specs.declared.holder.Job.TheVariants.{Execute, Renew, Show, Begin}
+use Rattle.tpm_keeping.specs.declared.holder.Job.TheVariants.{Execute, Renew, Show, Begin, Cut}
 use Rattle.tpm_keeping.specs.declared.keeper.Ask.{Ask}
 use Rattle.tpm_keeping.specs.declared.keeper.Ask.TheVariants as ask
 use Rattle.tpm_kept_device.specs.View.{spot_in}
@@ -32,7 +34,8 @@ job_of number =
     if number == 0 then Some Execute
     else (if number == 1 then Some Renew
     else (if number == 2 then Some Show
-    else (if number == 3 then Some Begin else None)))
+    else (if number == 3 then Some Begin
+    else (if number == 4 then Some Cut else None))))
 
 -- the number of how a call ended
 abbrev pub end_number : End → ℕ
@@ -52,10 +55,35 @@ end_number (ending.Failed fault.NoCommand) = 12
 end_number (ending.Failed fault.Damaged) = 13
 end_number (ending.Failed fault.Memory) = 14
 
+-- the fault that has this number, and what it says
+abbrev pub fault_of : ℕ → Option Fault
+fault_of number =
+    if number == 1 then Some fault.Idle
+    else (if number == 2 then Some fault.Lock
+    else (if number == 3 then Some fault.Look
+    else (if number == 4 then Some fault.Read
+    else (if number == 5 then Some fault.Write
+    else (if number == 6 then Some fault.Force
+    else (if number == 7 then Some fault.Make
+    else (if number == 8 then Some fault.Name
+    else (if number == 9 then Some fault.Settle
+    else (if number == 10 then Some fault.Absent
+    else (if number == 11 then Some fault.Unreadable
+    else (if number == 12 then Some fault.NoCommand
+    else (if number == 13 then Some fault.Damaged
+    else (if number == 14 then Some fault.Memory else None)))))))))))))
+
+abbrev pub said_by : Option Fault → List ℕ
+said_by (Some fault) = sentence fault
+said_by None = []
+
+abbrev pub fault_text : (number : ℕ) → List ℕ
+fault_text number = said_by (fault_of number)
+
 -- what the host is to write, and the response that may go out
 abbrev pub text_by : Ask → (out : List ℕ) → List ℕ
 text_by (ask.Put cut at) out = out
-text_by ask.Make out = out
+text_by (ask.Make whole) out = out
 text_by asked out = []
 
 abbrev pub response_by : Ask → (response : List ℕ) → List ℕ
@@ -82,7 +110,7 @@ request_by (ask.Read at) text response = record (task_of 3) { at = at }
 request_by (ask.Put cut at) text response =
     record (task_of 4) { cut = cut; at = at; size = text }
 request_by ask.Force text response = task_of 5
-request_by ask.Make text response = record (task_of 6) { size = text }
+request_by (ask.Make whole) text response = record (task_of 6) { cut = whole; size = text }
 request_by ask.Name text response = task_of 7
 request_by ask.Settle text response = task_of 8
 request_by ask.Unlock text response = task_of 9

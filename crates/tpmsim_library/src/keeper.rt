@@ -43,7 +43,7 @@ impl DeviceKeeper {
         ensures { result.now ≡ text_of (view_of self.now) }
     {
         match self.keeper.ask() {
-            Ask::Put { .. } | Ask::Make => self.keeper.out(),
+            Ask::Put { .. } | Ask::Make { .. } => self.keeper.out(),
             _ => &[],
         }
     }
@@ -90,7 +90,7 @@ impl DeviceKeeper {
 }
 
 /// Writes bytes to the front of a buffer, if they fit. Returns how many they are.
-fn put_whole(bytes: &[u8], buffer: &mut [u8]) -> usize
+pub(crate) fn put_whole(bytes: &[u8], buffer: &mut [u8]) -> usize
     ensures { PutsFront bytes.now buffer.old result buffer.new }
 {
     if bytes.len() <= buffer.len() {

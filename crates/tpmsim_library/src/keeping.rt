@@ -9,14 +9,15 @@ ghost use Rattle.tpm_keeping.specs.View.{ask_of};
 ghost use Rattle.tpm_keeping.specs.declared.holder.Force.{Force};
 ghost use Rattle.tpm_keeping.specs.declared.holder.Job.{Job};
 ghost use Rattle.tpmsim_library.specs.Keeping.{GoesOn, force_of, job_of};
-ghost use Rattle.tpmsim_library.specs.Keeping.{no_request, request_of, response_of, text_of};
+ghost use Rattle.tpmsim_library.specs.Keeping.{fault_text, no_request, request_of, response_of};
+ghost use Rattle.tpmsim_library.specs.Keeping.{text_of};
 ghost use Rattle.tpmsim_library.specs.Keeping.{told_by, view_of};
 ghost use Rattle.tpmsim_library.specs.Told.{done, no_device, no_memory, no_word};
 ghost use Rattle.tpmsim_library.specs.declared.keeper.DeviceKeeper.{DeviceKeeper};
 
-use crate::keeper::DeviceKeeper;
+use crate::keeper::{DeviceKeeper, put_whole};
 use crate::keeper_holder::KeeperHolder;
-use crate::request::{Request, force_of, job_of};
+use crate::request::{Request, fault_of, force_of, job_of};
 use crate::told::{DONE, NO_DEVICE, NO_MEMORY, NO_WORD};
 use std::alloc::Global;
 
@@ -156,6 +157,18 @@ pub extern "C" fn tpmsim_keeper_next(
     };
     kept.next(got, file, file_size, bytes);
     holder.put(kept);
+}
+
+/// Writes what a fault says to the front of a buffer, if it fits. Returns how many bytes it has; 0 if
+/// the number is none of a fault.
+#[unsafe(no_mangle)]
+pub extern "C" fn tpmsim_fault_text(fault: u8, buffer: &mut [u8]) -> usize
+    ensures { PutsFront (fault_text fault) buffer.old result buffer.new }
+{
+    let Some(fault) = fault_of(fault) else {
+        return put_whole(&[], buffer);
+    };
+    put_whole(fault.sentence().as_bytes(), buffer)
 }
 
 /// Frees the keeper and its device, if there is one, and leaves the holder with none.

@@ -2,7 +2,7 @@
 
 ghost use Rattle.std.specs.Prelude.{◌≡◌};
 ghost use Rattle.tpm_keeping.specs.View.{told_of};
-ghost use Rattle.tpmsim_library.specs.Keeping.{end_number, force_of, job_of, no_request};
+ghost use Rattle.tpmsim_library.specs.Keeping.{end_number, fault_of, force_of, job_of, no_request};
 ghost use Rattle.tpmsim_library.specs.Keeping.{request_by, task_of, told_by};
 
 use tpm_keeping::holder::{End, Fault, Force, Job};
@@ -12,7 +12,8 @@ use tpm_keeping::keeper::{Ask, Got};
 #[repr(C)]
 #[derive(Clone, Copy, PartialEq, Eq)]
 pub struct Request {
-    /// To how many bytes the file is cut first.
+    /// To how many bytes the file is cut first, or how many bytes of the old journal the device
+    /// executed.
     pub cut: u64,
     /// The place in the file.
     pub at: u64,
@@ -45,6 +46,7 @@ pub fn job_of(number: u8) -> Option<Job>
         1 => Some(Job::Renew),
         2 => Some(Job::Show),
         3 => Some(Job::Begin),
+        4 => Some(Job::Cut),
         _ => None,
     }
 }
@@ -71,6 +73,29 @@ fn end_number(end: End) -> u8
         Fault::NoCommand => 12,
         Fault::Damaged => 13,
         Fault::Memory => 14,
+    }
+}
+
+/// The fault that has this number.
+pub fn fault_of(number: u8) -> Option<Fault>
+    ensures { result ≡ fault_of number }
+{
+    match number {
+        1 => Some(Fault::Idle),
+        2 => Some(Fault::Lock),
+        3 => Some(Fault::Look),
+        4 => Some(Fault::Read),
+        5 => Some(Fault::Write),
+        6 => Some(Fault::Force),
+        7 => Some(Fault::Make),
+        8 => Some(Fault::Name),
+        9 => Some(Fault::Settle),
+        10 => Some(Fault::Absent),
+        11 => Some(Fault::Unreadable),
+        12 => Some(Fault::NoCommand),
+        13 => Some(Fault::Damaged),
+        14 => Some(Fault::Memory),
+        _ => None,
     }
 }
 
@@ -122,7 +147,8 @@ impl Request {
                 ..Request::task(4)
             },
             Ask::Force => Request::task(5),
-            Ask::Make => Request {
+            Ask::Make { whole } => Request {
+                cut: whole,
                 size: text,
                 ..Request::task(6)
             },

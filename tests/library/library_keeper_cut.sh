@@ -1,0 +1,14 @@
+# What a keeper reports of a command and does about damage: keeper_cut.c, without sanitizers and beside them.
+tests=$(cd "$(dirname "$0")/.." && pwd -P)
+. "$tests/common/cases.sh"
+. "$tests/common/library.sh"
+needs cc
+
+compile plain keeper_cut "$archive"
+# shellcheck disable=SC2086 # they are words
+compile checked keeper_cut "$archive" $sanitizers
+for caller in plain checked; do
+    "$room/$caller" >"$room/$caller.told" || exit 1
+done
+cat "$room/plain.told"
+cmp "$room/plain.told" "$room/checked.told" && echo 'the same beside sanitizers'
