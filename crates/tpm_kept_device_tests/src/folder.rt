@@ -58,7 +58,7 @@ impl Folder {
                 self.journal.truncate(at as usize);
                 self.journal.extend_from_slice(keeper.out())?;
             }
-            Ask::Make => {
+            Ask::Make { .. } => {
                 self.fresh.clear();
                 self.fresh.extend_from_slice(keeper.out())?;
             }

@@ -23,6 +23,22 @@ pub fn given(alloc: Global, now_ms: u64, random: u8, buffer: &[u8]) -> Result<Ve
     Ok(text)
 }
 
+/// The same, so many milliseconds after the command before it.
+pub fn given_after(
+    alloc: Global,
+    elapsed_ms: u32,
+    random: u8,
+    buffer: &[u8],
+) -> Result<Vec<u8>, AllocError> {
+    let mut text = Vec::new(alloc);
+    text.push(3)?;
+    text.extend_from_slice(&elapsed_ms.to_be_bytes())?;
+    text.extend_from_slice(&[0, 1])?;
+    text.extend_from_slice(&[random; 256])?;
+    text.extend_from_slice(buffer)?;
+    Ok(text)
+}
+
 /// A power cycle.
 pub fn cycle(alloc: Global, now_ms: u64) -> Result<Vec<u8>, AllocError> {
     let mut text = Vec::new(alloc);
