@@ -33,7 +33,11 @@ fn entries_size(sum: u64, text: &[u8]) -> usize
         let (_, left) = text.split_at(taken);
         let (size, next) = match read_entry(after, left, &mut bytes, &mut room) {
             Next::Torn | Next::Damaged => return taken,
-            Next::Whole { entry: _, size, sum } => (size, sum),
+            Next::Whole {
+                entry: _,
+                size,
+                sum,
+            } => (size, sum),
         };
         taken += size;
         after = next;
