@@ -1,5 +1,5 @@
 -- The types of the code, as the definitions see them.
-use Rattle.std.specs.Prelude.{◌≡◌, ℕ, List, ◌++◌, Option, Some, None}
+use Rattle.std.specs.Prelude.{◌≡◌, ℕ, List, Option, Some, None}
 use Rattle.tpm_completion.specs.Execution.{Seen, seen_of}
 use Rattle.tpm_keeping.specs.Journal.{Spot}
 use Rattle.tpm_slots.specs.SlotRecord.{slot_record}

@@ -1,4 +1,4 @@
-use Rattle.std.proofs.Common.{◌≡◌, ℕ, List, Result, Ok, Err, IfOk, refl, subst, sym}
+use Rattle.std.proofs.Common.{ℕ, List, Result, Ok, Err, IfOk, refl, subst, sym}
 use Rattle.tpm_bytes.specs.Reading.{Gives}
 use Rattle.tpm_image_text.specs.declared.fault.Malformed.{Malformed}
 use Rattle.tpm_kept_journal.specs.Command.{IsGiven, KeptCommand, command_in, command_of}
