@@ -4,13 +4,14 @@
 #   make dist                       proves and builds what dist/ has; half an hour to an hour
 #   make dist-arm64                 what dist/aarch64 has, after make dist
 #   make dist-web                   the module for web pages, after make dist
+#   make hosts                      builds the modules for libtss2 and swtpm, and the simulator, in out/
 #   make install PREFIX=/usr/local  installs what dist/ has; DESTDIR stands before PREFIX
 #   make deb                        makes the package for Debian in out/; deb-arm64 the one for ARM64
 #   make crate, make wheel          make the packages for Rust and Python in out/
 PREFIX = /usr/local
 DESTDIR =
 
-.PHONY: check dist dist-arm64 dist-web install deb deb-arm64 crate wheel
+.PHONY: check dist dist-arm64 dist-web hosts install deb deb-arm64 crate wheel
 
 check:
 	tools/before_commit.sh
@@ -26,6 +27,11 @@ dist-arm64:
 
 dist-web:
 	tools/web.sh
+
+hosts:
+	hosts/build.sh tcti out
+	hosts/build.sh simulator out
+	hosts/build.sh libtpms out/swtpm
 
 install:
 	DESTDIR='$(DESTDIR)' PREFIX='$(PREFIX)' tools/install.sh

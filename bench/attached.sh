@@ -2,7 +2,7 @@
 # Measures a kept device behind the module for libtss2, beside swtpm on a socket: tools of
 # tpm2-tools from start to end, commands in a process that stays, by each way of forcing the disk,
 # and the opening of a long journal. Needs python3, a C compiler, Debian's tpm2-tools, libtss2-dev,
-# swtpm and swtpm-tools, and what tools/interop/attached.sh needs. DISK is a folder on a disk, and /var/tmp
+# swtpm and swtpm-tools, and what hosts/build.sh needs. DISK is a folder on a disk, and /var/tmp
 # unless it is set. Not part of the gate.
 #
 #   bench/attached.sh [ROUNDS]
@@ -11,7 +11,7 @@ set -eu
 top=$(CDPATH='' cd "$(dirname "$0")/.." && pwd -P)
 folder=$(mktemp -d)
 trap 'rm -rf "$folder"' EXIT
-"$top/tools/interop/attached.sh" "$folder"
+"$top/hosts/build.sh" tcti "$folder"
 cc -std=c11 -O2 -Wall -Wextra -Werror -o "$folder/client" "$top/bench/attached.c" -ltss2-tctildr
 "$top/tools/python.sh" "$top/bench/attached.py" "$folder/libtss2-tcti-tpmsim.so.0" \
     "$folder/client" "${DISK:-/var/tmp}" "$@"

@@ -3,7 +3,7 @@ that is recorded:
 
     python3 swtpm.py ATTACHED..
 
-ATTACHED is the folder of tools/interop/attached_swtpm.sh; where there are more, each is measured. The states
+ATTACHED is the folder of `hosts/build.sh libtpms`; where there are more, each is measured. The states
 are kept below the folder that it runs in. All run on one processor, so that none has to wake, and other work
 on the machine changes little. Each number is the median of seven rounds in microseconds, and in brackets the
 least.

@@ -1,12 +1,12 @@
 #!/bin/sh
 # Measures commands over the socket of a swtpm: with its own libtpms, and as a tpmsim, in turn. Needs python3
-# and what tools/interop/attached_swtpm.sh needs. Not part of the gate.
+# and what hosts/build.sh needs. Not part of the gate.
 #
 #   bench/swtpm.sh [STATES]    STATES is where the states are kept; else /dev/shm
 #
 # All of it runs on one processor. Beside other work, `chrt -f 10 bench/swtpm.sh` keeps that processor.
 #
-# The folder of tools/interop/attached_swtpm.sh is that of $ATTACHED, or it is made. $BESIDE may name more such
+# The folder of `hosts/build.sh libtpms` is that of $ATTACHED, or it is made. $BESIDE may name more such
 # folders, of other libraries, which are measured in the same run.
 set -eu
 
@@ -14,7 +14,7 @@ top=$(CDPATH='' cd "$(dirname "$0")/.." && pwd -P)
 work=$(mktemp -d -p "${1:-/dev/shm}")
 trap 'rm -rf "$work"' EXIT
 attached=${ATTACHED:-$work/attached}
-[ -n "${ATTACHED:-}" ] || "$top/tools/interop/attached_swtpm.sh" "$attached"
+[ -n "${ATTACHED:-}" ] || "$top/hosts/build.sh" libtpms "$attached"
 cd "$work"
 # shellcheck disable=SC2086 # they are words
 PYTHONDONTWRITEBYTECODE=1 python3 "$top/bench/swtpm.py" "$attached" ${BESIDE:-}

@@ -80,7 +80,7 @@ put_modules() {
     TPMSIM_ARCHIVE=$PWD/$archive
     export TPMSIM_ARCHIVE
     if has_header tss2/tss2_tcti.h; then
-        tools/interop/attached.sh "$work/libtss2" || exit 1
+        hosts/build.sh tcti "$work/libtss2" || exit 1
         for file in "$work"/libtss2/*; do
             case $file in
             *.so.0) put 644 "$file" "$libraries/${file##*/}" ;;
@@ -91,13 +91,13 @@ put_modules() {
         echo "$0: there is no module for libtss2, whose header libtss2-dev has" >&2
     fi
     if echo '#include <stdlib.h>' | "${CC:-cc}" -fsyntax-only -x c - >"$work/header" 2>&1; then
-        tools/interop/attached_simulator.sh "$work/simulator" || exit 1
+        hosts/build.sh simulator "$work/simulator" || exit 1
         put 755 "$work/simulator/tpmsim-simulator" bin/tpmsim-simulator
     else
         echo "$0: there is no tpmsim-simulator, which needs gcc and libc6-dev" >&2
     fi
     if has_header libtpms/tpm_library.h; then
-        tools/interop/attached_swtpm.sh "$work/swtpm" || exit 1
+        hosts/build.sh libtpms "$work/swtpm" || exit 1
         put 644 "$work/swtpm/libtpms.so.0" lib/tpmsim/swtpm/libtpms.so.0
         for file in tpmsim-swtpm swtpm_setup; do
             put 755 "$work/swtpm/$file" "lib/tpmsim/swtpm/$file"

@@ -2,7 +2,7 @@
 tests=$(cd "$(dirname "$0")/.." && pwd -P)
 . "$tests/common/cases.sh"
 page=$tests/../docs/ATTACHED.md
-attached=$tests/../attached
+kept=$tests/../hosts/kept
 
 # quoted HEADING: prints what is quoted in the first cells of a heading's table, one a line.
 # shellcheck disable=SC2016 # the quotes are backticks
@@ -16,14 +16,14 @@ quoted() {
 quoted 'What a fault says' >sentences
 quoted 'The words' >words
 while read -r sentence; do
-    grep -qF -- "$sentence" "$attached"/*.c || echo "no source says: $sentence"
+    grep -qF -- "$sentence" "$kept"/*.c || echo "no source says: $sentence"
 done <sentences
 while read -r word; do
-    grep -qF "${word%%=*}" "$attached/words.h" || echo "the module has no word $word"
+    grep -qF "${word%%=*}" "$kept/words.h" || echo "the module has no word $word"
 done <words
 echo "$(grep -c . sentences) sentences, $(grep -c . words) words"
 # Two sentences tell what cannot be, and are not on the page.
-grep -oh '"\(is\|was\|has\|cannot\|holds\|needs\|wants\) [^"]*"' "$attached"/*.c | tr -d '"' |
+grep -oh '"\(is\|was\|has\|cannot\|holds\|needs\|wants\) [^"]*"' "$kept"/*.c | tr -d '"' |
     LC_ALL=C sort -u | while read -r sentence; do
         case $sentence in
         'has no device' | 'is refused by the library for a reason without a name') continue ;;

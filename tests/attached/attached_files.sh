@@ -1,4 +1,4 @@
-# What tools/interop/attached.sh makes: the same bytes each time, with two names that are seen, and a line
+# What `hosts/build.sh tcti` makes: the same bytes each time, with two names that are seen, and a line
 # where something is missing.
 tests=$(cd "$(dirname "$0")/.." && pwd -P)
 . "$tests/common/cases.sh"
@@ -8,16 +8,15 @@ needs cc nm objdump tss2/tss2_tcti.h
 
 # make TOP FOLDER: makes all of it in a folder, of the sources in another one.
 make() {
-    TPMSIM_ARCHIVE=$archive sh "$1/tools/interop/attached.sh" "$2" 2>&1 |
-        sed -e "s,^[^:]*attached.sh: ,," -e "s,$room,ROOM,g"
+    TPMSIM_ARCHIVE=$archive "$1/hosts/build.sh" tcti "$2" 2>&1 |
+        sed -e "s,^[^:]*build.sh: ,," -e "s,$room,ROOM,g"
 }
 
 module=libtss2-tcti-tpmsim.so.0
 top=$tests/..
 make "$top" first
-cp -R "$tests/../attached" "$tests/../tools" "$room/"
 mkdir "$room/other"
-mv "$room/attached" "$room/tools" "$room/other/"
+cp -R "$top/hosts" "$room/other/"
 (umask 077 && make "$room/other" second/folder)
 ls first
 for file in "$module" tpmsim-power; do
@@ -58,7 +57,10 @@ done 2>&1
 "$room/ask" state=kept 80010000000c0000017b0000
 rm journal damaged
 echo 'faults:'
-sh "$top/tools/interop/attached.sh" 2>&1 | sed 's,^[^:]*attached.sh: ,,'
+for words in '' tcti 'none third'; do
+    # shellcheck disable=SC2086 # they are words
+    "$top/hosts/build.sh" $words 2>&1 | sed 's,^[^:]*build.sh: ,,'
+done
 archive=$room/none
 make "$top" third
 : >"$room/empty.a"
@@ -67,7 +69,7 @@ make "$top" third
 archive=$(readlink -f "$program")
 make "$top" "$room/empty.a/folder" | tail -n 1
 archive=$dist/libtpmsim.a
-make "$room/other" "$room/other/attached"
-make "$room/other" "$room/other/attached/new"
-diff -r "$top/attached" "$room/other/attached"
+make "$room/other" "$room/other/hosts"
+make "$room/other" "$room/other/hosts/tcti/new"
+diff -r "$top/hosts" "$room/other/hosts"
 ls

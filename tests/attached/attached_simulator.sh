@@ -7,7 +7,6 @@ needs python3
 
 python3 "$tests/attached/simulator.py" "$simulator" >plain
 cat plain
-CFLAGS=$sanitizers TPMSIM_ARCHIVE=$archive "$tests/../tools/interop/attached_simulator.sh" \
-    "$room/sanitized" || exit 1
+CFLAGS=$sanitizers TPMSIM_ARCHIVE=$archive "$tests/../hosts/build.sh" simulator "$room/sanitized" || exit 1
 python3 "$tests/attached/simulator.py" "$room/sanitized/tpmsim-simulator" >sanitized
 cmp plain sanitized && echo 'with sanitizers the same'

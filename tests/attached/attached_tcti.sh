@@ -5,7 +5,7 @@ tests=$(cd "$(dirname "$0")/.." && pwd -P)
 needs cc nm tss2/tss2_tcti.h
 . "$tests/common/attached.sh"
 
-TPMSIM_ARCHIVE=$archive sh "$tests/../tools/interop/attached.sh" "$room/made" || exit 1
+TPMSIM_ARCHIVE=$archive "$hosts/build.sh" tcti "$room/made" || exit 1
 attach client client -ldl
 # shellcheck disable=SC2086 # they are words
 attach sanitized_client client $sanitizers -ldl

@@ -1,7 +1,7 @@
 # What the tests of the kept device share. Each is given the archive, and reads this file behind
 # cases.sh and library.sh.
 # shellcheck shell=sh disable=SC2154 # library.sh has `archive` and `sanitizers`
-attached=$tests/../attached
+hosts=$tests/../hosts
 callers=$tests/attached
 needs cc nm
 nm --defined-only "$archive" 2>/dev/null | grep -q ' tpmsim_journal_open$' ||
@@ -9,21 +9,17 @@ nm --defined-only "$archive" 2>/dev/null | grep -q ' tpmsim_journal_open$' ||
 
 # in_c WORDS..: compiles with each warning an error.
 in_c() {
-    cc -std=c11 -O1 -Wall -Wextra -Werror -Wconversion -I"$dist" -I"$attached" "$@" || exit 1
+    cc -std=c11 -O1 -Wall -Wextra -Werror -Wconversion -I"$dist" -I"$hosts/kept" "$@" || exit 1
 }
 
 # parts WORDS..: the folder with all parts of the kept device, compiled with those of these words that
-# say how; once for all tests that tools/scripts.sh runs, which names the folder TPMSIM_BUILT. What is
-# made of the parts, the module for libtss2 and tpmsim-power, is none.
+# say how; once for all tests that tools/scripts.sh runs, which names the folder TPMSIM_BUILT.
 parts() {
     how=$(printf '%s\n' "$@" | grep '^-[fg]')
     built=${TPMSIM_BUILT:-$room/built}/attached-$(echo "$how" | cksum | tr ' ' -)
     if [ ! -d "$built" ]; then
         mkdir -p "$room/parts" "${built%/*}" || exit 1
-        for part in "$attached"/*.c; do
-            case $part in
-            */tcti.c | */power.c) continue ;;
-            esac
+        for part in "$hosts"/kept/*.c; do
             # shellcheck disable=SC2086 # they are words
             in_c $how -c -o "$room/parts/$(basename "$part" .c).o" "$part"
         done
@@ -33,12 +29,12 @@ parts() {
     echo "$built"
 }
 
-# attach CALLER SOURCE WORDS..: compiles a caller in C, or a main source of attached/, over the parts
-# of the kept device.
+# attach CALLER SOURCE WORDS..: compiles a caller in C, or a source of hosts/tcti, over the parts of the
+# kept device.
 attach() {
     caller=$room/$1
     source=$callers/$2.c
-    [ -f "$source" ] || source=$attached/$2.c
+    [ -f "$source" ] || source=$hosts/tcti/$2.c
     shift 2
     built=$(parts "$@") || exit 1
     in_c -O0 -o "$caller" "$source" "$built"/*.o "$@" "$archive"

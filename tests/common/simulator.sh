@@ -4,5 +4,5 @@
 needs cc nm strip
 nm --defined-only "$archive" 2>/dev/null | grep -q ' tpmsim_journal_open$' ||
     skip 'the archive has no calls for journals'
-TPMSIM_ARCHIVE=$archive "$tests/../tools/interop/attached_simulator.sh" "$room/simulator" || exit 1
+TPMSIM_ARCHIVE=$archive "$tests/../hosts/build.sh" simulator "$room/simulator" || exit 1
 simulator=$room/simulator/tpmsim-simulator

@@ -1,4 +1,4 @@
-# What the tests of attached/swtpm share. Each is given the archive of the library, and reads this file
+# What the tests of hosts/libtpms share. Each is given the archive of the library, and reads this file
 # behind cases.sh. It builds libtpms.so.0 over that archive, and a caller in swtpm's place, both of them
 # with sanitizers too.
 # shellcheck shell=sh disable=SC2154 # cases.sh has `program`, `room` and `tests`
@@ -12,8 +12,8 @@ sanitizers='-g -fsanitize=address,undefined -fno-sanitize-recover=all'
 # build FOLDER: makes all of these in a folder.
 build() {
     mkdir -p "$1" || exit 1
-    "$tests/../tools/interop/attached_swtpm.sh" "$1/swtpm" >"$room/built" 2>&1 || { cat "$room/built" && exit 1; }
-    CFLAGS=$sanitizers "$tests/../tools/interop/attached_swtpm.sh" "$1/sanitized" >"$room/built" 2>&1 ||
+    "$tests/../hosts/build.sh" libtpms "$1/swtpm" >"$room/built" 2>&1 || { cat "$room/built" && exit 1; }
+    CFLAGS=$sanitizers "$tests/../hosts/build.sh" libtpms "$1/sanitized" >"$room/built" 2>&1 ||
         { cat "$room/built" && exit 1; }
     for words in '' "$sanitizers"; do
         # shellcheck disable=SC2086 # they are words

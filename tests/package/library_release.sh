@@ -9,7 +9,7 @@ mkdir copy none
 printf '#!/bin/sh\nexit 1\n' >none/cc
 chmod +x none/cc
 (cd "$top" && tar cf - --exclude=out --exclude=must-fail --exclude=__pycache__ CHANGELOG.md Makefile \
-    README.md HANDLES crates/tpmsim crates/tpmsim_library crates.txt attached dist \
+    README.md HANDLES crates/tpmsim crates/tpmsim_library crates.txt hosts dist \
     docs examples library packaging python/packing python/pyproject.toml python/tpmsim \
     js/package.json rust/Cargo.toml tools tpmsim .gitignore) |
     tar xf - -C copy

@@ -7,7 +7,7 @@ needs python3
 # The server of Microsoft's protocol is in C: its tests are skipped if there is no compiler.
 if is_there cc && is_there nm; then
     TPMSIM_SIMULATOR=$room/simulator/tpmsim-simulator
-    "${tests%/*}/tools/interop/attached_simulator.sh" "$room/simulator" || exit 1
+    "${tests%/*}/hosts/build.sh" simulator "$room/simulator" || exit 1
     export TPMSIM_SIMULATOR
 fi
 status=0

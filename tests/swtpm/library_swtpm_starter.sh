@@ -1,6 +1,6 @@
 # tpmsim-swtpm, which is swtpm for libvirt too, and swtpm_setup: with a program in swtpm's place that
-# tells how it was started. What tools/interop/attached_swtpm.sh makes is made of the same bytes each time, and
-# what it lacks is told.
+# tells how it was started. What hosts/build.sh makes of libtpms has the same bytes each time, and what it
+# lacks is told.
 tests=$(cd "$(dirname "$0")/.." && pwd -P)
 . "$tests/common/cases.sh"
 . "$tests/common/swtpm.sh"
@@ -60,22 +60,22 @@ setup --tpm2 --pcr-banks sha384
 setup --tpm2 --reconfigure
 setup --tpm2 --profile-name default-v1
 
-label 'tools/interop/attached_swtpm.sh'
-build=$tests/../tools/interop/attached_swtpm.sh
-"$build" "$room/twice" && cmp "$room/twice/libtpms.so.0" "$room/swtpm/libtpms.so.0" && echo 'the same bytes'
+label 'hosts/build.sh'
+build=$tests/../hosts/build.sh
+"$build" libtpms "$room/twice" && cmp "$room/twice/libtpms.so.0" "$room/swtpm/libtpms.so.0" && echo 'the same bytes'
 stat -c '%a %n' "$room"/twice/* | sed "s|$room|ROOM|"
 "$build" 2>&1 | sed "s|$build|tool|"
-TPMSIM_ARCHIVE=/nowhere/libtpmsim.a "$build" "$room/twice" 2>&1 | sed "s|$build|tool|"
-CC=nowhere "$build" "$room/twice" 2>&1 | sed "s|$build|tool|"
+TPMSIM_ARCHIVE=/nowhere/libtpmsim.a "$build" libtpms "$room/twice" 2>&1 | sed "s|$build|tool|"
+CC=nowhere "$build" libtpms "$room/twice" 2>&1 | sed "s|$build|tool|"
 printf '#!/bin/sh\n[ "$*" != "-E -" ] || exit 1\nexec cc "$@"\n' >"$room/bin/without_headers"
 chmod +x "$room/bin/without_headers"
-CC=$room/bin/without_headers "$build" "$room/twice" 2>&1 | sed "s|$build|tool|"
+CC=$room/bin/without_headers "$build" libtpms "$room/twice" 2>&1 | sed "s|$build|tool|"
 
 # Into the folder of its sources it writes nothing.
-mkdir "$room/copy" && cp -R "$tests/../attached" "$tests/../tools" "$room/copy"
+mkdir "$room/copy" && cp -R "$tests/../hosts" "$room/copy"
 cd "$room/copy" || exit 1
 find . | sort >"$room/before"
-for folder in attached attached/swtpm/new ../copy/attached/; do
-    tools/interop/attached_swtpm.sh "$folder" 2>&1 | sed 's|^[^:]*:|tool:|'
+for folder in hosts hosts/libtpms/new ../copy/hosts/; do
+    hosts/build.sh libtpms "$folder" 2>&1 | sed 's|^[^:]*:|tool:|'
 done
 find . | sort | diff "$room/before" -

@@ -1,6 +1,6 @@
 #!/bin/sh
 # Has other clients of libtss2 use a kept device with its completing layer, by the module that
-# tools/interop/attached.sh makes, and says of each whether it did what was asked: Debian's tpm2-pytss,
+# hosts/build.sh makes, and says of each whether it did what was asked: Debian's tpm2-pytss,
 # clevis with a parent of AES, and tpm2-abrmd with tpm2-tools behind it. Not part of the gate. It
 # installs nothing, and leaves nothing behind.
 #
@@ -118,7 +118,7 @@ END
     check 'tpm2-abrmd: objects and sessions of six tools' dbus-run-session -- sh abrmd.sh
 }
 
-"$top/tools/interop/attached.sh" made || exit 1
+"$top/hosts/build.sh" tcti made || exit 1
 export TPM2TOOLS_TCTI="tpmsim:state=$folder/state,complete" LD_LIBRARY_PATH="$folder/made"
 check 'tpm2-tools: startup' tpm2 startup -c
 if /usr/bin/python3 -c 'import tpm2_pytss' 2>/dev/null; then pytss; else has tpm2-pytss nothing; fi

@@ -12,7 +12,7 @@
 #
 # Needs Debian's qemu-system-x86, qemu-utils, ovmf, swtpm, libtpms-dev, busybox-static, tpm2-tools, socat, and a
 # kernel with the TPM's drivers built in: the file that $KERNEL names, or Debian's cloud kernel, which is
-# fetched by apt-get. The folder of tools/interop/attached_swtpm.sh is that of $ATTACHED, or it is made. QEMU
+# fetched by apt-get. The folder of `hosts/build.sh libtpms` is that of $ATTACHED, or it is made. QEMU
 # emulates the processor, unless $ACCELERATOR is kvm.
 set -u
 
@@ -243,7 +243,7 @@ moves() {
 }
 
 attached=${ATTACHED:-$folder/attached}
-[ -n "${ATTACHED:-}" ] || "$top/tools/interop/attached_swtpm.sh" "$attached" || exit 1
+[ -n "${ATTACHED:-}" ] || "$top/hosts/build.sh" libtpms "$attached" || exit 1
 make_guest
 case $# in
 3) combination "$2" "$3" ;;

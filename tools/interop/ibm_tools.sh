@@ -107,7 +107,7 @@ echo secret >secret
 port=${PORT:-24331}
 export TPM_INTERFACE_TYPE=socsim TPM_SERVER_NAME=127.0.0.1 TPM_DATA_DIR=. TPM_ENCRYPT_SESSIONS=0
 export TPM_COMMAND_PORT="$port" TPM_PLATFORM_PORT="$((port + 1))"
-"$top/tools/interop/attached_simulator.sh" made || exit 1
+"$top/hosts/build.sh" simulator made || exit 1
 made/tpmsim-simulator --port "$port" --image image >served &
 server=$!
 until [ -s served ]; do

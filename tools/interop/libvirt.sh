@@ -1,6 +1,6 @@
 #!/bin/sh
 # Has libvirt begin, save, restore and end a guest, and go back to a snapshot of it, with a TPM of type
-# `emulator`, whose swtpm and swtpm_setup are those of tools/interop/attached_swtpm.sh, which stand first on
+# `emulator`, whose swtpm and swtpm_setup are those of `hosts/build.sh libtpms`, which stand first on
 # the daemon's path; and one of type `external`, whose swtpm runs already. The daemon is of a session, of the
 # user who calls this, or of nobody where that is root. Not part of the gate. It installs nothing, and leaves
 # nothing behind.
@@ -8,7 +8,7 @@
 #   tools/interop/libvirt.sh
 #
 # Needs Debian's libvirt-daemon, libvirt-daemon-driver-qemu, libvirt-clients, qemu-system-x86, qemu-utils,
-# swtpm, libtpms-dev and util-linux. The folder of tools/interop/attached_swtpm.sh is that of $ATTACHED, or it is made.
+# swtpm, libtpms-dev and util-linux. The folder of `hosts/build.sh libtpms` is that of $ATTACHED, or it is made.
 set -u
 
 top=$(CDPATH='' cd "$(dirname "$0")/../.." && pwd -P) || exit 1
@@ -95,7 +95,7 @@ is_in_state() {
 
 mkdir -p "$folder/home/run" "$folder/home/record"
 chmod 755 "$folder"
-"$top/tools/interop/attached_swtpm.sh" "$folder/attached" || exit 1
+"$top/hosts/build.sh" libtpms "$folder/attached" || exit 1
 [ "$(id -u)" -ne 0 ] || chown -R 65534:65534 "$folder/home"
 chmod 700 "$folder/home/run"
 as_user libvirtd -d -t 600 -p "$folder/home/libvirtd" >"$folder/virsh" 2>&1 || exit 1

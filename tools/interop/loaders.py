@@ -4,7 +4,7 @@ same PCRs by the same digests of SHA-1 and SHA-256 on both, and every extend is 
 
     tools/interop/loaders.py ATTACHED [LOADER..]
 
-ATTACHED is the folder of tools/interop/attached_swtpm.sh. The loaders are uboot (its EFI, on arm64), aavmf
+ATTACHED is the folder of `hosts/build.sh libtpms`. The loaders are uboot (its EFI, on arm64), aavmf
 (UEFI on arm64), ovmf (UEFI on x86-64) and grub (its module tpm, behind ovmf); else all of them. Needs
 Debian's swtpm, qemu-system-arm, qemu-system-x86, u-boot-qemu, qemu-efi-aarch64, ovmf, grub-efi-amd64-bin and
 grub-common. Not part of the gate: it takes minutes. It leaves nothing.

@@ -7,7 +7,7 @@
 #   tools/interop/swtpm_tools.sh
 #
 # Needs Debian's swtpm, swtpm-tools, libtpms-dev, tpm2-tools, libtss2-tcti-swtpm0, socat and busybox. The folder of
-# tools/interop/attached_swtpm.sh is that of $ATTACHED, or it is made. A case that cannot be tried is told as
+# `hosts/build.sh libtpms` is that of $ATTACHED, or it is made. A case that cannot be tried is told as
 # skipped, with its reason.
 set -u
 
@@ -338,7 +338,7 @@ echo 12345678 | head -c 8 >data
 echo event >event
 printf secret >key
 attached=${ATTACHED:-$folder/attached}
-[ -n "${ATTACHED:-}" ] || "$top/tools/interop/attached_swtpm.sh" "$attached" || exit 1
+[ -n "${ATTACHED:-}" ] || "$top/hosts/build.sh" libtpms "$attached" || exit 1
 export TPM2TOOLS_TCTI="swtpm:host=127.0.0.1,port=$port"
 mkdir state
 begin_tpm "$folder/state" --flags not-need-init || exit 1

@@ -7,7 +7,7 @@
 #
 #   socket    a served device, which the tools reach by their `cmd` transport and socat. Needs
 #             tpm2-tools and socat, and rt where the program is not built yet
-#   module    a kept device, by the module that tools/interop/attached.sh makes. Needs tpm2-tools and what
+#   module    a kept device, by the module that hosts/build.sh makes. Needs tpm2-tools and what
 #             that script needs; TPMSIM_ARCHIVE names another archive here too
 #   complete  the same with the completing layer, and tools that hand contexts on
 set -u
@@ -255,7 +255,7 @@ serve() {
 
 # keep WORDS: makes the module, and has the tools reach a new device by it, with more words.
 keep() {
-    [ -e made ] || "$top/tools/interop/attached.sh" made || exit 2
+    [ -e made ] || "$top/hosts/build.sh" tcti made || exit 2
     rm -rf state
     export TPM2TOOLS_TCTI="tpmsim:state=$folder/state$1" LD_LIBRARY_PATH="$folder/made"
 }

@@ -24,7 +24,7 @@ from sources import pages_told, part_of, said, usage_of  # noqa: E402
 
 DOCUMENT_NAME = re.compile(r"[A-Z_]+(\.md)?")
 FOLDER = re.compile(
-    r"(?<![\w/.~-])((?:attached|bench|crates|dist|docs|examples|library|tests|tools)/)"
+    r"(?<![\w/.~-])((?:bench|crates|dist|docs|examples|hosts|library|tests|tools)/)"
 )
 FONT = re.compile(r"\\f[BIR]")
 INSTALLED = re.compile("docs/|examples/")

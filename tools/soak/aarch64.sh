@@ -1,15 +1,15 @@
 #!/bin/sh
 # Plays for ARM64 in qemu more than the gate does: each script of tests/ with the program and over both
-# files of the library, whose calls may take no more stack than tpmsim.h says; and tests of attached/ whose
+# files of the library, whose calls may take no more stack than tpmsim.h says; and tests of hosts/ whose
 # callers are compiled for that machine, among them 300 kills of processes that hold a device. It takes
 # some ten minutes. Needs Debian's qemu-user and gcc-aarch64-linux-gnu, and what
 # tools/lib/arm64.sh does.
 #
-# The other tests of attached/ need what qemu 7.2 has not: sanitizers, orphans that go to a process of
+# The other tests of hosts/ need what qemu 7.2 has not: sanitizers, orphans that go to a process of
 # choice, and memory that a forked child finds empty, by which the module knows of a fork.
 #
 #   tools/soak/aarch64.sh           all of these
-#   tools/soak/aarch64.sh NAME..    these: scripts, library, and the tests of attached/ by their names
+#   tools/soak/aarch64.sh NAME..    these: scripts, library, and the tests of hosts/ by their names
 set -u
 top=$(CDPATH='' cd "$(dirname "$0")/../.." && pwd -P) || exit 1
 cd "$top" || exit 1

@@ -1,5 +1,5 @@
 #!/bin/sh
-# Attacks the kept device of attached/: its processes are killed before a call of the system, or a call
+# Attacks the kept device of hosts/kept: its processes are killed before a call of the system, or a call
 # fails, or they fork; and in between the host crashes, and its disk has what was forced, and of what was
 # not as much as chance says. With force=always nothing that was answered may be lost, and with
 # force=power no power cycle. It is no part of the gate; tests/attached/attached_crashes.sh is. Needs cc

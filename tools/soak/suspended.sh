@@ -11,7 +11,7 @@ top=$(CDPATH='' cd "$(dirname "$0")/../.." && pwd -P)
 . "$top/tools/lib/memory.sh"
 folder=$(folder_in_memory 1) || folder=$(mktemp -d)
 trap 'rm -rf "$folder"' EXIT
-"$top/tools/interop/attached_swtpm.sh" "$folder/swtpm"
+"$top/hosts/build.sh" libtpms "$folder/swtpm"
 cc -std=c11 -D_GNU_SOURCE -O1 -o "$folder/caller" "$top"/tests/swtpm/*.c
 cc -O1 -shared -fPIC -o "$folder/host.so" "$top/tests/common/host.c"
 TMPDIR=$folder "$top/tools/python.sh" "$top/tests/swtpm/suspended.py" "$folder/caller" \
