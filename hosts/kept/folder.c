@@ -157,15 +157,24 @@ static void close_lock(struct folder *folder) {
     folder->lock = -1;
 }
 
+/* Waits until no other open file has the lock, and takes it. */
+static bool wait_for(int lock) {
+    while (flock(lock, LOCK_EX) != 0)
+        if (errno != EINTR) return false;
+    return true;
+}
+
 bool folder_lock(struct folder *folder, struct reason *reason) {
     enum { TRIES = 100 };
     if (!fork_mark_is_here(&folder->mark)) close_lock(folder);
     for (int i = 0; i < TRIES; i++) {
         struct stat status;
         if (folder->lock < 0 && !open_lock(folder, reason)) return false;
-        while (flock(folder->lock, LOCK_EX) != 0)
-            if (errno != EINTR)
-                return refuse(reason, folder->path, LOCK, "cannot be locked", errno);
+        if (!wait_for(folder->lock)) {
+            refuse(reason, folder->path, LOCK, "cannot be locked", errno);
+            close_lock(folder);
+            return false;
+        }
         int there = folder_look(folder, LOCK, &status, reason);
         if (there == 1 && is_identity(folder->lock_identity, &status)) return true;
         close_lock(folder);

@@ -33,7 +33,7 @@ static bool open_bytes(tpmsim *device, int file, const char *path, uint8_t *room
     ssize_t size = transfer_read(file, room, ROOM, 0);
     if (size < 0) return refuse(reason, path, NULL, "cannot be read", errno);
     uint8_t told = tpmsim_open(device, room, (size_t)size);
-    return told == TPMSIM_DONE || refuse(reason, path, NULL, told_words(told), 0);
+    return told == TPMSIM_DONE || refuse_told(reason, path, NULL, told);
 }
 
 bool image_open(tpmsim *device, const char *path, struct reason *reason) {
@@ -41,7 +41,7 @@ bool image_open(tpmsim *device, const char *path, struct reason *reason) {
     if (file < 0) return false;
     uint8_t *room = malloc(ROOM);
     bool is_open = room ? open_bytes(device, file, path, room, reason)
-                        : refuse(reason, path, NULL, told_words(TPMSIM_NO_MEMORY), 0);
+                        : refuse_told(reason, path, NULL, TPMSIM_NO_MEMORY);
     free(room);
     close(file);
     return is_open;

@@ -1,12 +1,13 @@
 /* A device that is kept in a folder, over the library tpmsim.
  *
- * FOLDER/journal has the device as its power came on, and each command since with the random bytes
+ * FOLDER/journal has the device as its journal began, and each command since with the random bytes
  * that it drew, its time and its locality. To open the device is to execute them again. A command's
- * record is in the file before its response is given out, so a process may be killed at any moment
+ * record is in the file before its response is written, so a process may be killed at any moment
  * and nothing that was answered is lost. FOLDER/lock is locked while a command is executed: several
  * processes may hold the device at once, and each executes what the others added before its own.
+ * What is done when is decided by the library's keeper, and done by keeping.c.
  *
- * A call that fails answers false or NULL, and a sentence that names the path. One call at a time
+ * A call that fails returns false or NULL, and a sentence that names the path. One call at a time
  * works on a kept device. There are no global variables, and no call ends the process. */
 #ifndef KEPT_H
 #define KEPT_H
@@ -16,8 +17,8 @@
 #include <stddef.h>
 #include <stdint.h>
 
-/* When the journal is forced to the disk, for hosts whose power may fail: never; where it begins,
- * which is at each power cycle; or then and before each response too. */
+/* When the journal is forced to the disk, for hosts whose power may fail: when it begins, as at a
+ * power cycle; never, but for a new journal; or then and before each response too. */
 enum kept_force { KEPT_FORCE_POWER, KEPT_FORCE_NEVER, KEPT_FORCE_ALWAYS };
 
 /* What is asked for. Zeros ask for a new device in memory, of random bytes of the system. */
@@ -31,11 +32,13 @@ struct kept_options {
     const uint8_t *random;
     size_t random_size;
     enum kept_force force;
+    /* How many journals of the past stay in the folder, 0 to PAST_MOST of past.h. */
+    unsigned keep;
     /* The completing layer is on. */
     bool completes;
     /* A folder without a device is a fault; else a new device begins there. */
     bool is_there;
-    /* What stands behind the whole records of a damaged journal is cut off; else it is refused. */
+    /* What follows the first damage in a journal is dropped; else the journal is refused. */
     bool cuts;
     /* Is told a sentence when something was cut off a journal; NULL: nobody is. */
     void (*tell)(const char *sentence);
@@ -46,13 +49,27 @@ struct kept;
 /* Opens a device. NULL with the reason. */
 struct kept *kept_open(const struct kept_options *options, struct reason *reason);
 
-/* Executes a command, and writes its response, as tpmsim_execute does. Where that fails nothing was
+/* Executes a command, and writes its response, as tpmsim_execute does. If that fails nothing was
  * answered, and the next call begins with what the journal has. */
 bool kept_execute(struct kept *kept, const uint8_t *buffer, size_t size, uint8_t locality,
                   uint8_t response[4096], tpmsim_answered *answered, struct reason *reason);
 
 /* Takes power away from the device and gives it back, for every process that holds it. */
 bool kept_power(struct kept *kept, struct reason *reason);
+
+/* Writes the state text of a device in a folder, and its size. */
+bool kept_snapshot(struct kept *kept, uint8_t text[TPMSIM_STATE_SIZE], size_t *size,
+                   struct reason *reason);
+
+/* Restores the device of a state text in the folder, for every process that holds the one there. If
+ * the text is none, that one is as it was. */
+bool kept_restore(struct kept *kept, const uint8_t *text, size_t size, struct reason *reason);
+
+/* Turns the completing layer on or off, for the commands of this holder. */
+void kept_complete(struct kept *kept, bool completes);
+
+/* What the last call cut off the journal, in a sentence; empty if nothing was. */
+const char *kept_notice(const struct kept *kept);
 
 /* Closes the device, which may be NULL. */
 void kept_close(struct kept *kept);

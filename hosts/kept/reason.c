@@ -18,6 +18,7 @@ bool refuse(struct reason *reason, const char *about, const char *name, const ch
     snprintf(reason->text, sizeof reason->text, "%s%s%s %s%s%s", about, name ? "/" : "",
              name ? name : "", said, words ? ": " : "", words ? words : "");
     keep_in_one_line(reason->text);
+    reason->told = 0;
     errno = kept;
     return false;
 }

@@ -2,12 +2,15 @@
 #ifndef REASON_H
 #define REASON_H
 #include <stdbool.h>
+#include <stdint.h>
 
 /* REASON_ROOM has room for a path of any length that Linux takes, and for what is said of it. */
 enum { REASON_ROOM = 4608 };
 
 struct reason {
     char text[REASON_ROOM];
+    /* A number of tpmsim_told, if the library has refused something; else 0. */
+    uint8_t told;
 };
 
 /* Puts the sentence together: what it is about, a path or a word, with `/name` behind it where

@@ -26,3 +26,9 @@ const char *told_words(uint8_t told) {
     default: return "is refused by the library for a reason without a name";
     }
 }
+
+bool refuse_told(struct reason *reason, const char *about, const char *name, uint8_t told) {
+    refuse(reason, about, name, told_words(told), 0);
+    reason->told = told;
+    return false;
+}

@@ -3,14 +3,22 @@
 #include <stdlib.h>
 #include <string.h>
 
-enum word { STATE, COMPLETE, CUT, LOCALITY, IMAGE, RANDOM, FORCE, WORDS };
+enum word { STATE, COMPLETE, CUT, KEEP, LOCALITY, IMAGE, RANDOM, FORCE, WORDS };
 
-static const char *const NAMES[WORDS] = {"state=", "complete", "cut",   "locality=",
-                                         "image=", "random=",  "force="};
+static const char *const NAMES[WORDS] = {"state=",    "complete", "cut",     "keep=",
+                                         "locality=", "image=",   "random=", "force="};
 
 static bool read_locality(struct words *words, const char *value) {
     if (value[0] < '0' || value[0] > '4' || value[1]) return false;
     words->locality = (uint8_t)(value[0] - '0');
+    return true;
+}
+
+/* Reads a number of one or two digits. */
+static bool read_keep(struct words *words, const char *value) {
+    size_t size = strlen(value);
+    if (size == 0 || size > 2 || strspn(value, "0123456789") != size) return false;
+    words->options.keep = (unsigned)atoi(value);
     return true;
 }
 
@@ -52,6 +60,7 @@ static bool read_value(struct words *words, enum word word, const char *value) {
     case STATE: words->options.folder = value; return *value != 0;
     case COMPLETE: words->options.completes = true; return *value == 0;
     case CUT: words->options.cuts = true; return *value == 0;
+    case KEEP: return read_keep(words, value);
     case LOCALITY: return read_locality(words, value);
     case IMAGE: words->options.image = value; return *value != 0;
     case RANDOM: return read_random(words, value);
@@ -91,7 +100,8 @@ static bool read_words(struct words *words, struct reason *reason) {
         const char *text = strsep(&rest, ",");
         if (!read_word(words, seen, text, reason)) return false;
     }
-    return has_folder(seen, FORCE, reason) && has_folder(seen, CUT, reason);
+    return has_folder(seen, FORCE, reason) && has_folder(seen, CUT, reason) &&
+           has_folder(seen, KEEP, reason);
 }
 
 bool words_read(struct words *words, const char *text, struct reason *reason) {

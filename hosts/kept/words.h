@@ -5,8 +5,8 @@
 
 /* What the words are, as a sentence has them that says what is wanted. */
 #define WORDS_WANTED                                                                               \
-    "state=DIR, complete, cut, locality=0 to 4, image=FILE, random=HEX, force=never, force=power " \
-    "or force=always"
+    "state=DIR, complete, cut, keep=0 to 99, locality=0 to 4, image=FILE, random=HEX, force=never, " \
+    "force=power or force=always"
 
 /* A text of words, and what they ask for. The options point into it. */
 struct words {

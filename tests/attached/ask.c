@@ -39,7 +39,7 @@ static bool act(struct kept *kept, char **words, int *at, struct reason *reason)
 
 int main(int count, char **words) {
     struct words asked;
-    struct reason reason = {{0}};
+    struct reason reason = {0};
     must(count >= 2, "usage: ask WORDS ACT..");
     if (!words_read(&asked, words[1], &reason)) {
         printf("no words: %s\n", reason.text);

@@ -36,13 +36,14 @@ ask 'the device that is kept' random=01,state=kept,force=always "$get_random"
 ask 'a locality that may extend PCR 20, and one that may not' random=5a,locality=2 "$startup" \
     "$extend" locality 0 "$extend"
 ask 'a locality that there is not' random=5a "$startup" locality 5 "$startup"
-ask 'every word' complete,cut,locality=4,state=kept,image=none,random=00,force=power "$get_random"
+ask 'every word' complete,cut,keep=2,locality=4,state=kept,image=none,random=00,force=power "$get_random"
 echo 'wrong words'
 ask 'a word that is none' colour=blue
 short='s/ is none of the words .* or force=always$/ is none of them/'
 for words in state stat=x state= image= complete=1 completes locality= locality=5 \
     locality=-1 locality=00 locality=a random= random=0 random=0g "random=${many}00" force \
-    force= force=sometimes force=neverr force=never cut cuts state=a,cut=1 state=a,cut,cut ',' 'complete,' ,complete state=a,,complete \
+    force= force=sometimes force=neverr force=never cut cuts state=a,cut=1 state=a,cut,cut keep keep= keep=1 state=a,keep=100 \
+    state=a,keep=-1 state=a,keep=1x ',' 'complete,' ,complete state=a,,complete \
     complete,complete state=a,state=b ' complete' State=a; do
     ask "'$(echo "$words" | cut -c 1-40)'" "$words"
 done

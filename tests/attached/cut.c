@@ -1,7 +1,7 @@
-/* What stands behind the whole records of a journal is cut off by the next record, or by a power
- * cycle: the front of a record always, and damage where that is asked for. A sentence tells it. The
- * argument is the file of the values of the PCR. */
-#include "common.h"
+/* The front of a record at the end of a journal is cut off by the next record, or by a power cycle.
+ * Damage is dropped by the next call, if that is asked for: the journal begins anew. A sentence tells
+ * either. The argument is the file of the values of the PCR. */
+#include "old_journal.h"
 #include <inttypes.h>
 
 enum { EXTENDS = 3, MANY = 3000 };
@@ -65,7 +65,7 @@ static struct kept *cutting(void) {
 /* Writes a journal of so many extends. */
 static void write_whole(size_t extends) {
     struct kept *kept = opened(FOLDER);
-    must(kept_power(kept, &(struct reason){{0}}), "the power cycle failed");
+    must(kept_power(kept, &(struct reason){0}), "the power cycle failed");
     whole.records = 0;
     for (size_t i = 0; i <= extends + 1; i++) {
         size_t size;
@@ -94,26 +94,20 @@ static void must_be_refused(bool cuts) {
     must_be_told("");
 }
 
-/* With a byte of a record turned: the device is that of the records before, and with the next
- * one the journal has just these. */
+/* With a byte of a record turned: the device is that of the records before, and its journal begins
+ * anew as it is opened. */
 static void cut_at(size_t place, const struct values *values) {
     size_t record = record_at(place), size = whole.ends[record - 1];
     uint8_t response[RESPONSE_BYTES];
     must_be_refused(false);
     must_be_there(whole.bytes, whole.size);
     struct kept *kept = cutting();
-    must_be_there(whole.bytes, whole.size);
-    must_be_told("");
+    must_be_dropped(whole.size - size, size);
     if (record == 1) start(kept);
     else extend(kept);
-    must_be_dropped(whole.size - size, size);
     must(extends_of(kept, values) == (record == 1 ? 0 : (long)record - 1), "another device");
     must_be_told("");
     kept_close(kept);
-    size_t there;
-    uint8_t *journal = bytes_of(JOURNAL, &there);
-    must(memcmp(journal, whole.bytes, size) == 0, "another front is there");
-    free(journal);
     kept = opened(FOLDER);
     answered_by(kept, READ_CLOCK, sizeof READ_CLOCK, response);
     kept_close(kept);
@@ -141,11 +135,11 @@ static void cut_fronts(const struct values *values) {
     for (size_t size = last + 1; size < whole.size; size++) {
         for (int cuts = 0; cuts < 2; cuts++) {
             put_bytes(JOURNAL, whole.bytes, size);
-            struct kept *kept = opened_to_cut(cuts, &(struct reason){{0}});
+            struct kept *kept = opened_to_cut(cuts, &(struct reason){0});
             must(kept != NULL, "the front of a record is refused");
             must_be_told("");
             if (size % 2) extend(kept);
-            else must(kept_power(kept, &(struct reason){{0}}), "the power cycle failed");
+            else must(kept_power(kept, &(struct reason){0}), "the power cycle failed");
             must_be_cut_off(size - last);
             if (size % 2) must(extends_of(kept, values) == EXTENDS, "another device");
             must_be_told("");
@@ -155,9 +149,21 @@ static void cut_fronts(const struct values *values) {
     puts("the front of a record: cut off");
 }
 
+/* Writes a journal of so many extends, as a library wrote it whose journals begin anew at a power
+ * cycle alone. */
+static void write_old(size_t extends) {
+    struct old_journal old = old_journal_of(extends);
+    free(whole.bytes);
+    whole.bytes = old.bytes;
+    whole.size = old.size;
+    whole.records = extends + 2;
+    memcpy(whole.ends, old.ends, whole.records * sizeof *old.ends);
+    free(old.ends);
+}
+
 /* Damage in a journal that is read in several parts, and in one that was open before. */
 static void cut_long(const struct values *values) {
-    write_whole(MANY);
+    write_old(MANY);
     must(whole.size > 520 * 1024, "the journal has less than three parts");
     static const size_t records[] = {1, 2, 1000, 2000, MANY, MANY + 1};
     for (size_t i = 0; i < sizeof records / sizeof *records; i++) {
@@ -168,7 +174,7 @@ static void cut_long(const struct values *values) {
         put_bytes(JOURNAL, whole.bytes, whole.ends[records[i] - 1]);
         struct kept *kept = cutting();
         put_bytes(JOURNAL, whole.bytes, whole.size);
-        must(kept_power(kept, &(struct reason){{0}}), "the power cycle failed");
+        must(kept_power(kept, &(struct reason){0}), "the power cycle failed");
         must_be_dropped(whole.size - whole.ends[records[i] - 1], whole.ends[records[i] - 1]);
         start(kept);
         must(extends_of(kept, values) == 0, "another device");

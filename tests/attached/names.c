@@ -91,7 +91,7 @@ static void kill_another(enum kept_force force, int where) {
         if (access("state/journal", F_OK) == 0) kept = opened_with(force);
         killed_at = where;
         if (!kept) kept = opened_with(force);
-        kept_power(kept, &(struct reason){{0}});
+        kept_power(kept, &(struct reason){0});
         _exit(0);
     }
     must(waitpid(child, &status, 0) == child && WIFSIGNALED(status), "a process was not killed");
@@ -126,7 +126,7 @@ static void try_with(enum kept_force force) {
     answer(kept, "a device whose maker was killed");
     struct kept *other = opened_with(force);
     tell("opened by another holder");
-    must(kept_power(other, &(struct reason){{0}}), "the power cycle failed");
+    must(kept_power(other, &(struct reason){0}), "the power cycle failed");
     tell("a power cycle by it");
     kept_close(other);
     answer(kept, "and a command by the first one");

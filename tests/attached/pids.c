@@ -101,7 +101,7 @@ static void compare_draws(struct kept *kept, const char *label) {
 /* The first process 1: opens the devices, forks the second one, and does as that does. */
 static void open_and_fork(const struct values *values) {
     struct kept_options in_memory = {.folder = NULL};
-    struct kept *memory = kept_open(&in_memory, &(struct reason){{0}}), *kept = opened(FOLDER);
+    struct kept *memory = kept_open(&in_memory, &(struct reason){0}), *kept = opened(FOLDER);
     must(memory != NULL, "there is no device in memory");
     start_and_draw(memory);
     start_and_draw(kept);
@@ -114,7 +114,7 @@ static void open_and_fork(const struct values *values) {
     for (int i = 0; i < EXTENDS; i++) extend(kept);
     must_end_well(child);
     printf("    %ld extends of %d\n", extends_of(kept, values), 2 * EXTENDS);
-    must(kept_power(kept, &(struct reason){{0}}), "the power cycle failed");
+    must(kept_power(kept, &(struct reason){0}), "the power cycle failed");
     fflush(stdout);
     _exit(0);
 }

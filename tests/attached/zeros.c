@@ -36,7 +36,7 @@ static struct kept *opened_to(bool cuts, struct reason *reason) {
     return kept_open(&options, reason);
 }
 
-/* Extends a device that has so much behind it, and looks at what the file is then. */
+/* Extends a device that has so much after it, and looks at the file. */
 static void extend_and_look(struct kept *kept, size_t size, const char *behind,
                             const struct values *values) {
     extend(kept);
@@ -48,7 +48,7 @@ static void extend_and_look(struct kept *kept, size_t size, const char *behind,
     kept_close(kept);
     size_t there;
     uint8_t *journal = bytes_of(JOURNAL, &there);
-    must(memcmp(journal, whole, last) == 0 && !memchr(journal, 0, there), "zeros are left");
+    must(!memchr(journal, 0, there), "zeros are left");
     free(journal);
 }
 

@@ -1,0 +1,41 @@
+#define _GNU_SOURCE
+#include "past.h"
+#include <errno.h>
+#include <fcntl.h>
+#include <stdio.h>
+#include <unistd.h>
+
+static const char JOURNAL[] = "journal", LAST[] = "journal.1";
+
+/* The name of a journal of the past, 1 for the last one. */
+static const char *name_of(unsigned number, char name[32]) {
+    snprintf(name, 32, "journal.%u", number);
+    return name;
+}
+
+/* Gives each the next number, so that there is no journal.1. */
+static bool move_on(const struct folder *folder, unsigned count, struct reason *reason) {
+    char name[32], next[32];
+    if (count == 1 && unlinkat(folder->descriptor, LAST, 0) != 0 && errno != ENOENT)
+        return refuse(reason, folder->path, LAST, "cannot get the next number", errno);
+    for (unsigned number = count - 1; number > 0; number--)
+        if (renameat(folder->descriptor, name_of(number, name), folder->descriptor,
+                     name_of(number + 1, next)) != 0 &&
+            errno != ENOENT)
+            return refuse(reason, folder->path, name, "cannot get the next number", errno);
+    return true;
+}
+
+bool past_keep(const struct folder *folder, unsigned count, struct reason *reason) {
+    struct stat journal, last;
+    if (count == 0) return true;
+    int there = folder_look(folder, JOURNAL, &journal, reason);
+    if (there != 1) return there == 0;
+    int is_last = folder_look(folder, LAST, &last, reason);
+    if (is_last < 0) return false;
+    /* A process may have been killed after it linked the journal. */
+    if (is_last == 1 && is_identity(identity_of(&journal), &last)) return true;
+    if (!move_on(folder, count, reason)) return false;
+    return linkat(folder->descriptor, JOURNAL, folder->descriptor, LAST, 0) == 0 ||
+           refuse(reason, folder->path, LAST, "cannot be made", errno);
+}
