@@ -118,7 +118,7 @@ for tool in "$compiler" "$nm" "$strip"; do
 done
 [ -f "$archive" ] || fail "there is no archive $archive"
 archive=$(realpath -e "$archive") || exit 1
-"$nm" --defined-only "$archive" 2>/dev/null | grep -q ' tpmsim_keeper_ask$' ||
+"$nm" --defined-only "$archive" 2>/dev/null | grep -q ' tpmsim_fault_text$' ||
     fail "the archive $archive has no keeper of a device"
 needs_header "$header" "$package"
 mkdir -p "$folder" || fail "the folder $folder is not written"

@@ -125,6 +125,7 @@ static bool open_in_folder(struct device *device, const struct options *options,
                                  .random = options->seed,
                                  .random_size = options->seed_size,
                                  .force = options->force,
+                                 .keep = options->keep,
                                  .completes = options->completes,
                                  .tell = tell_line};
     device->kept = kept_open(&asked, reason);

@@ -1,5 +1,6 @@
 #define _GNU_SOURCE
 #include "options.h"
+#include "past.h"
 #include <arpa/inet.h>
 #include <getopt.h>
 #include <stdio.h>
@@ -7,16 +8,17 @@
 #include <string.h>
 #include <sys/socket.h>
 
-enum word { PORT = 1, BIND, STATE, IMAGE, RECORD, SEED, FORCE, CLOCK, DEVICES, COMPLETE, HELP, VERSION };
+enum word { PORT = 1, BIND, STATE, IMAGE, RECORD, SEED, FORCE, KEEP, CLOCK, DEVICES, COMPLETE, HELP,
+            VERSION };
 
 static const struct option WORDS[] = {
     {"port", required_argument, NULL, PORT},       {"bind", required_argument, NULL, BIND},
     {"state", required_argument, NULL, STATE},     {"image", required_argument, NULL, IMAGE},
     {"record", required_argument, NULL, RECORD},   {"seed", required_argument, NULL, SEED},
-    {"force", required_argument, NULL, FORCE},     {"clock", required_argument, NULL, CLOCK},
-    {"devices", required_argument, NULL, DEVICES}, {"complete", no_argument, NULL, COMPLETE},
-    {"help", no_argument, NULL, HELP},             {"version", no_argument, NULL, VERSION},
-    {NULL, 0, NULL, 0}};
+    {"force", required_argument, NULL, FORCE},     {"keep", required_argument, NULL, KEEP},
+    {"clock", required_argument, NULL, CLOCK},     {"devices", required_argument, NULL, DEVICES},
+    {"complete", no_argument, NULL, COMPLETE},     {"help", no_argument, NULL, HELP},
+    {"version", no_argument, NULL, VERSION},       {NULL, 0, NULL, 0}};
 
 static const char HELP_TEXT[] =
     "tpmsim-simulator serves a TPM by the protocol of Microsoft's simulator, which libtss2's mssim,\n"
@@ -27,6 +29,7 @@ static const char HELP_TEXT[] =
     "  --bind ADDRESS    an address, by its numbers; 127.0.0.1\n"
     "  --state DIR       the device is kept in this folder, as tpmsim run --state has it\n"
     "  --force WORD      when the folder is forced to the disk: power, always or never; power\n"
+    "  --keep N          so many journals of the past stay in the folder, 0 to 99; 0\n"
     "  --image FILE      the device keeps its image in this file\n"
     "  --record DIR      each time of power is recorded as a journal, DIR/boot-N.tpm\n"
     "  --seed HEX        1 to 256 bytes of which all random ones are made, for runs that repeat\n"
@@ -106,6 +109,10 @@ static bool read_value(struct options *options, enum word word, const char *text
         is_good = read_number(text, MOST_DEVICES, &number) && number > 0;
         options->devices = (unsigned)number;
         return is_good;
+    case KEEP:
+        is_good = read_number(text, PAST_MOST, &number);
+        options->keep = (unsigned)number;
+        return is_good;
     case BIND: options->address = text; return is_address(text);
     case STATE: options->folder = text; return *text != 0;
     case IMAGE: options->image = text; return *text != 0;
@@ -118,10 +125,11 @@ static bool read_value(struct options *options, enum word word, const char *text
 }
 
 /* What does not go together, or NULL. */
-static const char *clash_in(const struct options *options, bool has_force) {
+static const char *clash_in(const struct options *options, bool has_force, bool has_keep) {
     if (options->folder && (options->image || options->record || options->is_timeless))
         return "--state goes without --image, --record and --clock commands";
     if (has_force && !options->folder) return "--force is of use beside --state alone";
+    if (has_keep && !options->folder) return "--keep is of use beside --state alone";
     if (options->devices > 1 && options->image) return "--image has the state of one device";
     if (options->port + 2 * (options->devices - 1) > UINT16_MAX - 1)
         return "there are not as many ports after --port";
@@ -129,7 +137,7 @@ static const char *clash_in(const struct options *options, bool has_force) {
 }
 
 enum options_read options_read(struct options *options, int count, char **words) {
-    bool has_force = false;
+    bool has_force = false, has_keep = false;
     int word;
     *options = (struct options){.port = 2321, .address = "127.0.0.1", .devices = 1};
     while ((word = getopt_long(count, words, "", WORDS, NULL)) != -1) {
@@ -144,8 +152,9 @@ enum options_read options_read(struct options *options, int count, char **words)
             return OPTIONS_WRONG;
         }
         has_force = has_force || word == FORCE;
+        has_keep = has_keep || word == KEEP;
     }
     if (optind < count) return wrong("there are words that belong to no option; --help shows all");
-    const char *clash = clash_in(options, has_force);
+    const char *clash = clash_in(options, has_force, has_keep);
     return clash ? wrong(clash) : OPTIONS_GOOD;
 }

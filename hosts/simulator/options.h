@@ -24,6 +24,7 @@ struct options {
     uint8_t seed[SEED_BYTES];
     size_t seed_size;
     enum kept_force force;
+    unsigned keep;
     /* The completing layer is on. */
     bool completes;
     /* No time passes between commands. */

@@ -107,7 +107,8 @@ def kept_in_an_image() -> None:
 def kept_in_a_folder() -> None:
     """Which another process uses at the same time."""
     print("a folder:")
-    keeps("--state", "folder", "--force", "always")
+    keeps("--state", "folder", "--force", "always", "--keep", "1")
+    print("the journal before the power cycle stays:", pathlib.Path("folder/journal.1").exists())
     with Served("--state", "folder") as served, KeptDevice("folder") as device:
         tpm, other = served.client(), Caller(device)
         tpm.call("PCR_Extend", 10, digests=[(0x000B, bytes(32))])

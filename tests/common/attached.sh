@@ -4,8 +4,8 @@
 hosts=$tests/../hosts
 callers=$tests/attached
 needs cc nm
-nm --defined-only "$archive" 2>/dev/null | grep -q ' tpmsim_journal_open$' ||
-    skip 'the archive has no calls for journals'
+nm --defined-only "$archive" 2>/dev/null | grep -q ' tpmsim_fault_text$' ||
+    skip 'the archive has no keeper of a device'
 
 # in_c WORDS..: compiles with each warning an error.
 in_c() {

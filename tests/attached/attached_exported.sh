@@ -1,0 +1,8 @@
+# A kept device by the header for other programs: attached/exported.c is the caller.
+tests=$(cd "$(dirname "$0")/.." && pwd -P)
+. "$tests/common/cases.sh"
+. "$tests/common/library.sh"
+. "$tests/common/attached.sh"
+
+attach_both exported
+both exported

@@ -1,0 +1,10 @@
+# Journals that have grown begin anew, with and without keep=N: attached/grown.c is the caller.
+tests=$(cd "$(dirname "$0")/.." && pwd -P)
+. "$tests/common/cases.sh"
+. "$tests/common/library.sh"
+. "$tests/common/attached.sh"
+needs python3
+
+attach_both grown
+extended 4000 >"$room/values"
+both grown "$room/values"

@@ -1,0 +1,111 @@
+/* A journal that has grown begins anew, whoever holds the device; journals of the past stay if that is
+ * asked for; and a long journal of an earlier version opens. The argument is the file of the values of the
+ * PCR. */
+#include "old_journal.h"
+#include <sys/stat.h>
+#include <sys/wait.h>
+
+enum { PROCESSES = 4, EXTENDS = 1000, LIMIT = 256 * 1024, KEEP = 3, OLD_EXTENDS = 1200 };
+
+static const char FOLDER[] = "state", JOURNAL[] = "state/journal";
+
+static void hear_nothing(const char *told) { must(false, told); }
+
+static struct kept *opened_to_keep(const char *folder, unsigned keep) {
+    struct kept_options options = {
+        .folder = folder, .force = KEPT_FORCE_NEVER, .keep = keep, .tell = hear_nothing};
+    struct reason reason;
+    struct kept *kept = kept_open(&options, &reason);
+    must(kept != NULL, kept ? "" : reason.text);
+    return kept;
+}
+
+static size_t size_of(const char *path) {
+    struct stat status;
+    must(stat(path, &status) == 0, "a journal is not there");
+    return (size_t)status.st_size;
+}
+
+/* Extends in processes of their own, which all hold the device. */
+static void extend_at_once(unsigned keep) {
+    for (int i = 0; i < PROCESSES; i++) {
+        pid_t child = fork();
+        must(child >= 0, "there is no process");
+        if (child > 0) continue;
+        struct kept *kept = opened_to_keep(FOLDER, keep);
+        for (int n = 0; n < EXTENDS; n++) {
+            extend(kept);
+            if (size_of(JOURNAL) > LIMIT + TPMSIM_RECORD_ROOM) _exit(1);
+        }
+        kept_close(kept);
+        _exit(0);
+    }
+    int status;
+    for (int i = 0; i < PROCESSES; i++)
+        must(wait(&status) > 0 && status == 0, "a process ended with a fault");
+}
+
+/* Opens a copy of a journal, and tells how often its device was extended. */
+static long extends_in(const char *path, const struct values *values) {
+    char name[512];
+    size_t size;
+    uint8_t *bytes = bytes_of(path, &size);
+    must(mkdir("copy", 0700) == 0, "there is no folder");
+    put_bytes(path_in("copy", "journal", name), bytes, size);
+    free(bytes);
+    struct kept *kept = opened("copy");
+    long count = extends_of(kept, values);
+    kept_close(kept);
+    must(unlink("copy/journal") == 0 && unlink("copy/lock") == 0 && rmdir("copy") == 0, "no copy");
+    return count;
+}
+
+/* What stays of the past: each journal ends where the next one began. */
+static void look_at_past(const struct values *values) {
+    long before = PROCESSES * EXTENDS;
+    char path[512];
+    for (unsigned number = 1; number <= KEEP; number++) {
+        snprintf(path, sizeof path, "state/journal.%u", number);
+        long count = extends_in(path, values);
+        must(count > 0 && count < before, "the journals of the past have another order");
+        must(size_of(path) >= LIMIT, "a journal began anew before it had grown");
+        before = count;
+    }
+    must(access("state/journal.4", F_OK) != 0, "too many journals stay");
+}
+
+static void open_old(const struct values *values) {
+    struct old_journal old = old_journal_of(OLD_EXTENDS);
+    must(old.size > LIMIT && mkdir("old", 0700) == 0, "the journal is short");
+    put_bytes("old/journal", old.bytes, old.size);
+    struct kept *kept = opened_to_keep("old", 1);
+    must(size_of("old/journal") == old.size, "a journal was changed before a command");
+    must(extends_of(kept, values) == OLD_EXTENDS, "another device is opened");
+    must(size_of("old/journal") < LIMIT / 2, "a long journal does not begin anew");
+    must(extends_in("old/journal.1", values) == OLD_EXTENDS, "the old journal is another one");
+    kept_close(kept);
+    free(old.bytes);
+    free(old.ends);
+    puts("a long journal of an earlier version: opened, and begun anew by the first command");
+}
+
+int main(int count, char **words) {
+    must(count == 2, "usage: grown VALUES");
+    struct values values = values_of(words[1]);
+    struct kept *kept = opened_to_keep(FOLDER, 0);
+    start(kept);
+    extend_at_once(0);
+    printf("four processes: %ld extends, and the journal begins anew as it grows\n",
+           extends_of(kept, &values));
+    must(access("state/journal.1", F_OK) != 0, "a journal stays that nobody asked for");
+    must(kept_power(kept, &(struct reason){0}), "the power cycle failed");
+    start(kept);
+    extend_at_once(KEEP);
+    must(extends_of(kept, &values) == PROCESSES * EXTENDS, "extends are lost");
+    look_at_past(&values);
+    puts("keep=3: three journals of the past, in their order");
+    kept_close(kept);
+    open_old(&values);
+    free(values.bytes);
+    return 0;
+}
