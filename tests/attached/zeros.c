@@ -36,8 +36,9 @@ static struct kept *opened_to(bool cuts, struct reason *reason) {
     return kept_open(&options, reason);
 }
 
-/* Extends a device that has so much after it, and looks at the file. */
-static void extend_and_look(struct kept *kept, size_t size, const char *behind,
+/* Extends a device whose journal has so many bytes, and looks at the file. `begins`: the journal began
+ * anew. */
+static void extend_and_look(struct kept *kept, size_t size, const char *behind, bool begins,
                             const struct values *values) {
     extend(kept);
     must_be_told(size - last, behind);
@@ -49,6 +50,7 @@ static void extend_and_look(struct kept *kept, size_t size, const char *behind,
     size_t there;
     uint8_t *journal = bytes_of(JOURNAL, &there);
     must(!memchr(journal, 0, there), "zeros are left");
+    must(begins || memcmp(journal, whole, last) == 0, "another journal begins");
     free(journal);
 }
 
@@ -64,12 +66,12 @@ static void try_zeros(size_t front, size_t zeros, const struct values *values) {
     size_t there;
     free(bytes_of(JOURNAL, &there));
     must(there == size, "the file was cut before a command was executed");
-    extend_and_look(kept, size, "last whole record were cut off", values);
+    extend_and_look(kept, size, "last whole record were cut off", false, values);
     put_bytes(JOURNAL, whole, last);
     kept = opened_to(false, &reason);
     must(kept != NULL, "the whole records do not open");
     put_bytes(JOURNAL, text, size);
-    extend_and_look(kept, size, "last whole record were cut off", values);
+    extend_and_look(kept, size, "last whole record were cut off", false, values);
     put_bytes(JOURNAL, text, size);
     kept = opened_to(false, &reason);
     must(kept && kept_power(kept, &reason), "the power cycle failed");
@@ -95,7 +97,7 @@ static void try_damage(size_t front, size_t zeros, size_t place, const struct va
     struct kept *kept = opened_to(true, &reason);
     must(kept != NULL, kept ? "" : reason.text);
     snprintf(first, sizeof first, "first %zu were dropped", last);
-    extend_and_look(kept, size, first, values);
+    extend_and_look(kept, size, first, true, values);
 }
 
 static void write_whole(void) {
