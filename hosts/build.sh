@@ -103,10 +103,12 @@ build_simulator() {
     deliver "$work/tpmsim-simulator" tpmsim-simulator 755
 }
 
+header=
+package=
 case $#/${1:-} in
 2/tcti) header=tss2/tss2_tcti.h package=libtss2-dev ;;
 2/libtpms) header=libtpms/tpm_library.h package=libtpms-dev ;;
-2/simulator) header=stdlib.h package=libc6-dev ;;
+2/simulator) ;;
 *) fail 'usage: hosts/build.sh tcti|libtpms|simulator FOLDER' ;;
 esac
 folder=$(realpath -m "$2") || exit 1
@@ -120,7 +122,7 @@ done
 archive=$(realpath -e "$archive") || exit 1
 "$nm" --defined-only "$archive" 2>/dev/null | grep -q ' tpmsim_fault_text$' ||
     fail "the archive $archive has no keeper of a device"
-needs_header "$header" "$package"
+[ -z "$header" ] || needs_header "$header" "$package"
 mkdir -p "$folder" || fail "the folder $folder is not written"
 work=$(mktemp -d) || exit 1
 trap 'rm -rf "$work"' EXIT
