@@ -21,6 +21,7 @@ dist:
 	tools/build.sh
 	tools/dist.sh
 	tools/library.sh
+	hosts/shared.sh
 
 dist-arm64:
 	tools/aarch64.sh

@@ -1,6 +1,6 @@
 #!/bin/sh
 # Makes what dist/aarch64 has for Linux on ARM64: the program, libtpmsim.a, libtpmsim.so.0, and PROVED, which
-# names the kit, and the checksums of the sources and of these three. The two crates are proved for that
+# names the kit, and the checksums of the sources and of these three; and by hosts/shared.sh what that makes. The two crates are proved for that
 # machine, which the prover's verdict names, over the crates below them as these were proved for x86-64.
 #
 # The crates below both stand built here, as `rt ci` leaves them, with no newer source: tools/build.sh and
@@ -93,3 +93,4 @@ if ! { [ "$program_sources" = "$(sources_checksum)" ] &&
     fail 'a source changed meanwhile'
 fi
 deliver || fail "$folder is not written"
+hosts/shared.sh --target aarch64

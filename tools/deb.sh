@@ -47,7 +47,7 @@ describe() {
         gzip -9n >"$documents/changelog.gz"
     control >"$root/DEBIAN/control" || return 1
     echo 'activate-noawait ldconfig' >"$root/DEBIAN/triggers"
-    for library in libtpmsim libtss2-tcti-tpmsim; do
+    for library in libtpmsim libtpmsim-kept libtss2-tcti-tpmsim; do
         [ ! -e "$root/usr/lib/$multiarch/$library.so.0" ] ||
             echo "$library 0 tpmsim (>= $version)" >>"$root/DEBIAN/shlibs"
     done

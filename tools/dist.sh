@@ -18,6 +18,7 @@ ship x86_64
 faults() {
     faults_of_program
     faults_of_library
+    faults_of_kept
     faults_of_module
     faults_of_aarch64
 }
@@ -66,6 +67,7 @@ faults_of_aarch64() (
     is_proved 'library archive' "$(checksum <"$archive")" || echo "$archive is not what $proved names"
     is_proved 'library shared object' "$(checksum <"$shared")" ||
         echo "$shared is not what $proved names"
+    faults_of_kept
     for file in tpmsim.h tpmsim.hpp tpmsim.pc; do
         cmp -s "library/$file" "$distribution/$file" ||
             echo "$distribution/$file has other bytes than library/$file"
@@ -85,7 +87,7 @@ case $* in
     fi
     sources=$(sources_checksum) && program=$(checksum <"$built") && mkdir -p dist || exit 1
     cp "$built" "$shipped.new" && chmod 755 "$shipped.new" && mv "$shipped.new" "$shipped" || exit 1
-    library=$(sed -n '/^library /p; /^web /p' "$proved" 2>/dev/null)
+    library=$(sed -n '/^library /p; /^kept /p; /^web /p' "$proved" 2>/dev/null)
     printf 'kit: %s\nsources: %s\nprogram: %s\n' "$kit" "$sources" "$program" >"$proved"
     [ -z "$library" ] || printf '%s\n' "$library" >>"$proved"
     ;;

@@ -65,10 +65,16 @@ put_library() {
     is_proved 'library archive' "$(checksum <"$archive")" || fail "$archive is not that of $proved"
     is_proved 'library shared object' "$(checksum <"$shared")" ||
         fail "$shared is not that of $proved"
+    is_proved 'kept shared object' "$(checksum <"$kept_shared")" ||
+        fail "$kept_shared is not that of $proved"
     put 644 "$archive" "$libraries/libtpmsim.a"
-    put 644 "$shared" "$libraries/libtpmsim.so.0"
-    link libtpmsim.so.0 "$libraries/libtpmsim.so"
+    for library in "$shared" "$kept_shared"; do
+        name=${library##*/}
+        put 644 "$library" "$libraries/$name"
+        link "$name" "$libraries/${name%.0}"
+    done
     put 644 dist/tpmsim.h include/tpmsim.h
+    put 644 hosts/kept/tpmsim_kept.h include/tpmsim_kept.h
     put 644 dist/tpmsim.hpp include/tpmsim.hpp
     # shellcheck disable=SC2016 # pkg-config reads the names
     sed -e "1iprefix=$prefix\nincludedir=\${prefix}/include\nlibdir=\${prefix}/$libraries\n" \

@@ -29,6 +29,7 @@ def faults(machine: str) -> list[str]:
     proved = dict(line.split(": ", 1) for line in lines)
     files = {
         "library shared object": folder / tpmsim_wheel.LIBRARY,
+        "kept shared object": folder / tpmsim_wheel.KEPT_LIBRARY,
         "program": folder / tpmsim_wheel.PROGRAM,
     }
     sums = {name: hashlib.sha256(file.read_bytes()).hexdigest() for name, file in files.items()}

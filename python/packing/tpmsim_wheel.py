@@ -1,7 +1,7 @@
 """Packs the package as a wheel, by the standard library alone: pip calls these functions (PEP 517 and
 660), and tools/wheel.py calls `write_wheel`. Nothing is written beside the sources.
 
-A wheel for a machine has libtpmsim and the program of dist/ in it, so that it needs nothing else.
+A wheel for a machine has the libraries and the program of dist/ in it, so that it needs nothing else.
 """
 
 import base64
@@ -19,7 +19,7 @@ from typing import Any, Iterator
 
 SOURCES = pathlib.Path(__file__).resolve().parents[1]
 DISTRIBUTION = SOURCES.parent / "dist"
-LIBRARY, PROGRAM = "libtpmsim.so.0", "tpmsim"
+LIBRARY, KEPT_LIBRARY, PROGRAM = "libtpmsim.so.0", "libtpmsim-kept.so.0", "tpmsim"
 
 # The page that shows explained logs, and its place in the package.
 PAGE, PAGE_PLACE = DISTRIBUTION / "tpmsim.html", "tpmsim/explain/tpmsim.html"
@@ -110,11 +110,12 @@ def described(machine: str | None) -> list[Entry]:
 
 
 def contents(machine: str | None) -> Iterator[Entry]:
-    """What a wheel installs: the package, and the library and the program for a machine."""
+    """What a wheel installs: the package, and the libraries and the program for a machine."""
     yield from package()
     if machine:
         folder = shipped(machine)
-        yield Entry(f"{project()['name']}/{LIBRARY}", (folder / LIBRARY).read_bytes())
+        for library in LIBRARY, KEPT_LIBRARY:
+            yield Entry(f"{project()['name']}/{library}", (folder / library).read_bytes())
         program = (folder / PROGRAM).read_bytes()
         yield Entry(f"{stem()}.data/scripts/{PROGRAM}", program, 0o755)
 

@@ -75,12 +75,12 @@ cat >program.py <<'END'
 import importlib.metadata
 import tpmsim
 from tpmsim.caller import Caller
-from tpmsim.device import ChildDevice, LibraryDevice
+from tpmsim.device import ChildDevice, KeptDevice, LibraryDevice
 
 print(tpmsim.__version__ == importlib.metadata.version("tpmsim"))
 print([each.name for each in importlib.metadata.entry_points(group="pytest11")])
-for kind in LibraryDevice, ChildDevice:
-    with kind() as device:
+for kind in LibraryDevice, ChildDevice, KeptDevice:
+    with kind(*["state"] * (kind is KeptDevice)) as device:
         tpm = Caller(device)
         tpm.start_up()
         print(kind.__name__, len(tpm.call("GetRandom", bytesRequested=4)["randomBytes"]))

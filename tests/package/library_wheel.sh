@@ -28,17 +28,21 @@ cat >found.py <<'END'
 import importlib.metadata
 import pathlib
 import sys
+import tempfile
 
 import tpmsim
-from tpmsim.device import ChildDevice, Device
-from tpmsim.device.library import places
+from tpmsim.device import ChildDevice, Device, KeptDevice
+from tpmsim.device.library import beside, places
 
 with Device() as device:
     print(type(device).__name__)
 if pathlib.Path(sys.executable).with_name("tpmsim").exists():
     with ChildDevice() as device:
         print(device.program.endswith("/bin/tpmsim"), device.execute(b"").check)
-print(pathlib.Path(places()[0]).relative_to(sys.prefix).parts[-2:])
+with tempfile.TemporaryDirectory() as folder, KeptDevice(folder) as device:
+    print(type(device).__name__, device.execute(b"").check)
+for place in places()[0], beside("libtpmsim-kept.so.0"):
+    print(pathlib.Path(place).relative_to(sys.prefix).parts[-2:])
 print(importlib.metadata.version("tpmsim") == tpmsim.__version__)
 END
 
@@ -54,6 +58,7 @@ remove
 echo '== the one for ARM64'
 wheel=$("$top/tools/wheel.py" --machine aarch64 made) && python3 -m zipfile -e "$wheel" arm &&
     cmp arm/tpmsim/libtpmsim.so.0 "$top/dist/aarch64/libtpmsim.so.0" &&
+    cmp arm/tpmsim/libtpmsim-kept.so.0 "$top/dist/aarch64/libtpmsim-kept.so.0" &&
     sed -n 's/^Tag: //p' arm/*.dist-info/WHEEL
 
 echo '== the folder'

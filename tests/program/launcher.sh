@@ -33,7 +33,7 @@ printf '#!/bin/sh\nexit 1\n' >"$room/no_checksum/sha256sum"
 chmod +x "$room"/*/rt "$room/other_machine/uname" "$room/no_checksum/sha256sum"
 
 mkdir "$copy"
-(cd "$tests/.." && tar cf - --exclude=out tpmsim tools crates.txt HANDLES crates) |
+(cd "$tests/.." && tar cf - --exclude=out tpmsim tools hosts crates.txt HANDLES crates) |
     (cd "$copy" && tar xf -)
 chmod -R a+rX "$room"
 
@@ -69,7 +69,8 @@ ship_library() (
     cd "$copy" || exit 1
     . tools/lib/proved.sh
     mkdir library
-    for file in library/tpmsim.h library/tpmsim.hpp library/tpmsim.pc "$archive" "$shared" "$module"; do
+    for file in library/tpmsim.h library/tpmsim.hpp library/tpmsim.pc "$archive" "$shared" "$kept_shared" \
+        "$module"; do
         echo "a stand-in for $file" >"$file"
     done
     cp library/* dist/
@@ -77,6 +78,8 @@ ship_library() (
         echo "library sources: $(sources_checksum tpmsim_library)"
         echo "library archive: $(checksum <"$archive")"
         echo "library shared object: $(checksum <"$shared")"
+        echo "kept sources: $(kept_sources_checksum)"
+        echo "kept shared object: $(checksum <"$kept_shared")"
         echo "web sources: $(sources_checksum tpmsim_web)"
         echo "web module: $(checksum <"$module")"
     } >>"$proved"
@@ -171,5 +174,8 @@ with rt 'the gate, with another archive' "$copy/tools/dist.sh" --check
 cp -p "$kept" "$copy/dist/libtpmsim.a"
 echo >>"$copy/crates/tpmsim/out/tpmsim"
 with rt 'the gate, with other bytes' "$copy/tools/dist.sh" --check
+echo >>"$copy/hosts/shared.sh"
+echo >>"$copy/dist/libtpmsim-kept.so.0"
+with rt 'the gate, with another host of kept devices' "$copy/tools/dist.sh" --check
 echo >>"$lib"
 with rt 'made anew, though a source is newer' "$copy/tools/dist.sh"

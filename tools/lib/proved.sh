@@ -10,6 +10,7 @@ ship() {
     shipped=$distribution/tpmsim
     archive=$distribution/libtpmsim.a
     shared=$distribution/libtpmsim.so.0
+    kept_shared=$distribution/libtpmsim-kept.so.0
     module=$distribution/tpmsim.wasm
     proved=$distribution/PROVED
 }
@@ -89,7 +90,18 @@ checksum() {
 sources_checksum() {
     sources=$(sources "$@") || return 1
     # shellcheck disable=SC2086 # as above
-    sums=$(find $sources ! -type d -print0 | LC_ALL=C sort -z | xargs -0 sha256sum) || return 1
+    checksum_of $sources
+}
+
+# kept_sources_checksum: the same of what libtpmsim-kept.so.0 is made of.
+kept_sources_checksum() {
+    checksum_of hosts/kept hosts/shared.sh library/tpmsim.h
+}
+
+# checksum_of PATH..: the SHA-256 of the lines which sha256sum writes of these files and those of these
+# folders.
+checksum_of() {
+    sums=$(find "$@" ! -type d -print0 | LC_ALL=C sort -z | xargs -0 sha256sum) || return 1
     printf '%s\n' "$sums" | checksum
 }
 
@@ -101,6 +113,13 @@ proved_line() {
 # is_proved NAME SUM: whether dist/PROVED has this checksum under a name.
 is_proved() {
     [ -n "$2" ] && [ "$(proved_line "$1")" = "$2" ]
+}
+
+# What is wrong with the C host of a kept device by its checksums, a fault a line.
+faults_of_kept() {
+    [ -f "$kept_shared" ] || { echo "$kept_shared is not there" && return; }
+    is_proved 'kept sources' "$(kept_sources_checksum)" || echo "$kept_shared was made of other sources than these"
+    is_proved 'kept shared object' "$(checksum <"$kept_shared")" || echo "$kept_shared is not what $proved names"
 }
 
 # What is wrong with the module for web pages by its checksums, a fault a line.
