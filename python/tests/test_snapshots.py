@@ -285,11 +285,21 @@ class OverKeptState(Snapshots, unittest.TestCase):
             self.assertNotEqual(other.snapshot(), taken)
 
 
+class CompletedDevice(LibraryDevice):
+    """A device of which everything is told, with the completing layer above it."""
+
+    completes = True
+
+    def executed(self, buffer, event):
+        calls = self.library
+        call = calls.tpmsim_complete if self.completes else calls.tpmsim_execute
+        call(self.handle, buffer, len(buffer), *event)
+
+
 @NEEDS_LIBRARY
 class Completed(unittest.TestCase):
-    """Commands at random with the completing layer, which is in the text. The host's clock stands still."""
+    """Commands at random with the completing layer, which is in the text."""
 
-    @mock.patch("time.time_ns", lambda: 10**18)
     def test_commands_at_random(self):
         for seed in range(SEEDS):
             with self.subTest(seed=seed), tempfile.TemporaryDirectory() as folder:
@@ -305,25 +315,26 @@ class Completed(unittest.TestCase):
         model, numbers = state_text.open_state(taken)
         self.assertEqual(Completion.of(numbers).numbers, play.layer.numbers)
         self.assertEqual(state_text.state_text(model, numbers), taken)
-        self.goes_on(device, taken, chance)
 
-    def goes_on(self, device, taken, chance):
+    def test_going_on(self):
         """Another device, which is restored, answers what this one does, and is the same after it."""
-        rest = chance.randrange(2**32)
-        with tempfile.TemporaryDirectory() as folder:
-            with KeptDevice(folder, forces=False, completes=True) as other:
-                other.restore(bytes(taken))
-                self.assertEqual(other.snapshot(), taken)
-                first, second = (self.executed(it, rest) for it in (device, other))
-                self.assertEqual(first, second)
-                self.assertEqual(device.snapshot(), other.snapshot())
+        for seed in range(SEEDS):
+            with self.subTest(seed=seed), CompletedDevice(seed=SEED) as device:
+                completed_scripts.play(device, random.Random(seed), COMMANDS)
+                taken, drawings = device.snapshot(), device.drawings
+                with CompletedDevice(seed=SEED) as other:
+                    other.restore(bytes(taken))
+                    other.drawings = drawings
+                    self.assertEqual(other.snapshot(), taken)
+                    first, second = (self.executed(it, seed) for it in (device, other))
+                    self.assertEqual(first, second)
+                    self.assertEqual(device.snapshot(), other.snapshot())
 
     @staticmethod
     def executed(device, seed):
-        """What a device answers to what it is told at random from here on, by the same random bytes."""
+        """What a device answers to what it is told at random from here on."""
         first = len(device.events)
-        with mock.patch("os.urandom", random.Random(seed).randbytes):
-            completed_scripts.play(device, random.Random(seed), COMMANDS)
+        completed_scripts.play(device, random.Random(seed), COMMANDS)
         return [it.response for it in device.events[first:] if not isinstance(it, str)]
 
 

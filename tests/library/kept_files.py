@@ -1,27 +1,30 @@
-"""A device that Python keeps in a folder, beside files that are not what they are to be, calls of the
-system that fail, and forked processes:
+"""A device that Python keeps in a folder, beside files that are not what they are to be, with writes that
+fail, and in threads and forked processes:
 
     tools/python.sh kept_files.py LIBRARY
 
 It is run in an empty folder, and prints a line for each case.
 """
 
-import errno
+import contextlib
 import os
 import pathlib
+import resource
 import shutil
-import time
+import threading
 import warnings
-from unittest import mock
 
-from tests.library.kept import extend, extended, started, value_of, Waits, within
-from tpmsim.caller import Caller
-from tpmsim.device import BadImage, BadState, DeviceEnded, KeptDevice, library
+from tests.library.kept import EXTEND, extend, extended, started, value_of, Waits, within
+from tpmsim.device import BadImage, BadState, DeviceEnded, KeptDevice, ModelDevice
+from tpmsim.model import state_text
+from tpmsim.records.marks import OFFSET_BASIS, sum_from, sum_of
+from tpmsim.standard import number
 
 SECONDS = 5
+THREADS, CHILDREN, EACH = 4, 20, 50
 STATE, MADE = pathlib.Path("state"), pathlib.Path("made")
 JOURNAL, LOCK, NEW = (STATE / it for it in ("journal", "lock", "journal.new"))
-FAULTS = BadImage, BadState, DeviceEnded, MemoryError, OSError, ValueError, Waits
+FAULTS = BadImage, BadState, DeviceEnded, MemoryError, OSError, TypeError, ValueError, Waits
 
 
 def told(act):
@@ -67,21 +70,6 @@ def wrong_files():
                 print(f"{name} at {path}: {with_file(path, make)}")
     print("a file at state:", with_file(STATE, lambda path: path.write_bytes(b"")))
     print("a link with a slash:", linked())
-    with mock.patch("os.geteuid", return_value=os.geteuid() + 1):
-        print("another user's folder:", told(asks))
-    looks, stat = set(), os.stat
-
-    def of_another(path, **choices):
-        status = list(stat(path, **choices))
-        status[4] += path in looks
-        return os.stat_result(status)
-
-    with mock.patch("os.stat", of_another):
-        for name in "journal", "lock", "journal.new":
-            looks.add(name)
-            NEW.write_bytes(b"")
-            print(f"another user's {name}:", told(asks))
-            looks.clear()
     print("where all is its own:", told(asks))
 
 
@@ -91,91 +79,97 @@ def linked():
         return told(lambda: KeptDevice("link/"))
 
 
-class Other:
-    """The library, but for one call."""
+def wrong_words():
+    for name, act in {
+        "no path": lambda: KeptDevice(""),
+        "a path with a zero": lambda: KeptDevice("a\0b"),
+        "a number": lambda: KeptDevice(5),
+        "journals of the past": lambda: KeptDevice(STATE, keep=100),
+    }.items():
+        print(f"{name}: {told(act)}")
 
-    def __init__(self, **calls):
-        self.found = library.library()
-        vars(self).update(calls)
 
-    def __getattr__(self, name):
-        return getattr(self.found, name)
+def head(kind, text):
+    """The head of a journal that holds a text, whichever that is."""
+    mark = number(0, 8) + number(len(text), 4) + number(sum_of(text), 8)
+    line = f"# tpmsim journal {kind} {mark.hex()} {sum_from(OFFSET_BASIS, mark):016x}"
+    return f"{line}\n# {text.hex()}\n".encode()
 
 
-def over(found):
-    return mock.patch("tpmsim.device.kept.library", lambda: found)
+def wrong_texts(text):
+    """For each fault a text that is not this one, which is an image or a state text."""
+    turned = bytes([text[60] ^ 1])
+    body = bytes(len(text) - 42)
+    yield "Short", b""
+    yield "Magic", b"x" + text[1:]
+    yield "Version", text[:5] + b"\7" + text[6:]
+    yield "Length", text + b"\0"
+    yield "Digest", text[:60] + turned + text[61:]
+    framed = state_text.image.digested(int.from_bytes(text[4:6], "big"), body, text[:4])
+    yield "Body", framed
 
 
 def damaged_journals():
     """Each is told, and stays as it is."""
     started(STATE).close()
     whole = JOURNAL.read_bytes()
-    for name, text in {
+    with ModelDevice() as device:
+        texts = device.save(), bytes(device.snapshot())
+    cases = {
         "an empty journal": b"",
         "another text": b"-",
         "a record of another command": whole.replace(b"000144", b"000145"),
-    }.items():
+    }
+    for kind, word in enumerate(("image", "state text"), 1):
+        cases |= {f"{word}, {it}": head(kind, wrong) for it, wrong in wrong_texts(texts[kind - 1])}
+    for name, text in cases.items():
         JOURNAL.write_bytes(text)
         print(f"{name}: {told(asks)}")
         assert JOURNAL.read_bytes() == text
+    for kind in 1, 2:
+        JOURNAL.write_bytes(head(kind, texts[kind - 1]))
+        print(f"a head of kind {kind}:", told(asks))
     JOURNAL.write_bytes(whole)
-    for number in range(1, 20):
-        with over(Other(tpmsim_journal_open=lambda *_, number=number: number)):
-            print(f"{number}: {told(asks)}")
 
 
 def changed_meanwhile():
     device = started(STATE)
     whole = JOURNAL.read_bytes()
     JOURNAL.write_bytes(whole[:-3])
-    print("shortened:", told(lambda: extend(device)))
-    JOURNAL.write_bytes(whole)
-    print("as it was:", told(lambda: extend(device)))
+    with warnings.catch_warnings(record=True) as caught:
+        code = device.execute(EXTEND).response[6:10].hex()
+        print("shortened:", code, *(it.message for it in caught))
     JOURNAL.unlink()
     print("removed:", told(lambda: extend(device)))
     JOURNAL.write_bytes(whole)
-    pread = os.pread
-
-    def shrinks(file, size, at):
-        os.truncate(JOURNAL, size // 2)
-        return pread(file, size, at)
-
-    with mock.patch("os.pread", shrinks):
-        print("it shrinks while it is read:", told(lambda: KeptDevice(STATE)))
-    JOURNAL.write_bytes(whole)
     device.close()
-    print("closed:", told(lambda: extend(device)))
+    device.close()
+    print("closed:", *(told(act) for act in (lambda: extend(device), device.save)))
 
 
-def failing_calls():
-    """What the system refuses; the device goes on from its journal."""
+@contextlib.contextmanager
+def file_limit(size):
+    """No file gets more bytes, nor does what this prints."""
+    limits = resource.getrlimit(resource.RLIMIT_FSIZE)
+    resource.setrlimit(resource.RLIMIT_FSIZE, (size, limits[1]))
+    try:
+        yield
+    finally:
+        resource.setrlimit(resource.RLIMIT_FSIZE, limits)
+
+
+def failing_writes():
+    """The device goes on from its journal."""
     device = started(STATE)
-    pwrite, before, size = os.pwrite, value_of(device), JOURNAL.stat().st_size
-
-    def is_full(file, text, at):
-        if at + len(text) > size + 20:
-            if len(text) <= 20:
-                raise OSError(errno.ENOSPC, "full")
-            text = text[:20]
-        return pwrite(file, text, at)
-
-    def is_late(*_):
-        raise TimeoutError("a test's own")
-
-    with mock.patch("os.pwrite", is_full):
-        print("a full disk:", told(lambda: extend(device)))
-    assert JOURNAL.stat().st_size == size
-    with mock.patch("os.pwrite", is_late):
-        print("a handler's TimeoutError:", told(lambda: extend(device)))
-    with mock.patch("os.rename", side_effect=OSError(errno.EIO, "")):
-        print("no new journal:", told(device.power_cycle), NEW.exists())
-    with mock.patch("os.fsync", side_effect=OSError(errno.EIO, "")):
-        print("nothing is forced:", told(device.power_cycle), NEW.exists())
-        print("nor its name:", told(lambda: KeptDevice(STATE)))
-        print("nor asked to be:", told(lambda: KeptDevice(STATE, forces=False).close()))
-    with mock.patch("time.time_ns", return_value=-1_000_000):
-        print("a clock before 1970:", told(lambda: extend(device)))
+    before, size, taken = value_of(device), JOURNAL.stat().st_size, device.snapshot()
+    with file_limit(size + 20):
+        said = told(lambda: extend(device))
+    print("a full journal:", said, JOURNAL.stat().st_size - size)
+    with file_limit(20):
+        said = [told(act) for act in (device.power_cycle, lambda: device.restore(taken))]
+    print("no new journal:", *said, NEW.exists())
     print("none was executed:", value_of(device) == before)
+    print("no state text:", told(lambda: device.restore(b"TPMS")), value_of(device) == before)
     device.close()
 
 
@@ -216,47 +210,43 @@ def torn_tail():
     device.close()
 
 
-class Looks(Other):
-    """The library, where no pointer is to be NULL."""
-
-    def __getattr__(self, name):
-        call = super().__getattr__(name)
-
-        def called(*given):
-            assert None not in given, (name, given)
-            return call(*given)
-
-        return called
+def journals_of_the_past():
+    folder = pathlib.Path("past")
+    with KeptDevice(folder, keep=2) as device:
+        begun = []
+        for _ in range(4):
+            begun.append((folder / "journal").read_bytes())
+            device.power_cycle()
+    print("of the past:", *sorted(it.name for it in folder.iterdir()))
+    assert [(folder / f"journal.{it}").read_bytes() for it in (1, 2)] == begun[:1:-1]
 
 
-def pointers():
-    with over(Looks()), KeptDevice("pointers", completes=True) as device:
-        Caller(device).start_up()
-        device.power_cycle()
-        device.restore(device.snapshot())
-        device.save()
-        device.execute(b"")
-    print("no pointer is NULL")
+def takes_turns():
+    """One device in threads, while children are forked, which have it too."""
+    device = started(STATE)
+    before, ended = value_of(device), []
 
+    def work():
+        for _ in range(EACH):
+            extend(device)
+        ended.append(True)
 
-def forced():
-    """Which folders are forced before a device is had, whoever made its files."""
-    folders, fsync = [], os.fsync
-    names = {os.stat(it).st_ino: it for it in (".", STATE)}
-
-    def forces(file):
-        folders.append(str(names.get(os.fstat(file).st_ino, "a file")))
-        fsync(file)
-
-    with mock.patch("os.fsync", forces):
-        with KeptDevice(STATE) as device, KeptDevice(STATE, forces=False) as other:
-            print("opened:", *folders)
-            folders.clear()
-            device.execute(b"")
-            print("commands:", *folders)
-            other.power_cycle()
-            device.execute(b"")
-            print("another's power cycle:", *folders)
+    threads = [threading.Thread(target=work) for _ in range(THREADS)]
+    for thread in threads:
+        thread.start()
+    for _ in range(CHILDREN):
+        child = os.fork()
+        if not child:
+            extend(device)
+            os._exit(0)
+        assert os.waitpid(child, 0)[1] == 0
+    for thread in threads:
+        thread.join()
+    assert len(ended) == THREADS
+    for _ in range(THREADS * EACH + CHILDREN):
+        before = extended(before)
+    print("threads and children:", value_of(device) == before)
+    device.close()
 
 
 def forks():
@@ -264,38 +254,24 @@ def forks():
     device = started(STATE)
     before = value_of(device)
     child = os.fork()
-    for _ in range(50):
+    for _ in range(EACH):
         extend(device)
     if not child:
         os._exit(0)
     assert os.waitpid(child, 0)[1] == 0
-    for _ in range(100):
+    for _ in range(2 * EACH):
         before = extended(before)
     print("parent and child:", value_of(device) == before)
-    urandom, children = os.urandom, []
-
-    def fork_meanwhile(size):
-        if size == 256 and not children:
-            children.append(os.fork())
-            if not children[0]:
-                time.sleep(60)
-                os._exit(0)
-        return urandom(size)
-
-    with KeptDevice(STATE) as other, mock.patch("os.urandom", fork_meanwhile):
-        extend(device)
-        print("a child of another thread, forked within a command:", told(lambda: extend(other)))
-    os.kill(children[0], 9)
-    os.waitpid(children[0], 0)
     device.close()
 
 
 wrong_files()
+wrong_words()
 damaged_journals()
 changed_meanwhile()
-failing_calls()
+failing_writes()
 modes()
 torn_tail()
-pointers()
-forced()
+journals_of_the_past()
 forks()
+takes_turns()

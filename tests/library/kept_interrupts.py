@@ -1,32 +1,45 @@
-"""A device that Python keeps in a folder, whose calls are interrupted at each of their lines:
+"""A device that Python keeps in a folder, whose calls are interrupted: each at each of its lines, then at
+random moments, and while it waits for the lock:
 
     tools/python.sh kept_interrupts.py LIBRARY
 
-It prints a line for each call. After each interrupt the device has what its journal has, and no file is
-locked or left open; `restore` leaves the device of the snapshot, or the one before.
+It prints a line for each call. After each interrupt the device has what its journal has, another thread may
+use it, and no file is locked or left open; `restore` leaves the device of the snapshot, or the one before.
 """
 
 import contextlib
+import fcntl
 import gc
+import linecache
 import os
 import pathlib
+import random
+import signal
 import sys
 import tempfile
+import threading
+import time
 
 from tests.library.kept import extend, extended, started, value_of, Waits, within
 from tpmsim.caller import Caller
 from tpmsim.device import DeviceEnded, KeptDevice
 
 WATCHED = str(pathlib.Path(sys.modules[KeptDevice.__module__].__file__).parent)
-SECONDS, LEAST_LINES = 5, 30
+SECONDS, LEAST_LINES = 5, 5
+
+# How often a call is interrupted by signals, and so many seconds after it began at most.
+SIGNALS, MOST_DELAY = 400, 200e-6
+
+# For so many seconds the lock is held, and the handler's signal comes long before.
+HELD_SECONDS, SIGNAL_SECONDS = 0.4, 0.1
 
 
 @contextlib.contextmanager
 def interrupted(number):
     """Raises KeyboardInterrupt at so many lines that are executed of the package's devices; but what
-    __del__ raises is nobody's.
+    __del__ raises is nobody's, and no signal handler runs between the body of a `with` and its end.
     """
-    left = number
+    left, entered = number, set()
 
     def trace(frame, event, _):
         nonlocal left
@@ -36,8 +49,16 @@ def interrupted(number):
         ]:
             return None
         if event == "line":
-            left -= 1
-            if not left:
+            place = frame, frame.f_lineno
+            is_end = place in entered
+            if (
+                linecache.getline(frame.f_code.co_filename, frame.f_lineno)
+                .lstrip()
+                .startswith("with ")
+            ):
+                entered.add(place)
+            left -= not is_end
+            if not left and not is_end:
                 raise KeyboardInterrupt
         return trace
 
@@ -64,6 +85,15 @@ def is_interrupted(act, number, then):
 def files_open():
     gc.collect()
     return {os.readlink(it.path) for it in os.scandir("/proc/self/fd") if it.is_file()}
+
+
+def in_thread(act):
+    """What another thread comes to, which waits for ever if this one has its turn left."""
+    done = []
+    thread = threading.Thread(target=lambda: done.append(act()), daemon=True)
+    thread.start()
+    thread.join()
+    return done[0]
 
 
 class Lines:
@@ -105,7 +135,8 @@ class Lines:
             started(self.new).close()
         extend(self.other)
         extend(self.device)
-        assert value_of(self.device) == value_of(self.other) == extended(extended(before))
+        assert in_thread(lambda: value_of(self.device)) == extended(extended(before))
+        assert value_of(self.other) == extended(extended(before))
 
     def play(self, name):
         number, before = 1, files_open()
@@ -125,6 +156,55 @@ class Lines:
         return "whole, wherever it is interrupted"
 
 
+def at_random(folder):
+    """The command of an interrupted call was executed, or was not. What was answered was."""
+    device, chance = started(folder), random.Random(1)
+    before, counts = value_of(device), [0, 0]
+
+    def raise_interrupt(*_):
+        raise KeyboardInterrupt
+
+    waits = signal.signal(signal.SIGALRM, raise_interrupt)
+    while counts[0] < SIGNALS:
+        is_answered = False
+        try:
+            signal.setitimer(signal.ITIMER_REAL, chance.uniform(1e-6, MOST_DELAY))
+            extend(device)
+            is_answered = True
+            time.sleep(MOST_DELAY)
+        except KeyboardInterrupt:
+            counts[is_answered] += 1
+        signal.setitimer(signal.ITIMER_REAL, 0)
+        value = value_of(device)
+        if value != extended(before) and (is_answered or value != before):
+            return f"{'an answered' if is_answered else 'another'} command is gone"
+        before = value
+    signal.signal(signal.SIGALRM, waits)
+    with KeptDevice(folder) as other:
+        assert in_thread(lambda: value_of(device)) == value_of(other) == before
+    device.close()
+    return "each command is executed once, or not at all"
+
+
+def while_it_waits(folder):
+    """The handler runs when the call has returned, and its command was executed."""
+    device = started(folder)
+    before = value_of(device)
+    with open(f"{folder}/lock", "rb") as lock:
+        fcntl.flock(lock, fcntl.LOCK_EX)
+        timer = threading.Timer(HELD_SECONDS, fcntl.flock, (lock, fcntl.LOCK_UN))
+        begun = time.monotonic()
+        timer.start()
+        with contextlib.suppress(Waits):
+            within(SIGNAL_SECONDS, lambda: extend(device))
+            return "no handler ran"
+        is_late = time.monotonic() - begun >= HELD_SECONDS
+        timer.join()
+    is_executed = value_of(device) == extended(before)
+    device.close()
+    return f"the handler runs after the call: {is_late}; it was executed: {is_executed}"
+
+
 for name in (
     "begin",
     "open",
@@ -140,3 +220,6 @@ for name in (
         print(f"{name}: {lines.play(name)}", flush=True)
         for device in lines.device, lines.other:
             device.close()
+for name, act in ("at random moments", at_random), ("while it waits", while_it_waits):
+    with tempfile.TemporaryDirectory() as folder:
+        print(f"{name}: {act(folder)}", flush=True)

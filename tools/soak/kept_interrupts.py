@@ -28,7 +28,7 @@ from tpmsim.standard import number
 
 PROCESSES, SECONDS, SECONDS_TO_END, COUNTER_BYTES = 3, 0.5, 20, 8
 PACKAGE = str(pathlib.Path(tpmsim.device.__file__).parent)
-MOST_INTERRUPTS, MOST_LINES, DELAYS = 3, 250, (50e-6, 1e-3)
+MOST_INTERRUPTS, MOST_LINES, DELAYS = 3, 40, (3e-5, 5e-4)
 STARTUP = bytes.fromhex("80010000000c000001440000")
 SUCCESS, INITIALIZE = number(0, 4), number(0x100, 4)
 

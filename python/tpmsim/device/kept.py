@@ -1,55 +1,80 @@
-"""A device that is kept in a folder (docs/ATTACHED.md): to open it is to execute its journal again."""
+"""A device that is kept in a folder (docs/ATTACHED.md), by the C host in libtpmsim-kept.so.0.
+
+Python runs a signal handler when a call of the host has returned, so an interrupt leaves no call half done.
+"""
 
 import ctypes
-import io
+import functools
 import os
-import time
+import pathlib
+import threading
 import warnings
-from dataclasses import replace
-from typing import Callable, TypeVar
+import weakref
+from typing import Callable
 
-from tpmsim.device.base import Answered, BadImage, BadState, DeviceEnded, Snapshot
-from tpmsim.device.folder import Folder, telling, write
-from tpmsim.device.library import AnsweredInC, CHECKS, IMAGE_FAULTS, library, NO_MEMORY
-from tpmsim.device.library import RESPONSE_BYTES, STATE_FAULTS, written
+from tpmsim.device.base import Answered, BadImage, BadState, DeviceEnded, Executed, Snapshot
+from tpmsim.device.library import AnsweredInC, beside, CHECKS, IMAGE_FAULTS, library, LibraryDevice
+from tpmsim.device.library import NO_MEMORY, RESPONSE_BYTES, STATE_FAULTS, TEXT_BYTES
 from tpmsim.device.served import LocatedDevice
 from tpmsim.device.told import Path, RANDOM_BYTES
 
-JOURNAL, NEW = "journal", "journal.new"
-RECORD_BYTES = 9216
-
-# What else a call tells (library/tpmsim.h).
-FAULTS = {
-    1: "has no device",
-    2: "has the localities 0 to 4, and no other",
-    10: "is no journal of a device",
-    11: "is damaged, and stays as it is",
-    12: "was written by a library that answers otherwise than this one, and stays as it is",
-}
-OF_TEXTS = {
-    "Version": "holds {} of a version that this library does not know",
-    "Digest": "holds a damaged {}",
-    "Body": "holds {} of no state that a device can be in",
-}
-
-Done = TypeVar("Done")
+NAME = "libtpmsim-kept.so.0"
+REASON_BYTES, MOST_KEPT = 4608, 99
+FORCE_NEVER, FORCE_POWER = 0, 1
 
 
-def holding(article: str, word: str, fault: str) -> str:
-    """What the head of a journal holds, in a sentence of docs/ATTACHED.md."""
-    held = word if fault == "Digest" else f"{article} {word}"
-    return f"{OF_TEXTS.get(fault, f'holds no {word}').format(held)}: {fault}"
+class Options(ctypes.Structure):
+    """tpmsim_kept_options of hosts/kept/tpmsim_kept.h."""
+
+    _fields_ = [
+        *((name, ctypes.c_char_p) for name in ("folder", "image", "random")),
+        *((name, ctypes.c_uint32) for name in ("random_size", "keep")),
+        *((name, ctypes.c_uint8) for name in ("force", "is_there", "cuts")),
+    ]
+
+
+@functools.cache
+def host() -> ctypes.CDLL:
+    """The C host, once; OSError if it is not beside the library."""
+    library()
+    found, byte, size = ctypes.CDLL(beside(NAME)), ctypes.c_uint8, ctypes.c_size_t
+    text, address = ctypes.c_char_p, ctypes.c_void_p
+    for name, result, arguments in (
+        ("open", byte, [address, address, address]),
+        ("execute", byte, [address, text, size, byte, byte, address, address, address]),
+        ("power", byte, [address, address]),
+        ("snapshot", byte, [address, address, address, address]),
+        ("restore", byte, [address, text, size, address]),
+        ("notice", None, [address, address]),
+        ("close", None, [address]),
+    ):
+        call = getattr(found, f"tpmsim_kept_{name}")
+        call.restype, call.argtypes = result, arguments
+    return found
+
+
+def check(told: int, reason: str) -> None:
+    """Raises why a call was not done."""
+    if told == NO_MEMORY:
+        raise MemoryError(reason)
+    if told in IMAGE_FAULTS:
+        raise BadImage(reason)
+    if told in STATE_FAULTS:
+        raise BadState(reason)
+    if told:
+        raise DeviceEnded(reason)
 
 
 class KeptDevice(LocatedDevice):
-    """The device of a folder, which is made where it is not there, with a new device of fresh random
-    bytes. Other processes may hold it at once: each executes what the others added, and then its own
-    command. What was answered is in the journal; with `forces` a journal that begins is forced to
-    the disk, and so is the name of one that is opened. With `completes` the completing layer of the
-    library stands above the device, where it has one. DeviceEnded says in a sentence of
-    docs/ATTACHED.md why a file cannot be used, or is no journal, and BadImage or BadState why the image
-    or the state text in it is none.
-    A record that a killed process did not write whole is cut off, and a RuntimeWarning says so.
+    """The device of a folder. If the folder has none, a new one begins there. Several processes may hold
+    it at once: each executes what the others added, and then its own command. With `forces` a new
+    journal is forced to the disk, and so is the name of one that is opened. With `completes` the
+    completing layer of the library is above the device. The last `keep` journals that new ones replaced,
+    0 to 99, stay in the folder. A forked child may use its parent's device, and threads take turns.
+
+    DeviceEnded says in a sentence of docs/ATTACHED.md why a call was not done; BadImage or BadState says
+    so if the journal begins with what is none. If the end of a journal was cut off, a RuntimeWarning
+    says what.
 
     >>> import tempfile
     >>> with tempfile.TemporaryDirectory() as folder:
@@ -60,172 +85,57 @@ class KeptDevice(LocatedDevice):
     4
     """
 
-    file: io.FileIO | None = None
-    executed, size, is_whole = 0, 0, True
-
-    def __init__(self, folder: Path, forces: bool = True, completes: bool = False) -> None:
+    def __init__(
+        self, folder: Path, forces: bool = True, completes: bool = False, keep: int = 0
+    ) -> None:
         super().__init__()
-        self.library, self.holder = library(), ctypes.c_void_p()
-        self.handle, self.answered = ctypes.addressof(self.holder), AnsweredInC()
-        self.forces, self.completes = forces, completes
-        self.folder, is_open = Folder(folder), False
-        self.path = self.folder.path_of(JOURNAL)
-        try:
-            self.held(self.open_or_begin)
-            is_open = True
-        finally:
-            if not is_open:
-                self.close()
+        self.path, self.completes = os.path.abspath(folder), completes
+        path = os.fsencode(folder)
+        if b"\0" in path:
+            raise ValueError("embedded null byte")
+        if keep not in range(MOST_KEPT + 1):
+            raise ValueError(f"0 to {MOST_KEPT} journals are kept, and not {keep}")
+        self.host, self.holder, self.turn = host(), ctypes.c_void_p(), threading.RLock()
+        self.handle = ctypes.addressof(self.holder)
+        self.reason, self.notice = (ctypes.create_string_buffer(REASON_BYTES) for _ in range(2))
+        options = Options(folder=path, keep=keep, force=FORCE_POWER if forces else FORCE_NEVER)
+        HELD.add(self)
+        check(*self.told(self.host.tpmsim_kept_open, ctypes.byref(options)))
 
-    def held(self, work: Callable[[], Done]) -> Done:
-        """Does the work with the lock of the folder. If it does not end, for whatever reason, the device
-        may be ahead of its journal. So the device is dropped, and the next work opens the journal.
-        """
-        return self.folder.locked(lambda: self.whole(work))
+    def told(self, call: Callable[..., int], *given: object) -> tuple[int, str]:
+        """What a call of the host returns, and its sentence."""
+        with self.turn:
+            told = call(self.handle, *given, self.reason)
+            self.host.tpmsim_kept_notice(self.handle, self.notice)
+            reason, notice = os.fsdecode(self.reason.value), os.fsdecode(self.notice.value)
+        if notice:
+            warnings.warn(notice, RuntimeWarning)
+        return told, reason
 
-    def whole(self, work: Callable[[], Done]) -> Done:
-        if not self.is_whole:
-            self.drop()  # again, as an interrupt may have come before
-        self.is_whole = False
-        try:
-            done = work()
-            self.is_whole = True
-            return done
-        finally:
-            if not self.is_whole:
-                self.drop()
-
-    def open_or_begin(self) -> None:
-        if self.folder.look(JOURNAL):
-            self.catch_up()
-        else:
-            self.check(self.library.tpmsim_manufacture(self.handle, os.urandom(RANDOM_BYTES)))
-            self.begin()
-
-    def check(self, told: int) -> None:
-        if told == NO_MEMORY:
-            raise MemoryError(f"{self.path} wants memory that is not there")
-        if told in IMAGE_FAULTS:
-            raise BadImage(f"{self.path} {holding('an', 'image', IMAGE_FAULTS[told])}")
-        if told in STATE_FAULTS:
-            raise BadState(f"{self.path} {holding('a', 'state text', STATE_FAULTS[told])}")
-        if told:
-            sentence = FAULTS.get(told, "is refused by the library for a reason without a name")
-            raise DeviceEnded(f"{self.path} {sentence}")
-
-    def catch_up(self) -> io.FileIO:
-        """Executes what other processes did since, or the whole journal where it is another one."""
-        status = self.folder.look(JOURNAL)
-        if not status:
-            raise DeviceEnded(f"{self.path} is gone")
-        if self.file is None or not os.path.samestat(os.fstat(self.file.fileno()), status):
-            self.drop()
-            self.file = self.folder.open(JOURNAL)
-            if self.forces:
-                self.folder.force()
-        self.size = os.fstat(self.file.fileno()).st_size
-        if self.size < self.executed:
-            raise DeviceEnded(f"{self.path} was shortened by something else")
-        if self.size > self.executed or not self.executed:
-            self.execute_rest(self.read(self.file, self.executed, self.size))
-        return self.file
-
-    def read(self, file: io.FileIO, at: int, end: int) -> bytes:
-        parts = []
-        while at < end:
-            with telling(self.path, "cannot be read"):
-                parts.append(os.pread(file.fileno(), end - at, at))
-            if not parts[-1]:
-                raise DeviceEnded(f"{self.path} was shortened while it was read")
-            at += len(parts[-1])
-        return b"".join(parts)
-
-    def execute_rest(self, text: bytes) -> None:
-        found, taken = self.library, ctypes.c_size_t()
-        call = found.tpmsim_journal_follow if self.executed else found.tpmsim_journal_open
-        self.check(call(self.handle, text, len(text), ctypes.byref(taken)))
-        self.executed += taken.value
-
-    def cut(self, file: io.FileIO) -> None:
-        """Cuts the journal to its whole records: a process or the host may have ended within one."""
-        torn = self.size - self.executed
-        if torn:
-            with telling(self.path, "cannot be cut to whole records"):
-                os.ftruncate(file.fileno(), self.executed)
-            words = f"{torn} bytes after the last whole record were cut off"
-            warnings.warn(f"{self.path}: {words}", RuntimeWarning)
-
-    def now(self) -> int:
-        clock = time.time_ns() // 1_000_000
-        if clock < 0:
-            words = "needs the host's clock, which cannot be read or is before 1970"
-            raise DeviceEnded(f"{self.folder.path} {words}")
-        return clock
-
-    def begin(self) -> None:
-        """A journal whose head has the image of the device, whose power is cycled for it."""
-        self.begin_with(self.library.tpmsim_journal_begin)
-
-    def begin_with(self, call: Callable[..., int]) -> None:
-        """A journal with the head that a call writes."""
-        clock = self.now()
-        head = ctypes.create_string_buffer(call(self.handle, clock, b"", 0))
-        if not head or call(self.handle, clock, head, len(head)) != len(head):
-            raise DeviceEnded(f"{self.path} has no device")
-        self.replace(head.raw)
-        self.executed = len(head)
-
-    def replace(self, text: bytes) -> None:
-        before, self.file = self.file, self.folder.replace(JOURNAL, NEW, text, self.forces)
-        if before:
-            before.close()
-        if self.forces:
-            self.folder.force()
+    def ask(self, call: Callable[..., int], *given: object) -> None:
+        if not self.holder:
+            raise ValueError("the device is closed")
+        check(*self.told(call, *given))
 
     def execute(self, buffer: bytes) -> Answered:
-        return replace(super().execute(buffer), check=CHECKS[self.answered.check])
-
-    def exchange(self, buffer: bytes) -> bytes:
-        return self.held(lambda: self.answer(buffer))
-
-    def answer(self, buffer: bytes) -> bytes:
-        room, record = (ctypes.create_string_buffer(it) for it in (RESPONSE_BYTES, RECORD_BYTES))
-        size, answered = ctypes.c_size_t(), ctypes.byref(self.answered)
-        file = self.catch_up()
-        self.cut(file)
-        told = self.library.tpmsim_journal_execute(
-            *(self.handle, buffer, len(buffer), self.locality, self.now(), int(self.completes)),
-            *(os.urandom(RANDOM_BYTES), room, answered, record, ctypes.byref(size)),
+        response, answered = ctypes.create_string_buffer(RESPONSE_BYTES), AnsweredInC()
+        self.ask(
+            *(self.host.tpmsim_kept_execute, buffer, len(buffer), self.locality),
+            *(int(self.completes), response, ctypes.byref(answered)),
         )
-        self.check(told)
-        self.add(file, record.raw[: size.value])
-        return room.raw[: self.answered.size]
-
-    def add(self, file: io.FileIO, record: bytes) -> None:
-        """Adds a record. If it cannot be written, the journal is cut to what it was."""
-        with telling(self.path, "cannot be written"):
-            try:
-                write(file, record, self.executed)
-            except OSError:
-                os.ftruncate(file.fileno(), self.executed)
-                raise
-        self.executed += len(record)
+        told = ctypes.string_at(response, answered.size)
+        self.events.append(Executed(buffer, told, self.at))
+        return Answered(told, CHECKS[answered.check])
 
     def power_cycle(self) -> None:
         """For every process that holds the device."""
-        self.held(self.cycle)
+        self.ask(self.host.tpmsim_kept_power)
         self.events.append("power")
 
-    def cycle(self) -> None:
-        self.cut(self.catch_up())
-        self.begin()
-
     def save(self) -> bytes:
-        return self.held(self.image)
-
-    def image(self) -> bytes:
-        self.catch_up()
-        return written(self.library.tpmsim_save, self.handle)
+        with LibraryDevice(manufactured=bytes(RANDOM_BYTES)) as device:
+            device.restore(self.state())
+            return device.save()
 
     def snapshot(self) -> Snapshot:
         """The state text of the device, with its completing layer.
@@ -238,40 +148,52 @@ class KeptDevice(LocatedDevice):
         ...     device.snapshot() == before
         True
         """
-        return Snapshot(self.held(self.state), self.at, events=self.events)
+        return Snapshot(self.state(), self.at, events=self.events)
 
     def state(self) -> bytes:
-        self.catch_up()
-        return written(self.library.tpmsim_snapshot, self.handle)
+        text, size = ctypes.create_string_buffer(TEXT_BYTES), ctypes.c_size_t()
+        self.ask(self.host.tpmsim_kept_snapshot, text, ctypes.byref(size))
+        return ctypes.string_at(text, size.value)
 
     def restore(self, snapshot: object) -> None:
         """For every process that holds the device: the journal begins anew, with the state text."""
-        told = Snapshot.of(snapshot)
-        self.held(lambda: self.put_back(told))
-        self.events = list(told.events) if told.begun is None else []
-        self.at = told.locality
-
-    def put_back(self, text: bytes) -> None:
-        told = self.library.tpmsim_restore(self.handle, text, len(text))
-        if told in STATE_FAULTS:
-            raise BadState(STATE_FAULTS[told])
-        self.check(told)
-        self.begin_with(self.library.tpmsim_journal_checkpoint)
+        text = Snapshot.of(snapshot)
+        if not self.holder:
+            raise ValueError("the device is closed")
+        told, reason = self.told(self.host.tpmsim_kept_restore, text, len(text))
+        check(told, STATE_FAULTS.get(told, reason))
+        self.events = list(text.events) if text.begun is None else []
+        self.at = text.locality
 
     def journal(self) -> bytes:
-        return self.read(self.catch_up(), 0, self.executed)
-
-    def drop(self) -> None:
-        self.executed = 0
-        self.library.tpmsim_free(self.handle)
-        if self.file:
-            self.file.close()
-            self.file = None
+        """What is in the journal; OSError if it cannot be read."""
+        return pathlib.Path(self.path, "journal").read_bytes()
 
     def close(self) -> None:
-        self.drop()
-        self.folder.close()
+        with self.turn:
+            self.host.tpmsim_kept_close(self.handle)
 
     def __del__(self) -> None:
         if hasattr(self, "handle"):
-            self.drop()
+            self.host.tpmsim_kept_close(self.handle)
+
+
+HELD: weakref.WeakSet[KeptDevice] = weakref.WeakSet()
+FORKS, stopped = threading.RLock(), list[list[KeptDevice]]()
+
+
+def stop_calls() -> None:
+    """Waits for the calls of other threads, which a forked child would have left halfway."""
+    FORKS.acquire()
+    stopped.append(sorted(HELD, key=id))
+    for device in stopped[-1]:
+        device.turn.acquire()
+
+
+def go_on() -> None:
+    for device in stopped.pop():
+        device.turn.release()
+    FORKS.release()
+
+
+os.register_at_fork(before=stop_calls, after_in_parent=go_on, after_in_child=go_on)

@@ -4,6 +4,7 @@ import ctypes
 import fcntl
 import functools
 import hashlib
+import io
 import os
 import pathlib
 import weakref
@@ -11,7 +12,6 @@ from typing import Callable
 
 import tpmsim
 from tpmsim.device.base import BadImage, BadState, DeviceEnded, Executed
-from tpmsim.device.folder import opened, OWNER_ALONE
 from tpmsim.device.shipped import shipped
 from tpmsim.device.told import Device, NothingReplaced, Path, RANDOM_BYTES
 from tpmsim.model.image import BODY_AT, DIGEST_AT_END, HIERARCHIES
@@ -19,6 +19,16 @@ from tpmsim.model.image import BODY_AT, DIGEST_AT_END, HIERARCHIES
 # The seed and the proof of a hierarchy; what is between its authorization values and the clock: one
 # byte, and those of the protection from guessing; and the clock itself.
 SECRETS_BYTES, BEFORE_CLOCK, CLOCK_BYTES = 64, 18, 8
+
+OWNER_ALONE = 0o600
+
+
+def opened(path: str, flags: int) -> io.FileIO:
+    """A file that is closed with its object. `map` makes both calls, in C. No signal handler runs between
+    them, so no descriptor is left without an object.
+    """
+    call = functools.partial(os.open, mode=OWNER_ALONE)
+    return next(map(io.FileIO, map(call, [path], [flags]), ["r+"]))
 
 
 def but_clock(image: bytes) -> bytes:
@@ -154,6 +164,11 @@ def places() -> list[str]:
     return [*(str(it) for it in beside if it.is_file()), NAME]
 
 
+def beside(name: str) -> str:
+    """The place of another shared object, which is beside the library."""
+    return os.path.join(os.path.dirname(places()[0]), name)
+
+
 @functools.cache
 def library() -> ctypes.CDLL:
     """The library, once; OSError where there is none, or where it is of another version."""
@@ -163,26 +178,18 @@ def library() -> ctypes.CDLL:
     if version != tpmsim.__version__:
         raise OSError(f"{places()[0]} is of version {version}, and not {tpmsim.__version__}")
     handle, text, size = ctypes.c_void_p, ctypes.c_char_p, ctypes.c_size_t
-    byte, milliseconds, clock = ctypes.c_uint8, ctypes.c_uint32, ctypes.c_uint64
+    byte, milliseconds = ctypes.c_uint8, ctypes.c_uint32
     event = [byte, milliseconds, text, text, handle]
     for name, result, arguments in (
         ("manufacture", byte, [handle, text]),
         ("execute", byte, [handle, text, size, *event]),
+        ("complete", byte, [handle, text, size, *event]),
         ("power_cycle", byte, [handle]),
         ("save", size, [handle, text, size]),
         ("open", byte, [handle, text, size]),
         ("snapshot", size, [handle, text, size]),
         ("restore", byte, [handle, text, size]),
         ("free", None, [handle]),
-        ("journal_begin", size, [handle, clock, text, size]),
-        ("journal_checkpoint", size, [handle, clock, text, size]),
-        ("journal_open", byte, [handle, text, size, handle]),
-        ("journal_follow", byte, [handle, text, size, handle]),
-        (
-            "journal_execute",
-            byte,
-            [handle, text, size, byte, clock, byte, text, text, *[handle] * 3],
-        ),
     ):
         call = getattr(found, f"tpmsim_{name}", None)
         if call is None:

@@ -9,7 +9,7 @@ from tpmsim.explain.play import Event, Play
 def log_of(device: Transport) -> bytes:
     """That of a kept device is its journal: all since its power came on, by whomever."""
     if isinstance(device, KeptDevice):
-        return device.held(device.journal)
+        return device.journal()
     begun = [it for it in device.trace[:1] if it.startswith(("# image ", "# state "))]
     return "".join(f"{it}\n" for it in [*begun, *lines_of(device)]).encode("ascii")
 
