@@ -85,6 +85,19 @@ do GetRandom 4
             text = b"# a head of its own follows\n" + journal.text
             self.assertRaisesRegex(ValueError, words, Comparison(other).play, text)
 
+    def test_state_texts(self):
+        """A new device may begin as a state text, if its power just came on."""
+        journal = Journal(Model(bytes(256)))
+        journal.go_on()
+        journal.play("do Startup 0", "do GetRandom 4")
+        with Device() as other:
+            report = Comparison(other).play(journal.text)
+        self.assertEqual((report.commands, report.differences), (2, []))
+        journal.go_on()
+        with Device() as other:
+            words = "line 1 begins with a device that no other TPM can be made"
+            self.assertRaisesRegex(ValueError, words, Comparison(other).play, journal.text)
+
 
 @unittest.skipUnless(library.is_there(), "there is no library")
 class Completed(unittest.TestCase):

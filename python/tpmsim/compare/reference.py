@@ -9,6 +9,7 @@ from tpmsim.device.base import Executed
 from tpmsim.device.child import ChildDevice
 from tpmsim.device.library import LibraryDevice
 from tpmsim.device.told import Device
+from tpmsim.model import image, state_text
 from tpmsim.model.completion import Completion
 from tpmsim.model.general import Command
 from tpmsim.model.machine import MANUFACTURED, Model, Outcome
@@ -92,15 +93,18 @@ class Reference:
         return True
 
     def open_empty(self, step: records.Begin) -> bool:
-        """Becomes the device of an image, if that has nothing that a new one has not."""
+        """Becomes the device of a head, if that is one whose power just came on, and has nothing that a new
+        one has not.
+        """
         begun = opened(step.content, step.start)
-        if begun.is_state:
-            return False
         found = begun.device
+        text = image.image(found) if begun.is_state else step.content
+        if state_text.state_text(image.open_image(text)) != state_text.state_text(found):
+            return False
         is_used = found.objects or found.indices or found.saved or any(found.auth_values.values())
         if is_used or found.disable_clear or found.lockout != Lockout():
             return False
-        self.device.begin(step.content)
+        self.device.begin(text)
         self.model, self.layer = found, begun.layer
         return True
 
