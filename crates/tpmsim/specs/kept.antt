@@ -1,3 +1,4 @@
-pub mod Device
+pub mod Answer
 pub mod Fault
 pub mod Stop
+pub mod Texts

@@ -1,26 +1,22 @@
-//! A device that is kept in a folder: its journal has the device as its power came on, and each
-//! command that was answered since. Opening the device executes the journal again. A command's
-//! entry is in the file before its response goes out, so that no answered command is lost with a
-//! process.
+//! A device that is kept in a folder: its journal has the device as it began there, and each command
+//! that was answered since. tpm_keeping decides what is done in the folder when, and proves that the
+//! device is the one that executed the answered commands, whatever is killed, fails or crashes.
 //!
-//! [`Kept`] is a kept device. Several processes may hold one at once: each locks the folder for a
-//! command, executes the others' new entries, and then its own command. [`playing`] plays a script
-//! on it, and [`serving`] serves it on a connection. Its parts are a device with its journal in
-//! memory ([`device`]), for which contracts say what tpm_journal says, and the journal's file
-//! ([`journal_file`], [`beginning`]). The folder, its lock and what faults say of it are in
-//! tpmsim_folder; no contract can say what a file holds.
+//! [`Kept`] is a kept device: it does in the folder what the keeper asks for. Several processes may
+//! hold one at once. [`playing`] plays a script on it, and [`serving`] serves it on a connection.
+//! [`command`] writes the texts that the keeper takes, and [`answer`] reads its responses. The
+//! folder, its lock and what faults say of it are in tpmsim_folder.
 
-mod beginning;
-mod device;
-mod folder;
-mod journal_file;
+mod answer;
+mod command;
+mod keeping;
 mod playing;
 mod said;
 mod serving;
 mod stop;
 mod tail;
 
-pub use folder::Kept;
+pub use keeping::Kept;
 pub use playing::play;
 pub use said::{said_of_following, said_of_opening};
 pub use serving::{RandomBytes, ServeFault, serve};

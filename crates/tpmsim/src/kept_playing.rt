@@ -6,29 +6,27 @@ use std::fs;
 use std::io::Read;
 use tpm_bytes::Tap;
 use tpm_journal::{RetellFault, Telling, retell};
+use tpm_keeping::holder::Force;
 use tpm_machine::Machine;
 use tpm_slots::SlotKeep;
 use tpm_step::Outcome;
-use tpmsim_folder::{Force, Place, Said};
+use tpmsim_folder::{Place, Said};
 use tpmsim_image::Entropy;
 use tpmsim_script::first_bytes;
 
 /// Cycles the power of the device in a folder; with `cuts` also if its journal is damaged.
 pub fn cycle_power(rt: &HostRuntime, folder: &str, cuts: bool) -> Result<(), Fault> {
     let mut kept = open_there(rt, folder)?;
-    Ok(kept.cycle_power(cuts)?)
+    if cuts {
+        kept.cut()?;
+    }
+    Ok(kept.cycle_power()?)
 }
 
-/// Prints what happened to the device in a folder since its power came on, as a script.
+/// Prints what happened to the device in a folder since its journal began, as a script.
 pub fn print_script(rt: &HostRuntime, folder: &str) -> Result<(), Fault> {
-    let text = journal_of(rt, folder)?;
-    print_journal(rt, text.as_slice())
-}
-
-/// The journal of the device in a folder.
-fn journal_of(rt: &HostRuntime, folder: &str) -> Result<Vec<u8>, Fault> {
     let mut kept = open_there(rt, folder)?;
-    Ok(kept.text()?)
+    print_journal(rt, kept.journal()?)
 }
 
 /// Prints a journal as a script.

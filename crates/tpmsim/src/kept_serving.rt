@@ -4,8 +4,8 @@
 use crate::fault::Fault;
 use crate::kept::{Kept, RandomBytes, ServeFault, serve};
 use tpm_bytes::Tap;
+use tpm_keeping::holder::Force;
 use tpmsim_arguments::Service;
-use tpmsim_folder::Force;
 use tpmsim_image::{Entropy, Socket, bind};
 
 /// The random bytes of a served device, which are those of a file.

@@ -1,8 +1,5 @@
 //! How the program writes the state text of a device in a folder, and puts the device of one there.
 
-ghost use Rattle.std.specs.Prelude.{◌≤◌, OnOk, length};
-ghost use Rattle.tpm_journal_text.specs.Head.{content_limit};
-ghost use Rattle.tpm_journal_text.specs.declared.head.HeadKind.TheVariants.{State};
 ghost use Rattle.tpmsim.specs.Restoring.{IsChecked};
 
 use crate::fault::Fault;
@@ -10,17 +7,18 @@ use crate::kept::Kept;
 use crate::kept_playing::open_there;
 use std::fs;
 use std::io::Write;
+use tpm_journal_text::CONTENT_LIMIT;
+use tpm_keeping::holder::Force;
 use tpm_machine::Machine;
 use tpm_slots::SlotKeep;
 use tpm_snapshot::{RestoreFault, restore_new};
-use tpm_state_text::laws::state_laws;
-use tpmsim_folder::Force;
 
 /// Writes the state text of the device in a folder to standard output.
 pub fn print_snapshot(rt: &HostRuntime, folder: &str) -> Result<(), Fault> {
     let mut kept = open_there(rt, folder)?;
-    let text = kept.snapshot()?;
-    Fault::File.unless(rt.stdout().write_all(text.as_slice()))
+    let mut content = [0; CONTENT_LIMIT];
+    let text = kept.snapshot(&mut content)?;
+    Fault::File.unless(rt.stdout().write_all(text))
 }
 
 /// Replaces the device in a folder, or begins one where there is none, by the device of a state text
@@ -32,12 +30,10 @@ pub fn restore_snapshot(rt: &HostRuntime, folder: &str, path: &str) -> Result<()
     Ok(kept.restore(text.as_slice())?)
 }
 
-/// Checks that a text is a state text, which then fits into a head.
+/// Checks that a text is a state text.
 fn check(rt: &HostRuntime, text: &[u8]) -> Result<(), Fault>
-    ensures exact { IsChecked text.now result }
-    ensures small { OnOk result (length text.now ≤ content_limit State) }
+    ensures { IsChecked text.now result }
 {
-    state_laws();
     let mut machine: Machine<SlotKeep> = Machine::manufacture(rt.alloc(), &[0; 256])?;
     match restore_new(&mut machine, text) {
         Ok(_) => Ok(()),

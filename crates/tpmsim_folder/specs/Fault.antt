@@ -1,5 +1,7 @@
 -- What the faults of a kept device say.
 use Rattle.std.specs.Prelude.{Bool, true, false, List, ℕ, ◌++◌, codes}
+use Rattle.tpm_keeping.specs.Sentence.{sentence}
+use Rattle.tpm_keeping.specs.declared.holder.Fault.TheVariants.{Damaged}
 use Rattle.tpmsim_folder.specs.declared.fault.KeptFault.{KeptFault}
 use Rattle.tpmsim_folder.specs.declared.fault.Place.{Place}
 use Rattle.tpmsim_folder.specs.declared.fault.Place.TheVariants as place
@@ -29,17 +31,16 @@ said_text said.CannotBeWritten = codes "cannot be written"
 said_text said.CannotBeCut = codes "cannot be cut to whole records"
 said_text said.CannotBeForced = codes "cannot be forced to the disk"
 said_text said.CannotTakeThePlace = codes "cannot take the journal's place"
-said_text said.WasShortened = codes "was shortened by something else"
 said_text said.WasShortenedMeanwhile = codes "was shortened while it was read"
 said_text said.IsReplaced = codes "is replaced again and again"
 said_text said.WantsClock = codes "needs the host's clock, which cannot be read or is before 1970"
-said_text said.WantsMemory = codes "wants memory that is not there"
+said_text said.WantsRandom = codes "needs random bytes, and the system gives none"
 said_text said.IsNoJournal = codes "is no journal of a device"
 said_text said.HoldsNoImage = codes "holds an image that this program does not open"
 said_text said.HoldsNoState = codes "holds a state that this program does not open"
-said_text said.IsDamaged = codes "is damaged, and stays as it is"
 said_text said.WasAnsweredOtherwise =
     codes "was written by a program that answers otherwise than this one, and stays as it is"
+said_text (said.Keeper fault) = sentence fault
 
 abbrev pub kept_fault_text : KeptFault → List ℕ
 kept_fault_text fault = place_text fault.place ++ codes " " ++ said_text fault.said
@@ -49,6 +50,6 @@ abbrev pub is_of_contents : Said → Bool
 is_of_contents said.IsNoJournal = true
 is_of_contents said.HoldsNoImage = true
 is_of_contents said.HoldsNoState = true
-is_of_contents said.IsDamaged = true
 is_of_contents said.WasAnsweredOtherwise = true
+is_of_contents (said.Keeper Damaged) = true
 is_of_contents _ = false

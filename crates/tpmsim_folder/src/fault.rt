@@ -1,9 +1,13 @@
 //! The faults of a kept device: the place that a fault concerns, and what it says of it.
 
 ghost use Rattle.std.specs.Prelude.{◌≡◌};
+ghost use Rattle.tpm_keeping.specs.declared.holder.Fault.TheVariants.{Memory};
 ghost use Rattle.tpmsim_folder.specs.Fault.{is_of_contents, place_text, said_text};
+ghost use Rattle.tpmsim_folder.specs.declared.fault.Said.TheVariants.{Keeper};
 
+use std::alloc::AllocError;
 use std::fmt;
+use tpm_keeping::holder::Fault;
 
 /// The place that a fault concerns.
 #[derive(Clone, Copy, PartialEq, Eq)]
@@ -34,19 +38,19 @@ pub enum Said {
     CannotBeCut,
     CannotBeForced,
     CannotTakeThePlace,
-    WasShortened,
     WasShortenedMeanwhile,
     IsReplaced,
     WantsClock,
-    WantsMemory,
+    WantsRandom,
     /// The journal does not begin with a head.
     IsNoJournal,
     /// The head's image is not one of this version of the program.
     HoldsNoImage,
     /// The head's state text is not one of this version of the program.
     HoldsNoState,
-    IsDamaged,
     WasAnsweredOtherwise,
+    /// What the keeper says.
+    Keeper(Fault),
 }
 
 /// Why a kept device did not do what was asked for.
@@ -78,6 +82,13 @@ impl Place {
 }
 
 impl Said {
+    /// Memory was refused.
+    pub fn memory() -> Said
+        ensures { result ≡ Keeper Memory }
+    {
+        Said::Keeper(Fault::Memory)
+    }
+
     /// The words of the message.
     pub fn words(self) -> &'static str
         ensures { result.now ≡ said_text self }
@@ -99,18 +110,17 @@ impl Said {
             Said::CannotBeCut => "cannot be cut to whole records",
             Said::CannotBeForced => "cannot be forced to the disk",
             Said::CannotTakeThePlace => "cannot take the journal's place",
-            Said::WasShortened => "was shortened by something else",
             Said::WasShortenedMeanwhile => "was shortened while it was read",
             Said::IsReplaced => "is replaced again and again",
             Said::WantsClock => "needs the host's clock, which cannot be read or is before 1970",
-            Said::WantsMemory => "wants memory that is not there",
+            Said::WantsRandom => "needs random bytes, and the system gives none",
             Said::IsNoJournal => "is no journal of a device",
             Said::HoldsNoImage => "holds an image that this program does not open",
             Said::HoldsNoState => "holds a state that this program does not open",
-            Said::IsDamaged => "is damaged, and stays as it is",
             Said::WasAnsweredOtherwise => {
                 "was written by a program that answers otherwise than this one, and stays as it is"
             }
+            Said::Keeper(fault) => fault.sentence(),
         }
     }
 
@@ -123,8 +133,8 @@ impl Said {
             Said::IsNoJournal
                 | Said::HoldsNoImage
                 | Said::HoldsNoState
-                | Said::IsDamaged
                 | Said::WasAnsweredOtherwise
+                | Said::Keeper(Fault::Damaged)
         )
     }
 }
@@ -139,5 +149,17 @@ impl fmt::Display for KeptFault {
         let place = self.place.name();
         let words = self.said.words();
         write!(f, "{place} {words}")
+    }
+}
+
+impl From<AllocError> for KeptFault {
+    ghost use Rattle.tpm_keeping.specs.declared.holder.Fault.TheVariants.{Memory};
+    ghost use Rattle.tpmsim_folder.specs.declared.fault.Place.TheVariants.{Journal};
+    ghost use Rattle.tpmsim_folder.specs.declared.fault.Said.TheVariants.{Keeper};
+
+    ghost from_gives = { λ _ fault. fault ≡ record { place = Journal; said = Keeper Memory } };
+
+    fn from(_error: AllocError) -> KeptFault {
+        Place::Journal.that(Said::memory())
     }
 }

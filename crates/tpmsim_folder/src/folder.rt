@@ -156,7 +156,7 @@ impl Folder {
 /// The fault of an error: memory ran out, or else this is said of the place.
 pub fn fault_of(error: &io::Error, place: Place, said: Said) -> KeptFault {
     match error.kind() {
-        ErrorKind::OutOfMemory => place.that(Said::WantsMemory),
+        ErrorKind::OutOfMemory => place.that(Said::memory()),
         _ => place.that(said),
     }
 }

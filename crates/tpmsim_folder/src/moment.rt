@@ -1,26 +1,8 @@
-//! The moment at which a command comes.
+//! The moment at which a command comes, and the number of a start.
 
 use crate::fault::{KeptFault, Place, Said};
+use std::random::RandomSource;
 use std::time::{Clock, SystemTime};
-
-/// The moment at which a command comes.
-#[derive(Clone, Copy, PartialEq, Eq)]
-pub enum Moment {
-    /// Now, by the host's clock.
-    Now,
-    /// This many milliseconds after the time of the journal.
-    Behind(u32),
-}
-
-impl Moment {
-    /// The moment in milliseconds of the host's clock, where the journal has this time.
-    pub fn clock_ms(self, clock: &impl Clock, time: u64) -> Result<u64, KeptFault> {
-        match self {
-            Moment::Now => clock_of(clock),
-            Moment::Behind(elapsed_ms) => Ok(time.saturating_add(u64::from(elapsed_ms))),
-        }
-    }
-}
 
 /// The host's clock, in milliseconds.
 pub fn clock_of(clock: &impl Clock) -> Result<u64, KeptFault> {
@@ -33,5 +15,15 @@ pub fn clock_of(clock: &impl Clock) -> Result<u64, KeptFault> {
     match u64::try_from(since.as_millis()) {
         Ok(now_ms) => Ok(now_ms),
         Err(_) => Err(Place::Journal.that(Said::WantsClock)),
+    }
+}
+
+/// A number for the start of a completing layer, of random bytes of the system: no start had it
+/// before.
+pub fn start_of(random: &impl RandomSource) -> Result<u64, KeptFault> {
+    let mut bytes = [0; 8];
+    match random.fill_bytes(&mut bytes) {
+        Ok(()) => Ok(u64::from_be_bytes(bytes)),
+        Err(_) => Err(Place::Journal.that(Said::WantsRandom)),
     }
 }

@@ -1,14 +1,18 @@
 -- What the faults of a journal say of it.
+use Rattle.std.specs.Prelude.{◌≡◌, ◌⊎◌, ℕ, List, Err}
+use Rattle.tpm_journal.specs.Opening.{OpensJournal}
 use Rattle.tpm_journal.specs.declared.following.FollowFault.{FollowFault}
 use Rattle.tpm_journal.specs.declared.following.FollowFault.TheVariants as following
 use Rattle.tpm_journal.specs.declared.opening.OpenFault.{OpenFault}
 use Rattle.tpm_journal.specs.declared.opening.OpenFault.TheVariants as opening
+use Rattle.tpm_keeping.specs.declared.holder.Fault.TheVariants as keeper
+use Rattle.tpm_record.specs.Record.{Record}
 use Rattle.tpmsim_folder.specs.declared.fault.Said.{Said}
 use Rattle.tpmsim_folder.specs.declared.fault.Said.TheVariants as said
 
 -- what a fault says of a journal that was not followed, or not opened
 abbrev pub said_of_following : FollowFault → Said
-said_of_following following.Damaged = said.IsDamaged
+said_of_following following.Damaged = said.Keeper keeper.Damaged
 said_of_following following.Otherwise = said.WasAnsweredOtherwise
 
 abbrev pub said_of_opening : OpenFault → Said
@@ -16,3 +20,14 @@ said_of_opening opening.NoJournal = said.IsNoJournal
 said_of_opening (opening.Image fault) = said.HoldsNoImage
 said_of_opening (opening.State fault) = said.HoldsNoState
 said_of_opening (opening.Follow fault) = said_of_following fault
+
+-- A text is not opened as a journal, because of this fault.
+abbrev pub HasFault : List ℕ → OpenFault → Type 0
+HasFault text fault = (new : Record) × OpensJournal text (Err fault) new
+
+-- A fault says this of a text: why it is no journal; or, of one that is, that it was damaged when it
+-- was read before; or that memory was refused.
+abbrev pub IsSaidOf : List ℕ → Said → Type 0
+IsSaidOf text words =
+    ((fault : OpenFault) × (words ≡ said_of_opening fault) × HasFault text fault)
+    ⊎ (words ≡ said.Keeper keeper.Damaged) ⊎ (words ≡ said.Keeper keeper.Memory)

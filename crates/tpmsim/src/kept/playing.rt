@@ -2,16 +2,16 @@
 //! processes may execute commands between two of the script's.
 
 ghost use Rattle.std.specs.Prelude.{◌≤◌, length};
-ghost use Rattle.tpmsim.specs.kept.Device.{IsAnswer};
+ghost use Rattle.tpmsim.specs.kept.Answer.{IsTraced};
 
 use crate::kept::Kept;
+use crate::kept::answer::Answer;
 use crate::kept::stop::{PlayFault, Stop};
 use std::alloc::Global;
 use std::io::{Read, Write};
 use tpm_bytes::Tap;
-use tpm_step::{Event, Outcome};
+use tpm_step::Event;
 use tpm_text::trace_text;
-use tpmsim_folder::Moment;
 use tpmsim_script::ScriptFault;
 use tpmsim_script::answers::Answers;
 use tpmsim_script::line::Line;
@@ -25,8 +25,6 @@ use tpmsim_script::script::Script;
 struct Player {
     traced: bool,
     script: Script,
-    /// The outcome of the previous command, over which the next one is written.
-    outcome: Outcome,
     answers: Answers,
 }
 
@@ -44,7 +42,6 @@ pub fn play<R: Read, W: Write>(
     let mut player = Player {
         traced,
         script: Script::new(),
-        outcome: Outcome::empty(),
         answers: Answers::new(alloc)?,
     };
     let played = player.lines(kept, &mut lines, &mut room, reader, writer);
@@ -139,23 +136,27 @@ impl Player {
         else {
             return Ok(());
         };
-        let moment = Moment::Behind(*elapsed_ms);
-        kept.execute(buffer, *locality, moment, random, &mut self.outcome)?;
-        self.trace(&event, writer)?;
-        match self.answers.put(writer, self.outcome.response.as_slice()) {
+        let answer = kept.execute_after(*elapsed_ms, *locality, random, buffer)?;
+        self.trace(&event, answer, writer)?;
+        match self.answers.put(writer, answer.response) {
             Ok(()) => Ok(()),
             Err(_) => Err(Stop::Write),
         }
     }
 
-    /// Prints the trace of a command with the latest outcome, where traces are asked for.
-    fn trace<W: Write>(&mut self, event: &Event, writer: &mut Tap<W>) -> Result<(), Stop>
-        requires { IsAnswer self.old.outcome }
+    /// Prints the trace of a command with its answer, where traces are asked for.
+    fn trace<W: Write>(
+        &mut self,
+        event: &Event,
+        answer: Answer<'_>,
+        writer: &mut Tap<W>,
+    ) -> Result<(), Stop>
+        requires { IsTraced answer }
     {
         if !self.traced {
             return Ok(());
         }
-        let text = trace_text(event, self.outcome.row, self.outcome.response.as_slice());
+        let text = trace_text(event, answer.row, answer.response);
         self.put_text(writer, text.as_str().as_bytes())
     }
 
@@ -165,7 +166,7 @@ impl Player {
         kept: &mut Kept<'_>,
         writer: &mut Tap<W>,
     ) -> Result<(), Stop> {
-        kept.cycle_power(false)?;
+        kept.cycle_power()?;
         if self.traced {
             self.put_text(writer, b"power")?;
         }

@@ -1,10 +1,30 @@
 //! What the faults of a journal say of it.
 
 ghost use Rattle.std.specs.Prelude.{◌≡◌};
-ghost use Rattle.tpmsim.specs.kept.Fault.{said_of_following, said_of_opening};
+ghost use Rattle.tpmsim.specs.kept.Fault.{IsSaidOf, said_of_following, said_of_opening};
 
+use std::alloc::Global;
+use tpm_journal::opening::open;
 use tpm_journal::{FollowFault, OpenFault};
+use tpm_keeping::holder::Fault;
+use tpm_machine::Machine;
+use tpm_slots::SlotKeep;
+use tpm_step::Outcome;
 use tpmsim_folder::Said;
+
+/// Why a text is not opened as a journal. Damage is said of one that is.
+pub fn said_of_text(alloc: Global, text: &[u8]) -> Said
+    ensures { IsSaidOf text.now result }
+{
+    let opened: Result<Machine<SlotKeep>, _> = Machine::manufacture(alloc, &[0; 256]);
+    let Ok(mut machine) = opened else {
+        return Said::Keeper(Fault::Memory);
+    };
+    match open(&mut machine, text, &mut Outcome::empty()) {
+        Ok(_) => Said::Keeper(Fault::Damaged),
+        Err(fault) => said_of_opening(fault),
+    }
+}
 
 /// What a fault says of a journal that was not opened.
 pub fn said_of_opening(fault: OpenFault) -> Said
@@ -23,7 +43,7 @@ pub fn said_of_following(fault: FollowFault) -> Said
     ensures { result ≡ said_of_following fault }
 {
     match fault {
-        FollowFault::Damaged => Said::IsDamaged,
+        FollowFault::Damaged => Said::Keeper(Fault::Damaged),
         FollowFault::Otherwise => Said::WasAnsweredOtherwise,
     }
 }

@@ -4,11 +4,10 @@
 use crate::kept::Kept;
 use std::io::{Read, Write};
 use tpm_bytes::Tap;
-use tpm_step::Outcome;
 use tpm_types::{BUFFER_LIMIT, Locality};
 use tpm_wire::connection::Connection;
 use tpm_wire::reading::fill;
-use tpmsim_folder::{KeptFault, Moment};
+use tpmsim_folder::KeptFault;
 
 /// The most reads in which one connection may give bytes.
 const READS: u32 = 1_048_576;
@@ -41,19 +40,11 @@ pub fn serve<R: Read, W: Write, B: RandomBytes>(
 ) -> Result<(), ServeFault> {
     let mut connection = Connection::new();
     let mut piece = [0; BUFFER_LIMIT];
-    let mut outcome = Outcome::empty();
     for _ in 0..READS {
         match fill(reader, &mut connection, &mut piece) {
             Ok(0) => return Ok(()),
             Ok(_) => {
-                answer_whole(
-                    kept,
-                    locality,
-                    random,
-                    &mut connection,
-                    writer,
-                    &mut outcome,
-                )?;
+                answer_whole(kept, locality, random, &mut connection, writer)?;
             }
             Err(_) => return Err(ServeFault::Client),
         }
@@ -72,7 +63,6 @@ fn answer_whole<W: Write, B: RandomBytes>(
     random: &mut B,
     connection: &mut Connection,
     writer: &mut Tap<W>,
-    outcome: &mut Outcome,
 ) -> Result<(), ServeFault> {
     for _ in 0..BUFFER_LIMIT {
         let Some(front) = connection.front() else {
@@ -82,11 +72,12 @@ fn answer_whole<W: Write, B: RandomBytes>(
             return Err(ServeFault::Random);
         };
         let (buffer, _) = connection.bytes().split_at(front.size);
-        if let Err(fault) = kept.execute(buffer, locality, Moment::Now, &bytes, outcome) {
-            return Err(ServeFault::Kept(fault));
-        }
+        let answer = match kept.execute_now(locality, &bytes, buffer) {
+            Ok(answer) => answer,
+            Err(fault) => return Err(ServeFault::Kept(fault)),
+        };
         connection.pass(front);
-        let Ok(()) = writer.write_all(outcome.response.as_slice()) else {
+        let Ok(()) = writer.write_all(answer.response) else {
             return Err(ServeFault::Client);
         };
     }

@@ -1,6 +1,6 @@
-//! What follows the last whole entry of a journal.
+//! What follows the last whole record of a journal.
 
-/// The end of a journal's file that the device did not execute: what a crash left of an entry, or
+/// The end of a journal's file that the device did not execute: what a crash left of a record, or
 /// damage.
 #[derive(Clone, Copy, PartialEq, Eq)]
 pub struct Tail {
@@ -12,6 +12,20 @@ pub struct Tail {
 }
 
 impl Tail {
+    /// No end.
+    pub fn none() -> Tail {
+        Tail::torn(0, 0)
+    }
+
+    /// What a crash left of a record.
+    pub fn torn(place: u64, size: u64) -> Tail {
+        Tail {
+            place,
+            size,
+            is_damaged: false,
+        }
+    }
+
     /// Says on standard error that the tail was dropped, if it has any bytes.
     pub fn tell(self, rt: &HostRuntime) {
         let Tail {

@@ -1,0 +1,271 @@
+//! A device that is kept in a folder: a keeper, and its host.
+
+ghost use Rattle.std.specs.Prelude.{IfOk};
+ghost use Rattle.tpmsim.specs.kept.Answer.{IsTraced};
+
+use crate::kept::answer::{Answer, read_answer};
+use crate::kept::command::{
+    beginning, command_after, command_at, power_cycle, seed_of_random, seed_of_state,
+};
+use crate::kept::said::said_of_text;
+use crate::kept::tail::Tail;
+use tpm_journal_text::{CONTENT_LIMIT, read_head};
+use tpm_keeping::holder::{End, Fault, Force, Job};
+use tpm_keeping::keeper::{Ask, Got, Keeper};
+use tpm_kept_device::KeptDevice;
+use tpm_types::Locality;
+use tpmsim_folder::moment::{clock_of, start_of};
+use tpmsim_folder::{Host, KeptFault, Place, Said};
+
+/// From how many bytes on a journal begins anew.
+const JOURNAL_LIMIT: u64 = 262_144;
+
+/// A device that is kept in a folder. A call that fails has answered nothing, and the next one
+/// begins with what the journal has.
+#[derive(Drop)]
+pub struct Kept<'a> {
+    rt: &'a HostRuntime,
+    host: Host<'a>,
+    keeper: Keeper<KeptDevice>,
+    /// The journal as it was read when it was opened.
+    journal: Vec<u8>,
+    /// What the journal has after what was executed, if a new one takes its place.
+    tail: Tail,
+    /// Whether a new journal began in the latest call.
+    has_begun: bool,
+}
+
+impl<'a> Kept<'a> {
+    /// Opens the folder of a device, or makes it where it is missing and `makes` is true. Nothing
+    /// of the device is read yet.
+    pub fn at(
+        rt: &'a HostRuntime,
+        path: &str,
+        makes: bool,
+        force: Force,
+    ) -> Result<Kept<'a>, KeptFault> {
+        Ok(Kept {
+            rt,
+            host: Host::at(rt, path, makes)?,
+            keeper: Keeper::new(rt.alloc(), force, JOURNAL_LIMIT),
+            journal: Vec::new(rt.alloc()),
+            tail: Tail::none(),
+            has_begun: false,
+        })
+    }
+
+    /// Whether a device is in the folder.
+    pub fn is_there(&self) -> Result<bool, KeptFault> {
+        self.host.is_there()
+    }
+
+    /// Begins a new device, whose secrets are these random bytes, unless one is in the folder.
+    pub fn manufacture(&mut self, random: &[u8; 256]) -> Result<(), KeptFault> {
+        let now_ms = clock_of(self.rt)?;
+        let seed = seed_of_random(self.rt.alloc(), now_ms, start_of(self.rt)?, random)?;
+        self.perform(Job::Begin, &seed)
+    }
+
+    /// Opens the device that is in the folder.
+    pub fn open(&mut self) -> Result<(), KeptFault> {
+        self.perform(Job::Show, &[])
+    }
+
+    /// Executes a command of the standard by the host's clock.
+    pub fn execute_now(
+        &mut self,
+        locality: Locality,
+        random: &[u8; 256],
+        buffer: &[u8],
+    ) -> Result<Answer<'_>, KeptFault> {
+        let now_ms = clock_of(self.rt)?;
+        let command = command_at(self.rt.alloc(), now_ms, locality, random, buffer)?;
+        self.execute(&command)
+    }
+
+    /// Executes a command of the standard so many milliseconds after the one before it.
+    pub fn execute_after(
+        &mut self,
+        elapsed_ms: u32,
+        locality: Locality,
+        random: &[u8; 256],
+        buffer: &[u8],
+    ) -> Result<Answer<'_>, KeptFault>
+        ensures { IfOk result (λ answer. IsTraced answer) }
+    {
+        let command = command_after(self.rt.alloc(), elapsed_ms, locality, random, buffer)?;
+        self.execute(&command)
+    }
+
+    /// Executes a command of the standard, which is given by its text.
+    fn execute(&mut self, command: &[u8]) -> Result<Answer<'_>, KeptFault>
+        ensures { IfOk result (λ answer. IsTraced answer) }
+    {
+        self.perform(Job::Execute, command)?;
+        match read_answer(self.keeper.response()) {
+            Some(answer) => Ok(answer),
+            None => Err(Place::Journal.that(Said::Keeper(Fault::NoCommand))),
+        }
+    }
+
+    /// Cycles the power of the device, for all processes that use it.
+    pub fn cycle_power(&mut self) -> Result<(), KeptFault> {
+        let now_ms = clock_of(self.rt)?;
+        let command = power_cycle(self.rt.alloc(), now_ms, start_of(self.rt)?)?;
+        self.perform(Job::Execute, &command)
+    }
+
+    /// Begins a damaged journal anew with what the device was before the damage.
+    pub fn cut(&mut self) -> Result<(), KeptFault> {
+        self.perform(Job::Cut, &[])
+    }
+
+    /// The state text of the device, in a buffer. The journal stays as it is.
+    pub fn snapshot<'b>(
+        &mut self,
+        content: &'b mut [u8; CONTENT_LIMIT],
+    ) -> Result<&'b [u8], KeptFault> {
+        self.perform(Job::Show, &[])?;
+        match read_head(self.keeper.response(), content) {
+            Some(head) => Ok(head.content),
+            None => Err(Place::Journal.that(Said::IsNoJournal)),
+        }
+    }
+
+    /// Replaces the device, or begins one where there is none, for all processes that use it: the
+    /// new one is that of a state text. Damage is cut first.
+    pub fn restore(&mut self, state: &[u8]) -> Result<(), KeptFault> {
+        let alloc = self.rt.alloc();
+        let now_ms = clock_of(self.rt)?;
+        let seed = seed_of_state(alloc, now_ms, start_of(self.rt)?, state)?;
+        match self.perform(Job::Begin, &seed) {
+            Ok(()) if self.has_begun => return Ok(()),
+            Ok(()) => {}
+            Err(fault) if fault.said.is_of_contents() => self.cut()?,
+            Err(fault) => return Err(fault),
+        }
+        self.perform(Job::Execute, &beginning(alloc, &seed)?)
+    }
+
+    /// The text of the journal, also of a damaged one.
+    pub fn journal(&mut self) -> Result<&[u8], KeptFault> {
+        match self.perform(Job::Show, &[]) {
+            Err(fault) if !fault.said.is_of_contents() => Err(fault),
+            _ => Ok(&self.journal),
+        }
+    }
+
+    /// Does what the keeper asks for until a job is done, or has failed.
+    fn perform(&mut self, job: Job, text: &[u8]) -> Result<(), KeptFault> {
+        self.has_begun = false;
+        let Ok(()) = self.keeper.begin(job, text) else {
+            return Err(Place::Journal.that(Said::memory()));
+        };
+        let mut fault = None;
+        for _ in 0..u64::MAX {
+            let ask = self.keeper.ask();
+            if let Ask::Nothing(end) = ask {
+                return self.end(end, fault);
+            }
+            if let Err(why) = self.perform_one(job, ask) {
+                fault = Some(why);
+                let _ = self.keeper.next(Got::Failed);
+            }
+        }
+        Err(Place::Journal.that(Said::Keeper(Fault::Idle)))
+    }
+
+    /// How a job ended: it is done, or the host failed, or the keeper gave up.
+    fn end(&self, end: End, fault: Option<KeptFault>) -> Result<(), KeptFault> {
+        match (end, fault) {
+            (End::Done, _) => Ok(()),
+            (End::Failed(_), Some(fault)) => Err(fault),
+            (End::Failed(Fault::Absent), None) => Err(Place::Journal.that(Said::IsGone)),
+            (End::Failed(Fault::Damaged), None) => Err(Place::Journal.that(self.damage())),
+            (End::Failed(fault), None) => Err(Place::Journal.that(Said::Keeper(fault))),
+        }
+    }
+
+    /// Why the journal, which is read once more, is not opened.
+    fn damage(&self) -> Said {
+        match self.host.read(0) {
+            Ok(text) => said_of_text(self.rt.alloc(), &text),
+            Err(_) => Said::Keeper(Fault::Damaged),
+        }
+    }
+
+    /// Does one thing, and tells the keeper. After an error it is not told.
+    fn perform_one(&mut self, job: Job, ask: Ask) -> Result<(), KeptFault> {
+        let got = match ask {
+            Ask::Read(from) => return self.read(from),
+            Ask::Look => self.host.look()?,
+            Ask::Name => self.name()?,
+            ask => {
+                self.write(job, ask)?;
+                Got::Done
+            }
+        };
+        let _ = self.keeper.next(got);
+        Ok(())
+    }
+
+    /// Tells the keeper what the journal has from a byte on, and keeps a journal that is read whole.
+    fn read(&mut self, from: u64) -> Result<(), KeptFault> {
+        let bytes = self.host.read(from)?;
+        let _ = self.keeper.next(Got::Bytes(&bytes));
+        if from == 0 {
+            self.journal = bytes;
+        }
+        Ok(())
+    }
+
+    /// Gives the new journal its name, and says what was dropped of the old one.
+    fn name(&mut self) -> Result<Got<'static>, KeptFault> {
+        let file = self.host.name()?;
+        self.has_begun = true;
+        self.tail.tell(self.rt);
+        Ok(Got::Stands {
+            file,
+            size: self.keeper.out().len() as u64,
+        })
+    }
+
+    /// Does what tells the keeper nothing but that it is done.
+    fn write(&mut self, job: Job, ask: Ask) -> Result<(), KeptFault> {
+        match ask {
+            Ask::Lock => self.host.lock(),
+            Ask::Put { cut, at } => self.put(cut, at),
+            Ask::Force => self.host.force(),
+            Ask::Make { whole } => self.make(job, whole),
+            Ask::Settle => self.host.settle(),
+            _ => {
+                self.host.unlock();
+                Ok(())
+            }
+        }
+    }
+
+    /// Cuts off what a crash left after the first `cut` bytes, and writes the keeper's text. If that
+    /// fails, the journal is cut to what it was.
+    fn put(&mut self, cut: u64, at: u64) -> Result<(), KeptFault> {
+        Tail::torn(cut, self.host.cut(cut)?).tell(self.rt);
+        let put = self.host.put(self.keeper.out(), at);
+        if put.is_err() {
+            let _ = self.host.cut(cut);
+        }
+        put
+    }
+
+    /// Makes a new journal. Of the old one the device executed the first `whole` bytes.
+    fn make(&mut self, job: Job, whole: u64) -> Result<(), KeptFault> {
+        self.tail = match whole {
+            0 => Tail::none(),
+            _ => Tail {
+                place: whole,
+                size: self.host.size()?.saturating_sub(whole),
+                is_damaged: job == Job::Cut,
+            },
+        };
+        self.host.make(self.keeper.out())
+    }
+}

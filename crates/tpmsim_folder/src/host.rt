@@ -1,0 +1,207 @@
+//! What a keeper asks its host to do in a folder. Each function is a task, and returns whether all
+//! of it was done.
+
+use crate::fault::{KeptFault, Place, Said};
+use crate::folder::{Folder, OpenedFile, fault_of, identity_of};
+use crate::lock::Lock;
+use std::fs;
+use std::fs::Metadata;
+use std::io::ErrorKind;
+use std::os::unix::fs::FileExt;
+use tpm_keeping::keeper::Got;
+
+/// The host of a keeper: a folder, its lock, and the files that are open.
+#[derive(Drop)]
+pub struct Host<'a> {
+    rt: &'a HostRuntime,
+    folder: Folder,
+    lock: Lock,
+    /// The journal. It stays open while its number is used, so that no other file has its inode.
+    journal: Option<OpenedFile>,
+    /// The journal's number: how many files were the journal so far.
+    number: u64,
+    /// The new journal, which has no name yet.
+    fresh: Option<OpenedFile>,
+}
+
+impl<'a> Host<'a> {
+    /// The host of the folder at a path, which it makes if it is missing and `makes` is true. No
+    /// file in it is opened yet.
+    pub fn at(rt: &'a HostRuntime, path: &str, makes: bool) -> Result<Host<'a>, KeptFault> {
+        Ok(Host {
+            rt,
+            folder: Folder::open(rt, path, makes)?,
+            lock: Lock::new(),
+            journal: None,
+            number: 0,
+            fresh: None,
+        })
+    }
+
+    /// Whether a journal is in the folder.
+    pub fn is_there(&self) -> Result<bool, KeptFault> {
+        Ok(self.folder.look(self.rt, Place::Journal)?.is_some())
+    }
+
+    /// Waits until no other process holds the lock, and takes it.
+    pub fn lock(&mut self) -> Result<(), KeptFault> {
+        self.lock.take(self.rt, &self.folder)
+    }
+
+    /// Gives the lock back.
+    pub fn unlock(&mut self) {
+        self.lock.give();
+    }
+
+    /// Opens the file that is named journal, unless it is the one that is open, and tells its number
+    /// and its size.
+    pub fn look(&mut self) -> Result<Got<'static>, KeptFault> {
+        let Some(metadata) = self.folder.look(self.rt, Place::Journal)? else {
+            return Ok(Got::Gone);
+        };
+        if !self.is_open(&metadata) {
+            let opened = self.folder.open_file(self.rt, Place::Journal)?;
+            self.follow(opened);
+        }
+        Ok(Got::Stands {
+            file: self.number,
+            size: self.size()?,
+        })
+    }
+
+    /// Whether the journal that is open is the file with this metadata.
+    fn is_open(&self, metadata: &Metadata) -> bool {
+        match &self.journal {
+            Some(opened) => opened.identity == identity_of(metadata),
+            None => false,
+        }
+    }
+
+    /// Another file is the journal, and has another number.
+    fn follow(&mut self, opened: OpenedFile) {
+        self.journal = Some(opened);
+        self.number = self.number.saturating_add(1);
+    }
+
+    /// The journal that is open.
+    fn opened(&self) -> Result<&OpenedFile, KeptFault> {
+        match &self.journal {
+            Some(opened) => Ok(opened),
+            None => Err(Place::Journal.that(Said::IsGone)),
+        }
+    }
+
+    /// How many bytes the journal has.
+    pub fn size(&self) -> Result<u64, KeptFault> {
+        match self.opened()?.file.metadata() {
+            Ok(metadata) => Ok(metadata.len()),
+            Err(error) => Err(fault_of(&error, Place::Journal, Said::CannotBeLookedAt)),
+        }
+    }
+
+    /// The bytes of the journal from a place on.
+    pub fn read(&self, from: u64) -> Result<Vec<u8>, KeptFault> {
+        let count = self.size()?.saturating_sub(from);
+        let Ok(mut bytes) = vec![in self.rt.alloc(); 0u8; count as usize] else {
+            return Err(Place::Journal.that(Said::memory()));
+        };
+        match self.opened()?.file.read_exact_at(&mut bytes, from) {
+            Ok(()) => Ok(bytes),
+            Err(error) if error.kind() == ErrorKind::UnexpectedEof => {
+                Err(Place::Journal.that(Said::WasShortenedMeanwhile))
+            }
+            Err(error) => Err(fault_of(&error, Place::Journal, Said::CannotBeRead)),
+        }
+    }
+
+    /// Cuts the journal to this size if it has more bytes, and tells how many are dropped.
+    pub fn cut(&self, size: u64) -> Result<u64, KeptFault> {
+        let lost = self.size()?.saturating_sub(size);
+        if lost == 0 {
+            return Ok(0);
+        }
+        match self.opened()?.file.set_len(size) {
+            Ok(()) => Ok(lost),
+            Err(error) => Err(fault_of(&error, Place::Journal, Said::CannotBeCut)),
+        }
+    }
+
+    /// Writes a text into the journal at a place.
+    pub fn put(&self, text: &[u8], at: u64) -> Result<(), KeptFault> {
+        match self.opened()?.file.write_all_at(text, at) {
+            Ok(()) => Ok(()),
+            Err(error) => Err(fault_of(&error, Place::Journal, Said::CannotBeWritten)),
+        }
+    }
+
+    /// Forces the journal to the disk.
+    pub fn force(&self) -> Result<(), KeptFault> {
+        match self.opened()?.file.sync_data() {
+            Ok(()) => Ok(()),
+            Err(error) => Err(fault_of(&error, Place::Journal, Said::CannotBeForced)),
+        }
+    }
+
+    /// Makes a new journal of this text, and forces it to the disk. It takes the place of one that a
+    /// killed process may have left.
+    pub fn make(&mut self, text: &[u8]) -> Result<(), KeptFault> {
+        if self.folder.look(self.rt, Place::NewJournal)?.is_some() {
+            self.remove_new();
+        }
+        let made = self.write_new(text);
+        if made.is_err() {
+            self.remove_new();
+        }
+        self.fresh = Some(made?);
+        Ok(())
+    }
+
+    fn write_new(&self, text: &[u8]) -> Result<OpenedFile, KeptFault> {
+        let place = Place::NewJournal;
+        let file = self.folder.make_file(self.rt, place)?;
+        if let Err(error) = file.write_all_at(text, 0) {
+            return Err(fault_of(&error, place, Said::CannotBeWritten));
+        }
+        if let Err(error) = file.sync_all() {
+            return Err(fault_of(&error, place, Said::CannotBeForced));
+        }
+        match file.metadata() {
+            Ok(metadata) => Ok(OpenedFile {
+                file,
+                identity: identity_of(&metadata),
+            }),
+            Err(error) => Err(fault_of(&error, place, Said::CannotBeLookedAt)),
+        }
+    }
+
+    fn remove_new(&self) {
+        let _ = fs::remove_file(self.rt, self.folder.path(Place::NewJournal));
+    }
+
+    /// Gives the new journal its name, and tells its number.
+    pub fn name(&mut self) -> Result<u64, KeptFault> {
+        let Some(fresh) = self.fresh.take() else {
+            return Err(Place::NewJournal.that(Said::IsGone));
+        };
+        let named = fs::rename(
+            self.rt,
+            self.folder.path(Place::NewJournal),
+            self.folder.path(Place::Journal),
+        );
+        match named {
+            Ok(()) => {
+                self.follow(fresh);
+                Ok(self.number)
+            }
+            Err(error) => {
+                self.remove_new();
+                Err(fault_of(&error, Place::NewJournal, Said::CannotTakeThePlace))
+            }
+        }
+    }
+
+    /// Forces the folder to the disk.
+    pub fn settle(&mut self) -> Result<(), KeptFault> {
+        self.folder.force(self.rt)
+    }
+}
