@@ -23,15 +23,16 @@ play() {
     cat "$room/output" >>"$room/answered"
 }
 
-# replay LABEL: plays what `script` tells, on the image in its second line, and says whether that is
-# answered as it was.
+# replay LABEL: plays what `script` tells, on the device of the state text in its second line, and says
+# whether that is answered as it was.
 replay() {
     "$program" script state >told.tpm || echo 'there is no script'
     sed -n '2s/^# //p' told.tpm | python3 -c '
 import sys
 sys.stdout.buffer.write(bytes.fromhex(sys.stdin.read()))
-' >"$room/image"
-    "$program" run --image "$room/image" told.tpm >"$room/again"
+' >"$room/text"
+    "$program" restore again "$room/text"
+    "$program" run --state again told.tpm >"$room/again"
     cmp "$room/answered" "$room/again" &&
         echo "$1: $(grep -c . "$room/again") answers, and the script has the same"
     sed -n 's/^# \([A-Z]\)/    \1/p' told.tpm
