@@ -1,0 +1,175 @@
+/* The device that executed the history of a world, by the definition: a fold over its commands, with
+ * the calls on a journal and on a device, and no keeper but for the text of a new device. */
+#ifndef KEEPER_FOLD_H
+#define KEEPER_FOLD_H
+#include "keeper_folder.h"
+
+/* A head is kept of every so many commands, to go back to. */
+enum { EACH = 16, HEAD_BYTES = 128 * 1024, REPORT_BYTES = 7, KIND_AT = 0, NOW_AT = 1 };
+enum { LOCALITY_AT = 9, COMPLETES_AT = 10, RANDOM_AT = 11, BUFFER_AT = 267 };
+
+typedef struct mark {
+    int commands;
+    size_t size;
+    uint8_t *head;
+} mark;
+
+/* The device after so many commands of the world's history, of which origin. */
+static struct fold {
+    tpmsim device;
+    int commands, origin, marks;
+    mark mark[COMMANDS / EACH + 1];
+} fold;
+
+/* Whether a response begins with what the command was told beside it. */
+static int has_report;
+
+static uint8_t head_text[HEAD_BYTES];
+
+static inline uint64_t number_at(const uint8_t *at) {
+    uint64_t number = 0;
+    for (int i = 0; i < 8; i++) number = number << 8 | at[i];
+    return number;
+}
+
+/* The head with which the journal of a seed's device begins; 0 bytes if the seed is none. */
+static inline size_t head_of_seed(const uint8_t *seed, size_t size) {
+    tpmsim_ask ask = {0};
+    tpmsim_keeper keeper = {0};
+    must(tpmsim_keeper_new(&keeper, TPMSIM_FORCE_NEVER, UINT64_MAX) == TPMSIM_DONE &&
+             tpmsim_keeper_begin(&keeper, TPMSIM_JOB_BEGIN, seed, size) == TPMSIM_DONE,
+         "there is no keeper");
+    tpmsim_keeper_next(&keeper, TPMSIM_GOT_DONE, 0, 0, seed, 0);
+    tpmsim_keeper_next(&keeper, TPMSIM_GOT_GONE, 0, 0, seed, 0);
+    tpmsim_keeper_ask(&keeper, &ask);
+    size_t head = ask.task == TPMSIM_TASK_MAKE
+                      ? tpmsim_keeper_text(&keeper, head_text, sizeof head_text)
+                      : 0;
+    must(head <= sizeof head_text, "a head's size");
+    tpmsim_keeper_free(&keeper);
+    return head;
+}
+
+static inline void fold_opens(const uint8_t *head, size_t size) {
+    size_t taken;
+    must(tpmsim_journal_open(&fold.device, head, size, &taken) == TPMSIM_DONE && taken == size,
+         "a head is not opened");
+}
+
+/* The head of a checkpoint of the device, which is its whole state. */
+static inline size_t fold_shows(void) {
+    size_t size = tpmsim_journal_checkpoint(&fold.device, 0, head_text, sizeof head_text);
+    must(size <= sizeof head_text, "a head's size");
+    return size;
+}
+
+static inline void fold_marks(void) {
+    mark *it = &fold.mark[fold.marks++];
+    it->commands = fold.commands;
+    it->size = fold_shows();
+    it->head = taken(it->size);
+    memcpy(it->head, head_text, it->size);
+}
+
+static inline void fold_forgets(void) {
+    while (fold.marks) free(fold.mark[--fold.marks].head);
+    fold.commands = 0;
+}
+
+/* Goes back to where the history has so many commands. */
+static inline void fold_goes_back(int commands) {
+    if (fold.commands <= commands) return;
+    while (fold.marks && fold.mark[fold.marks - 1].commands > commands)
+        free(fold.mark[--fold.marks].head);
+    if (fold.marks == 0) {
+        fold_forgets();
+        fold.origin = 0;
+        return;
+    }
+    const mark *it = &fold.mark[fold.marks - 1];
+    fold_opens(it->head, it->size);
+    fold.commands = it->commands;
+}
+
+/* A command of the standard. Returns how many bytes the response has, with its report. */
+static inline size_t fold_executes(const uint8_t *text, size_t size, uint8_t *response) {
+    static uint8_t record[TPMSIM_RECORD_ROOM];
+    tpmsim_answered answered;
+    size_t record_size;
+    uint8_t *at = response + (has_report ? REPORT_BYTES : 0);
+    must(tpmsim_journal_execute(&fold.device, text + BUFFER_AT, size - BUFFER_AT,
+                                text[LOCALITY_AT], number_at(text + NOW_AT), text[COMPLETES_AT],
+                                text + RANDOM_AT, at, &answered, record,
+                                &record_size) == TPMSIM_DONE,
+         "a command is not executed");
+    if (!has_report) return answered.size;
+    for (int i = 0; i < 4; i++) response[i] = (uint8_t)(answered.code >> (24 - 8 * i));
+    response[4] = answered.check;
+    response[5] = (uint8_t)(answered.drawn >> 8);
+    response[6] = (uint8_t)answered.drawn;
+    return answered.size + REPORT_BYTES;
+}
+
+/* A power cycle is the device of its own image, as power comes on. */
+static inline size_t fold_cycles(const uint8_t *text) {
+    static uint8_t seed[HEAD_BYTES];
+    seed[0] = 1;
+    memcpy(seed + 1, text + 1, 16);
+    size_t size = 17 + tpmsim_save(&fold.device, seed + 17, sizeof seed - 17);
+    size_t head = head_of_seed(seed, size);
+    must(head > 0, "an image is none");
+    fold_opens(head_text, head);
+    return 0;
+}
+
+static inline size_t fold_restores(const uint8_t *seed, size_t size, uint8_t *response) {
+    size_t head = head_of_seed(seed, size);
+    response[0] = head > 0;
+    if (head) fold_opens(head_text, head);
+    return 1;
+}
+
+static inline void fold_steps(executed *next) {
+    static uint8_t response[RESPONSE_BYTES + REPORT_BYTES];
+    size_t size = next->text[KIND_AT] == 0   ? fold_executes(next->text, next->size, response)
+                  : next->text[KIND_AT] == 1 ? fold_cycles(next->text)
+                                             : fold_restores(next->text + 1, next->size - 1, response);
+    if (!next->response) next->response = stored(response, size), next->response_size = size;
+    must(next->response_size == size && memcmp(next->response, response, size) == 0,
+         "a device answers otherwise the second time");
+    fold.commands++;
+}
+
+/* Executes what the history has more. */
+static inline void fold_follows(void) {
+    if (fold.origin != all->origin) {
+        fold_forgets();
+        fold_opens(head_text, head_of_seed(all->seed, all->seed_size));
+        fold.origin = all->origin;
+        fold_marks();
+    }
+    while (fold.commands < all->commands) {
+        fold_steps(&all->history[fold.commands]);
+        if (fold.commands % EACH == 0) fold_marks();
+    }
+}
+
+/* The journal opens as the device that executed the history. */
+static inline void fold_compares(void) {
+    static uint8_t state[2][TPMSIM_STATE_SIZE];
+    tpmsim device = {0};
+    size_t taken, sizes[2];
+    const file *it = journal();
+    if (it->number == 0) return;
+    fold_follows();
+    must(tpmsim_journal_open(&device, it->now.bytes, it->now.size, &taken) == TPMSIM_DONE,
+         "the journal does not open");
+    int count = it->now.commands - it->before;
+    must(count == 0 || taken == it->ends[count - 1], "other entries are whole");
+    sizes[0] = tpmsim_snapshot(&fold.device, state[0], sizeof state[0]);
+    sizes[1] = tpmsim_snapshot(&device, state[1], sizeof state[1]);
+    must(sizes[0] == sizes[1] && memcmp(state[0], state[1], sizes[0]) == 0,
+         "the journal opens as another device");
+    tpmsim_free(&device);
+}
+#endif
