@@ -1,0 +1,98 @@
+"""A counter in a kept device: what it may hold after commands that were answered, and others that failed.
+
+A history of acts is told as it comes: an act with its answer, or acts of which any first ones were done.
+What is known is a set of states. An answer that no state of it allows is wrong.
+"""
+
+from dataclasses import dataclass, replace
+from typing import Iterable, Iterator
+
+BEGIN, POWER, STARTUP, DEFINE, INCREMENT, READ = (
+    "begin",
+    "power",
+    "startup",
+    "define",
+    "increment",
+    "read",
+)
+INDEX = "01000002"
+COMMANDS = {
+    STARTUP: bytes.fromhex("80010000000c000001440000"),
+    DEFINE: bytes.fromhex(
+        f"80020000002d0000012a40000001000000094000000900000100000000000e{INDEX}000b0002001200000008"
+    ),
+    INCREMENT: bytes.fromhex(f"80020000001f0000013440000001{INDEX}00000009400000090000010000"),
+    READ: bytes.fromhex(f"8002000000230000014e40000001{INDEX}0000000940000009000001000000080000"),
+}
+SUCCESS, INITIALIZE, NO_INDEX, DEFINED, UNWRITTEN = 0, 0x100, 0x28B, 0x14C, 0x14A
+
+
+@dataclass(frozen=True, order=True)
+class State:
+    """A device with its counter, or none."""
+
+    is_there: bool = False
+    is_started: bool = False
+    is_defined: bool = False
+    count: int = 0
+
+
+NOTHING = State()
+
+
+def outcome(state: State, act: str) -> tuple[State, object]:
+    """The state after an act, and its answer: a response code, the count, or None."""
+    if act == BEGIN:
+        return replace(state, is_there=True), None
+    if act == POWER:
+        return replace(state, is_started=False), None
+    if act == STARTUP:
+        return replace(state, is_started=True), INITIALIZE if state.is_started else SUCCESS
+    if not state.is_started:
+        return state, INITIALIZE
+    if act == DEFINE:
+        return replace(state, is_defined=True), DEFINED if state.is_defined else SUCCESS
+    if not state.is_defined:
+        return state, NO_INDEX
+    if act == INCREMENT:
+        return replace(state, count=state.count + 1), SUCCESS
+    return state, ("count", state.count) if state.count else UNWRITTEN
+
+
+def answer_of(act: str, response: bytes) -> object:
+    """What a response says, as `outcome` has it."""
+    if act in (BEGIN, POWER):
+        return None
+    code = int.from_bytes(response[6:10], "big")
+    if act != READ or code:
+        return code
+    return "count", int.from_bytes(response[16:24], "big")
+
+
+class Counted:
+    """The states in which a device may be."""
+
+    def __init__(self, states: Iterable[State]) -> None:
+        self.states = set(states)
+
+    def answers(self, act: str, response: bytes) -> bool:
+        """An act was answered. Whether a state allows it."""
+        told = answer_of(act, response)
+        after = (outcome(state, act) for state in self.states if state.is_there or act == BEGIN)
+        self.states = {state for state, answer in after if answer == told}
+        return bool(self.states)
+
+    def has(self, acts: Iterable[str]) -> None:
+        """Acts were done, whatever their answers were."""
+        for act in acts:
+            self.states = {outcome(it, act)[0] for it in self.states if it.is_there or act == BEGIN}
+
+    def may_have(self, acts: Iterable[str]) -> None:
+        """Acts were asked for, and perhaps the first ones of them were done."""
+        done = set(self.states)
+        for act in acts:
+            done = {outcome(it, act)[0] if it.is_there or act == BEGIN else it for it in done}
+            self.states |= done
+
+    def __iter__(self) -> Iterator[State]:
+        return iter(sorted(self.states))

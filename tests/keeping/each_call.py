@@ -1,0 +1,384 @@
+"""Each call of each host of a kept device fails, in turn:
+
+    python3 each_call.py PROGRAM HOSTS SHIM SHARE [WORD]
+
+HOSTS is the folder with the module and the programs, SHIM the library of failing.c, which LD_PRELOAD has
+loaded into this process too. One of SHARE runs is made, and with WORD those of hosts whose name has it.
+In each run a host is asked for some acts, and one call of the operating system is met by what VARIANTS
+says. Then another host opens the folder: the device is the one that executed the answered acts, and
+perhaps the one that was not answered. Standard error says what is wrong, and counts the runs.
+"""
+
+import collections
+import ctypes
+import errno
+import functools
+import os
+import pathlib
+import select
+import shutil
+import signal
+import sys
+import tempfile
+import time
+from dataclasses import dataclass, field
+from enum import IntEnum
+from typing import Callable, Iterator, Sequence
+
+from tests.keeping.counted import answer_of, BEGIN, Counted, DEFINE, INCREMENT, INITIALIZE, NOTHING
+from tests.keeping.counted import POWER, READ, STARTUP, State, UNWRITTEN
+from tests.keeping.hosts import does, Files, Host, Module, Power, ProgramPower, Python, Refused
+from tests.keeping.hosts import Run, Simulator
+
+# How failing.c meets a call.
+Act = IntEnum(
+    "Act",
+    "FAILS FAILS_ON STORMS DOES_AND_FAILS DOES_HALF IS_KILLED DOES_AND_IS_KILLED"
+    " DOES_HALF_AND_IS_KILLED",
+)
+ERRORS = [errno.EIO, errno.ENOSPC, errno.EINTR, errno.ENOMEM, errno.EMFILE, errno.EACCES]
+VARIANTS = [
+    *((Act.FAILS, it) for it in ERRORS),
+    (Act.FAILS_ON, errno.EIO),
+    (Act.FAILS_ON, errno.ENOSPC),
+    (Act.STORMS, errno.EINTR),
+    (Act.DOES_AND_FAILS, errno.EIO),
+    (Act.DOES_AND_FAILS, errno.EINTR),
+    (Act.DOES_HALF, 0),
+    (Act.IS_KILLED, 0),
+    (Act.DOES_AND_IS_KILLED, 0),
+    (Act.DOES_HALF_AND_IS_KILLED, 0),
+]
+KILLS = {Act.IS_KILLED, Act.DOES_AND_IS_KILLED, Act.DOES_HALF_AND_IS_KILLED}
+SECONDS, MOST_CALLS, PART_BYTES = 60, 2000, 65536
+KEPT = State(is_there=True, is_started=True, is_defined=True, count=2)
+WELL, FAULT, KILLED = 0, 3, -signal.SIGKILL
+
+
+@dataclass(frozen=True)
+class Meeting:
+    """The call of a number, and what meets it."""
+
+    number: int
+    act: Act
+    error: int
+
+    def __str__(self) -> str:
+        name = self.act.name.lower().replace("_", " ")
+        return f"call {self.number} {name} {errno.errorcode.get(self.error, '')}".strip()
+
+
+class Shim:
+    """failing.c, in this process and in programs."""
+
+    def __init__(self, path: pathlib.Path, report: pathlib.Path) -> None:
+        self.path, self.report, self.library = path, report, ctypes.CDLL(None)
+        text, number = ctypes.c_char_p, ctypes.c_int
+        self.library.failing_begins.argtypes = [ctypes.c_long, number, number, text, text]
+
+    def begins(self, meeting: Meeting, part: str) -> None:
+        words = str(self.report).encode(), part.encode()
+        self.library.failing_begins(meeting.number, meeting.act, meeting.error, *words)
+
+    def goes_on(self, is_on: bool) -> None:
+        self.library.failing_goes_on(int(is_on))
+
+    def environment(self, meeting: Meeting) -> dict[str, str]:
+        told = f"{meeting.number} {meeting.act} {meeting.error} {self.report}"
+        return {"LD_PRELOAD": str(self.path), "FAILING": told}
+
+    def met(self) -> str:
+        """Which call was met; nothing if there was none of this number."""
+        if not self.report.exists():
+            return ""
+        text = self.report.read_text("utf8").strip()
+        self.report.unlink()
+        return text
+
+
+@dataclass
+class Told:
+    """What a run told. `waiting` are the acts that may be done, and are not answered. `untold` are those
+    that ended with an OSError and no sentence.
+    """
+
+    counted: Counted
+    waiting: list[str] = field(default_factory=list)
+    acts: list[str] = field(default_factory=list)
+    strange: list[str] = field(default_factory=list)
+    untold: list[str] = field(default_factory=list)
+
+    def asks(self, act: str) -> None:
+        self.waiting.append(act)
+
+    def answers(self, response: bytes) -> None:
+        """All acts that wait were done, and the last one was answered so."""
+        *before, last = self.waiting
+        self.waiting = []
+        self.counted.has(before)
+        self.acts.append(f"{last}={answer_of(last, response)}")
+        if not self.counted.answers(last, response):
+            self.strange.append("no device answers so")
+
+    def did(self) -> None:
+        """All acts that wait were done."""
+        self.counted.has(self.waiting)
+        self.acts += self.waiting
+        self.waiting = []
+
+    def ends(self, how: str) -> None:
+        """Nothing is known of the acts that wait."""
+        if self.waiting:
+            self.acts.append(f"{'+'.join(self.waiting)}:{how}")
+            self.counted.may_have(self.waiting)
+        self.waiting = []
+
+    def hears(self, word: str, text: str) -> None:
+        """A line of a child."""
+        if word == "asks":
+            self.asks(text)
+        elif word == "answers":
+            self.answers(bytes.fromhex(text))
+        elif word == "refuses":
+            self.ends(f"refused ({text})")
+        elif word == "untold":
+            self.ends(f"untold ({text})")
+            self.untold.append(text)
+        else:
+            self.ends("strange")
+            self.strange.append(text)
+
+
+def one_line(fault: object) -> str:
+    return str(fault).strip().replace("\n", ", ")
+
+
+class Child:
+    """A host in a fork of this process, which tells each act before and after it."""
+
+    def __init__(self, host: Host, folder: str, shim: Shim, tells: int) -> None:
+        self.host, self.folder, self.shim, self.tells = host, folder, shim, tells
+
+    def says(self, word: str, text: object = "") -> None:
+        os.write(self.tells, f"{word} {text}\n".encode())
+
+    def asks(self, act: str) -> None:
+        self.says("asks", act)
+        self.shim.goes_on(True)
+        try:
+            word, text = "answers", does(self.host, act, self.folder).hex()
+        except Refused as fault:
+            word, text = "refuses", one_line(fault)
+        except OSError as fault:
+            word, text = "untold", one_line(fault)
+        except Exception as fault:  # whatever it is, it is told
+            word, text = "strange", f"{type(fault).__name__}: {one_line(fault)}"
+        finally:
+            self.shim.goes_on(False)
+        self.says(word, text)
+
+    def plays(self, script: Sequence[str]) -> None:
+        before = len(os.listdir("/proc/self/fd"))
+        for act in script:
+            if not self.host.is_open:
+                self.asks(BEGIN)
+            if self.host.is_open and act != BEGIN:
+                self.asks(act)
+        self.host.close()
+        left = len(os.listdir("/proc/self/fd")) - before
+        if left:
+            self.says("strange", f"{left} files are left open")
+
+
+def lines_of(pipe: int, child: int) -> Iterator[tuple[str, str]]:
+    """What a child tells, until it ends. One that does not end is killed."""
+    text, until = b"", time.monotonic() + SECONDS
+    while True:
+        ready, _, _ = select.select([pipe], [], [], max(0, until - time.monotonic()))
+        if not ready:
+            os.kill(child, signal.SIGKILL)
+            os.waitpid(child, 0)
+            yield "strange", "it does not end"
+            return
+        part = os.read(pipe, PART_BYTES)
+        *whole, text = (text + part).split(b"\n")
+        for line in whole:
+            word, _, rest = line.decode().partition(" ")
+            yield word, rest
+        if not part:
+            os.waitpid(child, 0)
+            return
+
+
+@dataclass(frozen=True)
+class Trial:
+    """A host, the acts that it is asked for, and the call that is met."""
+
+    make: Callable[..., Host]
+    script: Sequence[str]
+    folder: str
+    told: Told
+    shim: Shim
+    meeting: Meeting
+
+    def in_a_fork(self) -> None:
+        host, (reads, writes) = self.make(), os.pipe()
+        child = os.fork()
+        if child == 0:
+            try:
+                os.close(reads)
+                os.dup2(os.open("/dev/null", os.O_WRONLY), 2)
+                self.shim.begins(self.meeting, host.part)
+                Child(host, self.folder, self.shim, writes).plays((BEGIN, *self.script))
+            finally:
+                os._exit(0)
+        os.close(writes)
+        for word, text in lines_of(reads, child):
+            self.told.hears(word, text)
+        os.close(reads)
+        self.told.ends("killed")
+
+    def as_a_program(self) -> None:
+        host, told, is_refused = self.make(self.shim.environment(self.meeting)), self.told, False
+        try:
+            for act in (BEGIN, *self.script):
+                told.asks(act)
+                if act == BEGIN and host.comes_on:
+                    told.asks(POWER)
+                response = does(host, act, self.folder)
+                if host.answers_all or act not in (BEGIN, POWER):
+                    told.answers(response)
+        except Refused:
+            is_refused = True
+        status, said = host.close()
+        if status == WELL and not is_refused:
+            told.did()
+        told.ends(f"status {status} ({one_line(said)})")
+        allowed = {WELL, FAULT} | ({KILLED} if self.meeting.act in KILLS else set())
+        if status not in allowed or (status == FAULT and not said):
+            told.strange.append(f"status {status}, and it says {said!r}")
+
+
+def seen(files: Files, folder: str) -> State:
+    """The device that is in a folder, by a host of no faults."""
+    if not os.path.exists(f"{folder}/journal"):
+        return NOTHING
+    host = Python(files)
+    host.begin(folder)
+    try:
+        value = answer_of(READ, does(host, READ, folder))
+        is_started = value != INITIALIZE
+        if not is_started:
+            does(host, STARTUP, folder)
+            value = answer_of(READ, does(host, READ, folder))
+        count = value[1] if isinstance(value, tuple) else 0
+        return State(True, is_started, count > 0 or value == UNWRITTEN, count)
+    finally:
+        host.close()
+
+
+def left_in(folder: str) -> list[str]:
+    names = os.listdir(folder) if os.path.exists(folder) else []
+    return sorted(set(names) - {"journal", "lock"})
+
+
+@dataclass(frozen=True)
+class Case:
+    """A host that begins with a kept device, or with none, and acts that it is asked for."""
+
+    label: str
+    files: Files
+    make: Callable[..., Host]
+    runs: Callable[[Trial], None]
+    script: Sequence[str]
+    is_kept: bool
+
+    def tries(self, room: pathlib.Path, shim: Shim, meeting: Meeting) -> tuple[str, Told, str]:
+        """Which call was met, what was told, and what is wrong."""
+        folder = room / "state"
+        shutil.rmtree(folder, ignore_errors=True)
+        if self.is_kept:
+            shutil.copytree(room / "kept", folder)
+        told = Told(Counted([KEPT if self.is_kept else NOTHING]))
+        self.runs(Trial(self.make, self.script, str(folder), told, shim, meeting))
+        met, left = shim.met(), left_in(str(folder))
+        try:
+            state = seen(self.files, str(folder))
+        except Refused as fault:
+            return met, told, f"it does not open: {fault}; {left} is left"
+        if state not in told.counted.states:
+            return met, told, f"{state} is none of {list(told.counted)}; {left} is left"
+        return met, told, "; ".join(told.strange)
+
+    def check(self, room: pathlib.Path, shim: Shim, share: int) -> tuple[int, int]:
+        """Makes one of so many runs. How many those were, and how many were wrong."""
+        runs, wrongs, untold = 0, 0, collections.Counter[str]()
+        for turn, variant in enumerate(VARIANTS):
+            for number in range(1 + turn % share, MOST_CALLS, share):
+                meeting = Meeting(number, *variant)
+                met, told, wrong = self.tries(room, shim, meeting)
+                runs += 1
+                untold.update([met.split(" ")[0]] if told.untold else [])
+                if wrong:
+                    wrongs += 1
+                    said(f"{self.label}: {meeting}, {met}: {wrong}: {' '.join(told.acts)}")
+                if not met:
+                    break
+        if untold:
+            said(f"{self.label}: OSError without a sentence: {dict(untold)}")
+        print(f"{self.label}: {'WRONG' if wrongs else 'as it was answered'}", flush=True)
+        return runs, wrongs
+
+
+def said(line: str) -> None:
+    print(line, file=sys.stderr, flush=True)
+
+
+def make_kept(files: Files, folder: pathlib.Path) -> None:
+    """A device that has counted to 2, whose journal has the front of a third record."""
+    host, journal, sizes = Python(files), folder / "journal", []
+    for act in (BEGIN, STARTUP, DEFINE, INCREMENT, INCREMENT, INCREMENT):
+        does(host, act, str(folder))
+        sizes.append(journal.stat().st_size)
+    host.close()
+    os.truncate(journal, (sizes[-2] + sizes[-1]) // 2)
+    (folder / "journal.new").write_bytes(journal.read_bytes()[:100])
+
+
+def cases(files: Files) -> Iterator[Case]:
+    counts = (INCREMENT, READ, INCREMENT, READ)
+    cycles, new = (INCREMENT, POWER, STARTUP, INCREMENT, READ), (STARTUP, DEFINE, INCREMENT, READ)
+    fork, program = Trial.in_a_fork, Trial.as_a_program
+    hosts: list[tuple[type[Host], Callable[[Trial], None], Sequence[str]]] = [
+        (Module, fork, counts),
+        (Python, fork, cycles),
+        (Run, program, cycles),
+        (Simulator, program, (STARTUP, *cycles)),
+        (Power, program, (POWER,)),
+        (ProgramPower, program, (POWER,)),
+    ]
+    for host, runs, acts in hosts:
+        make = functools.partial(host, files)
+        yield Case(f"{host.name}, a kept device", files, make, runs, acts, True)
+        if POWER != acts[0]:
+            yield Case(f"{host.name}, a new device", files, make, runs, new, False)
+
+
+def main() -> None:
+    program, folder, path, share, *words = sys.argv[1:]
+    files = Files(pathlib.Path(program).resolve(), pathlib.Path(folder).resolve())
+    runs = wrongs = 0
+    with tempfile.TemporaryDirectory() as name:
+        room = pathlib.Path(name)
+        shim = Shim(pathlib.Path(path).resolve(), room / "report")
+        make_kept(files, room / "kept")
+        for case in cases(files):
+            if not words or words[0] in case.label:
+                more, wrong = case.check(room, shim, int(share))
+                runs, wrongs = runs + more, wrongs + wrong
+    said(f"{runs} runs, {wrongs} wrong")
+    sys.exit(wrongs > 0)
+
+
+if __name__ == "__main__":
+    main()

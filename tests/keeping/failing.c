@@ -1,0 +1,252 @@
+/* Stands before the functions of the C library by which a host of a kept device reaches its folder, the
+ * clock, random bytes and memory. The call of one number is met by one of these acts. LD_PRELOAD loads
+ * it. A program is told by FAILING: `NUMBER ACT ERROR REPORT`. A caller in the same process calls
+ * failing_begins, and failing_goes_on before and after what counts. The name of the call that was met
+ * goes to the file REPORT. With FAILING_CLOCK the clock jumps about, by a day at most. */
+#define _GNU_SOURCE
+#include <errno.h>
+#include <fcntl.h>
+#include <link.h>
+#include <signal.h>
+#include <stdarg.h>
+#include <stdio.h>
+#include <stdlib.h>
+#include <string.h>
+#include <sys/random.h>
+#include <sys/stat.h>
+#include <sys/syscall.h>
+#include <time.h>
+#include <unistd.h>
+
+/* FAILS_ON: this call, and each later one of the function. STORMS: this call and two more that may be
+ * interrupted fail with EINTR. */
+enum act {
+    PASSES,
+    FAILS,
+    FAILS_ON,
+    STORMS,
+    DOES_AND_FAILS,
+    DOES_HALF,
+    IS_KILLED,
+    DOES_AND_IS_KILLED,
+    DOES_HALF_AND_IS_KILLED
+};
+
+enum kind { OTHER = 0, MOVES = 1, WAITS = 2, CLOSES = 4, IS_MEMORY = 8 };
+enum { STORM = 3, JUMP_SECONDS = 86400 };
+
+static enum act act;
+static int error, is_on, jumps;
+static long number, counted;
+static char report[512], met[32], object[64];
+/* Calls for memory count if they come from here. */
+static char *object_begins, *object_ends;
+
+static int is_object(struct dl_phdr_info *info, size_t size, void *unused) {
+    (void)size, (void)unused;
+    if (object[0] ? !strstr(info->dlpi_name, object) : info->dlpi_name[0] != 0) return 0;
+    for (int i = 0; i < info->dlpi_phnum; i++) {
+        const ElfW(Phdr) *part = &info->dlpi_phdr[i];
+        char *begins = (char *)info->dlpi_addr + part->p_vaddr;
+        if (part->p_type != PT_LOAD) continue;
+        if (!object_begins) object_begins = begins;
+        object_ends = begins + part->p_memsz;
+    }
+    return 1;
+}
+
+void failing_goes_on(int goes_on);
+void failing_goes_on(int goes_on) { is_on = goes_on; }
+
+/* Whether the clock jumps about, for a caller in the same process. */
+void failing_jumps(int does_jump);
+void failing_jumps(int does_jump) { jumps = does_jump; }
+
+/* Has the call of a number met so. An object's name has a part, `from`; "" is the program. */
+void failing_begins(long at, int how, int with, const char *path, const char *from);
+void failing_begins(long at, int how, int with, const char *path, const char *from) {
+    number = at;
+    act = (enum act)how;
+    error = with;
+    counted = 0;
+    met[0] = 0;
+    object_begins = NULL;
+    snprintf(report, sizeof report, "%s", path);
+    snprintf(object, sizeof object, "%s", from);
+    dl_iterate_phdr(is_object, NULL);
+}
+
+__attribute__((constructor)) static void begins(void) {
+    const char *told = getenv("FAILING");
+    char path[512];
+    long at;
+    int how, with;
+    jumps = getenv("FAILING_CLOCK") != NULL;
+    if (!told || sscanf(told, "%ld %d %d %511s", &at, &how, &with, path) != 4) return;
+    failing_begins(at, how, with, path, "");
+    is_on = 1;
+}
+
+static void note(const char *name, const char *of) {
+    char line[600];
+    int size = snprintf(line, sizeof line, "%s %s\n", name, of ? of : "");
+    int file = (int)syscall(SYS_openat, AT_FDCWD, report, O_WRONLY | O_CREAT | O_APPEND, 0600);
+    if (file < 0 || syscall(SYS_write, file, line, size) != size) abort();
+    syscall(SYS_close, file);
+}
+
+/* Whether an act may meet a call of this kind. */
+static int may_meet(int kind, const void *caller) {
+    int halves = act == DOES_HALF || act == DOES_HALF_AND_IS_KILLED;
+    if (kind & IS_MEMORY)
+        return (act == FAILS || act == FAILS_ON) && error == ENOMEM &&
+               (const char *)caller >= object_begins && (const char *)caller < object_ends;
+    if (halves) return kind & MOVES;
+    if (act == STORMS) return kind & WAITS;
+    return !(kind & CLOSES && (act == FAILS || act == FAILS_ON));
+}
+
+/* What meets this call. */
+static enum act meets(const char *name, int kind, const char *of, const void *caller) {
+    if (!is_on || act == PASSES || !may_meet(kind, caller)) return PASSES;
+    long at = ++counted;
+    int again = (act == FAILS_ON && at > number && strcmp(name, met) == 0) ||
+                (act == STORMS && at > number && at < number + STORM);
+    if (at != number && !again) return PASSES;
+    if (at == number) {
+        note(name, of);
+        snprintf(met, sizeof met, "%s", name);
+    }
+    if (act == IS_KILLED) raise(SIGKILL);
+    errno = act == STORMS ? EINTR : error;
+    return act;
+}
+
+static int is_refused(enum act how) { return how == FAILS || how == FAILS_ON || how == STORMS; }
+
+static long after(enum act how, long result) {
+    if (how == DOES_AND_IS_KILLED || how == DOES_HALF_AND_IS_KILLED) raise(SIGKILL);
+    if (how != DOES_AND_FAILS) return result;
+    errno = error;
+    return -1;
+}
+
+static size_t half(enum act how, size_t size) {
+    return (how == DOES_HALF || how == DOES_HALF_AND_IS_KILLED) && size > 1 ? size / 2 : size;
+}
+
+#define MET(type, label, kind, of, real)                                                           \
+    {                                                                                              \
+        enum act how = meets(label, kind, of, NULL);                                               \
+        if (is_refused(how)) return -1;                                                            \
+        return (type)after(how, real);                                                             \
+    }
+
+#define CALL(type, name, kind, of, words, real) type name words MET(type, #name, kind, of, real)
+
+/* The same by its name for large files, of which the header says other types. */
+#define CALL_TWICE(type, name, kind, of, words, real)                                              \
+    CALL(type, name, kind, of, words, real)                                                        \
+    type large_##name words __asm__(#name "64");                                                   \
+    type large_##name words MET(type, #name, kind, of, real)
+
+CALL_TWICE(ssize_t, pread, MOVES | WAITS, "", (int file, void *bytes, size_t size, off_t at),
+           syscall(SYS_pread64, file, bytes, half(how, size), at))
+CALL_TWICE(ssize_t, pwrite, MOVES | WAITS, "", (int file, const void *bytes, size_t size, off_t at),
+           syscall(SYS_pwrite64, file, bytes, half(how, size), at))
+CALL_TWICE(int, ftruncate, WAITS, "", (int file, off_t size), syscall(SYS_ftruncate, file, size))
+CALL_TWICE(int, fstat, OTHER, "", (int file, struct stat *status),
+           syscall(SYS_newfstatat, file, "", status, AT_EMPTY_PATH))
+CALL_TWICE(int, fstatat, OTHER, path, (int folder, const char *path, struct stat *status, int flags),
+           syscall(SYS_newfstatat, folder, path, status, flags))
+CALL_TWICE(int, stat, OTHER, path, (const char *path, struct stat *status),
+           syscall(SYS_newfstatat, AT_FDCWD, path, status, 0))
+CALL_TWICE(int, lstat, OTHER, path, (const char *path, struct stat *status),
+           syscall(SYS_newfstatat, AT_FDCWD, path, status, AT_SYMLINK_NOFOLLOW))
+CALL(int, statx, OTHER, path,
+     (int folder, const char *path, int flags, unsigned mask, struct statx *told),
+     syscall(SYS_statx, folder, path, flags, mask, told))
+CALL(int, fsync, WAITS, "", (int file), syscall(SYS_fsync, file))
+CALL(int, fdatasync, WAITS, "", (int file), syscall(SYS_fdatasync, file))
+CALL(int, syncfs, OTHER, "", (int file), syscall(SYS_syncfs, file))
+CALL(int, flock, WAITS, "", (int file, int how_locked), syscall(SYS_flock, file, how_locked))
+CALL(int, close, CLOSES, "", (int file), syscall(SYS_close, file))
+CALL(int, fchmod, OTHER, "", (int file, mode_t mode), syscall(SYS_fchmod, file, mode))
+CALL(int, chmod, OTHER, path, (const char *path, mode_t mode),
+     syscall(SYS_fchmodat, AT_FDCWD, path, mode))
+CALL(int, fchmodat, OTHER, path, (int folder, const char *path, mode_t mode, int flags),
+     flags ? (errno = ENOTSUP, -1) : syscall(SYS_fchmodat, folder, path, mode))
+CALL(int, mkdir, OTHER, path, (const char *path, mode_t mode),
+     syscall(SYS_mkdirat, AT_FDCWD, path, mode))
+CALL(int, mkdirat, OTHER, path, (int folder, const char *path, mode_t mode),
+     syscall(SYS_mkdirat, folder, path, mode))
+CALL(int, unlink, OTHER, path, (const char *path), syscall(SYS_unlinkat, AT_FDCWD, path, 0))
+CALL(int, unlinkat, OTHER, path, (int folder, const char *path, int flags),
+     syscall(SYS_unlinkat, folder, path, flags))
+CALL(int, rename, OTHER, path, (const char *path, const char *name),
+     syscall(SYS_renameat2, AT_FDCWD, path, AT_FDCWD, name, 0))
+CALL(int, renameat, OTHER, path, (int folder, const char *path, int into, const char *name),
+     syscall(SYS_renameat2, folder, path, into, name, 0))
+CALL(int, link, OTHER, path, (const char *path, const char *name),
+     syscall(SYS_linkat, AT_FDCWD, path, AT_FDCWD, name, 0))
+CALL(int, linkat, OTHER, path, (int folder, const char *path, int into, const char *name, int flags),
+     syscall(SYS_linkat, folder, path, into, name, flags))
+CALL(ssize_t, getrandom, MOVES | WAITS, "", (void *bytes, size_t size, unsigned flags),
+     syscall(SYS_getrandom, bytes, half(how, size), flags))
+CALL(int, madvise, OTHER, "", (void *page, size_t size, int advice),
+     syscall(SYS_madvise, page, size, advice))
+
+/* The standard streams are a caller's. */
+ssize_t read(int file, void *bytes, size_t size) {
+    enum act how = file < 3 ? PASSES : meets("read", MOVES | WAITS, "", NULL);
+    if (is_refused(how)) return -1;
+    return after(how, syscall(SYS_read, file, bytes, half(how, size)));
+}
+
+ssize_t write(int file, const void *bytes, size_t size) {
+    enum act how = file < 3 ? PASSES : meets("write", MOVES | WAITS, "", NULL);
+    if (is_refused(how)) return -1;
+    return after(how, syscall(SYS_write, file, bytes, half(how, size)));
+}
+
+ssize_t __write(int file, const void *bytes, size_t size) { return write(file, bytes, size); }
+
+#define OPEN(name, folder, words)                                                                  \
+    int name words {                                                                               \
+        va_list rest;                                                                              \
+        va_start(rest, flags);                                                                     \
+        mode_t mode = flags & (O_CREAT | O_TMPFILE) ? va_arg(rest, mode_t) : 0;                    \
+        va_end(rest);                                                                              \
+        enum act how = meets(#name, WAITS, path, NULL);                                            \
+        if (is_refused(how)) return -1;                                                            \
+        long made = syscall(SYS_openat, folder, path, flags, mode);                                \
+        if (how == DOES_AND_FAILS && made >= 0) syscall(SYS_close, (int)made);                     \
+        return (int)after(how, made);                                                              \
+    }
+
+OPEN(open, AT_FDCWD, (const char *path, int flags, ...))
+OPEN(open64, AT_FDCWD, (const char *path, int flags, ...))
+OPEN(openat, folder, (int folder, const char *path, int flags, ...))
+OPEN(openat64, folder, (int folder, const char *path, int flags, ...))
+
+int clock_gettime(clockid_t clock, struct timespec *now) {
+    enum act how = clock == CLOCK_REALTIME ? meets("clock_gettime", OTHER, "", NULL) : PASSES;
+    if (is_refused(how)) return -1;
+    long done = syscall(SYS_clock_gettime, clock, now);
+    if (jumps && clock == CLOCK_REALTIME) now->tv_sec += random() % (2 * JUMP_SECONDS) - JUMP_SECONDS;
+    return (int)after(how, done);
+}
+
+void *__libc_malloc(size_t size);
+void *__libc_calloc(size_t count, size_t size);
+void *__libc_realloc(void *old, size_t size);
+
+#define MEMORY(name, words, real)                                                                  \
+    void *name words {                                                                             \
+        enum act how = meets(#name, IS_MEMORY, "", __builtin_return_address(0));                   \
+        return is_refused(how) ? NULL : real;                                                      \
+    }
+
+MEMORY(malloc, (size_t size), __libc_malloc(size))
+MEMORY(calloc, (size_t count, size_t size), __libc_calloc(count, size))
+MEMORY(realloc, (void *old, size_t size), __libc_realloc(old, size))

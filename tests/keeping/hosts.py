@@ -1,0 +1,330 @@
+"""The hosts of a kept device, each with the acts of counted.py. `Files` says where they are.
+
+The module and Python run in this process, and are forked with it. The others are programs, which begin
+with an environment.
+"""
+
+import contextlib
+import ctypes
+import os
+import pathlib
+import subprocess
+import warnings
+from dataclasses import dataclass
+from typing import IO, Iterator
+
+from tests.keeping.counted import BEGIN, COMMANDS, POWER
+from tpmsim.device import KeptDevice, SimulatorDevice
+from tpmsim.device.base import DeviceEnded
+
+SECONDS, RESPONSE_BYTES, RC = 20, 4096, ctypes.c_uint32
+
+
+@dataclass(frozen=True)
+class Files:
+    """Where the hosts are: the program, and a folder with the module and the other programs."""
+
+    program: pathlib.Path
+    folder: pathlib.Path
+
+    @property
+    def module(self) -> pathlib.Path:
+        return self.folder / "libtss2-tcti-tpmsim.so.0"
+
+    @property
+    def power(self) -> pathlib.Path:
+        return self.folder / "tpmsim-power"
+
+    @property
+    def simulator(self) -> pathlib.Path:
+        return self.folder / "tpmsim-simulator"
+
+
+class Refused(Exception):
+    """A host says that it did not do an act."""
+
+
+class Host:
+    """What a host does. `part` is in the name of its library. A host that does not answer all acts says
+    with the next response that it has begun or cycled the power. The power of one `comes_on` as it begins.
+    """
+
+    name, part, answers_all, comes_on = "", "", True, False
+
+    def __init__(self, files: Files, environment: dict[str, str] | None = None) -> None:
+        self.files, self.environment = files, {**os.environ, **(environment or {})}
+
+    @property
+    def is_open(self) -> bool:
+        raise NotImplementedError
+
+    def begin(self, folder: str) -> None:
+        raise NotImplementedError
+
+    def execute(self, buffer: bytes) -> bytes:
+        raise NotImplementedError
+
+    def power(self) -> None:
+        raise NotImplementedError
+
+    def close(self) -> tuple[int, str]:
+        """How it ended, and what it said."""
+        raise NotImplementedError
+
+
+POINTER, SIZE = ctypes.c_void_p, ctypes.c_size_t
+SENDS = ctypes.CFUNCTYPE(RC, POINTER, SIZE, ctypes.c_char_p)
+RECEIVES = ctypes.CFUNCTYPE(RC, POINTER, ctypes.POINTER(SIZE), POINTER, ctypes.c_int32)
+ENDS = ctypes.CFUNCTYPE(None, POINTER)
+BEGINS = ctypes.CFUNCTYPE(RC, POINTER, ctypes.POINTER(SIZE), ctypes.c_char_p)
+
+
+class Context(ctypes.Structure):
+    """The front of TSS2_TCTI_CONTEXT."""
+
+    _fields_ = [
+        ("magic", ctypes.c_uint64),
+        ("version", ctypes.c_uint64),
+        ("transmit", SENDS),
+        ("receive", RECEIVES),
+        ("finalize", ENDS),
+    ]
+
+
+class Info(ctypes.Structure):
+    """TSS2_TCTI_INFO."""
+
+    _fields_ = [
+        ("version", ctypes.c_uint32),
+        ("name", ctypes.c_char_p),
+        ("description", ctypes.c_char_p),
+        ("help", ctypes.c_char_p),
+        ("init", BEGINS),
+    ]
+
+
+class Module(Host):
+    """The module for libtss2, as that calls it."""
+
+    name, part = "the module", "libtss2-tcti-tpmsim"
+
+    def __init__(self, files: Files, environment: dict[str, str] | None = None) -> None:
+        super().__init__(files, environment)
+        self.module = ctypes.CDLL(str(files.module))
+        self.module.Tss2_Tcti_Info.restype = ctypes.POINTER(Info)
+        self.info = self.module.Tss2_Tcti_Info().contents
+        self.room = ctypes.create_string_buffer(0)
+
+    @property
+    def is_open(self) -> bool:
+        return len(self.room) > 0
+
+    @property
+    def context(self) -> Context:
+        return Context.from_buffer(self.room)
+
+    def begin(self, folder: str) -> None:
+        size = SIZE()
+        self.info.init(None, ctypes.byref(size), None)
+        room = ctypes.create_string_buffer(size.value)
+        code = self.info.init(
+            ctypes.cast(room, POINTER), ctypes.byref(size), f"state={folder},force=always".encode()
+        )
+        if code:
+            raise Refused(f"init {code:x}")
+        self.room = room
+
+    def execute(self, buffer: bytes) -> bytes:
+        address, size = ctypes.addressof(self.room), SIZE(RESPONSE_BYTES)
+        response = ctypes.create_string_buffer(RESPONSE_BYTES)
+        code = self.context.transmit(address, len(buffer), buffer)
+        code = code or self.context.receive(
+            address, ctypes.byref(size), ctypes.cast(response, POINTER), -1
+        )
+        if code:
+            raise Refused(f"{code:x}")
+        return response.raw[: size.value]
+
+    def close(self) -> tuple[int, str]:
+        if self.is_open:
+            self.context.finalize(ctypes.addressof(self.room))
+            self.room = ctypes.create_string_buffer(0)
+        return 0, ""
+
+
+class Python(Host):
+    """The device that Python keeps."""
+
+    name, part = "Python", "libtpmsim"
+
+    device: KeptDevice | None = None
+
+    @property
+    def is_open(self) -> bool:
+        return self.device is not None
+
+    @property
+    def opened(self) -> KeptDevice:
+        assert self.device is not None
+        return self.device
+
+    @contextlib.contextmanager
+    def refusing(self) -> Iterator[None]:
+        """DeviceEnded, BadImage and BadState say why, and so does MemoryError."""
+        try:
+            with warnings.catch_warnings():
+                warnings.simplefilter("ignore", RuntimeWarning)
+                yield
+        except (DeviceEnded, MemoryError) as fault:
+            raise Refused(str(fault)) from fault
+
+    def begin(self, folder: str) -> None:
+        with self.refusing():
+            self.device = KeptDevice(folder)
+
+    def execute(self, buffer: bytes) -> bytes:
+        with self.refusing():
+            return self.opened.execute(buffer).response
+
+    def power(self) -> None:
+        with self.refusing():
+            self.opened.power_cycle()
+
+    def close(self) -> tuple[int, str]:
+        if self.device is not None:
+            self.device.close()
+            self.device = None
+        return 0, ""
+
+
+class Run(Host):
+    """`tpmsim run --state`, which is told one line after another. A power cycle is known to be done
+    with the next answer.
+    """
+
+    name, answers_all = "the program", False
+
+    process: subprocess.Popen[bytes] | None = None
+
+    @property
+    def pipes(self) -> tuple[IO[bytes], IO[bytes]]:
+        """Its standard input and output."""
+        assert self.process and self.process.stdin and self.process.stdout
+        return self.process.stdin, self.process.stdout
+
+    def words(self, folder: str) -> list[str]:
+        return [str(self.files.program), "run", "--state", folder, "-"]
+
+    def begin(self, folder: str) -> None:
+        pipe, words = subprocess.PIPE, self.words(folder)
+        self.process = subprocess.Popen(
+            words, env=self.environment, stdin=pipe, stdout=pipe, stderr=pipe
+        )
+
+    @property
+    def is_open(self) -> bool:
+        return self.process is not None
+
+    def tells(self, line: str) -> None:
+        try:
+            self.pipes[0].write(f"{line}\n".encode())
+            self.pipes[0].flush()
+        except BrokenPipeError:
+            raise Refused("it has ended") from None
+
+    def execute(self, buffer: bytes) -> bytes:
+        self.tells(f"cmd {buffer.hex()}")
+        line = self.pipes[1].readline()
+        if not line.endswith(b"\n"):
+            raise Refused("it has ended")
+        return bytes.fromhex(line.decode())
+
+    def power(self) -> None:
+        self.tells("power")
+
+    def close(self) -> tuple[int, str]:
+        if self.process is None:
+            return 0, ""
+        try:
+            told = self.process.communicate(timeout=SECONDS)
+            return self.process.returncode, told[1].decode()
+        except subprocess.TimeoutExpired:
+            self.process.kill()
+            self.process.communicate()
+            return -1, "it does not end"
+
+
+class Power(Run):
+    """tpmsim-power, or `tpmsim power`: one power cycle."""
+
+    name = "tpmsim-power"
+
+    def words(self, folder: str) -> list[str]:
+        return [str(self.files.power), folder]
+
+    def power(self) -> None:
+        """It is what the program does."""
+
+
+class ProgramPower(Power):
+    name = "tpmsim power"
+
+    def words(self, folder: str) -> list[str]:
+        return [str(self.files.program), "power", folder]
+
+
+class Simulator(Run):
+    """tpmsim-simulator, with a client of its protocol. Its power comes on as it begins."""
+
+    name, answers_all, comes_on = "the simulator", True, True
+    device: SimulatorDevice | None = None
+
+    @property
+    def served(self) -> SimulatorDevice:
+        assert self.device is not None
+        return self.device
+
+    def words(self, folder: str) -> list[str]:
+        files = [str(self.files.simulator), "--port", "0", "--state", folder, "--force", "always"]
+        return files
+
+    def begin(self, folder: str) -> None:
+        super().begin(folder)
+        line = self.pipes[1].readline().split()
+        if len(line) != 2:
+            raise Refused("it does not serve")
+        with self.refusing():
+            self.device = SimulatorDevice(line[0].decode(), int(line[1]), SECONDS)
+
+    @contextlib.contextmanager
+    def refusing(self) -> Iterator[None]:
+        try:
+            yield
+        except (DeviceEnded, OSError) as fault:
+            raise Refused(str(fault)) from fault
+
+    def execute(self, buffer: bytes) -> bytes:
+        with self.refusing():
+            return self.served.execute(buffer).response
+
+    def power(self) -> None:
+        with self.refusing():
+            self.served.power_cycle()
+
+    def close(self) -> tuple[int, str]:
+        if self.device:
+            self.device.close()
+        if self.process and self.process.poll() is None:
+            self.process.terminate()
+        return super().close()
+
+
+def does(host: Host, act: str, folder: str) -> bytes:
+    """An act of a host, and the response to it, if it has one."""
+    if act == BEGIN:
+        host.begin(folder)
+    elif act == POWER:
+        host.power()
+    else:
+        return host.execute(COMMANDS[act])
+    return b""

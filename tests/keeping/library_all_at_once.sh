@@ -1,0 +1,10 @@
+# Hosts of each kind that hold one device at once while they are killed, fork and are interrupted, and clocks
+# jump about: all_at_once.py, with a few processes and with 40.
+tests=$(cd "$(dirname "$0")/.." && pwd -P)
+. "$tests/common/cases.sh"
+. "$tests/common/library.sh"
+. "$tests/keeping/hosts.sh"
+
+for processes in 6 40; do
+    against all_at_once 5 "$processes" 1 2>"$room/said" || cat "$room/said"
+done

@@ -1,0 +1,22 @@
+# The same on a disk that is full now and then, which is mounted for this test alone, by root or by a user who
+# may be root in a namespace.
+if [ -z "${own_mounts:-}" ]; then
+    for user in '' '--user --map-root-user'; do
+        # shellcheck disable=SC2086 # it is two words, or none
+        ! unshare $user --mount true 2>/dev/null ||
+            own_mounts=yes exec unshare $user --mount sh "$0" "$@"
+    done
+fi
+tests=$(cd "$(dirname "$0")/.." && pwd -P)
+. "$tests/common/cases.sh"
+. "$tests/common/library.sh"
+
+mkdir disk || exit 1
+if [ -z "${own_mounts:-}" ] || ! mount -t tmpfs -o size=1m none disk 2>"$room/error"; then
+    skip 'no disk can be mounted for this test alone'
+fi
+. "$tests/keeping/hosts.sh"
+cd disk || exit 1
+against all_at_once 5 6 1 fills 2>"$room/said" || cat "$room/said"
+cd ..
+umount disk

@@ -1,0 +1,26 @@
+#!/bin/sh
+# Attacks all hosts of a kept device. First each call of each host fails in turn, in some 11,000 runs:
+# tests/keeping/library_each_call.sh makes one in ten. Then hosts of each kind hold one device at once, while
+# they are killed, fork and are interrupted. It is no part of the gate. Needs cc, libtss2-dev and python3.
+#
+#   tools/soak/kept_hosts.sh             all calls, and ten minutes of processes
+#   tools/soak/kept_hosts.sh 60 7        all calls, and one minute of seed 7
+#   tools/soak/kept_hosts.sh 60 7 1      one call in 1; 10: one in ten
+#
+# It ends by saying what was tried, or what was wrong; then the status is 1.
+set -u
+
+tests=$(CDPATH='' cd "$(dirname "$0")/../../tests" && pwd -P) || exit 1
+seconds=${1:-600}
+seed=${2:-1}
+share=${3:-1}
+set -- "${TPMSIM_ARCHIVE:-$tests/../dist/libtpmsim.a}"
+. "$tests/common/cases.sh"
+. "$tests/common/library.sh"
+. "$tests/keeping/hosts.sh"
+
+status=0
+against each_call "$shim" "$share" 2>&1 || status=1
+against all_at_once "$((seconds / 2))" 6 "$seed" 2>&1 || status=1
+against all_at_once "$((seconds / 2))" 40 "$seed" 2>&1 || status=1
+exit "$status"
