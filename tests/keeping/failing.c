@@ -1,8 +1,9 @@
-/* Stands before the functions of the C library by which a host of a kept device reaches its folder, the
- * clock, random bytes and memory. The call of one number is met by one of these acts. LD_PRELOAD loads
- * it. A program is told by FAILING: `NUMBER ACT ERROR REPORT`. A caller in the same process calls
- * failing_begins, and failing_goes_on before and after what counts. The name of the call that was met
- * goes to the file REPORT. With FAILING_CLOCK the clock jumps about, by a day at most. */
+/* Stands before the functions of the C library by which a host of a kept device reaches its folder,
+ * the clock, random bytes and memory. The call of one number is met by one of these acts.
+ * LD_PRELOAD loads it. A program is told by FAILING: `NUMBER ACT ERROR REPORT`. A caller in the
+ * same process calls failing_begins, and failing_goes_on before and after what counts. The name of
+ * the call that was met goes to the file REPORT. With FAILING_CLOCK the clock jumps about, by a day
+ * at most. */
 #define _GNU_SOURCE
 #include <errno.h>
 #include <fcntl.h>
@@ -18,8 +19,8 @@
 #include <time.h>
 #include <unistd.h>
 
-/* FAILS_ON: this call, and each later one of the function. STORMS: this call and two more that may be
- * interrupted fail with EINTR. */
+/* FAILS_ON: this call, and each later one of the function. STORMS: this call and two more that may
+ * be interrupted fail with EINTR. */
 enum act {
     PASSES,
     FAILS,
@@ -157,7 +158,8 @@ CALL_TWICE(ssize_t, pwrite, MOVES | WAITS, "", (int file, const void *bytes, siz
 CALL_TWICE(int, ftruncate, WAITS, "", (int file, off_t size), syscall(SYS_ftruncate, file, size))
 CALL_TWICE(int, fstat, OTHER, "", (int file, struct stat *status),
            syscall(SYS_newfstatat, file, "", status, AT_EMPTY_PATH))
-CALL_TWICE(int, fstatat, OTHER, path, (int folder, const char *path, struct stat *status, int flags),
+CALL_TWICE(int, fstatat, OTHER, path,
+           (int folder, const char *path, struct stat *status, int flags),
            syscall(SYS_newfstatat, folder, path, status, flags))
 CALL_TWICE(int, stat, OTHER, path, (const char *path, struct stat *status),
            syscall(SYS_newfstatat, AT_FDCWD, path, status, 0))
@@ -189,7 +191,8 @@ CALL(int, renameat, OTHER, path, (int folder, const char *path, int into, const 
      syscall(SYS_renameat2, folder, path, into, name, 0))
 CALL(int, link, OTHER, path, (const char *path, const char *name),
      syscall(SYS_linkat, AT_FDCWD, path, AT_FDCWD, name, 0))
-CALL(int, linkat, OTHER, path, (int folder, const char *path, int into, const char *name, int flags),
+CALL(int, linkat, OTHER, path,
+     (int folder, const char *path, int into, const char *name, int flags),
      syscall(SYS_linkat, folder, path, into, name, flags))
 CALL(ssize_t, getrandom, MOVES | WAITS, "", (void *bytes, size_t size, unsigned flags),
      syscall(SYS_getrandom, bytes, half(how, size), flags))
@@ -233,7 +236,8 @@ int clock_gettime(clockid_t clock, struct timespec *now) {
     enum act how = clock == CLOCK_REALTIME ? meets("clock_gettime", OTHER, "", NULL) : PASSES;
     if (is_refused(how)) return -1;
     long done = syscall(SYS_clock_gettime, clock, now);
-    if (jumps && clock == CLOCK_REALTIME) now->tv_sec += random() % (2 * JUMP_SECONDS) - JUMP_SECONDS;
+    if (jumps && clock == CLOCK_REALTIME)
+        now->tv_sec += random() % (2 * JUMP_SECONDS) - JUMP_SECONDS;
     return (int)after(how, done);
 }
 

@@ -1,23 +1,29 @@
-/* The device that executed the history of a world, by the definition: a fold over its commands, with
- * the calls on a journal and on a device, and no keeper but for the text of a new device. */
+/* The device that executed the history of a world, by the definition: a fold over its commands,
+ * with the calls on a journal and on a device, and no keeper but for the text of a new device. */
 #ifndef KEEPER_FOLD_H
 #define KEEPER_FOLD_H
 #include "keeper_folder.h"
 
 /* A head is kept of every so many commands, to go back to. */
-enum { EACH = 16, HEAD_BYTES = 128 * 1024, REPORT_BYTES = 7, KIND_AT = 0, NOW_AT = 1 };
-enum { LOCALITY_AT = 9, COMPLETES_AT = 10, RANDOM_AT = 11, BUFFER_AT = 267 };
+enum { EACH = 16, HEAD_BYTES = 128 * 1024, REPORT_BYTES = 7 };
+
+/* Kinds of commands, and the offsets in those of the standard after the clock, or after what has
+ * elapsed. */
+enum { BY_CLOCK = 0, CYCLE = 1, RESTORING = 2, BY_ELAPSED = 3, NO_KIND = 9, MOMENT_AT = 1 };
+enum { LOCALITY_AFTER = 0, COMPLETES_AFTER = 1, RANDOM_AFTER = 2, BUFFER_AFTER = 258 };
 
 typedef struct mark {
     int commands;
+    uint64_t time;
     size_t size;
     uint8_t *head;
 } mark;
 
-/* The device after so many commands of the world's history, of which origin. */
+/* The device after so many commands of the world's history, of which origin, and its time. */
 static struct fold {
     tpmsim device;
     int commands, origin, marks;
+    uint64_t time;
     mark mark[COMMANDS / EACH + 1];
 } fold;
 
@@ -26,9 +32,9 @@ static int has_report;
 
 static uint8_t head_text[HEAD_BYTES];
 
-static inline uint64_t number_at(const uint8_t *at) {
+static inline uint64_t number_at(const uint8_t *at, int size) {
     uint64_t number = 0;
-    for (int i = 0; i < 8; i++) number = number << 8 | at[i];
+    while (size--) number = number << 8 | *at++;
     return number;
 }
 
@@ -42,9 +48,8 @@ static inline size_t head_of_seed(const uint8_t *seed, size_t size) {
     tpmsim_keeper_next(&keeper, TPMSIM_GOT_DONE, 0, 0, seed, 0);
     tpmsim_keeper_next(&keeper, TPMSIM_GOT_GONE, 0, 0, seed, 0);
     tpmsim_keeper_ask(&keeper, &ask);
-    size_t head = ask.task == TPMSIM_TASK_MAKE
-                      ? tpmsim_keeper_text(&keeper, head_text, sizeof head_text)
-                      : 0;
+    size_t head =
+        ask.task == TPMSIM_TASK_MAKE ? tpmsim_keeper_text(&keeper, head_text, sizeof head_text) : 0;
     must(head <= sizeof head_text, "a head's size");
     tpmsim_keeper_free(&keeper);
     return head;
@@ -66,6 +71,7 @@ static inline size_t fold_shows(void) {
 static inline void fold_marks(void) {
     mark *it = &fold.mark[fold.marks++];
     it->commands = fold.commands;
+    it->time = fold.time;
     it->size = fold_shows();
     it->head = taken(it->size);
     memcpy(it->head, head_text, it->size);
@@ -89,19 +95,32 @@ static inline void fold_goes_back(int commands) {
     const mark *it = &fold.mark[fold.marks - 1];
     fold_opens(it->head, it->size);
     fold.commands = it->commands;
+    fold.time = it->time;
+}
+
+/* The clock at the moment of a command, and then the time of the journal. A command takes no less
+ * than no time, and at most 2^32 - 1 milliseconds. */
+static inline uint64_t fold_clock(const uint8_t *text) {
+    int is_by_clock = text[0] == BY_CLOCK;
+    uint64_t told = number_at(text + MOMENT_AT, is_by_clock ? 8 : 4);
+    uint64_t now = is_by_clock ? told : fold.time + told;
+    uint64_t elapsed = now > fold.time ? now - fold.time : 0;
+    fold.time += elapsed > UINT32_MAX ? UINT32_MAX : elapsed;
+    return now;
 }
 
 /* A command of the standard. Returns how many bytes the response has, with its report. */
 static inline size_t fold_executes(const uint8_t *text, size_t size, uint8_t *response) {
     static uint8_t record[TPMSIM_RECORD_ROOM];
     tpmsim_answered answered;
-    size_t record_size;
+    size_t record_size, moment = text[0] == BY_CLOCK ? 8 : 4;
+    const uint8_t *rest = text + MOMENT_AT + moment, *buffer = rest + BUFFER_AFTER;
     uint8_t *at = response + (has_report ? REPORT_BYTES : 0);
-    must(tpmsim_journal_execute(&fold.device, text + BUFFER_AT, size - BUFFER_AT,
-                                text[LOCALITY_AT], number_at(text + NOW_AT), text[COMPLETES_AT],
-                                text + RANDOM_AT, at, &answered, record,
-                                &record_size) == TPMSIM_DONE,
-         "a command is not executed");
+    uint8_t told =
+        tpmsim_journal_execute(&fold.device, buffer, (size_t)(text + size - buffer),
+                               rest[LOCALITY_AFTER], fold_clock(text), rest[COMPLETES_AFTER],
+                               rest + RANDOM_AFTER, at, &answered, record, &record_size);
+    must(told == TPMSIM_DONE, "a command is not executed");
     if (!has_report) return answered.size;
     for (int i = 0; i < 4; i++) response[i] = (uint8_t)(answered.code >> (24 - 8 * i));
     response[4] = answered.check;
@@ -119,21 +138,25 @@ static inline size_t fold_cycles(const uint8_t *text) {
     size_t head = head_of_seed(seed, size);
     must(head > 0, "an image is none");
     fold_opens(head_text, head);
+    fold.time = number_at(text + MOMENT_AT, 8);
     return 0;
 }
 
 static inline size_t fold_restores(const uint8_t *seed, size_t size, uint8_t *response) {
     size_t head = head_of_seed(seed, size);
     response[0] = head > 0;
-    if (head) fold_opens(head_text, head);
+    if (head == 0) return 1;
+    fold_opens(head_text, head);
+    fold.time = number_at(seed + 1, 8);
     return 1;
 }
 
 static inline void fold_steps(executed *next) {
     static uint8_t response[RESPONSE_BYTES + REPORT_BYTES];
-    size_t size = next->text[KIND_AT] == 0   ? fold_executes(next->text, next->size, response)
-                  : next->text[KIND_AT] == 1 ? fold_cycles(next->text)
-                                             : fold_restores(next->text + 1, next->size - 1, response);
+    const uint8_t *text = next->text;
+    size_t size = *text == CYCLE       ? fold_cycles(text)
+                  : *text == RESTORING ? fold_restores(text + 1, next->size - 1, response)
+                                       : fold_executes(text, next->size, response);
     if (!next->response) next->response = stored(response, size), next->response_size = size;
     must(next->response_size == size && memcmp(next->response, response, size) == 0,
          "a device answers otherwise the second time");
@@ -146,6 +169,7 @@ static inline void fold_follows(void) {
         fold_forgets();
         fold_opens(head_text, head_of_seed(all->seed, all->seed_size));
         fold.origin = all->origin;
+        fold.time = number_at(all->seed + 1, 8);
         fold_marks();
     }
     while (fold.commands < all->commands) {

@@ -114,9 +114,9 @@ static inline void history_adds(const uint8_t *command, size_t size) {
     all->history[all->commands++] = (executed){stored(command, size), NULL, size, 0};
 }
 
-/* The first `count` bytes of a text of `size` are written at `at`, after a cut to `cut` bytes. What was
- * dropped is there again if all after the forced bytes is written. `adds` is whether the text ends
- * with a command's entry. */
+/* The first `count` bytes of a text of `size` are written at `at`, after a cut to `cut` bytes. What
+ * was dropped is there again if all after the forced bytes is written. `adds` is whether the text
+ * ends with a command's entry. */
 static inline void file_puts(file *it, size_t cut, size_t at, const uint8_t *text, size_t count,
                              size_t size, int adds) {
     content *now = &it->now;

@@ -1,10 +1,11 @@
-/* The world of specs/World.antt of tpm_keeping drives the compiled keeper, at random: processes that
- * each have a keeper are asked, do what they are asked for, fail, are killed and fork, and the host
- * crashes. Each answer, and after each crash the journal, is compared with the device that executed
- * the history, by the definition (keeper_fold.h).
+/* The world of specs/World.antt of tpm_keeping drives the compiled keeper, at random: processes
+ * that each have a keeper are asked, do what they are asked for, fail, are killed and fork, and the
+ * host crashes. Each answer, and after each crash the journal, is compared with the device that
+ * executed the history, by the definition (keeper_fold.h).
  *
  *     keeper_world EVENTS SEED     so many events, of a seed
- *     keeper_world wrong EVENTS    hosts that do wrong, each of which has to be caught within so many
+ *     keeper_world wrong EVENTS    hosts that do wrong, each of which has to be caught within so
+ * many
  *
  * Linked with --wrap=malloc and --wrap=realloc, to refuse memory. */
 #define _GNU_SOURCE
@@ -90,7 +91,7 @@ static void add_seed(process *it) {
     if (chance(8)) it->size -= rolled(200);
 }
 
-static void add_standard(process *it) {
+static void add_standard(process *it, uint8_t kind) {
     static const struct {
         size_t size;
         const char *bytes;
@@ -112,7 +113,8 @@ static void add_standard(process *it) {
         {22, "\x80\x01\0\0\0\x16\0\0\x01\x7a\0\0\0\x01\x02\0\0\0\0\0\0\x05"},
     };
     uint8_t told[2] = {(uint8_t)(chance(8) ? rolled(5) : 0), (uint8_t)rolled(2)};
-    add_clock(it);
+    if (kind == BY_CLOCK) add_clock(it);
+    if (kind == BY_ELAPSED) add_random(it, 4), it->command[it->size - 4] = (uint8_t)rolled(2);
     add(it, told, sizeof told);
     add_random(it, RANDOM_BYTES);
     if (chance(12)) return add_random(it, rolled(600));
@@ -123,11 +125,12 @@ static void add_standard(process *it) {
 
 static void add_command(process *it) {
     unsigned roll = rolled(100);
-    uint8_t kind = (uint8_t)(roll < 90 ? 0 : roll < 95 ? 1 : roll < 98 ? 2 : 9);
+    uint8_t kind = roll < 90 ? BY_CLOCK : roll < 95 ? CYCLE : roll < 98 ? RESTORING : NO_KIND;
+    if (has_report && roll < 20) kind = BY_ELAPSED;
     add(it, &kind, 1);
-    if (kind == 0) add_standard(it);
-    if (kind == 1) add_clock(it), add_number(it, rolled(1u << 31));
-    if (kind == 2) add_seed(it);
+    if (kind == BY_CLOCK || kind == BY_ELAPSED) add_standard(it, kind);
+    if (kind == CYCLE) add_clock(it), add_number(it, rolled(1u << 31));
+    if (kind == RESTORING) add_seed(it);
 }
 
 static void asks(process *it) {
@@ -152,7 +155,8 @@ static void asks(process *it) {
 /* ---- what a task does */
 
 static int is_entered(const process *it) {
-    return it->job == TPMSIM_JOB_EXECUTE && it->command[KIND_AT] == 0;
+    return it->job == TPMSIM_JOB_EXECUTE &&
+           (*it->command == BY_CLOCK || *it->command == BY_ELAPSED);
 }
 
 static void puts_text(process *it, const tpmsim_ask *ask, size_t count) {
@@ -254,8 +258,8 @@ static void is_answered(process *it) {
 static uint8_t end_of(const process *it) {
     if (journal()->number == 0)
         return it->job == TPMSIM_JOB_BEGIN ? TPMSIM_FAULT_UNREADABLE : TPMSIM_FAULT_ABSENT;
-    return it->job == TPMSIM_JOB_EXECUTE && it->command[KIND_AT] == 9 ? TPMSIM_FAULT_NO_COMMAND
-                                                                      : TPMSIM_FAULT_NONE;
+    int is_none = it->job == TPMSIM_JOB_EXECUTE && *it->command == NO_KIND;
+    return is_none ? TPMSIM_FAULT_NO_COMMAND : TPMSIM_FAULT_NONE;
 }
 
 static void ends(process *it, const tpmsim_ask *ask) {
@@ -331,7 +335,8 @@ static void dies(int number, const tpmsim_ask *ask) {
 
 static void happens(void);
 
-/* All processes fork. The children go on for a while, and die. Their parents do nothing meanwhile. */
+/* All processes fork. The children go on for a while, and die. Their parents do nothing meanwhile.
+ */
 static void forks(void) {
     int status;
     if (is_child) return;
@@ -437,7 +442,8 @@ static void check_wrong(long events) {
     }
 }
 
-/* Learns which keeper it is: whether it has the job of cutting, and whether responses have reports. */
+/* Learns which keeper it is: whether it has the job of cutting, and whether responses have reports.
+ */
 static void learn(void) {
     static host alone;
     static memory folder;
@@ -456,10 +462,11 @@ int main(int count, char **words) {
     if (strcmp(words[1], "wrong") == 0) return check_wrong(atol(words[2])), 0;
     run(atol(words[1]), (uint64_t)atol(words[2]) * 1000003);
     printf("each answer and each journal is the history's\n");
-    fprintf(stderr,
-            "%ld events in %ld worlds: %ld calls, %ld answers, %ld deaths, %ld failures, %ld forks, "
-            "%ld crashes, %ld drops, %ld starved\n",
-            counts.events, counts.worlds, counts.calls, counts.answers, counts.deaths,
-            counts.failures, counts.forks, counts.crashes, counts.drops, counts.starved);
+    fprintf(
+        stderr,
+        "%ld events in %ld worlds: %ld calls, %ld answers, %ld deaths, %ld failures, %ld forks, "
+        "%ld crashes, %ld drops, %ld starved\n",
+        counts.events, counts.worlds, counts.calls, counts.answers, counts.deaths, counts.failures,
+        counts.forks, counts.crashes, counts.drops, counts.starved);
     return 0;
 }
