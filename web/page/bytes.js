@@ -43,6 +43,17 @@ export function numberOf(bytes) {
   return value;
 }
 
+/** @param {...Uint8Array} parts */
+export function joined(...parts) {
+  const found = new Uint8Array(parts.reduce((size, it) => size + it.length, 0));
+  let at = 0;
+  for (const it of parts) {
+    found.set(it, at);
+    at += it.length;
+  }
+  return found;
+}
+
 /** @param {Uint8Array} one @param {Uint8Array} other */
 export function areSame(one, other) {
   if (one === other) return true;

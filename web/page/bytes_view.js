@@ -6,7 +6,9 @@ import { cut, make } from "./dom.js";
 
 /**
  * @typedef {import("./fields.js").Field} Field
- * @typedef {{bytes: Uint8Array, fields: Field[], wrong: Field | null, plain?: {at: number, bytes: Uint8Array} | null}} Shown
+ * @typedef {import("./plain.js").Plain} Plain
+ * @typedef {{bytes: Uint8Array, fields: Field[], wrong: Field | null, plain: Plain | null}} Shown the bytes as
+ *   they are sent, and the fields of them, of which some are decrypted
  */
 
 const SHOWN_DIGITS = 44;
@@ -14,7 +16,7 @@ const PART_WORDS = { header: "header", handle: "handles", entry: "authorization"
 
 /** @param {Shown} shown @param {number} perRow */
 export function bytesShown(shown, perRow) {
-  const both = make("div", {}, dump(shown, perRow), table(shown));
+  const both = make("div", { class: "bytes" }, dump(shown, perRow), table(shown));
   both.addEventListener("mouseover", (event) => light(both, fieldAt(event.target)));
   both.addEventListener("mouseleave", () => light(both, null));
   both.addEventListener("keydown", (event) => rowByKey(both, event));
@@ -94,7 +96,7 @@ function table(shown) {
     const name = make("td", {}, field.name);
     name.style.setProperty("--depth", String(field.depth));
     const isWrong = isWithin(field, wrong);
-    const values = [valueShown(bytes, field), make("span", { class: "dim" }, field.meaning), plainShown(field, plain)];
+    const values = [valueShown(bytes, field), plainShown(field, plain), make("span", { class: "dim" }, field.meaning)];
     body.append(make("tr", { class: isWrong ? "wrong" : false, "data-field": number }, name, make("td", {}, values)));
   });
   return make("table", { tabindex: 0, "aria-label": "Fields; the arrow keys light their bytes" }, body);
@@ -109,9 +111,10 @@ function valueShown(bytes, field) {
   return make("span", { class: "value", title: isCut ? hex : false }, cut(hex, SHOWN_DIGITS));
 }
 
-/** @param {Field} field @param {Shown["plain"]} plain */
+/** @param {Field} field @param {Plain | null} plain */
 function plainShown(field, plain) {
-  if (!plain || field.isGroup || field.at !== plain.at) return null;
-  const hex = hexOf(plain.bytes.subarray(field.front, field.size));
-  return make("span", { class: "value new" }, `decrypted ${hex || "empty"}`);
+  const isWithinPlain = plain && field.at < plain.to && field.at + field.size > plain.from;
+  if (!isWithinPlain || field.isGroup) return null;
+  const hex = hexOf(plain.bytes.subarray(field.at + field.front, field.at + field.size));
+  return make("span", { class: "value" }, "decrypted ", make("span", { class: "new", title: hex.length > SHOWN_DIGITS ? hex : false }, cut(hex, SHOWN_DIGITS) || "empty"));
 }

@@ -17,12 +17,10 @@ const isOpen = new Map([["PCRs", true], ["Sessions", true], ["Objects", true], [
 export function showDevice(before, after, when) {
   const pane = byId("device");
   const changed = new Set(changesOf(before, after).map((it) => `${it.group}|${it.entity}|${it.name}`));
-  const top = pane.scrollTop;
   pane.replaceChildren(
     make("h2", {}, "The device", make("span", { class: "out" }, when)),
     ...GROUPS.map((group) => groupShown(group, after.groups.get(group) ?? new Map(), changed)),
   );
-  pane.scrollTop = top;
 }
 
 /** @param {string} group @param {Group} those @param {Set<string>} changed */

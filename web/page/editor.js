@@ -1,25 +1,21 @@
-// The editor: a text area whose text is transparent, over the same lines in colours; beside each line
-// its number and what came of it. Only the rows that can be seen are there.
+// The editor: a text area whose text is transparent, over the rows that can be seen of it. Sizes are read
+// before anything is written, as the browser computes the layout again for whoever asks after that.
 
-import { colouredLine, faultPlace, faultWords } from "./coloured.js";
+import { faultPlace, faultWords } from "./coloured.js";
 import { byId, cut, make } from "./dom.js";
 import { formShown } from "./form.js";
 import { completionOf, tokensOf } from "./completion.js";
+import { ROW, Rows, TOP } from "./rows.js";
 
 /**
- * @typedef {import("./device.js").LineFault} LineFault
- * @typedef {{text: string, isBad: boolean}} Outcome
- * @typedef {{
- *   fault: (line: number) => LineFault | undefined, outcome: (line: number) => Outcome | null,
- *   isChosen: (line: number) => boolean, stateAtLine: (line: number) => import("./state.js").State,
- *   edited: () => void, moved: (line: number) => void,
+ * @typedef {import("./rows.js").Told & {
+ *   stateAtLine: (line: number) => import("./state.js").State, edited: () => void, moved: (line: number) => void,
  * }} Told what the editor asks of the page, and reports to it
  */
 
-const ROW = 20;
-const TOP = 8;
-const MARGIN_ROWS = 6;
-const LONG_LINE = 1500;
+const FAULT_WIDTH = 220;
+const CHOICES = { width: 440, height: 208, row: 24, edges: 10 };
+const EDGE = 8;
 
 export class Editor {
   /** @param {import("./device.js").Chip} chip @param {Told} told */
@@ -28,8 +24,12 @@ export class Editor {
     this.told = told;
     /** @type {HTMLTextAreaElement} */
     this.area = byId("text");
+    this.rows = new Rows(told);
     this.lines = [""];
-    this.columnWidth = 7.5;
+    this.formOf = "";
+    this.padding = 0;
+    /** @type {import("./rows.js").View} */
+    this.view = { top: 0, left: 0, width: 0, height: 0 };
     /** @type {import("./completion.js").Completion | null} */
     this.completion = null;
     this.selected = 0;
@@ -56,9 +56,23 @@ export class Editor {
     probe.style.minWidth = "0";
     probe.style.paddingLeft = "0";
     byId("texts").append(probe);
-    this.columnWidth = probe.getBoundingClientRect().width / 100 || this.columnWidth;
+    this.rows.columnWidth = probe.getBoundingClientRect().width / 100 || this.rows.columnWidth;
     probe.remove();
+    this.padding = parseFloat(getComputedStyle(this.area).paddingLeft);
     this.paint();
+  }
+
+  /** Reads what can be seen, and ends the layers at the scroll bars. */
+  #look() {
+    const { scrollTop, scrollLeft, clientWidth, clientHeight, offsetWidth, offsetHeight } = this.area;
+    const isSame = clientWidth === this.view.width && clientHeight === this.view.height;
+    this.view = { top: scrollTop, left: scrollLeft, width: clientWidth, height: clientHeight };
+    if (isSame) return;
+    for (const name of ["texts", "margins"]) {
+      const layer = byId(name).parentElement;
+      layer.style.right = `${offsetWidth - clientWidth}px`;
+      layer.style.bottom = `${offsetHeight - clientHeight}px`;
+    }
   }
 
   get text() {
@@ -83,11 +97,14 @@ export class Editor {
 
   /** Where the caret is: its line and column, from 0. */
   caret() {
-    const front = this.area.value.slice(0, this.area.selectionStart);
-    const lastBreak = front.lastIndexOf("\n");
+    const { lines } = this;
     let line = 0;
-    for (let at = front.indexOf("\n"); at >= 0; at = front.indexOf("\n", at + 1)) line += 1;
-    return { line, column: front.length - lastBreak - 1 };
+    let column = this.area.selectionStart;
+    while (line < lines.length - 1 && column > lines[line].length) {
+      column -= lines[line].length + 1;
+      line += 1;
+    }
+    return { line, column };
   }
 
   #caretMoved() {
@@ -127,66 +144,9 @@ export class Editor {
   // Painting.
 
   paint() {
-    const { area, lines } = this;
-    const first = Math.max(0, Math.floor((area.scrollTop - TOP) / ROW) - MARGIN_ROWS);
-    const last = Math.min(lines.length, first + Math.ceil(area.clientHeight / ROW) + 2 * MARGIN_ROWS);
-    const texts = document.createDocumentFragment();
-    const margins = document.createDocumentFragment();
-    for (let line = first; line < last; line += 1) {
-      texts.append(this.#row(line));
-      margins.append(this.#side(line));
-    }
-    byId("texts").replaceChildren(texts);
-    byId("margins").replaceChildren(margins);
-    byId("texts").style.transform = `translate(${-area.scrollLeft}px, ${TOP - area.scrollTop}px)`;
-    byId("margins").style.transform = `translateY(${TOP - area.scrollTop}px)`;
-    for (const layer of ["texts", "margins"]) this.#clip(byId(layer).parentElement);
+    this.#look();
+    this.rows.paint(this.lines, this.view);
     this.#showUnder();
-  }
-
-  /**
-   * Ends a layer at the scroll bars.
-   * @param {HTMLElement} layer
-   */
-  #clip(layer) {
-    layer.style.right = `${this.area.offsetWidth - this.area.clientWidth}px`;
-    layer.style.bottom = `${this.area.offsetHeight - this.area.clientHeight}px`;
-  }
-
-  /** @param {number} line */
-  #row(line) {
-    const row = make("div", { class: this.told.isChosen(line) ? "row chosen" : "row" });
-    row.style.top = `${line * ROW}px`;
-    const text = this.lines[line];
-    if (text.length > LONG_LINE) row.append(...this.#window(row, text));
-    else row.append(...colouredLine(text, this.told.fault(line)));
-    return row;
-  }
-
-  /**
-   * What can be seen of a long line.
-   * @param {HTMLElement} row @param {string} text
-   */
-  #window(row, text) {
-    const from = Math.max(0, Math.floor(this.area.scrollLeft / this.columnWidth) - 100);
-    const shown = text.slice(from, from + LONG_LINE);
-    const left = make("span", {}, shown);
-    left.style.marginLeft = `${from * this.columnWidth}px`;
-    left.className = text.startsWith("#") ? "t-comment" : "";
-    row.style.width = "max-content";
-    return [left];
-  }
-
-  /** @param {number} line */
-  #side(line) {
-    const outcome = this.told.outcome(line);
-    const side = make(
-      "div", { class: this.told.isChosen(line) ? "side chosen" : "side" },
-      make("span", { class: "number" }, String(line + 1)),
-      make("span", { class: outcome?.isBad ? "out bad" : "out" }, outcome?.text ?? ""),
-    );
-    side.style.top = `${line * ROW}px`;
-    return side;
   }
 
   /** Shows the fault of the caret's line under it. */
@@ -200,24 +160,32 @@ export class Editor {
     const at = faultPlace(this.lines[line], fault).from;
     under.textContent = faultWords(fault, at >= this.lines[line].length && fault.name !== "TooLong");
     const left = this.#leftOf(at);
-    under.style.left = `${Math.max(8, Math.min(left, this.area.clientWidth - 220))}px`;
-    under.style.top = `${TOP + (line + 1) * ROW - this.area.scrollTop + 2}px`;
+    under.style.left = `${Math.max(EDGE, Math.min(left, this.view.width - FAULT_WIDTH))}px`;
+    under.style.top = `${this.#below(line)}px`;
   }
 
   /** @param {number} column */
   #leftOf(column) {
-    const padding = parseFloat(getComputedStyle(this.area).paddingLeft);
-    return padding + column * this.columnWidth - this.area.scrollLeft;
+    return this.padding + column * this.rows.columnWidth - this.view.left;
+  }
+
+  /** @param {number} line */
+  #below(line) {
+    return TOP + (line + 1) * ROW - this.view.top + 2;
   }
 
   /** Shows the form of the caret's command, with its field set off. */
   showForm() {
     const { line, column } = this.caret();
     const text = this.lines[line] ?? "";
+    if (this.formOf === `${column} ${text}`) return;
+    this.formOf = `${column} ${text}`;
     const form = byId("form");
     form.replaceChildren(...formShown(text, column));
-    const here = form.querySelector(".on");
-    form.scrollLeft = here ? here.offsetLeft - form.clientWidth + here.offsetWidth + 40 : 0;
+    requestAnimationFrame(() => {
+      const here = form.querySelector(".on");
+      form.scrollLeft = here ? here.offsetLeft - form.clientWidth + here.offsetWidth + 40 : 0;
+    });
   }
 
   // Completion.
@@ -248,11 +216,12 @@ export class Editor {
     )));
     list.hidden = false;
     byId("under").hidden = true;
-    const below = TOP + (line + 1) * ROW - this.area.scrollTop + 2;
-    const isLow = below + list.offsetHeight > this.area.clientHeight && below > list.offsetHeight + ROW;
-    list.style.top = `${isLow ? below - ROW - 4 - list.offsetHeight : below}px`;
-    const left = this.#leftOf(completion.from);
-    list.style.left = `${Math.max(8, Math.min(left, this.area.clientWidth - list.offsetWidth - 8))}px`;
+    const height = Math.min(CHOICES.height, completion.choices.length * CHOICES.row + CHOICES.edges);
+    const width = Math.min(CHOICES.width, this.view.width - 2 * EDGE);
+    const below = this.#below(line);
+    const isLow = below + height > this.view.height && below > height + ROW;
+    list.style.top = `${isLow ? below - ROW - 4 - height : below}px`;
+    list.style.left = `${Math.max(EDGE, Math.min(this.#leftOf(completion.from), this.view.width - width - EDGE))}px`;
     this.area.setAttribute("aria-activedescendant", `choice-${this.selected}`);
   }
 

@@ -3,7 +3,7 @@
 import { hexNumber, numberOf } from "./bytes.js";
 import { byNumber, facts } from "./facts.js";
 import {
-  algorithmWords, bitWords, commandWords, localitiesWords, nvFlagWords, nvTypeWords,
+  algorithmWords, bitWords, commandWords, grouped, localitiesWords, nvFlagWords, nvTypeWords,
   PASSWORD_HANDLE, pcrWords,
   plural, saidBytes, saidHandle, secondsWords, sizeWords,
 } from "./words.js";
@@ -255,7 +255,7 @@ const OF_KIND = {
   Capability: capability,
 };
 
-const seconds = number(4, (value) => `${value.toLocaleString("en")} s`);
+const seconds = number(4, (value) => `${grouped(value)} s`);
 
 /**
  * Parameters of which more is known than their kind says.

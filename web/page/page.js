@@ -1,6 +1,6 @@
 // The page: a script, its chosen step, and the device after it.
 
-import { hexNumber, hexOf } from "./bytes.js";
+import { areSame, hexNumber, hexOf } from "./bytes.js";
 import { faultName } from "./coloured.js";
 import { showDevice } from "./device_pane.js";
 import { byId } from "./dom.js";
@@ -8,20 +8,22 @@ import { Editor } from "./editor.js";
 import { byNumber, facts } from "./facts.js";
 import { commandNumber, responseCode } from "./fields.js";
 import { download, fragmentOf, opened, scriptOf } from "./files.js";
+import { plainCommand, plainResponse, responseOf } from "./plain.js";
 import { Run } from "./run.js";
 import { isAnswer, logOf, onDevice, readScript } from "./script.js";
-import { showNothing, showStep } from "./step_pane.js";
+import { measureStep, showNothing, showStep } from "./step_pane.js";
 import { drawMarks, showSteps } from "./timeline.js";
 import { Told } from "./told.js";
 import { Tutorial } from "./tutorial.js";
 import { usesShown } from "./uses.js";
-import { plural } from "./words.js";
+import { grouped, plural } from "./words.js";
 
 /** @typedef {import("./device.js").Chip} Chip */
 
 const FIRST_EXAMPLE = "measured_boot";
-const SLICE = { first: 12, next: 24 };
+const SLICE = { first: 3, next: 16 };
 const LINK_WAIT = 400;
+const NOT_ENCRYPTED = { plainCommand: null, plainResponse: null, plainGiven: null };
 
 /** The whole page, once the device is there. */
 export class Page {
@@ -31,12 +33,12 @@ export class Page {
     this.run = new Run(chip);
     this.chosen = -1;
     this.script = readScript(chip, [""]);
-    /**
-     * The number of the event of each line that has one.
-     * @type {Map<number, number>}
-     */
-    this.stepOfLine = new Map();
     this.told = new Told(JSON.parse(byId("log").textContent));
+    /**
+     * What the panes of the step and of the device show.
+     * @type {unknown[]}
+     */
+    this.shown = [];
     this.slice = 0;
     this.linkWait = 0;
     this.editor = new Editor(chip, {
@@ -47,6 +49,8 @@ export class Page {
       edited: () => this.edited(),
       moved: (line) => this.moved(line),
     });
+    measureStep();
+    new ResizeObserver(() => measureStep() && this.redraw()).observe(byId("detail"));
     this.tutorial = new Tutorial(JSON.parse(byId("lessons").textContent), {
       load: (text, line) => this.load(text, line),
       outcomes: () => this.outcomes(),
@@ -87,7 +91,6 @@ export class Page {
   take() {
     this.script = readScript(this.chip, this.editor.lines);
     this.told.complete(this.script.steps);
-    this.stepOfLine = new Map(this.script.steps.map((step, at) => [step.line, at]));
     this.run.take(this.script.steps);
   }
 
@@ -103,9 +106,9 @@ export class Page {
     this.take();
     this.chosen = this.nearest(this.editor.caret().line);
     this.run.play(this.chosen, SLICE.first);
-    this.show();
     this.editor.paint();
     this.editor.showForm();
+    this.show();
     this.playOn();
     this.keepLink();
   }
@@ -125,7 +128,7 @@ export class Page {
   played() {
     this.sayCount();
     this.editor.paint();
-    drawMarks(this.script.steps, this.run.answers);
+    drawMarks(this.script.steps, this.run.refusals);
     this.tutorial.look();
     document.documentElement.dataset.played = String(this.script.steps.length);
   }
@@ -159,34 +162,54 @@ export class Page {
     this.editor.paint();
   }
 
-  /** Shows all anew, as in another size or in other colours. */
+  /** Shows all again, as in another size or in other colours. */
   redraw() {
+    this.shown = [];
     this.show();
-    drawMarks(this.script.steps, this.run.answers);
+    drawMarks(this.script.steps, this.run.refusals);
   }
 
+  /** Shows the chosen step and its device, unless they are shown. */
   show() {
     const { chosen, run, script, chip } = this;
     showSteps(script.steps, chosen);
     const step = script.steps[chosen];
     const before = run.stateAt(Math.max(0, chosen));
     const after = run.stateAt(chosen + 1);
+    const line = script.lines[step?.line];
+    const answer = run.answers[chosen];
+    const told = step ? this.told.at(step.line) : null;
+    const shown = [before, after, line, answer, step?.line, step?.random, ...step?.answers ?? []];
+    const isShown = !told && shown.length === this.shown.length && shown.every((it, at) => it === this.shown[at]);
+    if (isShown) return;
+    this.shown = shown;
     showDevice(before, after, step ? `after line ${step.line + 1}` : "new");
     if (!step) return showNothing("The script has no command yet. Type one, such as do Startup 0, or open an example.");
-    const line = script.lines[step.line];
-    const uses = usesShown(script.steps, run.answers, chosen, (it) => this.choose(it, true));
-    const answer = run.answers[chosen];
-    return showStep(chip, { step, answer, line, before, after, uses, told: this.told.at(step.line) });
+    const uses = usesShown(run, chosen, (it) => this.choose(it, true));
+    showStep(chip, { step, answer, line, before, after, uses, told, ...this.plainOf(chosen) });
+  }
+
+  /**
+   * What sessions encrypted in a step.
+   * @param {number} at
+   */
+  plainOf(at) {
+    if (this.script.steps[at].kind !== "command") return NOT_ENCRYPTED;
+    const response = plainResponse(this.run, at);
+    const isOwn = areSame(responseOf(this.run, at), this.run.answers[at].response);
+    return {
+      plainCommand: plainCommand(this.run, at), plainResponse: isOwn ? response : null, plainGiven: isOwn ? null : response,
+    };
   }
 
   /** @param {number} line */
   outcome(line) {
     const fault = this.script.faults.get(line);
     if (fault) return { text: faultName(fault), isBad: true };
-    const at = this.stepOfLine.get(line);
-    const answer = at === undefined ? undefined : this.run.answers[at];
-    if (at === undefined || answer === undefined) return null;
+    const at = this.countBefore(line);
     const step = this.script.steps[at];
+    const answer = this.run.answers[at];
+    if (step?.line !== line || answer === undefined) return null;
     if (step.kind === "begin") return { text: answer.trace ? `no device: ${answer.trace}` : "device", isBad: answer.trace !== "" };
     if (step.kind === "power") return { text: "", isBad: false };
     if (step.answers.some((given) => !isAnswer(given, answer))) return { text: "answered otherwise", isBad: true };
@@ -207,9 +230,9 @@ export class Page {
 
   sayCount() {
     const { run, script } = this;
-    const refused = run.answers.filter((it) => responseCode(it.response)).length;
-    const parts = [plural(script.steps.length, "step"), `${refused.toLocaleString("en")} refused`];
-    if (!run.isPlayed) parts.push(`playing, at ${run.answers.length.toLocaleString("en")}`);
+    const refused = run.refusals.length;
+    const parts = [plural(script.steps.length, "step"), `${grouped(refused)} refused`];
+    if (!run.isPlayed) parts.push(`playing, at ${grouped(run.answers.length)}`);
     const bad = script.faults.size;
     if (bad) parts.push(`${plural(bad, "line")} at fault and left out`);
     byId("refusal").disabled = !refused;
@@ -232,10 +255,9 @@ export class Page {
   /** @param {number} by */
   goToRefusal(by) {
     this.run.play(this.script.steps.length, 0);
-    const { answers } = this.run;
-    for (let at = this.chosen + by; at >= 0 && at < answers.length; at += by) {
-      if (responseCode(answers[at].response)) return this.choose(at, true);
-    }
+    const { refusals } = this.run;
+    const found = by > 0 ? refusals.find((it) => it > this.chosen) : refusals.filter((it) => it < this.chosen).at(-1);
+    if (found !== undefined) return this.choose(found, true);
     return this.say(by > 0 ? "No refusal comes after this step." : "No refusal comes before this step.", false);
   }
 

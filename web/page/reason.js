@@ -1,8 +1,9 @@
 // Why a command was refused: the rules of its check, and the values that the rule compares.
 
-import { hexOf, numberOf } from "./bytes.js";
+import { hexOf, numberOf, Reader } from "./bytes.js";
 import { byNumber, facts } from "./facts.js";
 import { commandNumber, WITH_ENTRIES } from "./fields.js";
+import { NO_BYTES } from "./state.js";
 import { bytesWords, commandWords, grouped, handleWords, localitiesWords, PASSWORD_HANDLE } from "./words.js";
 
 /**
@@ -10,9 +11,14 @@ import { bytesWords, commandWords, grouped, handleWords, localitiesWords, PASSWO
  * @typedef {import("./script.js").Step} Step
  * @typedef {import("./state.js").State} State
  * @typedef {{sentence: string, link: string}} Rule
- * @typedef {{handle: number, secret: Uint8Array, isPassword: boolean}} Entry
+ * @typedef {{nonce: Uint8Array, attributes: number, secret: Uint8Array}} Part of an entry, or of its answer
+ * @typedef {Part & {handle: number, isPassword: boolean}} Entry
  */
 
+const HEADER = 10;
+const HANDLE = 4;
+const LEAST_ENTRY = 9;
+const LEAST_ANSWER = 5;
 
 /** @param {string} key */
 const isRule = (key) => key in facts.rules;
@@ -80,19 +86,33 @@ function whichBefore(session, index) {
  * The entries of a command.
  * @param {Uint8Array} buffer @returns {Entry[]}
  */
-function entriesOf(buffer) {
+export function entriesOf(buffer) {
   const command = byNumber.get(commandNumber(buffer));
   if (!command || numberOf(buffer.subarray(0, 2)) !== WITH_ENTRIES) return [];
-  let at = 10 + 4 * command.handles.length;
-  const end = Math.min(buffer.length, at + 4 + numberOf(buffer.subarray(at, at + 4)));
+  const reader = new Reader(buffer, HEADER + HANDLE * command.handles.length);
+  const size = reader.number(4);
+  const end = Math.min(buffer.length, reader.at + size);
   const found = [];
-  for (at += 4; at + 9 <= end;) {
-    const handle = numberOf(buffer.subarray(at, at + 4));
-    at += 6 + numberOf(buffer.subarray(at + 4, at + 6)) + 1;
-    const size = numberOf(buffer.subarray(at, at + 2));
-    found.push({ handle, secret: buffer.subarray(at + 2, at + 2 + size), isPassword: handle === PASSWORD_HANDLE });
-    at += 2 + size;
+  while (reader.at + LEAST_ENTRY <= end) {
+    const handle = reader.number(HANDLE);
+    found.push({ handle, isPassword: handle === PASSWORD_HANDLE, ...partOf(reader) });
   }
+  return found;
+}
+
+/** @param {Reader} reader @returns {Part} */
+const partOf = (reader) => ({ nonce: reader.sized(), attributes: reader.number(1), secret: reader.sized() });
+
+/**
+ * What a success answers to the entries of its command.
+ * @param {import("./facts.js").CommandFact} command @param {Uint8Array} response @returns {Part[]}
+ */
+export function answersOf(command, response) {
+  if (numberOf(response.subarray(0, 2)) !== WITH_ENTRIES) return [];
+  const reader = new Reader(response, HEADER + HANDLE * command.answeredHandles.length);
+  reader.take(reader.number(4));
+  const found = [];
+  while (reader.left >= LEAST_ANSWER) found.push(partOf(reader));
   return found;
 }
 
@@ -103,6 +123,16 @@ function entriesOf(buffer) {
 export const entryHandles = (buffer) => entriesOf(buffer).map((it) => it.handle);
 
 /**
+ * The authorization value of an entity that the device has, empty for a PCR.
+ * @param {number} handle @param {State} state
+ */
+export function authOf(handle, state) {
+  const index = state.indices.find((it) => it.handle === handle);
+  const held = index ?? state.objects.get(handle);
+  return held?.auth ?? (handle < facts.pcrs ? NO_BYTES : state.auths.get(handleWords(handle)));
+}
+
+/**
  * The entity that an entry authorizes, and the session by which.
  * @param {Uint8Array} buffer @param {number} place from 1 @param {State} before
  */
@@ -111,9 +141,8 @@ function useOf(buffer, place, before) {
   const handle = numberOf(buffer.subarray(6 + 4 * place, 10 + 4 * place));
   const index = before.indices.find((it) => it.handle === handle);
   const held = before.objects.get(handle);
-  const auth = index?.auth ?? held?.auth ?? before.auths.get(handleWords(handle));
   return {
-    entry, handle, index, auth, policy: index?.policy ?? held?.policy,
+    entry, handle, index, auth: authOf(handle, before), policy: index?.policy ?? held?.policy,
     session: before.sessions.find((it) => it.handle === entry?.handle),
   };
 }

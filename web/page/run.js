@@ -2,6 +2,7 @@
 // played anew: each 64th state is kept as its state text, and what follows goes on from there.
 
 import { decoded } from "./bytes.js";
+import { responseCode } from "./fields.js";
 import { FIRST_RANDOM, isSameStep } from "./script.js";
 import { readState } from "./state.js";
 
@@ -30,6 +31,11 @@ export class Run {
     /** @type {Answer[]} */
     this.answers = [];
     /**
+     * The numbers of the events that are refused.
+     * @type {number[]}
+     */
+    this.refusals = [];
+    /**
      * The state text before the event of each 64th number.
      * @type {Uint8Array[]}
      */
@@ -50,6 +56,7 @@ export class Run {
     if (text) this.#begin(PLAYED, text);
     this.steps = [];
     this.answers = [];
+    this.refusals = [];
     this.kept = [this.chip.snapshot(PLAYED)];
     this.chip.restore(SHOWN, this.kept[0]);
     this.shown = 0;
@@ -71,6 +78,7 @@ export class Run {
     this.steps = steps;
     if (same === this.answers.length) return;
     this.answers.length = same;
+    while ((this.refusals.at(-1) ?? -1) >= same) this.refusals.pop();
     const from = Math.floor(same / EVERY);
     this.kept.length = from + 1;
     this.chip.restore(PLAYED, this.kept[from]);
@@ -89,7 +97,9 @@ export class Run {
       const at = this.answers.length;
       if (at > least && at % 16 === 0 && performance.now() > end) return;
       if (at % EVERY === 0 && at) this.kept[at / EVERY] = this.chip.snapshot(PLAYED);
-      this.answers.push(this.#execute(PLAYED, this.steps[at]));
+      const answer = this.#execute(PLAYED, this.steps[at]);
+      if (responseCode(answer.response)) this.refusals.push(at);
+      this.answers.push(answer);
     }
   }
 

@@ -1,7 +1,7 @@
 // A device, read from its state text (docs/table/state_text.md), which is all that it is. Reading it
 // changes nothing.
 
-import { bytesOf, hexNumber, hexOf, Reader } from "./bytes.js";
+import { hexNumber, hexOf, Reader } from "./bytes.js";
 import { facts } from "./facts.js";
 import {
   algorithmWords, bitWords, bytesWords, commandWords, grouped, handleWords, localitiesWords,
@@ -11,7 +11,7 @@ import {
 /**
  * @typedef {{hierarchy: number, type: number, attributes: number, policy: Uint8Array, auth: Uint8Array}} Held
  * @typedef {{
- *   handle: number, type: number, hash: number, cipher: string, nonce: Uint8Array, key: Uint8Array,
+ *   handle: number, type: number, hash: number, algorithm: number, cipher: string, nonce: Uint8Array, key: Uint8Array,
  *   binding: Uint8Array | null, digest: Uint8Array, counter: bigint | null, code: number | null,
  *   cpHash: Uint8Array | null, isWritten: number | null, localities: number, demand: number,
  * }} Session
@@ -128,16 +128,16 @@ function readIndex(reader) {
 /** @param {Reader} reader */
 function readCipher(reader) {
   const algorithm = reader.number(2);
-  if (algorithm === CIPHERS.none) return "none";
-  if (algorithm === CIPHERS.xor) return `XOR, masks of ${algorithmWords(reader.number(2))}`;
-  return `${algorithmWords(algorithm)}-${reader.number(2)} ${algorithmWords(reader.number(2))}`;
+  if (algorithm === CIPHERS.none) return { algorithm, cipher: "none" };
+  if (algorithm === CIPHERS.xor) return { algorithm, cipher: `XOR, masks of ${algorithmWords(reader.number(2))}` };
+  return { algorithm, cipher: `${algorithmWords(algorithm)}-${reader.number(2)} ${algorithmWords(reader.number(2))}` };
 }
 
 /** @param {Reader} reader @param {number} place @returns {Session} */
 function readSession(reader, place) {
   const type = reader.number(1);
   const hash = reader.number(2);
-  const cipher = readCipher(reader);
+  const { algorithm, cipher } = readCipher(reader);
   const nonce = reader.sized();
   const key = reader.sized();
   const binding = reader.optional(() => {
@@ -147,7 +147,7 @@ function readSession(reader, place) {
     return name;
   });
   return {
-    handle: (type === 0 ? FIRST_HANDLES.hmac : FIRST_HANDLES.policy) + place, type, hash, cipher, nonce, key,
+    handle: (type === 0 ? FIRST_HANDLES.hmac : FIRST_HANDLES.policy) + place, type, hash, algorithm, cipher, nonce, key,
     binding, digest: reader.sized(), counter: reader.optional(() => reader.big(8)),
     code: reader.optional(() => reader.number(4)), cpHash: reader.optional(() => reader.sized()),
     isWritten: reader.optional(() => reader.number(1)), localities: reader.number(1),
@@ -311,5 +311,4 @@ export function handlesOf(state, first) {
   return all.filter((handle) => handle >>> 24 === first).sort((one, other) => one - other);
 }
 
-/** No device at all, which the first page shows before its module is there. */
-export const NO_BYTES = bytesOf("");
+export const NO_BYTES = new Uint8Array(0);

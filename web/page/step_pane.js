@@ -15,11 +15,16 @@ import { commandWords, plural, secondsWords, sizeWords } from "./words.js";
  * @typedef {import("./device.js").Meaning} Meaning
  * @typedef {import("./script.js").Step} Step
  * @typedef {import("./state.js").State} State
- * @typedef {{step: Step, answer: Answer, line: string, before: State, after: State, told?: import("./told.js").ToldShown | null, uses: Node | null}} Chosen
+ * @typedef {import("./plain.js").Plain} Plain
+ * @typedef {{
+ *   step: Step, answer: Answer, line: string, before: State, after: State, told?: import("./told.js").ToldShown | null,
+ *   plainCommand: Plain | null, plainResponse: Plain | null, plainGiven: Plain | null, uses: Node | null,
+ * }} Chosen `plainGiven` is of a response that the script has, which is not the device's
  */
 
 const MOST_CHANGES = 40;
 const BYTE_WIDTH = 21;
+const ROW_EDGES = 84;
 const PCRS = "PCRs";
 
 /**
@@ -60,8 +65,8 @@ export const tableLink = (link, words = sectionWords(link)) =>
 export function showStep(chip, chosen) {
   const pane = byId("detail");
   const parts = chosen.step.kind === "command" ? commandParts(chip, chosen) : otherParts(chosen);
-  pane.replaceChildren(...parts.flat().filter(Boolean));
   pane.scrollTop = 0;
+  pane.replaceChildren(...parts.flat().filter(Boolean));
 }
 
 /** @param {string} words */
@@ -86,8 +91,9 @@ function commandParts(chip, chosen) {
   const number = commandNumber(step.buffer);
   const code = responseCode(answer.response);
   const meaning = code ? chip.meaning(code) : null;
-  const fields = fieldsOfCommand(step.buffer);
-  const answered = fieldsOfResponse(answer.code, answer.response, (it) => spelledCode(chip, it));
+  const plain = { command: known(chosen.plainCommand), response: known(chosen.plainResponse) };
+  const fields = fieldsOfCommand(plain.command?.bytes ?? step.buffer);
+  const answered = fieldsOfResponse(answer.code, plain.response?.bytes ?? answer.response, (it) => spelledCode(chip, it));
   return [
     title(chip, number, answer, code),
     make("p", { class: "dim" }, placeWords(step)),
@@ -97,9 +103,11 @@ function commandParts(chip, chosen) {
     ...(told?.parts ?? []),
     changesShown(before, after),
     heading("Command", sizeWords(step.buffer.length)),
-    bytesShown({ bytes: step.buffer, fields, wrong: wrongField(fields, meaning), plain: told?.plain }, perRow()),
+    encryptionShown(chosen.plainCommand),
+    bytesShown({ bytes: step.buffer, fields, wrong: wrongField(fields, meaning), plain: plain.command }, perRow),
     heading("Response", `${sizeWords(answer.response.length)}${answer.drawn ? `, ${answer.drawn} random` : ""}`),
-    bytesShown({ bytes: answer.response, fields: answered, wrong: null }, perRow()),
+    encryptionShown(chosen.plainResponse),
+    bytesShown({ bytes: answer.response, fields: answered, wrong: null, plain: plain.response }, perRow),
     ...(told?.after ?? []),
     chosen.uses,
   ];
@@ -149,13 +157,35 @@ function whyShown({ step, answer, before, told }, meaning) {
  * Where a log has another answer than the device.
  * @param {import("./device.js").Chip} chip @param {Chosen} chosen
  */
-function differences(chip, { step, answer }) {
+function differences(chip, { step, answer, plainGiven }) {
   const others = step.answers.filter((given) => !isAnswer(given, answer));
   return others.map((given) => make(
     "div", { class: "why" },
     make("p", {}, "The script has another answer than this device."),
+    plainGiven && given.length > 8 && !given.includes(" ") ? make("p", {}, givenWords(plainGiven)) : null,
     listed([["the script's", given], ["this device's", given.length === 8 ? hexOf(answer.response.subarray(6, 10)) : given.includes(" ") ? answer.trace : hexOf(answer.response)]]),
   ));
+}
+
+/** @param {Plain} plain */
+const givenWords = ({ reason, bytes, from, to, session }) => (reason
+  ? `Session ${hexNumber(session, 8)} encrypted it, and it is not decrypted: ${reason}.`
+  : `Session ${hexNumber(session, 8)} encrypted it; decrypted, its first parameter is ${hexOf(bytes.subarray(from, to)) || "empty"}.`);
+
+/**
+ * What could be decrypted.
+ * @param {Plain | null} plain
+ */
+const known = (plain) => (plain && !plain.reason ? plain : null);
+
+/**
+ * That a parameter is encrypted, and why it stays so.
+ * @param {Plain | null} plain
+ */
+function encryptionShown(plain) {
+  if (!plain) return null;
+  const words = `Session ${hexNumber(plain.session, 8)} encrypted the first parameter`;
+  return make("p", { class: "dim" }, plain.reason ? `${words}. It is not decrypted: ${plain.reason}.` : `${words}, which is decrypted in the table.`);
 }
 
 /**
@@ -168,10 +198,13 @@ function wrongField(fields, meaning) {
   return those[(meaning?.number ?? 0) - 1] ?? null;
 }
 
-/** How many bytes fit in a row of the pane. */
-function perRow() {
-  const width = byId("detail").clientWidth - 84;
-  return width >= 16 * BYTE_WIDTH ? 16 : 8;
+let perRow = 16;
+
+/** Reads how many bytes fit in a row of the pane, and returns whether that is another number. */
+export function measureStep() {
+  const before = perRow;
+  perRow = byId("detail").clientWidth - ROW_EDGES >= 16 * BYTE_WIDTH ? 16 : 8;
+  return perRow !== before;
 }
 
 /** @param {State} before @param {State} after */

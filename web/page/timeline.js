@@ -1,7 +1,6 @@
 // The slider through the script, over a mark for each step: refusals are taller, power cycles lines.
 
 import { byId } from "./dom.js";
-import { responseCode } from "./fields.js";
 import { grouped } from "./words.js";
 
 const THUMB = 8;
@@ -27,55 +26,58 @@ const COMMAND = 1;
 const OTHER = 2;
 const REFUSED = 3;
 
-/** @param {import("./script.js").Step} step @param {import("./device.js").Answer | undefined} answer */
-function markOf(step, answer) {
-  if (step.kind !== "command") return OTHER;
-  return answer !== undefined && responseCode(answer.response) !== 0 ? REFUSED : COMMAND;
-}
-
 /**
  * The mark at each pixel: of steps that share one, the most notable.
- * @param {import("./script.js").Step[]} steps @param {import("./device.js").Answer[]} answers
- * @param {number} span how many pixels there are
+ * @param {import("./script.js").Step[]} steps @param {number[]} refusals @param {number} span how many pixels there are
  */
-function marksOf(steps, answers, span) {
+function marksOf(steps, refusals, span) {
   const marks = new Uint8Array(span + 1).fill(NONE);
   const last = Math.max(1, steps.length - 1);
-  steps.forEach((step, at) => {
-    const place = Math.round((span * at) / last);
-    marks[place] = Math.max(marks[place], markOf(step, answers[at]));
-  });
+  const placeOf = (/** @type {number} */ at) => Math.round((span * at) / last);
+  for (let at = 0; at < steps.length; at += 1) {
+    const place = placeOf(at);
+    marks[place] = Math.max(marks[place], steps[at].kind === "command" ? COMMAND : OTHER);
+  }
+  for (const at of refusals) marks[placeOf(at)] = REFUSED;
   return marks;
 }
 
 /**
- * Draws all marks of a kind at once.
+ * Draws the marks of a kind, and those that touch as one.
  * @param {CanvasRenderingContext2D} pen @param {Uint8Array} marks @param {number} mark
  * @param {{width: number, half: number, middle: number}} shape
  */
 function drawKind(pen, marks, mark, { width, half, middle }) {
-  pen.beginPath();
-  marks.forEach((it, place) => {
-    if (it === mark) pen.rect(THUMB / 2 + place - width / 2, middle - half, width, 2 * half);
-  });
-  pen.fill();
+  for (let place = marks.indexOf(mark); place >= 0;) {
+    let end = place + 1;
+    while (width <= 1 && marks[end] === mark) end += 1;
+    pen.fillRect(THUMB / 2 + place - width / 2, middle - half, width + end - place - 1, 2 * half);
+    place = marks.indexOf(mark, end);
+  }
 }
 
-/** @param {import("./script.js").Step[]} steps @param {import("./device.js").Answer[]} answers */
-export function drawMarks(steps, answers) {
+/** What is drawn, in words. */
+let drawn = "";
+
+/** @param {import("./script.js").Step[]} steps @param {number[]} refusals */
+export function drawMarks(steps, refusals) {
   const canvas = byId("marks");
   const scale = devicePixelRatio || 1;
   const width = canvas.clientWidth;
   const height = canvas.clientHeight;
-  canvas.width = width * scale;
-  canvas.height = height * scale;
-  const pen = canvas.getContext("2d");
-  if (!pen || width <= THUMB) return;
-  pen.scale(scale, scale);
+  if (width <= THUMB) return;
   const span = Math.floor(width - THUMB);
   const each = Math.max(1, Math.min(3, span / Math.max(1, steps.length) - 1));
   const middle = height / 2;
-  const marks = marksOf(steps, answers, span);
+  const marks = marksOf(steps, refusals, span);
+  const now = `${width} ${height} ${scale} ${each} ${colour("ground")} ${marks.join("")}`;
+  if (now === drawn) return;
+  drawn = now;
+  canvas.width = width * scale;
+  canvas.height = height * scale;
+  const pen = canvas.getContext("2d");
+  if (!pen) return;
+  pen.scale(scale, scale);
   pen.fillStyle = colour("edge");
   pen.fillRect(THUMB / 2, middle - 0.5, span, 1);
   pen.fillStyle = colour("dim");

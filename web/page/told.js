@@ -10,12 +10,10 @@ import { tableLink } from "./step_pane.js";
  * @typedef {[string, string, string]} Fact a label, a value, and "had" or "wanted" or nothing
  * @typedef {{words: string, facts: Fact[], sentence: string, link: string}} Reason
  * @typedef {{
- *   reason?: Reason, notes?: Reason[], entries?: [number, Fact[]][], plain?: [number, string],
+ *   reason?: Reason, notes?: Reason[], entries?: [number, Fact[]][],
  *   differs?: [string, string, string][], layer?: string, random?: string,
  * }} Event
- * @typedef {{
- *   parts: Node[], after: Node[], hasReason: boolean, plain: {at: number, bytes: Uint8Array} | null,
- * }} ToldShown what the pane of a step shows of it
+ * @typedef {{parts: Node[], after: Node[], hasReason: boolean}} ToldShown what the pane of a step shows of it
  * @typedef {{
  *   name: string, script: string, line: number, start: string, summary: string,
  *   events: Record<string, Event>,
@@ -66,7 +64,7 @@ export class Told {
   at(line) {
     const event = this.log?.events[line + 1];
     if (!event) return null;
-    return { parts: partsOf(event), after: entriesShown(event), hasReason: event.reason !== undefined, plain: plainOf(event) };
+    return { parts: partsOf(event), after: entriesShown(event), hasReason: event.reason !== undefined };
   }
 }
 
@@ -97,13 +95,3 @@ const factsShown = (those) =>
  */
 const entriesShown = (event) =>
   (event.entries ?? []).flatMap(([place, those]) => [heading(`The HMAC of entry ${place}`), factsShown(those)]);
-
-/**
- * The decrypted parameters, and where they begin.
- * @param {Event} event
- */
-function plainOf({ plain }) {
-  if (!plain) return null;
-  const [at, hex] = plain;
-  return { at, bytes: bytesOf(hex) };
-}

@@ -5,6 +5,7 @@ import { make } from "./dom.js";
 import { byNumber } from "./facts.js";
 import { commandNumber, fieldsOfCommand, responseCode } from "./fields.js";
 import { entryHandles } from "./reason.js";
+import { grouped } from "./words.js";
 
 /**
  * @typedef {import("./script.js").Step} Step
@@ -69,18 +70,18 @@ function usesOf(steps, answers, handle, at) {
 }
 
 /**
- * What the step uses, and where else that is used; looked for when it is opened.
- * @param {Step[]} steps @param {Answer[]} answers @param {number} at @param {(step: number) => void} go
+ * What the step uses, and where else that is used; looked for each time that it is opened.
+ * @param {import("./run.js").Run} run @param {number} at @param {(step: number) => void} go
  */
-export function usesShown(steps, answers, at, go) {
-  const entities = entitiesOf(steps[at], answers[at]);
+export function usesShown(run, at, go) {
+  const entities = entitiesOf(run.steps[at], run.answers[at]);
   if (!entities.length) return null;
   const inside = make("div", { class: "inside" });
   const names = entities.map((it) => hexNumber(it, 8)).join(", ");
   const found = make("details", { class: "uses" }, make("summary", {}, "Used elsewhere", make("span", { class: "dim" }, names)), inside);
   found.addEventListener("toggle", () => {
-    if (inside.childElementCount) return;
-    for (const it of entities) inside.append(usesOfOne(steps, usesOf(steps, answers, it, at), it, at, go));
+    const { steps, answers } = run;
+    inside.replaceChildren(...entities.map((it) => usesOfOne(steps, usesOf(steps, answers, it, at), it, at, go)));
   });
   return found;
 }
@@ -94,6 +95,6 @@ function usesOfOne(steps, uses, handle, at, go) {
     const isHere = step === at;
     shown.append(isHere ? make("b", {}, line) : make("button", { type: "button", class: "as-link", onclick: () => go(step) }, line), " ");
   }
-  if (uses.length > MOST_SHOWN) shown.append(`of ${uses.length.toLocaleString("en")} uses`);
+  if (uses.length > MOST_SHOWN) shown.append(`of ${grouped(uses.length)} uses`);
   return shown;
 }

@@ -8,8 +8,12 @@ export const PASSWORD_HANDLE = 0x40000009;
 /** @param {number} count @param {string} word */
 export const plural = (count, word) => `${grouped(count)} ${word}${count === 1 ? "" : "s"}`;
 
+const groupedNumbers = new Intl.NumberFormat("en");
+const seconds = new Intl.NumberFormat("en", { maximumFractionDigits: 6 });
+const hours = new Intl.NumberFormat("en", { minimumFractionDigits: 1, maximumFractionDigits: 1 });
+
 /** @param {number | bigint} number */
-export const grouped = (number) => number.toLocaleString("en");
+export const grouped = (number) => groupedNumbers.format(number);
 
 /** @param {number} count */
 export const sizeWords = (count) => plural(count, "byte");
@@ -103,13 +107,9 @@ export const localitiesWords = (bits) =>
 
 /** @param {number | bigint} milliseconds */
 export function secondsWords(milliseconds) {
-  const seconds = Number(milliseconds) / 1000;
-  if (seconds < 36000) {
-    const rounded = Number(seconds.toPrecision(6));
-    return `${rounded.toLocaleString("en", { maximumFractionDigits: 6 })} s`;
-  }
-  const form = { minimumFractionDigits: 1, maximumFractionDigits: 1 };
-  return `${(seconds / 3600).toLocaleString("en", form)} h`;
+  const passed = Number(milliseconds) / 1000;
+  if (passed < 36000) return `${seconds.format(Number(passed.toPrecision(6)))} s`;
+  return `${hours.format(passed / 3600)} h`;
 }
 
 /**

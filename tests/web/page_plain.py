@@ -1,0 +1,63 @@
+"""Prints, as lines of JSON, the scripts of tests/ and examples/ in which sessions encrypt, and the first
+parameter of each command and each response in plain, by its line, as the device in Python has them: what
+page_plain.mjs compares the page's with.
+"""
+
+import json
+import pathlib
+
+from tpmsim.model.machine import Model
+from tpmsim.records.reader import Command, Power, steps_of
+from tpmsim.standard import DECRYPT, ENCRYPT, Fields
+
+TOP = pathlib.Path(__file__).resolve().parents[2]
+MOST_BYTES = 200_000
+
+
+class Watched(Model):
+    """A device that keeps what it decrypted, and what it is about to encrypt."""
+
+    decrypted: bytes | None = None
+    answered: bytes | None = None
+
+    def plain_parameters(self, command):
+        plain = super().plain_parameters(command)
+        if command.with_attribute(DECRYPT):
+            self.decrypted = Fields(plain).sized()
+        return plain
+
+    def answered_parameters(self, command, parameters):
+        if command.with_attribute(ENCRYPT):
+            self.answered = Fields(parameters).sized()
+        return super().answered_parameters(command, parameters)
+
+
+def plain_of(script):
+    """The first parameters in plain of commands and of responses, by their lines from 0."""
+    device, asked, answered = Watched(), {}, {}
+    for step in steps_of(script):
+        if isinstance(step, Power):
+            device.power_cycle()
+        if not isinstance(step, Command):
+            continue
+        device.decrypted = device.answered = None
+        device.execute(step.buffer, step.locality, step.random, step.elapsed)
+        if device.decrypted is not None:
+            asked[step.line - 1] = device.decrypted.hex()
+        if device.answered is not None:
+            answered[step.line - 1] = device.answered.hex()
+    return asked, answered
+
+
+def main():
+    for path in sorted([*TOP.glob("tests/**/*.tpm"), *TOP.glob("examples/*.tpm")]):
+        script = path.read_bytes()
+        if not path.with_suffix(".out").exists() or len(script) > MOST_BYTES or b" s:0" not in script:
+            continue
+        asked, answered = plain_of(script)
+        if asked or answered:
+            print(json.dumps([str(path), asked, answered]))
+
+
+if __name__ == "__main__":
+    main()

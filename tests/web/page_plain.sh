@@ -1,0 +1,11 @@
+# What sessions encrypted in scripts, as the page decrypts it, and the device in Python.
+tests=$(cd "$(dirname "$0")/.." && pwd -P)
+. "$tests/common/cases.sh"
+needs node python3
+
+top=${tests%/*}
+python3 "$top/web/build.py" --facts >facts.json || exit 1
+python3 "$tests/web/page_plain.py" >cases || exit 1
+mkdir -p web js && cp -R "$top/web/page" web/page && cp -R "$top/js/src" js/src || exit 1
+echo '{ "type": "module" }' >package.json
+node "$tests/web/page_plain.mjs" web/page facts.json "$top/dist/tpmsim.wasm" cases
