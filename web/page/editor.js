@@ -16,6 +16,7 @@ import { ROW, Rows, TOP } from "./rows.js";
 const FAULT_WIDTH = 220;
 const CHOICES = { width: 440, height: 208, row: 24, edges: 10 };
 const EDGE = 8;
+const PAUSE = 700;
 
 export class Editor {
   /** @param {import("./device.js").Chip} chip @param {Told} told */
@@ -27,6 +28,7 @@ export class Editor {
     this.rows = new Rows(told);
     this.lines = [""];
     this.formOf = "";
+    this.pause = 0;
     this.padding = 0;
     /** @type {import("./rows.js").View} */
     this.view = { top: 0, left: 0, width: 0, height: 0 };
@@ -149,11 +151,27 @@ export class Editor {
     this.#showUnder();
   }
 
+  /**
+   * Says what came of the caret's line to who does not see it, after a pause.
+   * @param {number} line
+   */
+  #sayLater(line) {
+    clearTimeout(this.pause);
+    this.pause = setTimeout(() => {
+      const fault = this.told.fault(line);
+      const words = fault ? faultWords(fault) : this.told.outcome(line)?.text;
+      byId("said").textContent = words ? `Line ${line + 1}: ${words}.` : "";
+      this.area.setAttribute("aria-invalid", String(fault !== undefined));
+    }, PAUSE);
+  }
+
   /** Shows the fault of the caret's line under it. */
   #showUnder() {
     const under = byId("under");
     const { line, column } = this.caret();
-    const fault = document.activeElement === this.area ? this.told.fault(line) : undefined;
+    const isHere = document.activeElement === this.area;
+    if (isHere) this.#sayLater(line);
+    const fault = isHere ? this.told.fault(line) : undefined;
     const isTyping = fault?.name === "Missing" && column === this.lines[line]?.length && this.completion !== null;
     under.hidden = !fault || isTyping;
     if (!fault || isTyping) return;

@@ -172,8 +172,8 @@ export class Page {
   /** Shows the chosen step and its device, unless they are shown. */
   show() {
     const { chosen, run, script, chip } = this;
-    showSteps(script.steps, chosen);
     const step = script.steps[chosen];
+    showSteps(script.steps, chosen, step ? this.outcome(step.line)?.text ?? "" : "");
     const before = run.stateAt(Math.max(0, chosen));
     const after = run.stateAt(chosen + 1);
     const line = script.lines[step?.line];
@@ -237,11 +237,13 @@ export class Page {
     if (bad) parts.push(`${plural(bad, "line")} at fault and left out`);
     byId("refusal").disabled = !refused;
     this.say(parts.join(", "), false);
+    byId("note").setAttribute("aria-live", "off");
   }
 
   /** @param {string} words @param {boolean} isBad */
   say(words, isBad) {
     const note = byId("note");
+    note.setAttribute("aria-live", "polite");
     note.textContent = words;
     note.title = words;
     note.classList.toggle("bad", isBad);

@@ -1,22 +1,26 @@
 // The slider through the script, over a mark for each step: refusals are taller, power cycles lines.
 
 import { byId } from "./dom.js";
-import { grouped } from "./words.js";
+import { commandNumber } from "./fields.js";
+import { commandWords, grouped } from "./words.js";
 
 const THUMB = 8;
 
-/** @param {import("./script.js").Step[]} steps @param {number} chosen */
-export function showSteps(steps, chosen) {
+/** @param {import("./script.js").Step[]} steps @param {number} chosen @param {string} outcome of the chosen one */
+export function showSteps(steps, chosen, outcome) {
   const slider = byId("slider");
   slider.max = String(Math.max(0, steps.length - 1));
   slider.value = String(Math.max(0, chosen));
   slider.disabled = steps.length < 2;
   const step = steps[chosen];
-  slider.setAttribute("aria-valuetext", step ? `step ${chosen + 1} of ${steps.length}, line ${step.line + 1}` : "no step");
+  slider.setAttribute("aria-valuetext", step ? `step ${chosen + 1} of ${steps.length}, ${stepWords(step)}, line ${step.line + 1}: ${outcome || "done"}` : "no step");
   byId("counter").textContent = `${grouped(chosen + 1)} of ${grouped(steps.length)}`;
   byId("back").disabled = chosen <= 0;
   byId("forth").disabled = chosen >= steps.length - 1;
 }
+
+/** @param {import("./script.js").Step} step */
+const stepWords = ({ kind, buffer }) => (kind === "command" ? commandWords(commandNumber(buffer)) : kind === "power" ? "power cycle" : "the device begins");
 
 /** @param {string} name */
 const colour = (name) => getComputedStyle(document.documentElement).getPropertyValue(`--${name}`).trim();

@@ -37,12 +37,15 @@ export class Tutorial {
     byId("tutorial").setAttribute("aria-pressed", "true");
     this.show();
     this.page.load(`${lesson.script.join("\n")}\n`, lesson.line - 1);
+    byId("lesson-title").focus();
   }
 
   close() {
+    const isInside = byId("lesson").contains(document.activeElement);
     this.at = -1;
     byId("lesson").hidden = true;
     byId("tutorial").setAttribute("aria-pressed", "false");
+    if (isInside) byId("text").focus();
   }
 
   show() {

@@ -1,0 +1,7 @@
+# The page for people who use keys alone, or a screen reader: roles and names, what is announced, the order
+# of the focus, contrast, and the tutorial by keys.
+tests=$(cd "$(dirname "$0")/.." && pwd -P)
+. "$tests/common/cases.sh"
+needs chromium node
+
+node "$tests/web/page_access.mjs" "file://${tests%/*}/dist/tpmsim.html"
