@@ -126,10 +126,34 @@ async function refusal(page) {
   const text = await page.text("detail");
   const link = await page.value("document.querySelector('#detail .why a').getAttribute('href')");
   say(text.includes("Refused by check A3.") && text.includes("nvIndex has no WRITTEN"), "a refusal has its check and its sentence", text.slice(0, 200));
+  say(text.includes("AUTHWRITE, AUTHREAD") || text.includes("OWNERWRITE"), "and the attributes of the index", text.slice(0, 300));
   say(link === "../docs/table/nv.md#checks-of-a-read", "and a link to its row", link);
   await click(page, "back");
   const device = await page.text("device");
   say(device.includes("01000001") && device.includes("not written") && device.includes("changed"), "the device after it has the index, set off", device.slice(0, 300));
+}
+
+/** A script of tests/sessions in which sessions encrypt. */
+async function encrypted(page) {
+  const lines = fs.readFileSync("../../sessions/session_encryption.tpm", "utf8").split("\n").slice(0, 60);
+  await page.write(lines.join("\n"));
+  const at = lines.findIndex((line) => line.startsWith("do HierarchyChangeAuth OWNER s:"));
+  await page.value("document.getElementById('slider').value = 5, document.getElementById('slider').dispatchEvent(new Event('input'))");
+  const text = await page.text("detail");
+  say(text.includes(`line ${at + 1},`) && text.includes("decrypted 61206e65772076616c7565"), "a parameter that a session encrypted is decrypted beside its bytes", text.slice(0, 300));
+  await page.write(`do Startup 0\n${lines[at]}`);
+  say((await page.text("detail")).includes("It is not decrypted: the script does not start it."), "or it is said why not", (await page.text("detail")).slice(0, 300));
+}
+
+async function pasted(page) {
+  await page.write("");
+  await page.value(`(() => {
+    const data = new DataTransfer();
+    data.setData("text/plain", "80 01 00 00 00 0c 00 00 01 44 00 00\\n80 01 00 00 00 0a 00 00 00 00\\n0x80, 0x01, 0x00, 0x00,\\n0x00, 0x0c, 0x00, 0x00, 0x01, 0x7b, 0x00, 0x08\\n");
+    document.getElementById("text").dispatchEvent(new ClipboardEvent("paste", { clipboardData: data, bubbles: true, cancelable: true }));
+  })()`);
+  const wanted = "cmd 80010000000c000001440000\n# 80010000000a00000000\ncmd 80010000000c0000017b0008\n";
+  say((await script(page)) === wanted, "pasted buffers in hex become commands and their responses", await script(page));
 }
 
 /** The page of a log that tools/explain.py explained, whose address is beside that of the page. */
@@ -320,6 +344,8 @@ async function all() {
   await keyboard(await open());
   await names(page);
   await refusal(page);
+  await encrypted(page);
+  await pasted(page);
   await lessons(page);
   await hostile(page);
   await files(page);

@@ -5,7 +5,7 @@ tests=$(cd "$(dirname "$0")/.." && pwd -P)
 needs chromium node python3
 
 top=${tests%/*}
-mkdir -p web/one && cd web/one && ln -s "$top/examples" ../../examples || exit 1
+mkdir -p web/one && cd web/one && ln -s "$top/examples" "$tests/sessions" ../.. || exit 1
 "$top/tools/explain.py" --html "$top/examples/hmac_session.tpm" >explained.html || exit 1
 status=0
 node "$tests/web/page_browser.mjs" "file://$top/dist/tpmsim.html" "file://$PWD/explained.html" || status=1

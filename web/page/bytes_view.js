@@ -12,11 +12,12 @@ import { cut, make } from "./dom.js";
  */
 
 const SHOWN_DIGITS = 44;
+const LONG = 512;
 const PART_WORDS = { header: "header", handle: "handles", entry: "authorization", parameter: "parameters", rest: "left over" };
 
 /** @param {Shown} shown @param {number} perRow */
 export function bytesShown(shown, perRow) {
-  const both = make("div", { class: "bytes" }, dump(shown, perRow), table(shown));
+  const both = make("div", { class: shown.bytes.length > LONG ? "bytes long" : "bytes" }, dump(shown, perRow), table(shown));
   both.addEventListener("mouseover", (event) => light(both, fieldAt(event.target)));
   both.addEventListener("mouseleave", () => light(both, null));
   both.addEventListener("keydown", (event) => rowByKey(both, event));

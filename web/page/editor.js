@@ -5,6 +5,7 @@ import { faultPlace, faultWords } from "./coloured.js";
 import { byId, cut, make } from "./dom.js";
 import { formShown } from "./form.js";
 import { completionOf, tokensOf } from "./completion.js";
+import { scriptOfBuffers } from "./pasted.js";
 import { ROW, Rows, TOP } from "./rows.js";
 
 /**
@@ -44,6 +45,7 @@ export class Editor {
     area.addEventListener("scroll", () => this.paint(), { passive: true });
     area.addEventListener("keydown", (event) => this.#key(event));
     area.addEventListener("blur", () => this.closeChoices());
+    area.addEventListener("paste", (event) => this.#paste(event));
     document.addEventListener("selectionchange", () => document.activeElement === area && this.#caretMoved());
     byId("choices").addEventListener("mousedown", (/** @type {MouseEvent} */ event) => {
       event.preventDefault();
@@ -107,6 +109,17 @@ export class Editor {
       line += 1;
     }
     return { line, column };
+  }
+
+  /**
+   * Buffers in hex become commands, if they begin a line.
+   * @param {ClipboardEvent} event
+   */
+  #paste(event) {
+    const script = this.caret().column === 0 ? scriptOfBuffers(event.clipboardData?.getData("text") ?? "") : null;
+    if (script === null) return;
+    event.preventDefault();
+    insertText(this.area, script);
   }
 
   #caretMoved() {

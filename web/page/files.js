@@ -2,6 +2,7 @@
 
 import { decoded, encoded, hexOf } from "./bytes.js";
 import { make } from "./dom.js";
+import { scriptOfBuffers } from "./pasted.js";
 import { onDevice } from "./script.js";
 
 const MOST_LINK = 60000;
@@ -88,7 +89,7 @@ export async function opened(file, present) {
   if (magic === "TPMI") return onTop(present, "image", bytes, `The script begins on the device of the image ${file.name}.`);
   if (magic === "TPMS") return onTop(present, "state", bytes, `The script goes on with the device of the state text ${file.name}.`);
   const text = decoded(bytes).replace(/\r\n?/g, "\n").replace(/\0+$/, "");
-  return { text, note: `${file.name} is open.`, isBad: false };
+  return { text: scriptOfBuffers(text) ?? text, note: `${file.name} is open.`, isBad: false };
 }
 
 /** @param {string} present @param {string} word @param {Uint8Array} bytes @param {string} note */

@@ -11,12 +11,12 @@ export function formShown(text, column) {
     const { tokens, command, entries } = tokensOf(text.slice(3));
     if (command) return commandForm(command, tokens, entries, column - 3);
   }
-  return [OTHER_FORMS[LINE_WORD.exec(text)?.[0] ?? ""] ?? OTHER_FORMS[""]];
+  return [make("em", {}, OTHER_FORMS[LINE_WORD.exec(text)?.[0] ?? ""] ?? OTHER_FORMS[""])];
 }
 
 /** @type {Record<string, string>} */
 const OTHER_FORMS = {
-  "": "Each line is a command: do, a name, handles, entries, parameters. # begins a comment. Ctrl+Space shows what may come next.",
+  "": "Each line is a command: do, a name, handles, entries, parameters; or cmd and its bytes in hex. # begins a comment. Ctrl+Space shows what may come next.",
   do: "do and a command in words, such as do GetRandom 8", cmd: "cmd and the bytes of a command in hex",
   wait: "wait and so many milliseconds, which pass before the next command",
   loc: "loc and the locality of later commands, 0 to 4",

@@ -4,7 +4,7 @@ import { hexOf, numberOf, Reader } from "./bytes.js";
 import { byNumber, facts } from "./facts.js";
 import { commandNumber, WITH_ENTRIES } from "./fields.js";
 import { NO_BYTES } from "./state.js";
-import { bytesWords, commandWords, grouped, handleWords, localitiesWords, PASSWORD_HANDLE } from "./words.js";
+import { bytesWords, commandWords, grouped, handleWords, localitiesWords, nvFlagWords, PASSWORD_HANDLE } from "./words.js";
 
 /**
  * @typedef {import("./device.js").Meaning} Meaning
@@ -122,6 +122,9 @@ export function answersOf(command, response) {
  */
 export const entryHandles = (buffer) => entriesOf(buffer).map((it) => it.handle);
 
+/** @param {Uint8Array} buffer @param {number} at from 0 */
+const handleAt = (buffer, at) => numberOf(buffer.subarray(HEADER + HANDLE * at, HEADER + HANDLE * (at + 1)));
+
 /**
  * The authorization value of an entity that the device has, empty for a PCR.
  * @param {number} handle @param {State} state
@@ -138,11 +141,13 @@ export function authOf(handle, state) {
  */
 function useOf(buffer, place, before) {
   const entry = entriesOf(buffer)[place - 1];
-  const handle = numberOf(buffer.subarray(6 + 4 * place, 10 + 4 * place));
+  const handle = handleAt(buffer, place - 1);
   const index = before.indices.find((it) => it.handle === handle);
+  const nvIndex = byNumber.get(commandNumber(buffer))?.handles.findIndex((it) => it.name === "nvIndex") ?? -1;
   const held = before.objects.get(handle);
   return {
     entry, handle, index, auth: authOf(handle, before), policy: index?.policy ?? held?.policy,
+    used: before.indices.find((it) => nvIndex >= 0 && it.handle === handleAt(buffer, nvIndex)),
     session: before.sessions.find((it) => it.handle === entry?.handle),
   };
 }
@@ -164,7 +169,8 @@ export function valuesOf(step, meaning, before) {
     case "PCR_CHANGED": return counterValues(use, before);
     case "POLICY_CC": return codeValues(use, step);
     case "LOCALITY": return localityValues(use, step);
-    case "NV_RANGE": return use.index ? [["size of the index", `${grouped(use.index.size)} bytes`]] : [];
+    case "NV_RANGE": return use.used ? [["size of the index", `${grouped(use.used.size)} bytes`]] : [];
+    case "NV_AUTHORIZATION": case "NV_LOCKED": case "NV_UNINITIALIZED": return indexValues(use, step, meaning.name);
     default: return [];
   }
 }
@@ -188,6 +194,24 @@ function policyValues({ session, policy }, of) {
 function counterValues({ session }, before) {
   if (!session || session.counter === null) return [];
   return [["update counter now", grouped(before.updateCounter)], ["at TPM2_PolicyPCR", grouped(session.counter)]];
+}
+
+const READERS = new Set(["NV_Read", "NV_ReadLock", "PolicyNV"]);
+
+/**
+ * The attributes of an index, and which one would let the handle use it.
+ * @param {Use} use @param {Step} step @param {string} name @returns {[string, string][]}
+ */
+function indexValues({ used, handle }, step, name) {
+  if (!used) return [];
+  /** @type {[string, string][]} */
+  const found = [["attributes of the index", nvFlagWords(used.attributes)]];
+  const command = commandWords(commandNumber(step.buffer));
+  if (name !== "NV_AUTHORIZATION" || command === "NV_UndefineSpace") return found;
+  const kind = READERS.has(command) ? "READ" : "WRITE";
+  const front = handleWords(handle) === "OWNER" ? "OWNER" : handleWords(handle) === "PLATFORM" ? "PP" : "";
+  const wanted = front ? `${front}${kind}` : `AUTH${kind} by a password or an HMAC session, POLICY${kind} by a policy session`;
+  return [...found, [`${handleWords(handle)} needs`, wanted]];
 }
 
 /** @param {Use} use @param {Step} step @returns {[string, string][]} */
