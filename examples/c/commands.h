@@ -21,21 +21,24 @@ typedef struct {
     uint8_t bytes[4096];
 } text;
 
-/* A TPM, and what it last answered: its response code, a handle, and its parameters. */
+/* A TPM, and what it last answered: its response code, a handle, and its parameters with their size. */
 typedef struct {
     tpmsim device;
     uint8_t random[256];
     tpmsim_answered told;
     uint32_t code, handle;
     const uint8_t *parameters;
+    size_t size;
     uint8_t response[4096];
     uint32_t elapsed_ms;
 } tpm;
 
-/* What authorizes the first handle: a password, or a policy session with a value as a password. */
+/* What authorizes the first handle: a password, a policy session with a value as a password, or a whole
+   entry. */
 typedef struct {
     uint32_t session;
     const char *value;
+    const text *entry;
 } by;
 
 static inline void put(text *to, const void *bytes, size_t size) {
@@ -79,20 +82,29 @@ static inline void begin(tpm *it) {
     tpmsim_execute(&it->device, startup, sizeof startup, 0, 0, it->random, it->response, &it->told);
 }
 
+/* Puts the authorization area of one entry. */
+static inline void put_sized_area(text *to, const text *entry) {
+    put_number(to, entry->size, 4);
+    put(to, entry->bytes, entry->size);
+}
+
 static inline void put_entry(text *to, by who) {
     text entry = {0};
+    if (who.entry) {
+        put_sized_area(to, who.entry);
+        return;
+    }
     put_number(&entry, who.session, 4);
     put_number(&entry, who.session == PASSWORD ? 0 : 16, 2);
     put_zeros(&entry, who.session == PASSWORD ? 0 : 16);
     put_number(&entry, who.session != PASSWORD, 1);
     put_sized(&entry, who.value, strlen(who.value));
-    put_number(to, entry.size, 4);
-    put(to, entry.bytes, entry.size);
+    put_sized_area(to, &entry);
 }
 
-/* Sends a command with its handles, of which NONE is the last. Whether it is accepted. */
-static inline int send_command(tpm *it, uint32_t code, const uint32_t *handles, const by *who,
-                               const text *parameters) {
+/* The bytes of a command with its handles, of which NONE is the last. */
+static inline text command_of(uint32_t code, const uint32_t *handles, const by *who,
+                              const text *parameters) {
     text body = {0}, command = {0};
     while (*handles != NONE) put_number(&body, *handles++, 4);
     if (who) put_entry(&body, *who);
@@ -101,7 +113,12 @@ static inline int send_command(tpm *it, uint32_t code, const uint32_t *handles, 
     put_number(&command, 10 + body.size, 4);
     put_number(&command, code, 4);
     put(&command, body.bytes, body.size);
-    need(!tpmsim_execute(&it->device, command.bytes, command.size, 0, it->elapsed_ms, it->random,
+    return command;
+}
+
+/* Sends the bytes of a command. Whether it is accepted. */
+static inline int send_bytes(tpm *it, const text *command, uint32_t code, int has_entry) {
+    need(!tpmsim_execute(&it->device, command->bytes, command->size, 0, it->elapsed_ms, it->random,
                          it->response, &it->told),
          "there is no device");
     it->elapsed_ms = 0;
@@ -112,8 +129,19 @@ static inline int send_command(tpm *it, uint32_t code, const uint32_t *handles, 
         it->handle = number_at(it->parameters, 4);
         it->parameters += 4;
     }
-    if (who) it->parameters += 4;
+    it->size = it->told.size - (size_t)(it->parameters - it->response);
+    if (has_entry && !it->code) {
+        it->size = number_at(it->parameters, 4);
+        it->parameters += 4;
+    }
     return it->code == 0;
+}
+
+/* Sends a command with its handles, of which NONE is the last. Whether it is accepted. */
+static inline int send_command(tpm *it, uint32_t code, const uint32_t *handles, const by *who,
+                               const text *parameters) {
+    const text command = command_of(code, handles, who, parameters);
+    return send_bytes(it, &command, code, who != NULL);
 }
 
 /* Sends a command that is accepted. */
@@ -124,8 +152,8 @@ static inline void must(tpm *it, uint32_t code, const uint32_t *handles, const b
 
 #define HANDLES(...)                                                                               \
     (const uint32_t[]) { __VA_ARGS__, NONE }
-#define BY_PASSWORD(value)                                                                         \
-    &(by) { PASSWORD, value }
+#define BY_PASSWORD(given)                                                                         \
+    &(by) { .session = PASSWORD, .value = given }
 
 /* Takes the sized buffer at the front of the parameters. */
 static inline text take_buffer(tpm *it) {

@@ -50,11 +50,11 @@ static void open_disk(tpm *it, const char *what, uint32_t disk, const char *give
     const uint32_t session = start_session(it, POLICY);
     by_pin(it, session);
     if (either(it, session)) {
-        unseal(it, disk, (by){session, given_pin});
+        unseal(it, disk, (by){.session = session, .value = given_pin});
     } else {
         must(it, 0x180, HANDLES(session), NULL, NULL); /* TPM2_PolicyRestart */
         if (by_passphrase(it, session, given_passphrase) && either(it, session))
-            unseal(it, disk, (by){session, ""});
+            unseal(it, disk, (by){.session = session, .value = ""});
     }
     tell(it, what);
     flush(it, session);

@@ -29,7 +29,7 @@ static void tell_key(tpm *it, const char *what, uint32_t version) {
     const uint32_t parent = storage_key(it, "");
     const uint32_t handle = seal(it, parent, "", policy, "the key of this version.");
     const uint32_t session = start_session(it, POLICY);
-    if (at_most(it, session, version)) unseal(it, handle, (by){session, ""});
+    if (at_most(it, session, version)) unseal(it, handle, (by){.session = session, .value = ""});
     tell(it, what);
     flush(it, session);
     flush(it, handle);

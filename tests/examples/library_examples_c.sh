@@ -4,7 +4,7 @@ tests=$(cd "$(dirname "$0")/.." && pwd -P)
 . "$tests/common/library.sh"
 needs cc
 
-for name in disk_key event_log lockout rollback_guard; do
+for name in disk_key encrypted_session event_log lockout rollback_guard; do
     echo "== $name"
     # shellcheck disable=SC2086 # they are words
     cc -std=c11 -D_DEFAULT_SOURCE -Wall -Wextra -Werror $sanitizers -I"$dist" -o "$room/$name" \

@@ -8,7 +8,7 @@ copy_module
 mkdir "$room/built"
 
 play build -o "$room/built/" ./examples/...
-for name in disk_key event_log lockout rollback_guard; do
+for name in disk_key encrypted_session event_log lockout rollback_guard; do
     echo "== $name"
     "$room/built/$name"
 done

@@ -6,7 +6,7 @@ tests=$(cd "$(dirname "$0")/.." && pwd -P)
 needs cargo
 copy_package
 
-for name in disk_key event_log lockout rollback_guard; do
+for name in disk_key encrypted_session event_log lockout rollback_guard; do
     echo "== $name"
     play run --quiet --example "$name" && cat said
 done

@@ -21,38 +21,42 @@ const (
 	Trial  = 3
 )
 
-// By is what authorizes a handle: its value as a password, or a policy session, with the value if its policy
-// asks for it as a password.
+// By is what authorizes a handle: the entry of the authorization area. Value is a password or an HMAC.
 type By struct {
-	Session uint32
-	Value   []byte
+	Session    uint32
+	Nonce      []byte
+	Attributes byte
+	Value      []byte
 }
 
 // Password is a value as a password.
-func Password(value string) *By { return &By{0x40000009, []byte(value)} }
+func Password(value string) *By { return &By{Session: 0x40000009, Value: []byte(value)} }
 
-// ByPolicy is a policy session, with a value.
-func ByPolicy(session uint32, value string) *By { return &By{session, []byte(value)} }
-
-func (by *By) entry() []byte {
-	if by.Session == 0x40000009 {
-		return Join(Number(by.Session), []byte{0, 0, 0}, Sized(by.Value))
-	}
-	return Join(Number(by.Session), Sized(make([]byte, 16)), []byte{1}, Sized(by.Value))
+// ByPolicy is a policy session, with the value if its policy asks for it as a password.
+func ByPolicy(session uint32, value string) *By {
+	return &By{session, make([]byte, 16), 1, []byte(value)}
 }
 
-// An Answer is what a command answers.
+func (by *By) entry() []byte {
+	return Join(Number(by.Session), Sized(by.Nonce), []byte{by.Attributes}, Sized(by.Value))
+}
+
+// An Answer is what a command answers. Entry is the entry of its authorization area.
 type Answer struct {
-	Handle     uint32
-	Parameters []byte
+	Handle            uint32
+	Parameters, Entry []byte
 }
 
 // Buffer takes the sized buffer at the front.
-func (it *Answer) Buffer() []byte {
-	size := 2 + binary.BigEndian.Uint16(it.Parameters)
-	buffer := it.Parameters[2:size]
-	it.Parameters = it.Parameters[size:]
+func (it *Answer) Buffer() (buffer []byte) {
+	buffer, it.Parameters = Front(it.Parameters)
 	return buffer
+}
+
+// Front is the sized buffer at the front of bytes, and what follows it.
+func Front(rest []byte) (buffer, after []byte) {
+	size := 2 + binary.BigEndian.Uint16(rest)
+	return rest[2:size], rest[size:]
 }
 
 // Join puts texts behind each other.
@@ -75,8 +79,8 @@ func Selection(pcrs ...int) []byte {
 	return append([]byte{0, 0, 0, 1, 0, 0x0b, 3}, bits...)
 }
 
-// Send sends a command, whose first handle is authorized so.
-func Send(tpm *tpmsim.TPM, code uint32, handles []uint32, by *By, parameters ...[]byte) (*Answer, error) {
+// Command is the bytes of a command, whose first handle is authorized so.
+func Command(code uint32, handles []uint32, by *By, parameters ...[]byte) []byte {
 	var body []byte
 	for _, handle := range handles {
 		body = append(body, Number(handle)...)
@@ -87,21 +91,31 @@ func Send(tpm *tpmsim.TPM, code uint32, handles []uint32, by *By, parameters ...
 		body = append(body, Join(Number(uint32(len(by.entry()))), by.entry())...)
 	}
 	body = append(body, Join(parameters...)...)
-	rest, err := tpm.Execute(Join(tag, Number(uint32(10+len(body))), Number(code), body))
+	return Join(tag, Number(uint32(10+len(body))), Number(code), body)
+}
+
+// Send sends a command, whose first handle is authorized so.
+func Send(tpm *tpmsim.TPM, code uint32, handles []uint32, by *By, parameters ...[]byte) (*Answer, error) {
+	rest, err := tpm.Execute(Command(code, handles, by, parameters...))
 	if err != nil {
 		return nil, err
 	}
+	return AnswerOf(code, by != nil, rest), nil
+}
+
+// AnswerOf is what stands behind the header of a response, with entries or without.
+func AnswerOf(code uint32, hasEntries bool, rest []byte) *Answer {
 	answer := new(Answer)
 	switch code {
 	case 0x131, 0x157, 0x176: // CreatePrimary, Load and StartAuthSession answer a handle
 		answer.Handle, rest = binary.BigEndian.Uint32(rest), rest[4:]
 	}
-	if by != nil {
-		size := binary.BigEndian.Uint32(rest)
-		rest = rest[4 : 4+size]
-	}
 	answer.Parameters = rest
-	return answer, nil
+	if hasEntries {
+		size := binary.BigEndian.Uint32(rest)
+		answer.Parameters, answer.Entry = rest[4:4+size], rest[4+size:]
+	}
+	return answer
 }
 
 // Must sends a command that is accepted, or ends the program.

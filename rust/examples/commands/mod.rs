@@ -20,6 +20,8 @@ pub enum By<'a> {
     Password(&'a [u8]),
     /// A policy session, and the value if its policy asks for it as a password.
     Policy(u32, &'a [u8]),
+    /// A session, by an entry that has its HMAC.
+    Entry(&'a [u8]),
 }
 
 impl By<'_> {
@@ -30,32 +32,36 @@ impl By<'_> {
             By::Policy(session, value) => {
                 [&number(*session)[..], &sized(&[0; 16]), &[1], &sized(value)].concat()
             }
+            By::Entry(entry) => entry.to_vec(),
         }
     }
 }
 
-/// What a command answers.
+/// What a command answers, and the entries of its authorization area.
 pub struct Answer {
     pub handle: u32,
     pub parameters: Vec<u8>,
+    pub entries: Vec<u8>,
 }
 
 impl Answer {
     /// The sized buffers at its front.
     pub fn buffers(&self, count: usize) -> Vec<Vec<u8>> {
         let mut rest = &self.parameters[..];
-        let mut take = |size: usize| {
-            let (front, behind) = rest.split_at(size);
-            rest = behind;
-            front.to_vec()
-        };
         (0..count)
             .map(|_| {
-                let size = take(2);
-                take(usize::from(size[0]) << 8 | usize::from(size[1]))
+                let (buffer, behind) = front(rest);
+                rest = behind;
+                buffer.to_vec()
             })
             .collect()
     }
+}
+
+/// The sized buffer at the front of bytes, and what follows it.
+pub fn front(bytes: &[u8]) -> (&[u8], &[u8]) {
+    let size = usize::from(bytes[0]) << 8 | usize::from(bytes[1]);
+    bytes[2..].split_at(size)
 }
 
 pub fn number(value: u32) -> [u8; 4] {
@@ -75,6 +81,32 @@ pub fn selection(pcrs: &[u8]) -> Vec<u8> {
     [&[0, 0, 0, 1, 0, 0x0b, 3][..], &bits].concat()
 }
 
+/// The bytes of a command, whose first handle is authorized so.
+pub fn command(code: u32, handles: &[u32], by: Option<&By>, parameters: &[u8]) -> Vec<u8> {
+    let mut body: Vec<u8> = handles.iter().flat_map(|it| number(*it)).collect();
+    if let Some(by) = by {
+        let entry = by.entry();
+        body.extend(number(entry.len() as u32));
+        body.extend(entry);
+    }
+    body.extend(parameters);
+    let tag = [0x80, if by.is_some() { 2 } else { 1 }];
+    [&tag[..], &number(10 + body.len() as u32), &number(code), &body].concat()
+}
+
+/// What a response has behind its header, with entries or without.
+pub fn answer_of(code: u32, has_entries: bool, mut rest: &[u8]) -> Answer {
+    let mut take = || {
+        let (front, behind) = rest.split_at(4);
+        rest = behind;
+        u32::from_be_bytes(front.try_into().expect("there are four bytes"))
+    };
+    let handle = if WITH_HANDLE.contains(&code) { take() } else { 0 };
+    let size = if has_entries { take() as usize } else { rest.len() };
+    let (parameters, entries) = rest.split_at(size);
+    Answer { handle, parameters: parameters.to_vec(), entries: entries.to_vec() }
+}
+
 /// Sends a command, whose first handle is authorized so.
 pub fn send(
     tpm: &mut Device,
@@ -83,25 +115,8 @@ pub fn send(
     by: Option<By>,
     parameters: &[u8],
 ) -> Result<Answer, Refusal> {
-    let mut body: Vec<u8> = handles.iter().flat_map(|it| number(*it)).collect();
-    if let Some(by) = &by {
-        let entry = by.entry();
-        body.extend(number(entry.len() as u32));
-        body.extend(entry);
-    }
-    body.extend(parameters);
-    let tag = [0x80, if by.is_some() { 2 } else { 1 }];
-    let header = [&tag[..], &number(10 + body.len() as u32), &number(code)].concat();
-    let response = tpm.execute(&[header, body].concat());
-    let mut rest = response.accepted()?;
-    let mut take = || {
-        let (front, behind) = rest.split_at(4);
-        rest = behind;
-        u32::from_be_bytes(front.try_into().expect("there are four bytes"))
-    };
-    let handle = if WITH_HANDLE.contains(&code) { take() } else { 0 };
-    let size = if by.is_some() { take() as usize } else { rest.len() };
-    Ok(Answer { handle, parameters: rest[..size].to_vec() })
+    let response = tpm.execute(&command(code, handles, by.as_ref(), parameters));
+    Ok(answer_of(code, by.is_some(), response.accepted()?))
 }
 
 /// Starts a session by SHA-256, neither bound nor salted.

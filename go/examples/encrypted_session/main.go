@@ -1,0 +1,94 @@
+// A secret crosses the way to the TPM encrypted, by a session that is bound to the owner, whose value is not
+// sent either. Who listens learns neither, and cannot send again what was heard.
+package main
+
+import (
+	"bytes"
+	"errors"
+	"fmt"
+	"log"
+
+	"tpmsim"
+	. "tpmsim/examples/commands"
+)
+
+const (
+	secret = "a secret of 24 bytes, ok"
+	owner  = "the owner's value"
+
+	// An NV index that the owner writes and reads; the device adds that it is written.
+	byOwner = 0x0002_0002
+	written = 0x2000_0000
+)
+
+// heard is all that crossed the way to the TPM, and last the last command.
+var heard, last []byte
+
+func wasHeard(what string) string {
+	if bytes.Contains(heard, []byte(what)) {
+		return "heard"
+	}
+	return "not heard"
+}
+
+// area is the public area of the index, with more attributes.
+func area(more uint32) []byte {
+	return Join(Number(Index), []byte{0, 0x0b}, Number(byOwner|more), []byte{0, 0, 0, byte(len(secret))})
+}
+
+// names is what cpHash has of the owner and of the index.
+func names(more uint32) []byte {
+	return Join(Number(Owner), []byte{0, 0x0b}, SHA256(area(more)))
+}
+
+// send sends a command that the owner authorizes, and listens.
+func send(tpm *tpmsim.TPM, session *Session, code uint32, handles []uint32, names, parameters []byte,
+	attributes byte) ([]byte, error) {
+	by, parameters := session.Entry(code, names, parameters, attributes)
+	last = Command(code, handles, by, parameters)
+	rest, err := tpm.Execute(last)
+	heard = Join(heard, last, rest)
+	if err != nil {
+		return nil, err
+	}
+	return session.Answered(code, by, AnswerOf(code, true, rest))
+}
+
+// read reads the secret, which the response has encrypted.
+func read(tpm *tpmsim.TPM, session *Session) (string, error) {
+	sizes := []byte{0, byte(len(secret)), 0, 0}
+	data, err := send(tpm, session, 0x14e, []uint32{Owner, Index}, names(written), sizes, Encrypt)
+	if err != nil {
+		return "", err
+	}
+	data, _ = Front(data)
+	return string(data), nil
+}
+
+func main() {
+	tpm := Open()
+	defer tpm.Close()
+	Must(tpm, 0x129, []uint32{Owner}, Password(""), Sized([]byte(owner)))
+
+	session := StartBound(tpm, Owner, owner)
+	index := Join(Sized(nil), Sized(area(0)))
+	if _, err := send(tpm, session, 0x12a, []uint32{Owner}, Number(Owner), index, 0); err != nil {
+		log.Fatal(err)
+	}
+	data := Join(Sized([]byte(secret)), []byte{0, 0})
+	if _, err := send(tpm, session, 0x137, []uint32{Owner, Index}, names(0), data, Decrypt); err != nil {
+		log.Fatal(err)
+	}
+	came, err := read(tpm, session)
+	Tell("Read", came, err)
+	fmt.Println("The secret was", wasHeard(secret))
+	fmt.Println("The owner's value was", wasHeard(owner))
+	_, err = tpm.Execute(last)
+	var refusal *tpmsim.Refusal
+	if errors.As(err, &refusal) {
+		fmt.Println("Sent again: refused by", refusal.Check())
+	}
+
+	came, err = read(tpm, StartBound(tpm, Owner, "a guess"))
+	Tell("By a guess", came, err)
+}
