@@ -36,4 +36,4 @@ _tpmsim() {
     mapfile -t COMPREPLY < <(compgen -W "$words" -- "$word")
 }
 
-complete -F _tpmsim tpmsim tpmsim-audit tpmsim-compare tpmsim-explain tpmsim-simulator
+complete -F _tpmsim tpmsim tpmsim-audit tpmsim-compare tpmsim-explain tpmsim-script tpmsim-simulator

@@ -50,6 +50,9 @@ class Page:
     def title(self) -> str:
         return f"**{self.name}**({self.section})"
 
+    def file(self) -> str:
+        return f"{self.name}.{self.section}"
+
 
 def words_of(text: str) -> str:
     """What a program says of itself, which has no links."""
@@ -72,21 +75,23 @@ class Manual:
 
     def __init__(self, program: str) -> None:
         self.program = program
-        self.pages = {name: Page(name, **page) for name, page in pages_told()["pages"].items()}
+        # A key is a page's name, with its section behind it where two pages have that name.
+        told = pages_told()["pages"].items()
+        self.pages = {key: Page(key.partition(".")[0], **page) for key, page in told}
         self.version = said(["tpmsim", "--version"], program).split()[-1]
         self.parts: dict[str, list[Part]] = {}
         self.places: dict[tuple[str, str], Page] = {}
         for page in self.pages.values():
-            self.parts[page.name] = [part_of(part) for part in page.parts]
-            for part in self.parts[page.name]:
+            self.parts[page.file()] = [part_of(part) for part in page.parts]
+            for part in self.parts[page.file()]:
                 self.places |= {(part.document, anchor): page for anchor in part.anchors}
 
     def place_of(self, path: str, anchor: str) -> Page | None:
         """The page of a section; without an anchor, the one that most of a document is in."""
         if anchor:
             return self.places.get((path, anchor))
-        names = [page.name for (document, _), page in self.places.items() if document == path]
-        return self.pages[max(names, key=names.count)] if names else None
+        pages = [page for (document, _), page in self.places.items() if document == path]
+        return max(pages, key=pages.count) if pages else None
 
     def link(self, page: Page, document: str, text: str, target: str) -> str:
         """What stands in a page in the place of a link: its text, and the page that has it."""
@@ -160,7 +165,7 @@ class Manual:
         yield from self.head(page)
         if page.commands:
             yield from self.commands(page.commands)
-        for part in self.parts[page.name]:
+        for part in self.parts[page.file()]:
             link = functools.partial(self.link, page, part.document)
             yield from roff.roff(installed(part.text), link, part.depth)
         for heading, words in page.listing.items():
@@ -171,11 +176,10 @@ class Manual:
         """Writes all pages, and for each other name of one a page that leads to it."""
         folder.mkdir(parents=True, exist_ok=True)
         for page in self.pages.values():
-            file = f"{page.name}.{page.section}"
-            (folder / file).write_text("\n".join(self.lines(page)) + "\n")
+            (folder / page.file()).write_text("\n".join(self.lines(page)) + "\n")
             for other in page.also:
                 also = other if "." in other else f"{other}.{page.section}"
-                (folder / also).write_text(f".so man{page.section}/{file}\n")
+                (folder / also).write_text(f".so man{page.section}/{page.file()}\n")
 
 
 def main(words: list[str]) -> int:

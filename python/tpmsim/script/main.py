@@ -1,0 +1,67 @@
+"""tpmsim-script [--socket PATH] [--trace] [-o FILE] SCRIPT: plays a layered script, and writes the plain one.
+
+A layered script has the lines of a script (do, cmd, loc, wait, entropy, power), and in them
+    let NAME = COMMAND.FIELD    a field of the last answer to a command, by its name in Part 3
+    let NAME = "TEXT"           the bytes of a text
+    auth HANDLE VALUE           the value by which later lines compute
+    $NAME, ${NAME}              what is named so; $nonce is a new nonce each time
+    s:$session:pin=VALUE:..     an entry whose HMAC is computed, with decrypt, encrypt, end
+
+The device is one of a script's own, in this process, or the one at the socket of `tpmsim serve`. A fault
+is a line on standard error, with its line and column, and status 2; then nothing is written.
+"""
+
+import argparse
+import pathlib
+import sys
+
+from tpmsim.device import ServedDevice, Transport
+from tpmsim.script.layer import BadScript, Layer
+from tpmsim.script.own_device import own_device
+
+FAULT = 2
+
+
+def read(path: str) -> str:
+    data = sys.stdin.buffer.read() if path == "-" else pathlib.Path(path).read_bytes()
+    return data.decode("utf-8", "surrogateescape")
+
+
+def written(lines: list[str], path: str) -> None:
+    data = "".join(f"{it}\n" for it in lines).encode("utf-8", "surrogateescape")
+    if path == "-":
+        sys.stdout.buffer.write(data)
+    else:
+        pathlib.Path(path).write_bytes(data)
+
+
+def device_of(socket: str | None) -> Transport:
+    return own_device() if socket is None else ServedDevice(socket)
+
+
+def run() -> int:
+    words = argparse.ArgumentParser(
+        prog="tpmsim-script",
+        description=__doc__,
+        formatter_class=argparse.RawDescriptionHelpFormatter,
+    )
+    words.add_argument("script", metavar="SCRIPT", help="a file, or - for standard input")
+    words.add_argument("-o", "--output", default="-", metavar="FILE", help="where it is written")
+    words.add_argument("--socket", metavar="PATH", help="the socket of a served device")
+    words.add_argument("--trace", action="store_true", help="each trace, as a comment")
+    given = words.parse_args()
+    try:
+        with device_of(given.socket) as device:
+            plain = list(Layer(device, given.trace).plain(read(given.script)))
+        written(plain, given.output)
+    except BadScript as fault:
+        print(f"tpmsim-script: {given.script}: {fault}", file=sys.stderr)
+        return FAULT
+    except OSError as fault:
+        print(f"tpmsim-script: {fault}", file=sys.stderr)
+        return FAULT
+    return 0
+
+
+if __name__ == "__main__":
+    sys.exit(run())

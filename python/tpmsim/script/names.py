@@ -1,0 +1,66 @@
+"""Values by their names, and what is wrong with a line of a layered script."""
+
+import re
+from typing import Callable, Iterator, NamedTuple
+
+NAME = re.compile(r"[A-Za-z_][A-Za-z0-9_]*")
+REFERENCE = re.compile(rf"\$(?:\{{({NAME.pattern})\}}|({NAME.pattern}))?")
+
+# Reserved: `$nonce` is a new nonce wherever it stands.
+NONCE, NONCE_BYTES = "nonce", 16
+
+
+class Bad(Exception):
+    """What is wrong with a line, in words, and the column where that begins, from 1."""
+
+    def __init__(self, column: int, words: str) -> None:
+        super().__init__(words)
+        self.column = column
+
+
+class Token(NamedTuple):
+    """A word of a line, and the column where it begins."""
+
+    text: str
+    column: int
+
+
+def tokens_of(text: str, column: int) -> Iterator[Token]:
+    """The words of a text that begins in a column, with one space between two."""
+    for word in text.split(" "):
+        yield Token(word, column)
+        column += len(word) + 1
+
+
+class Names:
+    """The values that a script named, each as the word of a plain script."""
+
+    def __init__(self, nonce: Callable[[int], bytes]) -> None:
+        self.nonce = nonce
+        self.values: dict[str, str] = {}
+
+    def value(self, name: str) -> str | None:
+        return self.nonce(NONCE_BYTES).hex() if name == NONCE else self.values.get(name)
+
+    def put(self, token: Token) -> Token:
+        """A word with the values in place of their names."""
+
+        def value(found: re.Match[str]) -> str:
+            column = token.column + found.start()
+            name = found[1] or found[2]
+            if name is None:
+                raise Bad(column, "a name follows $, as in $NAME or ${NAME}")
+            value = self.value(name)
+            if value is None:
+                raise Bad(column, f"nothing is named {name}")
+            return value
+
+        return Token(REFERENCE.sub(value, token.text), token.column)
+
+    @staticmethod
+    def check(name: Token) -> None:
+        """Bad where it is no name that a script may give."""
+        if not NAME.fullmatch(name.text):
+            raise Bad(name.column, "a name is letters, digits and _, and begins with no digit")
+        if name.text == NONCE:
+            raise Bad(name.column, "$nonce is a new nonce each time")

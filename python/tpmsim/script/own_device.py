@@ -1,0 +1,30 @@
+"""The device of a script in this process: manufactured with 00 to ff, with new random bytes before each
+command that are the same in each run, unless an `entropy` line says others.
+"""
+
+from tpmsim.device import Device, LibraryDevice, ModelDevice
+from tpmsim.device.library import is_there
+from tpmsim.model.machine import MANUFACTURED
+
+SEED = b"tpmsim-script"
+
+
+class OwnDevice(Device):
+    said: bytes | None = None
+
+    def drawn(self) -> bytes:
+        return super().drawn() if self.said is None else self.said
+
+
+class OwnLibraryDevice(OwnDevice, LibraryDevice):
+    def __init__(self) -> None:
+        super().__init__(seed=SEED, manufactured=MANUFACTURED)
+
+
+class OwnModelDevice(OwnDevice, ModelDevice):
+    def __init__(self) -> None:
+        super().__init__(seed=SEED)
+
+
+def own_device() -> OwnDevice:
+    return OwnLibraryDevice() if is_there() else OwnModelDevice()
