@@ -52,6 +52,7 @@ for tool in audit explain; do
     "tpmsim-$tool" --help | grep '^    tpmsim'
 done
 lines=1 said tpmsim-compare
+tpmsim-script log | grep '^do '
 lines=1 said tpmsim-simulator --help
 
 echo '== the library, and the package in Python'
