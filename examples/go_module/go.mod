@@ -1,0 +1,7 @@
+module vault
+
+go 1.19
+
+require tpmsim v0.1.0
+
+replace tpmsim => ../../go

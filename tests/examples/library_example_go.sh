@@ -1,0 +1,12 @@
+# examples/go_module, a project in Go whose tests use devices: go test.
+tests=$(cd "$(dirname "$0")/.." && pwd -P)
+. "$tests/common/cases.sh"
+. "$tests/common/library.sh"
+. "$tests/common/go.sh"
+needs go cc
+copy_module
+cp -r "$tests/../examples/go_module" project
+sed -i 's|=> ../../go|=> ../module|' project/go.mod
+
+(cd project && go vet ./... && go test -v ./... >../said 2>&1) || cat said
+grep -c '^--- PASS' said

@@ -1,0 +1,26 @@
+# examples/pytest, a project in Python whose tests use devices: pytest, and once more with a device of the job.
+tests=$(cd "$(dirname "$0")/.." && pwd -P)
+. "$tests/common/cases.sh"
+. "$tests/common/library.sh"
+needs python3 pytest-3
+TPMSIM_LIBRARY=$shared
+PYTHONDONTWRITEBYTECODE=1
+export TPMSIM_LIBRARY PYTHONDONTWRITEBYTECODE
+cp -r "$tests/../examples/pytest" project
+
+# play: what pytest says at last, without the time.
+play() {
+    (cd project && pytest-3 -q -p no:cacheprovider -p tpmsim.pytest_plugin >../said 2>&1) || cat said
+    tail -n 1 said | sed 's/ in .*//'
+}
+
+play
+"$program" serve --socket tpm.sock --image tpm.image --entropy /dev/urandom --locality 0 --connections 2 &
+tries=0
+until [ -S tpm.sock ] || [ "$tries" -eq 100 ]; do
+    tries=$((tries + 1))
+    sleep 0.1
+done
+export TPMSIM_SOCKET="$PWD/tpm.sock"
+play
+kill $!

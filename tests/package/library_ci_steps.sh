@@ -1,0 +1,60 @@
+# The steps of .github/actions/tpmsim, and those of its snippet for GitLab, start a device, which later steps reach by
+# the variables of the job. Words that are wrong, and a device that does not start, end the step.
+tests=$(cd "$(dirname "$0")/.." && pwd -P)
+. "$tests/common/cases.sh"
+. "$tests/common/library.sh"
+needs python3 git cc nm strip
+top=${tests%/*}
+trap 'end_devices; rm -rf "$room"' EXIT
+
+# end_devices: ends each device that a step started.
+end_devices() {
+    for pid in "$room"/*/tpmsim/pid "$room"/*/.tpmsim-device/pid; do
+        [ ! -f "$pid" ] || kill "$(cat "$pid")" 2>/dev/null
+    done
+}
+
+# The repository, as far as the steps need it, with the library that is tested.
+mkdir -p "$room/source/dist" "$room/source/tools" "$room/source/.github"
+cp -r "$top/.github/actions" "$room/source/.github/" && cp -r "$top/tools/interop" "$room/source/tools/"
+cp -r "$top/attached" "$room/source/" && cp -L "$dist/tpmsim" "$archive" "$dist/tpmsim.h" "$room/source/dist/"
+(cd "$room/source" && git init -q && git add -A && git -c user.name=n -c user.email=e commit -qm sources)
+
+cat >client.py <<'END'
+import os
+from tpmsim.caller import Caller
+from tpmsim.device import ServedDevice, SimulatorDevice
+
+if "TPMSIM_SOCKET" in os.environ:
+    device = ServedDevice(os.environ["TPMSIM_SOCKET"])
+else:
+    device = SimulatorDevice(os.environ["TPMSIM_HOST"], int(os.environ["TPMSIM_PORT"]))
+    print(os.environ["TPM2TOOLS_TCTI"].split(":")[0])
+with device:
+    tpm = Caller(device)
+    tpm.start_up()
+    print(type(device).__name__, len(tpm.call("GetRandom", bytesRequested=4)["randomBytes"]))
+END
+
+for DEVICE in serve simulator; do
+    echo "== GitHub, $DEVICE"
+    GITHUB_ACTION_PATH=$room/source/.github/actions/tpmsim RUNNER_TEMP=$room/github_$DEVICE GITHUB_ENV=$room/env_$DEVICE
+    export DEVICE GITHUB_ACTION_PATH RUNNER_TEMP GITHUB_ENV
+    mkdir "$RUNNER_TEMP"
+    sed -n "s/^ *- run: '\(.*\)'\$/\1/p" "$GITHUB_ACTION_PATH/action.yml" >step
+    sh -e step
+    # shellcheck disable=SC2046 # they are words
+    env $(cat "$GITHUB_ENV") python3 client.py
+
+    echo "== GitLab, $DEVICE"
+    sed -n -e '/before_script:/,$s/^    - //p' "$GITHUB_ACTION_PATH/gitlab.yml" >step
+    echo 'python3 client.py' >>step
+    mkdir "$room/gitlab_$DEVICE"
+    env TPMSIM_SOURCE="file://$room/source" TPMSIM_DEVICE="$DEVICE" CI_PROJECT_DIR="$room/gitlab_$DEVICE" sh -e step
+done
+
+echo '== faults'
+start=$room/source/.github/actions/tpmsim/start.sh
+"$start" served "$room/none" 2>&1 | sed "s|$room|ROOM|"
+rm "$room/source/dist/tpmsim"
+"$start" serve "$room/none" 2>&1 | sed -n "1s|$room|ROOM|p"
