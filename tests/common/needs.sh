@@ -12,6 +12,7 @@ package_of() {
     clang++) echo clang ;;
     dpkg-deb) echo dpkg ;;
     go) echo golang-go ;;
+    pytest-3) echo python3-pytest ;;
     qemu-aarch64) echo qemu-user ;;
     libtpms/tpm_library.h) echo libtpms-dev ;;
     man) echo man-db ;;
