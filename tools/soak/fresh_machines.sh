@@ -31,30 +31,7 @@ fail() {
     exit 2
 }
 
-# in_machine SHM WORDS..: runs a command in the machine, as root. What is mounted for it ends with it.
-in_machine() {
-    # shellcheck disable=SC2016 # the shell within expands them
-    unshare --mount --propagation private --pid --fork --kill-child sh -c '
-        machine=$1 shm=$2
-        shift 2
-        mount --bind "$machine" "$machine" && mount -t proc proc "$machine/proc" &&
-            mount --bind "$machine/../cache" "$machine/var/cache/apt/archives" || exit 125
-        if [ "$shm" = none ]; then
-            rm -rf "$machine/dev/shm"
-        else
-            mkdir -p "$machine/dev/shm" &&
-                mount -t tmpfs -o "mode=1777,size=$shm" shm "$machine/dev/shm" || exit 125
-        fi
-        exec chroot "$machine" env -i HOME=/root DEBIAN_FRONTEND=noninteractive \
-            PATH=/usr/local/sbin:/usr/local/bin:/usr/sbin:/usr/bin:/sbin:/bin "$@"
-    ' sh "$machine" "$@" </dev/null
-}
-
-# apt WORDS..: has apt-get do something in the machine.
-apt() {
-    in_machine none apt-get -y --no-install-recommends "$@" >"$work/told" 2>&1 ||
-        { tail -n 5 "$work/told"; fail "apt-get $1 fails"; }
-}
+. "$top/tools/lib/machines.sh"
 
 # play SHM USER: plays the tests in the machine, and leaves what they say in `said`.
 play() {
@@ -102,19 +79,13 @@ play_machine() {
     rm -rf --one-file-system "$machine"
 }
 
-[ "$(id -u)" -eq 0 ] || fail 'only root can make a machine'
-for tool in debootstrap unshare chroot git; do
-    command -v "$tool" >/dev/null || fail "there is no $tool"
-done
+needs_for_machines
+command -v git >/dev/null || fail 'there is no git'
 work=$(mktemp -d) || exit 1
 trap 'rm -rf --one-file-system "$work"' EXIT
 trap 'exit 130' INT TERM
 failed=0
-mkdir "$work/cache" || exit 1
-debootstrap --cache-dir="$work/cache" --variant=minbase bookworm "$work/base" "$mirror" \
-    >"$work/told" 2>&1 || { tail -n 5 "$work/told"; fail 'no Debian is made'; }
-machine=$work/base
-apt update
+make_base
 machine=$work/machine
 # shellcheck disable=SC2046 # they are words
 [ "$#" -gt 0 ] || set -- $(echo "$machines" | awk 'NF { print $1 }')

@@ -1,0 +1,45 @@
+# Empty Debians, for the scripts of tools/soak, which read this file by `.`. They have `work`, a folder of their own,
+# `machine`, the folder of the machine, `mirror`, and `fail REASON`.
+# shellcheck shell=sh disable=SC2154 # as above
+
+# needs_for_machines: fails if this user, or what is installed here, makes no machine.
+needs_for_machines() {
+    [ "$(id -u)" -eq 0 ] || fail 'only root can make a machine'
+    for tool in debootstrap unshare chroot; do
+        command -v "$tool" >/dev/null || fail "there is no $tool"
+    done
+}
+
+# make_base: makes the machine that each other one is a copy of, $work/base.
+make_base() {
+    mkdir "$work/cache" || fail 'there is no folder for packages'
+    debootstrap --cache-dir="$work/cache" --variant=minbase bookworm "$work/base" "$mirror" \
+        >"$work/told" 2>&1 || { tail -n 5 "$work/told"; fail 'no Debian is made'; }
+    machine=$work/base
+    apt update
+}
+
+# in_machine SHM WORDS..: runs a command in the machine, as root. What is mounted for it ends with it.
+in_machine() {
+    # shellcheck disable=SC2016 # the shell within expands them
+    unshare --mount --propagation private --pid --fork --kill-child sh -c '
+        machine=$1 shm=$2
+        shift 2
+        mount --bind "$machine" "$machine" && mount -t proc proc "$machine/proc" &&
+            mount --bind "$machine/../cache" "$machine/var/cache/apt/archives" || exit 125
+        if [ "$shm" = none ]; then
+            rm -rf "$machine/dev/shm"
+        else
+            mkdir -p "$machine/dev/shm" &&
+                mount -t tmpfs -o "mode=1777,size=$shm" shm "$machine/dev/shm" || exit 125
+        fi
+        exec chroot "$machine" env -i HOME=/root DEBIAN_FRONTEND=noninteractive \
+            PATH=/usr/local/sbin:/usr/local/bin:/usr/sbin:/usr/bin:/sbin:/bin "$@"
+    ' sh "$machine" "$@" </dev/null
+}
+
+# apt WORDS..: has apt-get do something in the machine.
+apt() {
+    in_machine none apt-get -y --no-install-recommends "$@" >"$work/told" 2>&1 ||
+        { tail -n 5 "$work/told"; fail "apt-get $1 fails"; }
+}
