@@ -24,7 +24,10 @@ from sources import TOP, installed  # noqa: E402
 
 DOCUMENTS = "*.md", "docs/*.md", "docs/table/*.md", "python/README.md"
 FOR_DEVELOPERS = set("CONTRIBUTING ADDING_A_COMMAND BENCH CALLS DESIGN GATE MAP".split())
-COPIED = "docs/*.png", "examples/*.out", "examples/*.trace"
+COPIED = (
+    *("docs/*.png", "examples/*.out", "examples/*.trace", "examples/words/*.tpms"),
+    *("examples/c/*.[ch]", "examples/python/*.py", "examples/pytest/*.py"),
+)
 SCRIPTS = "examples/*.tpm"
 PIECE = re.compile(
     r"^```.*?^```$|(?P<ticks>`+)(?!`).+?(?<!`)(?P=ticks)(?!`)"
