@@ -200,7 +200,7 @@ class Faults(unittest.TestCase):
             (
                 "do PCR_Reset 00000010 s:$session s:02000000:-:01:-",
                 34,
-                "an entry with its HMAC stands beside one that is computed",
+                "a line has entries with their HMAC, or computed ones",
             ),
         ):
             with self.subTest(script), self.assertRaisesRegex(

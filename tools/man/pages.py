@@ -75,7 +75,7 @@ class Manual:
 
     def __init__(self, program: str) -> None:
         self.program = program
-        # A key is a page's name, with its section behind it where two pages have that name.
+        # A key is a page's name, followed by its section if two pages have that name.
         told = pages_told()["pages"].items()
         self.pages = {key: Page(key.partition(".")[0], **page) for key, page in told}
         self.version = said(["tpmsim", "--version"], program).split()[-1]

@@ -10,7 +10,7 @@
 #   tools/soak/installed_machines.sh           each of these
 #   tools/soak/installed_machines.sh NAME..    these
 #
-# Each check is a line; what is wrong is told. The status is 1 where something is. Needs root, what tools/deb.sh and
+# Each check is a line, and a failed one has its output. The status is 1 if one fails. Needs root, what tools/deb.sh and
 # tools/crate.sh need, Debian's debootstrap and util-linux, 3 GB in TMPDIR, and a mirror: MIRROR, else
 # deb.debian.org. It is no part of the gate.
 set -u

@@ -103,7 +103,7 @@ func Send(tpm *tpmsim.TPM, code uint32, handles []uint32, by *By, parameters ...
 	return AnswerOf(code, by != nil, rest), nil
 }
 
-// AnswerOf is what stands behind the header of a response, with entries or without.
+// AnswerOf reads what follows the header of a response, with entries or without.
 func AnswerOf(code uint32, hasEntries bool, rest []byte) *Answer {
 	answer := new(Answer)
 	switch code {

@@ -95,7 +95,7 @@ class Assembler:
         if entry.handle == RS_PW:
             return entry.hmac
         if not is_computed(token):
-            raise Bad(token.column, "an entry with its HMAC stands beside one that is computed")
+            raise Bad(token.column, "a line has entries with their HMAC, or computed ones")
         session = self.sessions.get(entry.handle)
         if session is None:
             raise Bad(token.column, f"no session {entry.handle:08x} was started here")

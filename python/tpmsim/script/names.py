@@ -6,7 +6,7 @@ from typing import Callable, Iterator, NamedTuple
 NAME = re.compile(r"[A-Za-z_][A-Za-z0-9_]*")
 REFERENCE = re.compile(rf"\$(?:\{{({NAME.pattern})\}}|({NAME.pattern}))?")
 
-# Reserved: `$nonce` is a new nonce wherever it stands.
+# Reserved: `$nonce` is a new nonce in each place.
 NONCE, NONCE_BYTES = "nonce", 16
 
 

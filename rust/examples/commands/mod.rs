@@ -94,7 +94,7 @@ pub fn command(code: u32, handles: &[u32], by: Option<&By>, parameters: &[u8]) -
     [&tag[..], &number(10 + body.len() as u32), &number(code), &body].concat()
 }
 
-/// What a response has behind its header, with entries or without.
+/// Reads what follows the header of a response, with entries or without.
 pub fn answer_of(code: u32, has_entries: bool, mut rest: &[u8]) -> Answer {
     let mut take = || {
         let (front, behind) = rest.split_at(4);
