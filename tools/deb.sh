@@ -46,6 +46,7 @@ describe() {
         "$version" "$maintainer" "$(LC_ALL=C date -u -R -d "@$SOURCE_DATE_EPOCH")" |
         gzip -9n >"$documents/changelog.gz"
     control >"$root/DEBIAN/control" || return 1
+    install -m 755 packaging/postinst packaging/prerm "$root/DEBIAN/" || return 1
     echo 'activate-noawait ldconfig' >"$root/DEBIAN/triggers"
     for library in libtpmsim libtpmsim-kept libtss2-tcti-tpmsim; do
         [ ! -e "$root/usr/lib/$multiarch/$library.so.0" ] ||

@@ -5,7 +5,7 @@
 #            Python, tpm2-tools and a program in C run. apt-get removes all of it.
 #   wheel    pip installs it in a plain venv without a network, and README's first example in Python runs.
 #   crate    Debian's cargo tests what is unpacked, and README's example in Rust runs.
-#   module   Debian's go tests the folder go/ of the repository, and README's example in Go runs.
+#   module   Debian's go tests the folder go/ of a clone, and README's example in Go runs.
 #
 #   tools/soak/installed_machines.sh           each of these
 #   tools/soak/installed_machines.sh NAME..    these
@@ -62,10 +62,11 @@ tpmsim-compare --help && tpmsim-script --help && tpmsim-simulator --help
 END
     check "README's command, and each tool" sh -e /root/commands
     script manual <<'END'
+export MANWIDTH=1000
 dpkg -L tpmsim | sed -n 's|^/usr/share/man/man.*/\(.*\)[.]\([0-9]\)[.]gz$|\2 \1|p' | sort >/root/pages
 test -s /root/pages
 while read -r section page; do
-    man "$section" "$page" >/root/page && test -s /root/page
+    man --nh --nj "$section" "$page" >/root/page && test -s /root/page
     [ "$section" != 1 ] || command -v "$page"
     sed -n '/^SEE ALSO/,$s/\([a-z0-9-]*\)(\([0-9]\))/\n\2 \1\n/gp' /root/page | grep '^[0-9] [a-z]' >/root/others
     while read -r other; do grep -qx "$other" /root/pages || { echo "$page: $other"; exit 1; }; done </root/others
@@ -123,8 +124,8 @@ crate() {
 
 module() {
     apt install golang-go gcc libc6-dev
-    mkdir -p "$machine/root/tpmsim/dist" "$machine/root/program"
-    cp -r "$top/go" "$machine/root/tpmsim/" && cp "$top"/dist/libtpmsim.a "$top"/dist/tpmsim.h "$machine/root/tpmsim/dist/"
+    mkdir "$machine/root/program"
+    git clone -q "$top" "$machine/root/tpmsim" || fail 'the repository is not copied'
     block go "$top/go/README.md" | script program/main.go
     printf 'module program\n\ngo 1.19\n' | script program/go.mod
     script run <<'END'
