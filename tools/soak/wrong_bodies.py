@@ -5,6 +5,7 @@ tries; these are run whole before a piece of work is called done (docs/gate.json
 
     tools/soak/wrong_bodies.py                       all of them
     tools/soak/wrong_bodies.py tpm_pcr               those of one crate, or of several
+    tools/soak/wrong_bodies.py --apply [CRATE..]     only whether each can be applied; needs no rt
 
 The crates stand on the libraries that `rt ci` built here, where no source is newer; else `rt ci` proves
 these first, in a copy without wrong bodies. Then those of each crate are tried, as many crates at a
@@ -43,6 +44,7 @@ from functions import PLACE, Function, functions_of, is_fault
 
 TOP = pathlib.Path(__file__).resolve().parents[2]
 SOURCES = ["src", "specs", "proofs"]
+HEADING = re.compile(r"^## (.+)\n", re.MULTILINE)
 ITEM = re.compile(
     r"\s*(?:pub(?:\([a-z ]+\))? )?(?:const|static|struct|enum|type|macro_rules!) (\w+)"
 )
@@ -89,6 +91,36 @@ class Turn:
 
 
 @dataclasses.dataclass(frozen=True)
+class Edit:
+    """A wrong body as it is written: under a heading that says what is then wrong."""
+
+    name: str
+    text: str
+
+    def turns(self) -> tuple[Turn, ...]:
+        """Lines `file: `, and pairs of lines `old: ` and `new: `."""
+        turns, file, old = [], "", ""
+        for line in self.text.split("\n"):
+            word, _, rest = line.partition(":")
+            if word == "file":
+                file = rest.strip()
+            elif word == "old":
+                old = rest.removeprefix(" ")
+            elif word == "new":
+                turns.append(Turn(file, old, rest.removeprefix(" ")))
+        return tuple(turns)
+
+
+def edits_of(crate: str) -> list[Edit]:
+    """The wrong bodies of a crate."""
+    path = TOP / "wrong" / f"{crate}.edits"
+    if not path.exists():
+        return []
+    _, *parts = HEADING.split(path.read_text(encoding="utf-8"))
+    return [Edit(words.replace(" ", "_"), text) for words, text in zip(parts[::2], parts[1::2])]
+
+
+@dataclasses.dataclass(frozen=True)
 class WrongBody:
     name: str
     turns: tuple[Turn, ...]
@@ -105,20 +137,6 @@ class WrongBody:
 Group = list[WrongBody]
 # how many were refused, and the groups that are left to try
 Tried = tuple[int, list[Group]]
-
-
-def turns_in(text: str) -> tuple[Turn, ...]:
-    """Those of an edit: lines `file: `, and pairs of lines `old: ` and `new: `."""
-    turns, file, old = [], "", ""
-    for line in text.split("\n"):
-        word, _, rest = line.partition(":")
-        if word == "file":
-            file = rest.strip()
-        elif word == "old":
-            old = rest.removeprefix(" ")
-        elif word == "new":
-            turns.append(Turn(file, old, rest.removeprefix(" ")))
-    return tuple(turns)
 
 
 class Crate:
@@ -184,8 +202,8 @@ class Crate:
         paths = [*itertools.chain(*([*it.told_in(self.said)] or [it.path()] for it in functions))]
         return paths if all(paths) and all(body.to_check() for body in bodies) else []
 
-    def wrong_body(self, edit: pathlib.Path) -> WrongBody:
-        turns = turns_in(edit.read_text(encoding="utf-8"))
+    def wrong_body(self, edit: Edit) -> WrongBody:
+        turns = edit.turns()
         functions: set[Function] = set()
         naming: set[Function] = set()
         is_in_functions = True
@@ -198,8 +216,8 @@ class Crate:
                 is_in_functions = False
                 naming |= self._naming(turn.file, text.split("\n")[: row + 1])
         if is_in_functions:
-            return WrongBody(edit.stem, turns, frozenset(functions), frozenset())
-        return WrongBody(edit.stem, turns, frozenset(), frozenset(naming))
+            return WrongBody(edit.name, turns, frozenset(functions), frozenset())
+        return WrongBody(edit.name, turns, frozenset(), frozenset(naming))
 
     def _naming(self, file: str, lines: list[str]) -> set[Function]:
         """The functions that name, or belong to, what these first lines of a file end in: an item of
@@ -296,15 +314,20 @@ class Crate:
             yield folder
 
     def _texts_with(self, turns: list[Turn]) -> dict[str, str]:
-        texts: dict[str, str] = {}
-        for turn in turns:
-            text = texts.get(turn.file) or (self.folder / turn.file).read_text(encoding="utf-8")
-            if text.count(turn.old) != 1:
-                raise BadEdit(f"{turn.file} does not have this text once: {turn.old}")
-            texts[turn.file] = text.replace(turn.old, turn.new)
-        if not texts:
-            raise BadEdit("it has no pair of old: and new:")
-        return texts
+        return turned_texts(self.folder, turns)
+
+
+def turned_texts(folder: pathlib.Path, turns: Iterable[Turn]) -> dict[str, str]:
+    """The files of a crate that these turns change, with their texts then."""
+    texts: dict[str, str] = {}
+    for turn in turns:
+        text = texts.get(turn.file) or (folder / turn.file).read_text(encoding="utf-8")
+        if text.count(turn.old) != 1:
+            raise BadEdit(f"{turn.file} does not have this text once: {turn.old}")
+        texts[turn.file] = text.replace(turn.old, turn.new)
+    if not texts:
+        raise BadEdit("it has no pair of old: and new:")
+    return texts
 
 
 def copy_parts(start: pathlib.Path, folder: pathlib.Path) -> None:
@@ -500,12 +523,9 @@ def files_in_memory(number: int) -> Iterator[None]:
         shutil.rmtree(made)
 
 
-def edits_of(name: str) -> list[pathlib.Path]:
-    return sorted((TOP / "wrong" / name).glob("*.edit"))
-
-
 def parsed() -> argparse.Namespace:
     parser = argparse.ArgumentParser(description="Tries the wrong bodies under wrong/.")
+    parser.add_argument("--apply", action="store_true")
     parser.add_argument("crates", nargs="*", metavar="CRATE")
     return parser.parse_args()
 
@@ -564,15 +584,31 @@ def tried(folder: pathlib.Path, names: list[str], jobs: int) -> int:
     return refused
 
 
+def apply_each(names: list[str]) -> int:
+    """Tries to apply each wrong body of these crates, and returns how many can be applied."""
+    applied = 0
+    for name, edit in ((name, edit) for name in names for edit in edits_of(name)):
+        try:
+            turned_texts(TOP / "crates" / name, edit.turns())
+            applied += 1
+        except (BadEdit, FileNotFoundError) as why:
+            print(f"{name}/{edit.name}: BAD: {why}", flush=True)
+    return applied
+
+
 def main() -> int:
     words = parsed()
+    names = words.crates or [name for name in uses() if edits_of(name)]
+    wanted = sum(len(edits_of(name)) for name in names)
+    if words.apply:
+        applied = apply_each(names)
+        print(f"{applied} of {wanted} wrong bodies can be applied")
+        return 0 if applied == wanted else 1
     jobs = int(os.environ.get("JOBS") or os.cpu_count() or 1)
     # A check keeps the memory that it took, as those of tools/lib/rt_ci.sh do.
     os.environ.setdefault("MIMALLOC_PURGE_DELAY", "-1")
-    names = words.crates or [name for name in uses() if edits_of(name)]
     with tempfile.TemporaryDirectory() as folder, files_in_memory(jobs):
         refused = tried(pathlib.Path(folder), names, jobs)
-    wanted = sum(len(edits_of(name)) for name in names)
     print(f"{refused} of {wanted} wrong bodies refused")
     return 0 if refused == wanted else 1
 

@@ -1,8 +1,9 @@
 //! A script that is played on a kept device. Its lines set what the device is given; other
 //! processes may execute commands between two of the script's.
 
-ghost use Rattle.std.specs.Prelude.{◌≤◌, length};
+ghost use Rattle.std.specs.Prelude.{◌≡◌, ◌≤◌, [], length};
 ghost use Rattle.tpmsim.specs.kept.Answer.{IsTraced};
+ghost use Rattle.tpmsim_script.specs.Answers.{backlog};
 
 use crate::kept::Kept;
 use crate::kept::answer::Answer;
@@ -90,7 +91,7 @@ impl Player {
                 Next::TooLong => return Err(PlayFault::Script(ScriptFault::Line(number))),
                 Next::Incomplete => self.flush(writer)?,
             }
-            let Ok(()) = lines.fill(reader) else {
+            let Ok(()) = lines.fill(reader, &self.answers) else {
                 return Err(PlayFault::Script(ScriptFault::Read));
             };
         }
@@ -183,7 +184,9 @@ impl Player {
     }
 
     /// Writes all output so far.
-    fn flush<W: Write>(&mut self, writer: &mut Tap<W>) -> Result<(), PlayFault> {
+    fn flush<W: Write>(&mut self, writer: &mut Tap<W>) -> Result<(), PlayFault>
+        ensures { backlog self.new.answers ≡ [] }
+    {
         match self.answers.flush(writer) {
             Ok(()) => Ok(()),
             Err(_) => Err(PlayFault::Script(ScriptFault::Write)),

@@ -1,0 +1,9 @@
+# Each wrong body can be applied: what it turns is in the sources, once.
+tests=$(cd "$(dirname "$0")/.." && pwd -P)
+. "$tests/common/cases.sh"
+needs python3
+
+"$tests/../tools/soak/wrong_bodies.py" --apply >said && status=0 || status=$?
+grep -v ' wrong bodies can be applied$' said
+tail -n 1 said | sed 's/^\([0-9]*\) of \1 /each of the /'
+echo "status $status"
