@@ -22,6 +22,11 @@ class Journal:
         self.image = image(self.model)
         self.head(1, self.image)
 
+    def cycle(self):
+        """A power cycle, after which it begins anew with the whole state."""
+        self.model.power_cycle()
+        self.go_on()
+
     def go_on(self, layer=None):
         """Begins anew with the whole state, in place of all that was executed."""
         self.head(2, state_text(self.model, layer))

@@ -69,14 +69,15 @@ class Heads(unittest.TestCase):
 
     def test_one_log_after_another(self):
         """One of the same device goes on, and knows what came before; another one is another device."""
-        first = Journal().play(START, DEFINE)
-        before = first.text
-        first.begin()
-        first.play(START, WRONG)
-        _, events = played(before + first.text)
-        self.assertEqual(codes([it for it in events if not it.is_power]), ["", "", "", "98e"])
-        self.assertEqual([it.is_power for it in events], [False, False, True, False, False])
-        self.assertEqual(events[-1].scene.past.begun[0x01000001], 12)
+        for begin in Journal.begin, Journal.cycle:
+            first = Journal().play(START, DEFINE)
+            before = first.text
+            begin(first)
+            first.play(START, WRONG)
+            _, events = played(before + first.text)
+            self.assertEqual(codes([it for it in events if not it.is_power]), ["", "", "", "98e"])
+            self.assertEqual([it.is_power for it in events], [False, False, True, False, False])
+            self.assertEqual(events[-1].scene.past.begun[0x01000001], 12)
         other = Journal().play(START, RIGHT)
         _, events = played(before + other.text)
         self.assertEqual(codes(events)[-1], "18b")
@@ -215,13 +216,14 @@ class Audits(unittest.TestCase):
             self.assertIn(more, output)
 
     def test_journals_one_after_another(self):
-        journal = Journal().play(START, DEFINE)
-        before = journal.text
-        journal.begin()
-        journal.play(START, WRITE)
-        status, output, _ = audited(before + journal.text)
-        events = "5 events: 4 commands, 4 of them accepted and 0 refused, and 1 power cycle."
-        self.assertEqual((status, output.splitlines()[1]), (0, events))
+        for begin in Journal.begin, Journal.cycle:
+            journal = Journal().play(START, DEFINE)
+            before = journal.text
+            begin(journal)
+            journal.play(START, WRITE)
+            status, output, _ = audited(before + journal.text)
+            events = "5 events: 4 commands, 4 of them accepted and 0 refused, and 1 power cycle."
+            self.assertEqual((status, output.splitlines()[1]), (0, events))
         status, _, error = audited(before + Journal().text)
         self.assertEqual((status, error), (1, "audit: script line 13 begins with another device\n"))
 

@@ -80,20 +80,22 @@ class Auditor:
         self.log.end()
 
     def begin(self, step: records.Begin, is_begun: bool) -> None:
-        """A head, which is the start's, or another one of the same device; an image has it behind a power
-        cycle.
+        """A head, which is the start's, or another one of the same device. An image has it after a power
+        cycle, and a state text may.
         """
         if step.damage:
             raise Disagreement(f"script line {step.line}: {step.damage}")
         try:
             begun = records.opened(step.content, step.start)
             goes_on = not is_begun or records.goes_on(self.device, step.content)
+            is_cycled = not goes_on and records.is_cycled(self.device, step.content)
         except Fault as fault:
             raise Disagreement(f"script line {step.line} begins with no device: {fault}") from None
-        if not goes_on:
+        if not (goes_on or is_cycled):
             raise Disagreement(f"script line {step.line} begins with another device")
-        if is_begun and not begun.is_state:
+        if is_cycled or is_begun and not begun.is_state:
             self.power(step.line)
+            records.goes_on(self.device, step.content)
         self.watch.layer = begun.layer
 
     def power(self, line: int) -> None:

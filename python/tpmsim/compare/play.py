@@ -96,6 +96,9 @@ class Comparison:
         if is_begun and self.here.is_device_of(step):
             if not records.is_state_text(step.content):
                 self.power()
+        elif is_begun and records.is_cycled(self.here.model, step.content):
+            self.power()
+            self.here.is_device_of(step)
         elif is_begun or not self.here.open_empty(step):
             raise ValueError(f"line {self.line} begins with a device that no other TPM can be made")
 

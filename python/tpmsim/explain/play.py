@@ -356,19 +356,22 @@ class Play(Watched):
             self.comments.append("")
 
     def begin(self, step: records.Begin) -> Event | None:
-        """The device of a head. Where it is that of the log before, it goes on: behind a power cycle, if
-        the head holds an image.
+        """The device of a head. Where it is that of the log before, it goes on: after a power cycle, if
+        the head holds an image, or a state text that says so.
         """
         is_first = self.event is None
         if step.damage:
             self.damages.append(f"line {step.line}: {step.damage}")
         begun, is_same = opened(step.content, step.start), self.is_same(step, is_first)
-        if is_first or not is_same:
+        is_cycled = not (is_first or is_same) and records.is_cycled(self.model, step.content)
+        if is_first or not (is_same or is_cycled):
             self.put(begun.device)
         self.layer = begun.layer
-        if is_first or begun.is_state:
+        if is_first or begun.is_state and not is_cycled:
             return None
-        return self.shown(self.power(), b"power")
+        event = self.power()
+        goes_on(self.model, step.content)
+        return self.shown(event, b"power")
 
     def is_same(self, step: records.Begin, is_first: bool) -> bool:
         """Whether the head's device is the one that is looked at."""

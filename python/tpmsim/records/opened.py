@@ -44,3 +44,8 @@ def goes_on(device: Model, text: bytes) -> bool:
         return True
     device.clock, device.time = times
     return False
+
+
+def is_cycled(device: Model, text: bytes) -> bool:
+    """Whether a state text is that of this device after a power cycle, with which a journal begins anew."""
+    return is_state_text(text) and goes_on(image.open_image(image.image(device)), text)
