@@ -67,8 +67,8 @@ def check(told: int, reason: str) -> None:
 
 class KeptDevice(LocatedDevice):
     """The device of a folder. If the folder has none, a new one begins there. Several processes may hold
-    it at once: each executes what the others added, and then its own command. With `forces` a new
-    journal is forced to the disk, and so is the name of one that is opened. With `completes` the
+    it at once: each executes what the others added, and then its own command. With `forces` the name
+    of a new journal is forced to the disk, and that of one that is opened. With `completes` the
     completing layer of the library is above the device. The last `keep` journals that new ones replaced,
     0 to 99, stay in the folder. A forked child may use its parent's device, and threads take turns.
 
