@@ -1,7 +1,7 @@
 #!/bin/sh
 # Makes dist/libtpmsim-kept.so.0, the C host of a kept device for other languages, and its lines in
 # dist/PROVED: the checksums of its sources and of itself, and the compiler. It is C, and tested; no proof is
-# run. It shows the names tpmsim_kept_* alone, and finds libtpmsim.so.0 beside itself, if no other one is in
+# run. It shows the names tpmsim_kept_* alone, and finds libtpmsim.so.0 next to itself, if no other one is in
 # the process.
 #
 #   hosts/shared.sh           makes it
