@@ -3,7 +3,7 @@
 //! device is the one that executed the answered commands, whatever is killed, fails or crashes.
 //!
 //! [`Kept`] is a kept device: it does in the folder what the keeper asks for. Several processes may
-//! hold one at once. [`playing`] plays a script on it, and [`serving`] serves it on a connection.
+//! hold one at the same time. [`playing`] plays a script on it, and [`serving`] serves it on a connection.
 //! [`command`] writes the texts that the keeper takes, and [`answer`] reads its responses. The
 //! folder, its lock and what faults say of it are in tpmsim_folder.
 

@@ -14,8 +14,8 @@
 //!
 //! The program uses tpmsim_arguments for its words, tpmsim_script for scripts and their check,
 //! `tpm_text` and `tpm_line` for lines, `tpm_help` for what it tells of these, tpmsim_image for a
-//! device that is kept in an image, tpmsim_folder for the folder of one that is kept there
-//! ([`kept`]), and tpm_journal for what happened to it. All that touches files, sockets and clocks
+//! device that is kept in an image, tpm_keeping, tpm_kept_device and tpmsim_folder for one that is
+//! kept in a folder ([`kept`]), and tpm_journal for what happened to it. All that touches files, sockets and clocks
 //! is here, in tpmsim_image or in tpmsim_folder; what the device answers is proved in the crates
 //! below.
 

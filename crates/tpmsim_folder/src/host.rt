@@ -1,4 +1,4 @@
-//! What a keeper asks its host to do in a folder. Each function is a task, and returns whether all
+//! The tasks of the host of a keeper in a folder. Each is a function, and returns an error unless all
 //! of it was done.
 
 use crate::fault::{KeptFault, Place, Said};
@@ -25,7 +25,7 @@ pub struct Host<'a> {
 }
 
 impl<'a> Host<'a> {
-    /// The host of the folder at a path, which it makes if it is missing and `makes` is true. No
+    /// The host of the folder at a path. It makes the folder if it is missing and `makes` is true. No
     /// file in it is opened yet.
     pub fn at(rt: &'a HostRuntime, path: &str, makes: bool) -> Result<Host<'a>, KeptFault> {
         Ok(Host {
@@ -48,13 +48,13 @@ impl<'a> Host<'a> {
         self.lock.take(self.rt, &self.folder)
     }
 
-    /// Gives the lock back.
+    /// Releases the lock.
     pub fn unlock(&mut self) {
         self.lock.give();
     }
 
-    /// Opens the file that is named journal, unless it is the one that is open, and tells its number
-    /// and its size.
+    /// Opens the file that is named journal, unless it is the one that is open, and returns its
+    /// number and its size.
     pub fn look(&mut self) -> Result<Got<'static>, KeptFault> {
         let Some(metadata) = self.folder.look(self.rt, Place::Journal)? else {
             return Ok(Got::Gone);
@@ -99,7 +99,7 @@ impl<'a> Host<'a> {
         }
     }
 
-    /// The bytes of the journal from a place on.
+    /// The bytes of the journal from this offset on.
     pub fn read(&self, from: u64) -> Result<Vec<u8>, KeptFault> {
         let count = self.size()?.saturating_sub(from);
         let Ok(mut bytes) = vec![in self.rt.alloc(); 0u8; count as usize] else {
@@ -114,7 +114,7 @@ impl<'a> Host<'a> {
         }
     }
 
-    /// Cuts the journal to this size if it has more bytes, and tells how many are dropped.
+    /// Cuts the journal to this size if it has more bytes, and returns how many were dropped.
     pub fn cut(&self, size: u64) -> Result<u64, KeptFault> {
         let lost = self.size()?.saturating_sub(size);
         if lost == 0 {
@@ -126,7 +126,7 @@ impl<'a> Host<'a> {
         }
     }
 
-    /// Writes a text into the journal at a place.
+    /// Writes a text to the journal at this offset.
     pub fn put(&self, text: &[u8], at: u64) -> Result<(), KeptFault> {
         match self.opened()?.file.write_all_at(text, at) {
             Ok(()) => Ok(()),
@@ -142,8 +142,8 @@ impl<'a> Host<'a> {
         }
     }
 
-    /// Makes a new journal of this text, and forces it to the disk. It takes the place of one that a
-    /// killed process may have left.
+    /// Makes a new journal of this text, and forces it to the disk. One that a killed process left is
+    /// removed first, and this one if it cannot be made whole.
     pub fn make(&mut self, text: &[u8]) -> Result<(), KeptFault> {
         if self.folder.look(self.rt, Place::NewJournal)?.is_some() {
             self.remove_new();
@@ -178,7 +178,7 @@ impl<'a> Host<'a> {
         let _ = fs::remove_file(self.rt, self.folder.path(Place::NewJournal));
     }
 
-    /// Gives the new journal its name, and tells its number.
+    /// Names the new journal `journal`, and returns its number. If that fails, the file is removed.
     pub fn name(&mut self) -> Result<u64, KeptFault> {
         let Some(fresh) = self.fresh.take() else {
             return Err(Place::NewJournal.that(Said::IsGone));

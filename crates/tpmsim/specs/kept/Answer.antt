@@ -1,4 +1,4 @@
--- What a keeper answers to a command of the standard.
+-- A keeper's answer to a command of the standard.
 use Rattle.std.specs.Prelude.{◌≡◌, ℕ, ◌≤◌, ◌⊎◌, List, ◌++◌, length}
 use Rattle.std.specs.Int.{w8, w16, w32, to_be_bytes}
 use Rattle.tpm_commands.specs.CommandCode.{code_number}

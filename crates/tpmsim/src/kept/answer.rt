@@ -1,4 +1,4 @@
-//! What a keeper answers to a command of the standard: a report, and the response.
+//! A keeper's answer to a command of the standard: a report, and the response.
 
 ghost use Rattle.std.specs.Prelude.{◌≡◌, IfSome, true};
 ghost use Rattle.tpm_types.specs.Check.{check_number};
@@ -19,7 +19,7 @@ pub struct Answer<'a> {
     pub response: &'a [u8],
 }
 
-/// Reads an answer from its text; None if the text is none, or the answer cannot be traced.
+/// Reads an answer from its text; None if the text is no answer, or the answer cannot be traced.
 #[tactic(auto, using(crate::proofs::kept::Texts::answer_parts))]
 pub fn read_answer<'a>(text: &'a [u8]) -> Option<Answer<'a>>
     ensures text { IfSome result (λ answer. text.now ≡ answer_text answer) }

@@ -79,7 +79,7 @@ pub fn power_cycle(alloc: Global, now_ms: u64, start: u64) -> Result<Vec<u8>, Al
     Ok(text)
 }
 
-/// A beginning anew of this seed.
+/// A command that replaces the device by one of this seed.
 #[tactic(auto, using(crate::proofs::kept::Texts::beginning_read))]
 pub fn beginning(alloc: Global, seed: &[u8]) -> Result<Vec<u8>, AllocError>
     ensures text { IfOk result (λ text. text.items ≡ 2 ∷ seed.now) }

@@ -17,7 +17,7 @@ use tpm_types::Locality;
 use tpmsim_folder::moment::{clock_of, start_of};
 use tpmsim_folder::{Host, KeptFault, Place, Said};
 
-/// From how many bytes on a journal begins anew.
+/// At this size of a journal the next command begins a new one.
 const JOURNAL_LIMIT: u64 = 262_144;
 
 /// A device that is kept in a folder. A call that fails has answered nothing, and the next one
@@ -29,15 +29,15 @@ pub struct Kept<'a> {
     keeper: Keeper<KeptDevice>,
     /// The journal as it was read when it was opened.
     journal: Vec<u8>,
-    /// What the journal has after what was executed, if a new one takes its place.
+    /// What follows the executed bytes of the journal that a new one replaces.
     tail: Tail,
     /// Whether a new journal began in the latest call.
     has_begun: bool,
 }
 
 impl<'a> Kept<'a> {
-    /// Opens the folder of a device, or makes it where it is missing and `makes` is true. Nothing
-    /// of the device is read yet.
+    /// Opens the folder of a device, or makes it if it is missing and `makes` is true. Nothing of
+    /// the device is read yet.
     pub fn at(
         rt: &'a HostRuntime,
         path: &str,
@@ -97,7 +97,7 @@ impl<'a> Kept<'a> {
         self.execute(&command)
     }
 
-    /// Executes a command of the standard, which is given by its text.
+    /// Executes a command of the standard, of which this is the text for the keeper.
     fn execute(&mut self, command: &[u8]) -> Result<Answer<'_>, KeptFault>
         ensures { IfOk result (λ answer. IsTraced answer) }
     {
@@ -115,7 +115,7 @@ impl<'a> Kept<'a> {
         self.perform(Job::Execute, &command)
     }
 
-    /// Begins a damaged journal anew with what the device was before the damage.
+    /// If the journal is damaged, begins a new one with what the device was before the damage.
     pub fn cut(&mut self) -> Result<(), KeptFault> {
         self.perform(Job::Cut, &[])
     }
@@ -132,8 +132,8 @@ impl<'a> Kept<'a> {
         }
     }
 
-    /// Replaces the device, or begins one where there is none, for all processes that use it: the
-    /// new one is that of a state text. Damage is cut first.
+    /// Replaces the device by that of a state text, for all processes that use it, or begins it if
+    /// there is none. Damage is cut first.
     pub fn restore(&mut self, state: &[u8]) -> Result<(), KeptFault> {
         let alloc = self.rt.alloc();
         let now_ms = clock_of(self.rt)?;
@@ -144,7 +144,11 @@ impl<'a> Kept<'a> {
             Err(fault) if fault.said.is_of_contents() => self.cut()?,
             Err(fault) => return Err(fault),
         }
-        self.perform(Job::Execute, &beginning(alloc, &seed)?)
+        self.perform(Job::Execute, &beginning(alloc, &seed)?)?;
+        match self.keeper.response() {
+            [1] => Ok(()),
+            _ => Err(Place::Journal.that(Said::Keeper(Fault::Unreadable))),
+        }
     }
 
     /// The text of the journal, also of a damaged one.
@@ -194,7 +198,7 @@ impl<'a> Kept<'a> {
         }
     }
 
-    /// Does one thing, and tells the keeper. After an error it is not told.
+    /// Does one thing, and reports it to the keeper. An error is left to the caller to report.
     fn perform_one(&mut self, job: Job, ask: Ask) -> Result<(), KeptFault> {
         let got = match ask {
             Ask::Read(from) => return self.read(from),
@@ -209,7 +213,7 @@ impl<'a> Kept<'a> {
         Ok(())
     }
 
-    /// Tells the keeper what the journal has from a byte on, and keeps a journal that is read whole.
+    /// Passes the journal from this offset on to the keeper, and keeps a journal that is read whole.
     fn read(&mut self, from: u64) -> Result<(), KeptFault> {
         let bytes = self.host.read(from)?;
         let _ = self.keeper.next(Got::Bytes(&bytes));
@@ -219,7 +223,7 @@ impl<'a> Kept<'a> {
         Ok(())
     }
 
-    /// Gives the new journal its name, and says what was dropped of the old one.
+    /// Names the new journal, and says what was dropped of the old one.
     fn name(&mut self) -> Result<Got<'static>, KeptFault> {
         let file = self.host.name()?;
         self.has_begun = true;
@@ -230,7 +234,7 @@ impl<'a> Kept<'a> {
         })
     }
 
-    /// Does what tells the keeper nothing but that it is done.
+    /// Does a task that has no result.
     fn write(&mut self, job: Job, ask: Ask) -> Result<(), KeptFault> {
         match ask {
             Ask::Lock => self.host.lock(),
