@@ -1,6 +1,6 @@
 """Hosts of each kind hold one kept device at once, and some of them are killed at any moment:
 
-    python3 all_at_once.py PROGRAM HOSTS SECONDS PROCESSES SEED [fills]
+    python3 all_at_once.py PROGRAM HOSTS SHIM SECONDS PROCESSES SEED [fills]
 
 LD_PRELOAD has loaded failing.c into this process, for clocks that jump about by a day. Each process counts
 in one index of the device, cycles its power, opens it again, and forks; signals interrupt its calls all the
@@ -28,7 +28,10 @@ from tests.keeping.hosts import does, Files, Host, Module, Python, Refused, Run,
 FOLDER, FULL, CLONE_NEWPID, SECONDS_TO_END = "state", "full", 0x20000000, 60
 INTERRUPT_EACH, KILL_EACH = 0.0007, 0.02
 ASKED, DONE, OTHER, WRONG = b"a", b"d", b"o", b"w"
-KINDS = (Module, Python, Run, Module, Python, Simulator)
+
+# Each of these begins in turn. With an odd seed the power is cycled often, and else the journals grow.
+KINDS = ((Module, Python, Run, Module, Python), (Module, Python, Run, Module, Python, Simulator))
+CYCLES = 0.0005, 0.02
 
 
 class Worker:
@@ -37,6 +40,7 @@ class Worker:
     def __init__(self, kind: type[Host], files: Files, tell: int, seed: int, until: float) -> None:
         self.kind, self.files, self.tell, self.until = kind, files, tell, until
         self.choices, self.least, self.has_forked = random.Random(seed), 0, False
+        self.cycles = CYCLES[seed % 2]
         self.host = self.made()
 
     def made(self) -> Host:
@@ -79,7 +83,7 @@ class Worker:
             self.counts()
         elif chance < 0.9:
             self.reads()
-        elif chance < 0.92 and self.kind is not Module:
+        elif chance < 0.9 + self.cycles and self.kind is not Module:
             does(self.host, POWER, FOLDER)
         elif chance < 0.95:
             self.host.close()
@@ -170,12 +174,12 @@ def begun(kind: type[Host], files: Files, seed: int, until: float) -> tuple[int,
 def plays(files: Files, seconds: float, processes: int, seed: int, fills: bool) -> Counts:
     """So many processes at once, for so long. One that is killed has another in its place."""
     choices, counts, chooser = random.Random(seed), Counts(), selectors.DefaultSelector()
-    until = time.monotonic() + seconds
+    until, kinds = time.monotonic() + seconds, KINDS[seed % 2]
     pids: dict[int, int] = {}
 
     def begins() -> None:
-        kind = KINDS[counts.processes % len(KINDS)]
-        pid, pipe = begun(kind, files, choices.randrange(1 << 30), until)
+        kind = kinds[counts.processes % len(kinds)]
+        pid, pipe = begun(kind, files, 2 * choices.randrange(1 << 30) + seed % 2, until)
         chooser.register(pipe, selectors.EVENT_READ)
         pids[pipe] = pid
         counts.processes += 1
@@ -236,7 +240,7 @@ def value(files: Files) -> int:
 
 
 def main() -> None:
-    program, folder, seconds, processes, seed, *words = sys.argv[1:]
+    program, folder, _, seconds, processes, seed, *words = sys.argv[1:]
     files = Files(pathlib.Path(program).resolve(), pathlib.Path(folder).resolve())
     host = Python(files)
     for act in (BEGIN, STARTUP, DEFINE, INCREMENT):

@@ -23,7 +23,7 @@ import tempfile
 import time
 from dataclasses import dataclass, field
 from enum import IntEnum
-from typing import Callable, Iterator, Sequence
+from typing import Callable, Iterator, Self, Sequence
 
 from tests.keeping.counted import answer_of, BEGIN, Counted, DEFINE, INCREMENT, INITIALIZE, NOTHING
 from tests.keeping.counted import POWER, READ, STARTUP, State, UNWRITTEN
@@ -51,7 +51,7 @@ VARIANTS = [
 ]
 KILLS = {Act.IS_KILLED, Act.DOES_AND_IS_KILLED, Act.DOES_HALF_AND_IS_KILLED}
 SECONDS, MOST_CALLS, PART_BYTES = 60, 2000, 65536
-KEPT = State(is_there=True, is_started=True, is_defined=True, count=2)
+GROWN_BYTES = 256 * 1024
 WELL, FAULT, KILLED = 0, 3, -signal.SIGKILL
 
 
@@ -283,24 +283,55 @@ def left_in(folder: str) -> list[str]:
 
 
 @dataclass(frozen=True)
-class Case:
-    """A host that begins with a kept device, or with none, and acts that it is asked for."""
+class Start:
+    """What a host begins with: a folder, if there is one, and its device."""
 
     label: str
+    state: State
+    folder: pathlib.Path | None = None
+
+    def put(self, folder: pathlib.Path) -> None:
+        shutil.rmtree(folder, ignore_errors=True)
+        if self.folder:
+            shutil.copytree(self.folder, folder)
+
+
+@dataclass(frozen=True)
+class Starts:
+    """A kept device; one whose journal has grown so much that it begins anew; and none."""
+
+    kept: Start
+    grown: Start
+    new: Start
+
+    @classmethod
+    def made(cls, files: Files, room: pathlib.Path) -> Self:
+        kept = Start("a kept device", made(files, room / "kept", 0), room / "kept")
+        grown = made(files, room / "grown", GROWN_BYTES)
+        return cls(kept, Start("a grown one", grown, room / "grown"), Start("a new one", NOTHING))
+
+
+@dataclass(frozen=True)
+class Case:
+    """A host, what it begins with, and acts that it is asked for."""
+
     files: Files
-    make: Callable[..., Host]
+    host: type[Host]
     runs: Callable[[Trial], None]
+    start: Start
     script: Sequence[str]
-    is_kept: bool
+
+    @property
+    def label(self) -> str:
+        return f"{self.host.name}, {self.start.label}"
 
     def tries(self, room: pathlib.Path, shim: Shim, meeting: Meeting) -> tuple[str, Told, str]:
         """Which call was met, what was told, and what is wrong."""
         folder = room / "state"
-        shutil.rmtree(folder, ignore_errors=True)
-        if self.is_kept:
-            shutil.copytree(room / "kept", folder)
-        told = Told(Counted([KEPT if self.is_kept else NOTHING]))
-        self.runs(Trial(self.make, self.script, str(folder), told, shim, meeting))
+        self.start.put(folder)
+        told = Told(Counted([self.start.state]))
+        make = functools.partial(self.host, self.files)
+        self.runs(Trial(make, self.script, str(folder), told, shim, meeting))
         met, left = shim.met(), left_in(str(folder))
         try:
             state = seen(self.files, str(folder))
@@ -334,20 +365,26 @@ def said(line: str) -> None:
     print(line, file=sys.stderr, flush=True)
 
 
-def make_kept(files: Files, folder: pathlib.Path) -> None:
-    """A device that has counted to 2, whose journal has the front of a third record."""
-    host, journal, sizes = Python(files), folder / "journal", []
-    for act in (BEGIN, STARTUP, DEFINE, INCREMENT, INCREMENT, INCREMENT):
+def made(files: Files, folder: pathlib.Path, least: int) -> State:
+    """Makes a device that has counted to 2, or on until its journal has so many bytes. Then it has the
+    front of one more record.
+    """
+    host, journal, count, sizes = Python(files), folder / "journal", 0, [0]
+    for act in (BEGIN, STARTUP, DEFINE):
         does(host, act, str(folder))
+    while count < 3 or sizes[-1] < least:
+        does(host, INCREMENT, str(folder))
         sizes.append(journal.stat().st_size)
+        count += 1
     host.close()
     os.truncate(journal, (sizes[-2] + sizes[-1]) // 2)
     (folder / "journal.new").write_bytes(journal.read_bytes()[:100])
+    return State(is_there=True, is_started=True, is_defined=True, count=count - 1)
 
 
-def cases(files: Files) -> Iterator[Case]:
-    counts = (INCREMENT, READ, INCREMENT, READ)
-    cycles, new = (INCREMENT, POWER, STARTUP, INCREMENT, READ), (STARTUP, DEFINE, INCREMENT, READ)
+def cases(files: Files, starts: Starts) -> Iterator[Case]:
+    counts, new = (INCREMENT, READ, INCREMENT, READ), (STARTUP, DEFINE, INCREMENT, READ)
+    cycles = (INCREMENT, POWER, STARTUP, INCREMENT, READ)
     fork, program = Trial.in_a_fork, Trial.as_a_program
     hosts: list[tuple[type[Host], Callable[[Trial], None], Sequence[str]]] = [
         (Module, fork, counts),
@@ -358,10 +395,11 @@ def cases(files: Files) -> Iterator[Case]:
         (ProgramPower, program, (POWER,)),
     ]
     for host, runs, acts in hosts:
-        make = functools.partial(host, files)
-        yield Case(f"{host.name}, a kept device", files, make, runs, acts, True)
+        yield Case(files, host, runs, starts.kept, acts)
         if POWER != acts[0]:
-            yield Case(f"{host.name}, a new device", files, make, runs, new, False)
+            yield Case(files, host, runs, starts.new, new)
+        if INCREMENT == acts[0]:
+            yield Case(files, host, runs, starts.grown, counts[:2])
 
 
 def main() -> None:
@@ -371,8 +409,7 @@ def main() -> None:
     with tempfile.TemporaryDirectory() as name:
         room = pathlib.Path(name)
         shim = Shim(pathlib.Path(path).resolve(), room / "report")
-        make_kept(files, room / "kept")
-        for case in cases(files):
+        for case in cases(files, Starts.made(files, room)):
             if not words or words[0] in case.label:
                 more, wrong = case.check(room, shim, int(share))
                 runs, wrongs = runs + more, wrongs + wrong

@@ -1,29 +1,41 @@
-# The hosts of a kept device, and the shim that makes their calls fail. A test is given the archive, and reads
-# this file after cases.sh and library.sh. tests/keeping/hosts.py says where it finds the hosts.
+# The hosts of a kept device, and the shims that make their calls fail and log what they do. A test is given
+# the archive, and reads this file after cases.sh and library.sh. tests/keeping/hosts.py says where it finds the
+# hosts.
 # shellcheck shell=sh disable=SC2154 # library.sh has `archive` and `dist`
 needs cc nm strip python3 tss2/tss2_tcti.h
-hosts=$room/hosts
-shim=$room/failing.so
 top=$tests/..
 TPMSIM_ARCHIVE=$(readlink -f "$archive")
 export TPMSIM_ARCHIVE
 
-# make_hosts: builds the module, tpmsim-power and tpmsim-simulator.
+# make_hosts FOLDER: builds the module, tpmsim-power and tpmsim-simulator.
 make_hosts() {
     if [ -f "$top/hosts/build.sh" ]; then
-        "$top/hosts/build.sh" tcti "$hosts" && "$top/hosts/build.sh" simulator "$hosts"
+        "$top/hosts/build.sh" tcti "$1" && "$top/hosts/build.sh" simulator "$1"
     else
-        "$top/tools/interop/attached.sh" "$hosts" && "$top/tools/interop/attached_simulator.sh" "$hosts"
+        "$top/tools/interop/attached.sh" "$1" && "$top/tools/interop/attached_simulator.sh" "$1"
     fi
 }
 
-make_hosts >"$room/made" 2>&1 || { cat "$room/made"; exit 1; }
-cc -std=gnu11 -O1 -Wall -Wextra -Werror -Wno-nonnull -fno-builtin -shared -fPIC -o "$shim" \
-    "$tests/keeping/failing.c" || exit 1
+make_shims() {
+    for shim in failing disk; do
+        cc -std=gnu11 -O1 -Wall -Wextra -Werror -Wno-nonnull -fno-builtin -shared -fPIC \
+            -o "$1/$shim.so" "$tests/keeping/$shim.c" || return 1
+    done
+}
 
-# against NAME WORDS..: plays a program of this folder with the shim.
+# They are built once for all tests that tools/scripts.sh runs, which names the folder TPMSIM_BUILT.
+built=${TPMSIM_BUILT:-$room/shared}/keeping
+if [ ! -d "$built" ]; then
+    { mkdir -p "${built%/*}" && make_hosts "$room/new" && make_shims "$room/new"; } >"$room/made" 2>&1 ||
+        { cat "$room/made"; exit 1; }
+    # Another test may have been faster.
+    mv -T "$room/new" "$built" 2>"$room/moved" || rm -r "$room/new"
+fi
+
+# against SHIM NAME WORDS..: plays a program of this folder with a shim.
 against() {
-    name=$1
-    shift
-    LD_PRELOAD=$shim python3 "$tests/keeping/$name.py" "$dist/tpmsim" "$hosts" "$@"
+    shim=$built/$1.so
+    played=$tests/keeping/$2.py
+    shift 2
+    LD_PRELOAD=$shim python3 "$played" "$dist/tpmsim" "$built" "$shim" "$@"
 }

@@ -17,6 +17,6 @@ if [ -z "${own_mounts:-}" ] || ! mount -t tmpfs -o size=1m none disk 2>"$room/er
 fi
 . "$tests/keeping/hosts.sh"
 cd disk || exit 1
-against all_at_once 5 6 1 fills 2>"$room/said" || cat "$room/said"
+against failing all_at_once 5 6 1 fills 2>"$room/said" || cat "$room/said"
 cd ..
 umount disk

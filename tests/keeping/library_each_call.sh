@@ -5,4 +5,4 @@ tests=$(cd "$(dirname "$0")/.." && pwd -P)
 . "$tests/common/library.sh"
 . "$tests/keeping/hosts.sh"
 
-against each_call "$shim" "${SHARE:-10}" 2>"$room/said" || cat "$room/said"
+against failing each_call "${SHARE:-10}" 2>"$room/said" || cat "$room/said"

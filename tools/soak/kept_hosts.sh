@@ -1,7 +1,8 @@
 #!/bin/sh
-# Attacks all hosts of a kept device. First each call of each host fails in turn, in some 11,000 runs:
-# tests/keeping/library_each_call.sh makes one in ten. Then hosts of each kind hold one device at once, while
-# they are killed, fork and are interrupted. It is no part of the gate. Needs cc, libtss2-dev and python3.
+# Attacks all hosts of a kept device. First each call of each host fails in turn, in some 13,000 runs:
+# tests/keeping/library_each_call.sh makes one in ten. Then the host crashes after each change to a folder, and
+# hosts of each kind hold one device at once, while they are killed, fork and are interrupted. It is no part of
+# the gate. Needs cc, libtss2-dev and python3.
 #
 #   tools/soak/kept_hosts.sh             all calls, and ten minutes of processes
 #   tools/soak/kept_hosts.sh 60 7        all calls, and one minute of seed 7
@@ -20,7 +21,11 @@ set -- "${TPMSIM_ARCHIVE:-$tests/../dist/libtpmsim.a}"
 . "$tests/keeping/hosts.sh"
 
 status=0
-against each_call "$shim" "$share" 2>&1 || status=1
-against all_at_once "$((seconds / 2))" 6 "$seed" 2>&1 || status=1
-against all_at_once "$((seconds / 2))" 40 "$seed" 2>&1 || status=1
+against failing each_call "$share" 2>&1 || status=1
+against disk crash_each 1 2>&1 || status=1
+for processes in 6 40; do
+    for more in 0 1; do
+        against failing all_at_once "$((seconds / 4))" "$processes" "$((seed + more))" 2>&1 || status=1
+    done
+done
 exit "$status"

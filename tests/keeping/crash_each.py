@@ -1,0 +1,294 @@
+"""The host of a kept device crashes after each change that it makes to its folder:
+
+    python3 crash_each.py PROGRAM HOSTS SHIM SHARE [WORD]
+
+SHIM is the library of disk.c, which LD_PRELOAD has loaded into this process too: it logs what each host does
+to its folder. A crash leaves of it what was forced, and of the rest any front, perhaps with zeros after it. A
+name that was not forced may be gone, and an earlier file may have it again. After each line of the log some
+such folders are made, and opened by another host. With force=always each is the device that executed the
+answered acts, and perhaps the one that was not answered; else it is one of those since the last power cycle.
+One of SHARE crashes is made, and with WORD those of hosts whose name has it.
+"""
+
+import ctypes
+import os
+import pathlib
+import random
+import shutil
+import sys
+import tempfile
+from dataclasses import dataclass, field
+from typing import Callable, Iterator, Sequence
+
+from tests.keeping.counted import BEGIN, Counted, DEFINE, INCREMENT, POWER, READ, STARTUP, State
+from tests.keeping.each_call import said, seen, Start, Starts
+from tests.keeping.hosts import does, Files, Host, Module, Python, Refused, Run, Simulator
+
+MOST_ZEROS, CHOICES = 5000, 3
+
+
+@dataclass
+class File:
+    """What a file holds; what it has held since it was forced; how many of its first bytes are on the disk."""
+
+    now: bytes = b""
+    past: list[bytes] = field(default_factory=list)
+    forced: int = 0
+
+    def becomes(self, text: bytes) -> None:
+        """Bytes that are written again as they were stay on the disk."""
+        self.past.append(self.now)
+        self.forced = min(self.forced, len(os.path.commonprefix([self.now, text])))
+        self.now = text
+
+    def writes(self, at: int, text: bytes) -> None:
+        self.becomes(self.now[:at].ljust(at, b"\0") + text + self.now[at + len(text) :])
+
+    def cuts(self, size: int) -> None:
+        self.becomes(self.now[:size])
+
+    def forces(self) -> None:
+        self.past, self.forced = [], len(self.now)
+
+    def left(self, choices: random.Random) -> bytes:
+        """What a crash leaves of it, by chance."""
+        text = choices.choice([*self.past, self.now])
+        text = text[: max(self.forced, choices.randrange(len(text) + 1))]
+        return text + bytes(choices.randrange(MOST_ZEROS) if choices.random() < 0.5 else 0)
+
+
+class Disk:
+    """A folder, as its processes see it and as a crash may leave it."""
+
+    def __init__(self, folder: pathlib.Path, is_there: bool) -> None:
+        self.folder, self.is_there, self.is_named = folder, is_there, is_there
+        self.files: dict[str, File] = {}
+        self.names: list[dict[str, str]] = [{}]
+        if is_there:
+            for path in folder.iterdir():
+                self.names[0][path.name] = number = str(path.stat().st_ino)
+                self.files[number] = File(path.read_bytes(), [], path.stat().st_size)
+
+    def name_of(self, path: str) -> str:
+        """The name of a file in the folder; nothing of another one."""
+        folder, _, name = path.rpartition("/")
+        return name if folder == str(self.folder) else ""
+
+    def hears(self, what: str, path: str, *rest: str) -> None:
+        """A line of the log."""
+        if what == "mkdir" and path == str(self.folder):
+            self.is_there = True
+        elif what == "force" and path == str(self.folder):
+            self.names = self.names[-1:]
+        elif what == "force" and path == str(self.folder.parent):
+            self.is_named = True
+        elif what in ("rename", "link", "unlink") and self.name_of(path):
+            self.renames(what, self.name_of(path), self.name_of(rest[0]) if rest else "")
+        elif what in ("open", "write", "cut", "force") and self.name_of(path):
+            self.moves(what, self.name_of(path), *rest)
+
+    def renames(self, what: str, name: str, other: str) -> None:
+        names = dict(self.names[-1])
+        number = names[name] if what == "link" else names.pop(name)
+        if other:
+            names[other] = number
+        self.names.append(names)
+
+    def moves(self, what: str, name: str, number: str, at: str, text: str = "") -> None:
+        if what == "open":
+            if number not in self.names[-1].values():
+                self.files[number] = File()
+                self.names.append({**self.names[-1], name: number})
+            return
+        file = self.files[number]
+        if what == "write":
+            file.writes(int(at), bytes.fromhex(text))
+        elif what == "cut":
+            file.cuts(int(at))
+        else:
+            file.forces()
+
+    def leaves(self, folder: pathlib.Path, choices: random.Random, how: int) -> None:
+        """Makes a folder that a crash leaves: with the least, with all, or by chance."""
+        shutil.rmtree(folder, ignore_errors=True)
+        if not self.is_there or (not self.is_named and (how == 0 or choices.random() < 0.5)):
+            return
+        folder.mkdir(mode=0o700)
+        names = self.names[
+            0 if how == 0 else -1 if how == 1 else choices.randrange(len(self.names))
+        ]
+        for name, number in names.items():
+            file = self.files[number]
+            text = (
+                file.now[: file.forced]
+                if how == 0
+                else file.now
+                if how == 1
+                else file.left(choices)
+            )
+            (folder / name).write_bytes(text)
+            (folder / name).chmod(0o600)
+
+
+class Allowed:
+    """The devices that may be there: those that were answered, or all since the last power cycle."""
+
+    def __init__(self, state: State, is_always: bool) -> None:
+        self.counted, self.is_always, self.waiting = Counted([state]), is_always, list[str]()
+        self.since = {state}
+
+    def hears(self, word: str, act: str, response: str = "") -> None:
+        if word == "asks":
+            self.waiting.append(act)
+            return
+        *before, last = self.waiting
+        self.waiting = []
+        for done in before:
+            self.counted.has([done])
+            self.holds(done)
+        self.counted.answers(last, bytes.fromhex(response))
+        self.holds(last)
+
+    def holds(self, act: str) -> None:
+        """An act was done, and may be lost unless it was a power cycle."""
+        before = set() if act == POWER else {it for it in self.since if it.is_there}
+        self.since = before | self.counted.states
+
+    def after(self, acts: Sequence[str]) -> set[State]:
+        counted = Counted(self.counted.states)
+        counted.may_have(acts)
+        return counted.states
+
+    @property
+    def states(self) -> set[State]:
+        return self.after(self.waiting) | (set() if self.is_always else self.since)
+
+
+@dataclass(frozen=True)
+class Case:
+    """A host, what it begins with, and acts that it is asked for."""
+
+    files: Files
+    host: type[Host]
+    start: Start
+    script: Sequence[str]
+    is_always: bool
+
+    @property
+    def label(self) -> str:
+        return f"{self.host.name}, {self.start.label}"
+
+    def plays(self, host: Host, folder: pathlib.Path, mark: Callable[[str], None]) -> None:
+        for act in (BEGIN, *self.script):
+            mark(f"asks {act}")
+            if act == BEGIN and host.comes_on:
+                mark(f"asks {POWER}")
+            response = does(host, act, str(folder))
+            if host.answers_all or act not in (BEGIN, POWER):
+                mark(f"answers {act} {response.hex()}")
+        host.close()
+
+    def in_a_fork(self, folder: pathlib.Path, log: pathlib.Path) -> None:
+        child = os.fork()
+        if child == 0:
+            try:
+                os.dup2(os.open("/dev/null", os.O_WRONLY), 2)
+                library = ctypes.CDLL(None)
+                library.disk_logs(str(log).encode())
+                self.plays(
+                    self.host(self.files), folder, lambda line: library.disk_marks(line.encode())
+                )
+            finally:
+                os._exit(0)
+        os.waitpid(child, 0)
+
+    def as_a_program(self, folder: pathlib.Path, log: pathlib.Path) -> None:
+        def mark(line: str) -> None:
+            with log.open("a", encoding="ascii") as file:
+                file.write(f"{line}\n")
+
+        self.plays(self.host(self.files, {"DISK_LOG": str(log)}), folder, mark)
+
+    def lines(self, room: pathlib.Path, folder: pathlib.Path) -> list[list[str]]:
+        """What the host does to the folder, and what it answers."""
+        log = room / "log"
+        log.unlink(missing_ok=True)
+        runs = self.in_a_fork if self.host in (Module, Python) else self.as_a_program
+        runs(folder, log)
+        return [line.split() for line in log.read_text("ascii").splitlines()]
+
+    def check(self, room: pathlib.Path, share: int) -> tuple[int, int]:
+        """Makes one of so many crashes. How many those were, and how many were wrong."""
+        folder, left = room / "state", room / "left"
+        self.start.put(folder)
+        disk = Disk(folder, folder.exists())
+        allowed = Allowed(self.start.state, self.is_always)
+        choices, crashes, wrongs = random.Random(self.label), 0, 0
+        lines = self.lines(room, folder)
+        for number, line in enumerate(lines):
+            if line[0] in ("asks", "answers"):
+                allowed.hears(*line)
+            else:
+                disk.hears(*line)
+            for how in range(2 + CHOICES):
+                crashes += 1
+                if crashes % share:
+                    continue
+                disk.leaves(left, choices, how)
+                wrong = self.wrong(left, allowed)
+                if wrong:
+                    wrongs += 1
+                    said(
+                        f"{self.label}: crash after {' '.join(line)[:200]} (line {number}, way {how}): {wrong}"
+                    )
+        if not any(line[0] == "answers" and line[1] == self.script[-1] for line in lines):
+            wrongs += 1
+            said(f"{self.label}: the host did not do all acts")
+        print(
+            f"{self.label}: {'WRONG' if wrongs else 'no crash takes what was promised'}", flush=True
+        )
+        return crashes // share, wrongs
+
+    def wrong(self, left: pathlib.Path, allowed: Allowed) -> str:
+        try:
+            state = seen(self.files, str(left))
+        except Refused as fault:
+            return f"it does not open: {fault}"
+        if state in allowed.states:
+            return ""
+        return f"{state} is none of {sorted(allowed.states)}"
+
+
+def cases(files: Files, starts: Starts) -> Iterator[Case]:
+    counts, new = (INCREMENT, READ, INCREMENT), (STARTUP, DEFINE, INCREMENT)
+    cycles = (INCREMENT, POWER, STARTUP, INCREMENT, READ)
+    hosts: list[tuple[type[Host], Sequence[str], bool]] = [
+        (Module, counts, True),
+        (Python, cycles, False),
+        (Run, cycles, False),
+        (Simulator, (STARTUP, *cycles), True),
+    ]
+    for host, acts, is_always in hosts:
+        yield Case(files, host, starts.kept, acts, is_always)
+        yield Case(files, host, starts.new, new, is_always)
+        if acts[0] == INCREMENT:
+            yield Case(files, host, starts.grown, counts, is_always)
+
+
+def main() -> None:
+    program, folder, path, share, *words = sys.argv[1:]
+    files = Files(pathlib.Path(program).resolve(), pathlib.Path(folder).resolve())
+    crashes = wrongs = 0
+    os.environ["LD_PRELOAD"] = str(pathlib.Path(path).resolve())
+    with tempfile.TemporaryDirectory() as name:
+        room = pathlib.Path(name).resolve()
+        for case in cases(files, Starts.made(files, room)):
+            if not words or words[0] in case.label:
+                more, wrong = case.check(room, int(share))
+                crashes, wrongs = crashes + more, wrongs + wrong
+    said(f"{crashes} crashes, {wrongs} wrong")
+    sys.exit(wrongs > 0)
+
+
+if __name__ == "__main__":
+    main()

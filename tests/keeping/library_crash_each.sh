@@ -1,0 +1,7 @@
+# The host crashes after each change that a host of a kept device makes to its folder: crash_each.py.
+tests=$(cd "$(dirname "$0")/.." && pwd -P)
+. "$tests/common/cases.sh"
+. "$tests/common/library.sh"
+. "$tests/keeping/hosts.sh"
+
+against disk crash_each 1 2>"$room/said" || cat "$room/said"
