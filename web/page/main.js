@@ -56,7 +56,7 @@ function listenToMenus(page) {
 }
 
 const DOWNLOADS = [
-  ["script", "Script"], ["log", "Log: the script with its answers"],
+  ["script", "Script"], ["report", "Report: the lines at fault"], ["log", "Log: the script with its answers"],
   ["journal", "Journal, since power came on"], ["image", "Image, after this step"],
   ["state", "State text, after this step"],
 ];

@@ -35,10 +35,17 @@ export class Page {
     this.script = readScript(chip, [""]);
     this.told = new Told(JSON.parse(byId("log").textContent));
     /**
+     * The steps that the script has another answer of than this device.
+     * @type {number[]}
+     */
+    this.parted = [];
+    /**
      * What the panes of the step and of the device show.
      * @type {unknown[]}
      */
     this.shown = [];
+    /** What was opened, which is said until the script is edited. */
+    this.opened = "";
     this.slice = 0;
     this.linkWait = 0;
     this.editor = new Editor(chip, {
@@ -78,8 +85,9 @@ export class Page {
     return low;
   }
 
-  /** @param {string} text @param {number} [line] the line to begin at */
-  load(text, line = -1) {
+  /** @param {string} text @param {number} [line] the line to begin at @param {string} [opened] what is said of it */
+  load(text, line = -1, opened = "") {
+    this.opened = opened;
     this.editor.text = text;
     this.take();
     const at = line < 0 ? 0 : this.countBefore(line + 1) - 1;
@@ -91,6 +99,7 @@ export class Page {
   take() {
     this.script = readScript(this.chip, this.editor.lines);
     this.told.complete(this.script.steps);
+    this.parted = [];
     this.run.take(this.script.steps);
   }
 
@@ -103,6 +112,7 @@ export class Page {
 
   edited() {
     this.leaveLog();
+    this.opened = "";
     this.take();
     this.chosen = this.nearest(this.editor.caret().line);
     this.run.play(this.chosen, SLICE.first);
@@ -126,9 +136,11 @@ export class Page {
   }
 
   played() {
+    const { steps } = this.script;
+    this.parted = steps.flatMap(({ answers }, at) => (answers.some((given) => !isAnswer(given, this.run.answers[at])) ? [at] : []));
     this.sayCount();
     this.editor.paint();
-    drawMarks(this.script.steps, this.run.refusals);
+    drawMarks(steps, this.notable());
     this.tutorial.look();
     document.documentElement.dataset.played = String(this.script.steps.length);
   }
@@ -166,7 +178,12 @@ export class Page {
   redraw() {
     this.shown = [];
     this.show();
-    drawMarks(this.script.steps, this.run.refusals);
+    drawMarks(this.script.steps, this.notable());
+  }
+
+  /** The steps that are refused, or that the script has another answer of. */
+  notable() {
+    return this.parted.length ? [...new Set([...this.run.refusals, ...this.parted])].sort((one, other) => one - other) : this.run.refusals;
   }
 
   /** Shows the chosen step and its device, unless they are shown. */
@@ -233,11 +250,12 @@ export class Page {
     const refused = run.refusals.length;
     const parts = [plural(script.steps.length, "step"), `${grouped(refused)} refused`];
     if (!run.isPlayed) parts.push(`playing, at ${grouped(run.answers.length)}`);
+    if (this.parted.length) parts.push(`${grouped(this.parted.length)} answered otherwise`);
     const bad = script.faults.size;
     if (bad) parts.push(`${plural(bad, "line")} at fault and left out`);
-    byId("refusal").disabled = !refused;
-    this.say(parts.join(", "), false);
-    byId("note").setAttribute("aria-live", "off");
+    byId("refusal").disabled = !refused && !this.parted.length;
+    this.say(`${this.opened} ${parts.join(", ")}`.trim(), false);
+    if (!this.opened) byId("note").setAttribute("aria-live", "off");
   }
 
   /** @param {string} words @param {boolean} isBad */
@@ -257,7 +275,7 @@ export class Page {
   /** @param {number} by */
   goToRefusal(by) {
     this.run.play(this.script.steps.length, 0);
-    const { refusals } = this.run;
+    const refusals = this.notable();
     const found = by > 0 ? refusals.find((it) => it > this.chosen) : refusals.filter((it) => it < this.chosen).at(-1);
     if (found !== undefined) return this.choose(found, true);
     return this.say(by > 0 ? "No refusal comes after this step." : "No refusal comes before this step.", false);
@@ -321,21 +339,29 @@ export class Page {
     if (!isBad) {
       this.tutorial.close();
       this.leaveLog();
-      this.load(text);
+      this.load(text, -1, note);
       this.keepLink();
     }
-    this.say(note, isBad);
+    if (isBad) this.say(note, isBad);
   }
 
   /** @param {string} what */
   download(what) {
     const { run, script, chosen } = this;
     if (what === "script") return download("script.tpm", [this.editor.text]);
+    if (what === "report") return this.report();
     if (what === "image") return download("tpm.image", [run.imageAt(chosen + 1)]);
     if (what === "state") return download("tpm.state", [run.textAt(chosen + 1)]);
     run.play(script.steps.length, 0);
     if (what === "journal") return download("journal", run.journal());
     return download("log.tpm", [logOf(script, run.answers)]);
+  }
+
+  /** The lines at fault, as tpmsim check prints them. */
+  report() {
+    const lines = [...this.script.faults].map(([line, fault]) => `line ${line + 1}: ${faultName(fault)}\n`);
+    if (!lines.length) return this.say("No line is at fault.", false);
+    return download("report.txt", lines);
   }
 }
 

@@ -55,7 +55,8 @@ export function spelledCode(chip, code) {
  * @param {string} link
  */
 const sectionWords = (link) =>
-  link.replace(/^docs\/table\//, "Table, ").replace(/\.md#/, ": ").replace(/[-_]/g, " ");
+  link.replace(/^docs\/table\//, "Table, ").replace(/#tpm2_.*-(\w+)$/, (_, code) => `#${commandWords(parseInt(code, 16)).replace(/_/g, "\0")}`)
+    .replace(/\.md#/, ": ").replace(/[-_]/g, " ").replace(/\0/g, "_");
 
 /** @param {string} link */
 export const tableLink = (link, words = sectionWords(link)) =>
