@@ -58,7 +58,8 @@ def run() -> int:
         print(f"tpmsim-script: {given.script}: {fault}", file=sys.stderr)
         return FAULT
     except OSError as fault:
-        print(f"tpmsim-script: {fault}", file=sys.stderr)
+        where = fault.filename or given.socket or given.script
+        print(f"tpmsim-script: {where}: {fault.strerror or fault}", file=sys.stderr)
         return FAULT
     return 0
 
