@@ -15,7 +15,7 @@ play() {
 }
 
 play
-"$program" serve --socket tpm.sock --image tpm.image --entropy /dev/urandom --locality 0 --connections 2 &
+timeout 60 "$program" serve --socket tpm.sock --image tpm.image --entropy /dev/urandom --locality 0 --connections 1 &
 tries=0
 until [ -S tpm.sock ] || [ "$tries" -eq 100 ]; do
     tries=$((tries + 1))
@@ -23,4 +23,4 @@ until [ -S tpm.sock ] || [ "$tries" -eq 100 ]; do
 done
 export TPMSIM_SOCKET="$PWD/tpm.sock"
 play
-kill $!
+wait $!

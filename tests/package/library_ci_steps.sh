@@ -5,12 +5,15 @@ tests=$(cd "$(dirname "$0")/.." && pwd -P)
 . "$tests/common/library.sh"
 needs python3 git cc nm strip
 top=${tests%/*}
-trap 'end_devices; rm -rf "$room"' EXIT
+trap 'end_devices; keep_journals; rm -rf "$room"' EXIT
 
 # end_devices: ends each device that a step started.
 end_devices() {
-    for pid in "$room"/*/tpmsim/pid "$room"/*/.tpmsim-device/pid; do
-        [ ! -f "$pid" ] || kill "$(cat "$pid")" 2>/dev/null
+    for file in "$room"/*/tpmsim/pid "$room"/*/.tpmsim-device/pid; do
+        [ -f "$file" ] && read -r pid <"$file" || continue
+        while kill "$pid" 2>/dev/null; do
+            sleep 0.05
+        done
     done
 }
 
