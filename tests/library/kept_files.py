@@ -265,6 +265,8 @@ def forks():
     device.close()
 
 
+# From 3.12 on Python says at each fork of a process with threads that a child may wait for ever.
+warnings.filterwarnings("ignore", "This process .* is multi-threaded", DeprecationWarning)
 wrong_files()
 wrong_words()
 damaged_journals()
