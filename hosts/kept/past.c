@@ -13,15 +13,26 @@ static const char *name_of(unsigned number, char name[32]) {
     return name;
 }
 
-/* Gives each the next number, so that there is no journal.1. */
+/* The first number without a journal, or `count` if there is none. */
+static unsigned free_number(const struct folder *folder, unsigned count) {
+    struct stat status;
+    char name[32];
+    for (unsigned number = 1; number < count; number++)
+        if (fstatat(folder->descriptor, name_of(number, name), &status, AT_SYMLINK_NOFOLLOW) != 0 &&
+            errno == ENOENT)
+            return number;
+    return count;
+}
+
+/* Gives those before the first free number the next one, so that there is no journal.1. A process
+ * that was killed on the way leaves a free number, and then no further journal is lost. */
 static bool move_on(const struct folder *folder, unsigned count, struct reason *reason) {
     char name[32], next[32];
     if (count == 1 && unlinkat(folder->descriptor, LAST, 0) != 0 && errno != ENOENT)
         return refuse(reason, folder->path, LAST, "cannot get the next number", errno);
-    for (unsigned number = count - 1; number > 0; number--)
+    for (unsigned number = free_number(folder, count) - 1; number > 0; number--)
         if (renameat(folder->descriptor, name_of(number, name), folder->descriptor,
-                     name_of(number + 1, next)) != 0 &&
-            errno != ENOENT)
+                     name_of(number + 1, next)) != 0)
             return refuse(reason, folder->path, name, "cannot get the next number", errno);
     return true;
 }

@@ -6,8 +6,8 @@
 
 enum { PAST_MOST = 99 };
 
-/* Links the journal, which is about to lose its name, as journal.1, after the others each got the
- * next number: so many stay at most. */
+/* Links the journal, which is about to lose its name, as journal.1, after those before the first
+ * free number each got the next one: so many stay at most. */
 bool past_keep(const struct folder *folder, unsigned count, struct reason *reason);
 
 #endif

@@ -74,6 +74,25 @@ static void look_at_past(const struct values *values) {
     must(access("state/journal.4", F_OK) != 0, "too many journals stay");
 }
 
+static ino_t inode_of(const char *path) {
+    struct stat status;
+    must(stat(path, &status) == 0, "a journal is not there");
+    return status.st_ino;
+}
+
+/* A process that is killed after it moved journals on has lost the last number alone: the next one fills
+ * what is free, and loses none. */
+static void move_on_after_a_kill(struct kept *kept) {
+    must(rename("state/journal.2", "state/journal.3") == 0, "there is no journal.2");
+    must(rename("state/journal.1", "state/journal.2") == 0, "there is no journal.1");
+    ino_t last = inode_of("state/journal.3"), before = inode_of("state/journal.2");
+    ino_t now = inode_of(JOURNAL);
+    must(kept_power(kept, &(struct reason){0}), "the power cycle failed");
+    must(inode_of("state/journal.1") == now, "the journal is not the first of the past");
+    must(inode_of("state/journal.2") == before && inode_of("state/journal.3") == last,
+         "a journal of the past is lost");
+}
+
 static void open_old(const struct values *values) {
     struct old_journal old = old_journal_of(OLD_EXTENDS);
     must(old.size > LIMIT && mkdir("old", 0700) == 0, "the journal is short");
@@ -104,6 +123,10 @@ int main(int count, char **words) {
     must(extends_of(kept, &values) == PROCESSES * EXTENDS, "extends are lost");
     look_at_past(&values);
     puts("keep=3: three journals of the past, in their order");
+    kept_close(kept);
+    kept = opened_to_keep(FOLDER, KEEP);
+    move_on_after_a_kill(kept);
+    puts("after a kill half-way: none of them is lost");
     kept_close(kept);
     open_old(&values);
     free(values.bytes);
