@@ -1,7 +1,8 @@
 #!/bin/sh
 # Makes the program in dist/: the one that `rt ci` built and proved here, and its lines in PROVED,
 # which name the kit of that, and the checksums of the sources and of the program. Needs `rt`.
-# tools/library.sh makes the library, and tools/web.sh the module for web pages.
+# tools/library.sh makes the library, hosts/shared.sh the host of kept devices for other languages, and
+# tools/web.sh the module for web pages.
 #
 #   tools/dist.sh           makes it, where no source is newer than the program that was built here
 #   tools/dist.sh --check   says whether dist/ is of the sources as they stand and, where it names
