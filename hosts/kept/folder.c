@@ -98,6 +98,12 @@ int folder_look(const struct folder *folder, const char *name, struct stat *stat
     return standing_is_file(status, folder->path, name, reason) ? 1 : -1;
 }
 
+bool folder_has(const struct folder *folder, const char *name, struct identity identity,
+                struct stat *status) {
+    return fstatat(folder->descriptor, name, status, AT_SYMLINK_NOFOLLOW) == 0 &&
+           is_identity(identity, status);
+}
+
 /* Closes a file that was opened for nothing, and answers that there is none. */
 static int closed(int file) {
     close(file);
@@ -175,10 +181,8 @@ bool folder_lock(struct folder *folder, struct reason *reason) {
             close_lock(folder);
             return false;
         }
-        int there = folder_look(folder, LOCK, &status, reason);
-        if (there == 1 && is_identity(folder->lock_identity, &status)) return true;
+        if (folder_has(folder, LOCK, folder->lock_identity, &status)) return true;
         close_lock(folder);
-        if (there < 0) return false;
     }
     return refuse(reason, folder->path, LOCK, "is replaced again and again", 0);
 }

@@ -40,6 +40,10 @@ void folder_close(struct folder *folder);
 int folder_look(const struct folder *folder, const char *name, struct stat *status,
                 struct reason *reason);
 
+/* Whether a name is that of this file, which was looked at when it was opened; and its status then. */
+bool folder_has(const struct folder *folder, const char *name, struct identity identity,
+                struct stat *status);
+
 /* Opens a file that is there, to be read and written, and tells what it is. -1 with the reason. */
 int folder_open_file(const struct folder *folder, const char *name, struct stat *status,
                      struct reason *reason);

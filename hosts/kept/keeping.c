@@ -66,13 +66,14 @@ static void note_cut(struct keeping *keeping, uint64_t whole) {
 /* ---- the tasks */
 
 static uint8_t look(struct keeping *keeping, struct reason *reason) {
+    const struct folder *folder = &keeping->folder;
     struct stat status;
     keeping->size = 0;
-    int there = folder_look(&keeping->folder, JOURNAL_NAME, &status, reason);
-    if (there != 1) return there == 0 ? TPMSIM_GOT_GONE : TPMSIM_GOT_FAILED;
-    if (keeping->journal < 0 || !is_identity(keeping->identity, &status)) {
+    if (keeping->journal < 0 || !folder_has(folder, JOURNAL_NAME, keeping->identity, &status)) {
         close_file(&keeping->journal);
-        keeping->journal = folder_open_file(&keeping->folder, JOURNAL_NAME, &status, reason);
+        int there = folder_look(folder, JOURNAL_NAME, &status, reason);
+        if (there != 1) return there == 0 ? TPMSIM_GOT_GONE : TPMSIM_GOT_FAILED;
+        keeping->journal = folder_open_file(folder, JOURNAL_NAME, &status, reason);
         if (keeping->journal < 0) return TPMSIM_GOT_FAILED;
         keeping->identity = identity_of(&status);
         keeping->number++;
