@@ -1,0 +1,7 @@
+# Each call of a power cycle fails in turn that keeps journals of the past: past_each.py.
+tests=$(cd "$(dirname "$0")/.." && pwd -P)
+. "$tests/common/cases.sh"
+. "$tests/common/library.sh"
+. "$tests/keeping/hosts.sh"
+
+against failing past_each 2>"$room/said" || cat "$room/said"
