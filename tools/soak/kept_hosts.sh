@@ -22,6 +22,7 @@ set -- "${TPMSIM_ARCHIVE:-$tests/../dist/libtpmsim.a}"
 
 status=0
 against failing each_call "$share" 2>&1 || status=1
+against failing damage_each "$share" 2>&1 || status=1
 against disk crash_each 1 2>&1 || status=1
 for processes in 6 40; do
     for more in 0 1; do

@@ -1,0 +1,113 @@
+"""Each call of a power cycle with --cut fails in turn, of a device whose journal is damaged in its middle:
+
+    python3 damage_each.py PROGRAM HOSTS SHIM SHARE
+
+The journal stays as it is, byte for byte, or a new one takes its place: of the device before the damage, or
+of that after the power cycle. One of SHARE runs is made.
+"""
+
+import functools
+import pathlib
+import sys
+import tempfile
+
+from tests.keeping.counted import BEGIN, Counted, DEFINE, INCREMENT, POWER, STARTUP, State
+from tests.keeping.each_call import (
+    Meeting,
+    MOST_CALLS,
+    said,
+    seen,
+    Shim,
+    Start,
+    Told,
+    Trial,
+    VARIANTS,
+)
+from tests.keeping.hosts import does, Files, Host, Power, ProgramPower, Python, Refused
+
+FRONT = State(is_there=True, is_started=True, is_defined=True, count=1)
+
+
+class Cut(Power):
+    """tpmsim-power --cut."""
+
+    name = "tpmsim-power --cut"
+
+    def words(self, folder: str) -> list[str]:
+        return [*super().words(folder), "--cut"]
+
+
+class ProgramCut(ProgramPower):
+    """The program's."""
+
+    name = "tpmsim power --cut"
+
+    def words(self, folder: str) -> list[str]:
+        return [*super().words(folder), "--cut"]
+
+
+def made(files: Files, folder: pathlib.Path) -> None:
+    """A device that has counted to 3, and damage in the record of the second time."""
+    host, journal, sizes = Python(files), folder / "journal", []
+    for act in (BEGIN, STARTUP, DEFINE, INCREMENT, INCREMENT, INCREMENT):
+        does(host, act, str(folder))
+        sizes.append(journal.stat().st_size)
+    host.close()
+    text = bytearray(journal.read_bytes())
+    text[(sizes[-3] + sizes[-2]) // 2] ^= 1
+    journal.write_bytes(text)
+
+
+class Damaged:
+    """A damaged device, and a host that cuts the damage off."""
+
+    def __init__(self, files: Files, host: type[Host], room: pathlib.Path, shim: Shim) -> None:
+        self.files, self.make, self.shim = files, functools.partial(host, files), shim
+        self.start, self.folder = Start("", FRONT, room / "damaged"), room / "state"
+        self.journal = (room / "damaged" / "journal").read_bytes()
+
+    def tries(self, meeting: Meeting) -> tuple[str, str]:
+        """Which call was met, and what is wrong."""
+        self.start.put(self.folder)
+        told = Told(Counted([FRONT]))
+        Trial(self.make, (POWER,), str(self.folder), told, self.shim, meeting).as_a_program()
+        met = self.shim.met()
+        if (self.folder / "journal").read_bytes() == self.journal:
+            return met, "" if FRONT in told.counted.states else "nothing was done"
+        try:
+            state = seen(self.files, str(self.folder))
+        except Refused as fault:
+            return met, f"it does not open: {fault}"
+        if state not in told.counted.states:
+            return met, f"{state} is none of {list(told.counted)}"
+        return met, "; ".join(told.strange)
+
+
+def main() -> None:
+    program, folder, path, share = sys.argv[1:]
+    files = Files(pathlib.Path(program).resolve(), pathlib.Path(folder).resolve())
+    runs = wrongs = 0
+    with tempfile.TemporaryDirectory() as name:
+        room = pathlib.Path(name)
+        shim = Shim(pathlib.Path(path).resolve(), room / "report")
+        made(files, room / "damaged")
+        for host in (Cut, ProgramCut):
+            damaged, before = Damaged(files, host, room, shim), wrongs
+            for turn, variant in enumerate(VARIANTS):
+                for number in range(1 + turn % int(share), MOST_CALLS, int(share)):
+                    met, wrong = damaged.tries(Meeting(number, *variant))
+                    runs += 1
+                    if wrong:
+                        wrongs += 1
+                        said(f"{host.name}: {Meeting(number, *variant)}, {met}: {wrong}")
+                    if not met:
+                        break
+            print(
+                f"{host.name}: {'WRONG' if wrongs > before else 'whole, or as it was'}", flush=True
+            )
+    said(f"{runs} runs, {wrongs} wrong")
+    sys.exit(wrongs > 0)
+
+
+if __name__ == "__main__":
+    main()

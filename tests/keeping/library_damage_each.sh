@@ -1,0 +1,8 @@
+# Each call of a power cycle with --cut fails in turn, of a device whose journal is damaged: damage_each.py, of
+# whose runs one in five is made.
+tests=$(cd "$(dirname "$0")/.." && pwd -P)
+. "$tests/common/cases.sh"
+. "$tests/common/library.sh"
+. "$tests/keeping/hosts.sh"
+
+against failing damage_each 5 2>"$room/said" || cat "$room/said"
