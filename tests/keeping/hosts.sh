@@ -9,11 +9,7 @@ export TPMSIM_ARCHIVE
 
 # make_hosts FOLDER: builds the module, tpmsim-power and tpmsim-simulator.
 make_hosts() {
-    if [ -f "$top/hosts/build.sh" ]; then
-        "$top/hosts/build.sh" tcti "$1" && "$top/hosts/build.sh" simulator "$1"
-    else
-        "$top/tools/interop/attached.sh" "$1" && "$top/tools/interop/attached_simulator.sh" "$1"
-    fi
+    "$top/hosts/build.sh" tcti "$hosts" && "$top/hosts/build.sh" simulator "$hosts"
 }
 
 make_shims() {

@@ -18,9 +18,9 @@ end_devices() {
 }
 
 # The repository, as far as the steps need it, with the library that is tested.
-mkdir -p "$room/source/dist" "$room/source/tools" "$room/source/.github"
-cp -r "$top/.github/actions" "$room/source/.github/" && cp -r "$top/tools/interop" "$room/source/tools/"
-cp -r "$top/attached" "$room/source/" && cp -L "$dist/tpmsim" "$archive" "$dist/tpmsim.h" "$room/source/dist/"
+mkdir -p "$room/source/dist" "$room/source/.github"
+cp -r "$top/.github/actions" "$room/source/.github/" && cp -r "$top/hosts" "$room/source/" &&
+    cp -L "$dist/tpmsim" "$archive" "$dist/tpmsim.h" "$room/source/dist/"
 (cd "$room/source" && git init -q && git add -A && git -c user.name=n -c user.email=e commit -qm sources)
 
 cat >client.py <<'END'

@@ -44,7 +44,7 @@ serve() {
 }
 
 simulator() {
-    "$top/tools/interop/attached_simulator.sh" "$folder" || exit 1
+    "$top/hosts/build.sh" simulator "$folder" || exit 1
     start "$folder/tpmsim-simulator" --port 0 --image "$folder/tpm.image"
     waited test -s "$folder/said" || fail 'the simulator does not start'
     read -r host port <"$folder/said"
