@@ -66,14 +66,15 @@ def found_in(path: Path, entries: list[Entry]) -> Iterator[str]:
     for number, line in lines_of(path.read_text(encoding="utf-8")):
         for entry in entries:
             for match in entry.words.finditer(line):
-                yield f"{path}:{number}: {match[0]}: write {entry.plain}"
+                name = path.relative_to(TOP) if path.is_relative_to(TOP) else path
+                yield f"{name}:{number}: {match[0]}: write {entry.plain}"
 
 
 def documents() -> list[Path]:
     ran = subprocess.run(
         ["git", "ls-files", "*.md"], cwd=TOP, check=True, stdout=subprocess.PIPE, text=True
     )
-    return [Path(name) for name in ran.stdout.split() if TOP / name != STYLE]
+    return [TOP / name for name in ran.stdout.split() if TOP / name != STYLE]
 
 
 def main(names: list[str]) -> int:
