@@ -8,8 +8,10 @@ import (
 	"fmt"
 	"io"
 	"os"
+	"runtime"
 	"strings"
 	"sync"
+	"syscall"
 	"testing"
 	"time"
 )
@@ -319,20 +321,26 @@ func TestSHAKE256(t *testing.T) {
 	}
 }
 
-// A thousand devices, each in a goroutine of its own, take less than half a second. What else the machine does may
-// slow a round, so the quickest of ten counts.
+// A thousand devices, each in a goroutine of its own, take less than half a second of each processor. That is not
+// told by a clock, as other programs may have the processors meanwhile.
 func TestAThousandDevices(t *testing.T) {
-	var took time.Duration
-	for round := 0; round < 10; round++ {
-		if took = thousandDevices(t); took < time.Second/2 {
-			return
-		}
+	before := processorTime(t)
+	thousandDevices(t)
+	took := (processorTime(t) - before) / time.Duration(runtime.NumCPU())
+	if took > time.Second/2 {
+		t.Errorf("they took %v", took)
 	}
-	t.Errorf("they took %v", took)
 }
 
-func thousandDevices(t *testing.T) time.Duration {
-	began := time.Now()
+func processorTime(t *testing.T) time.Duration {
+	var usage syscall.Rusage
+	if err := syscall.Getrusage(syscall.RUSAGE_SELF, &usage); err != nil {
+		t.Fatal(err)
+	}
+	return time.Duration(usage.Utime.Nano() + usage.Stime.Nano())
+}
+
+func thousandDevices(t *testing.T) {
 	var group sync.WaitGroup
 	for number := 0; number < 1000; number++ {
 		group.Add(1)
@@ -351,7 +359,6 @@ func thousandDevices(t *testing.T) time.Duration {
 		}(number)
 	}
 	group.Wait()
-	return time.Since(began)
 }
 
 // One device, used by several goroutines.
