@@ -15,7 +15,7 @@ play() {
 }
 
 play
-timeout 60 "$program" serve --socket tpm.sock --image tpm.image --entropy /dev/urandom --locality 0 --connections 1 &
+timeout 60 "$dist/tpmsim" serve --socket tpm.sock --image tpm.image --entropy /dev/urandom --locality 0 --connections 1 &
 tries=0
 until [ -S tpm.sock ] || [ "$tries" -eq 100 ]; do
     tries=$((tries + 1))
