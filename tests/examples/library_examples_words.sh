@@ -12,7 +12,7 @@ for example in "$tests"/../examples/words/*.tpms; do
     echo "== ${name%.tpms}"
     layered --trace -o plain.tpm "$example" || continue
     sed -n -e '/^power$/p' -e 's/^# \([A-Za-z_]* L0 .*\)/\1/p' plain.tpm >here
-    "$program" run --trace plain.tpm | grep -v '^[0-9a-f]*$' >there
+    "$dist/tpmsim" run --trace plain.tpm | grep -v '^[0-9a-f]*$' >there
     cmp here there && echo "$(grep -c ' ok ' there) successes"
     grep -v ' ok \|^power' there
     layered plain.tpm | cmp - plain.tpm
@@ -22,7 +22,7 @@ done
 echo '== docs/LAYERED_SCRIPTS.md'
 page=$tests/../docs/LAYERED_SCRIPTS.md
 awk '/^[$] PYTHONPATH/ { exit } shown; /^[$] cat/ { shown = 1 }' "$page" >secret.tpms
-layered secret.tpms >secret.tpm && "$program" run --trace secret.tpm | grep -v '^[0-9a-f]*$'
+layered secret.tpms >secret.tpm && "$dist/tpmsim" run --trace secret.tpm | grep -v '^[0-9a-f]*$'
 
 echo '== faults'
 sed 's/session:/sesion:/' secret.tpms >wrong.tpms
