@@ -276,6 +276,9 @@ typedef struct tpmsim_keeper {
    too, with the folder, as at a power cycle; or before each response. */
 enum tpmsim_force { TPMSIM_FORCE_NEVER = 0, TPMSIM_FORCE_POWER = 1, TPMSIM_FORCE_ALWAYS = 2 };
 
+/* How many bytes the report has with which the response to a command of the standard begins. */
+enum { TPMSIM_REPORT_SIZE = 7 };
+
 /* What a keeper is asked for. */
 enum tpmsim_job {
     /* To execute the command of a text. */
@@ -285,7 +288,11 @@ enum tpmsim_job {
     /* To give the head of a journal that begins in this state. The text does not count. */
     TPMSIM_JOB_SHOW = 2,
     /* To see that there is a device, or else to begin one of the seed of a text. */
-    TPMSIM_JOB_BEGIN = 3
+    TPMSIM_JOB_BEGIN = 3,
+    /* To drop damage: a damaged journal begins again with the device of its head and of the records
+       before the damage, and nothing else changes. If the keeper had opened the device before the
+       damage, the call ends by TPMSIM_FAULT_DAMAGED, and the next one cuts. The text does not count. */
+    TPMSIM_JOB_CUT = 4
 };
 
 /* What the host is to do next. */
@@ -344,7 +351,8 @@ enum tpmsim_fault {
 
 /* The next task. What is not said of a task is 0. */
 typedef struct tpmsim_ask {
-    /* Of PUT: to how many bytes the file is cut first. */
+    /* Of PUT: to how many bytes the file is cut first. Of MAKE: how many bytes of the old journal the
+       device executed, 0 if there is none. The new journal has nothing of the bytes after them. */
     uint64_t cut;
     /* Of READ and PUT: the offset in the file. */
     uint64_t at;
@@ -381,13 +389,20 @@ void tpmsim_keeper_ask(tpmsim_keeper *keeper, tpmsim_ask *ask);
 size_t tpmsim_keeper_text(tpmsim_keeper *keeper, uint8_t *buffer, size_t size);
 
 /* Writes the response of a call that is done to the front of a buffer, if all of it fits; else nothing is
-   written. How many bytes it has, written or not; 0 before the call is done, and without a keeper. */
+   written. How many bytes it has, written or not; 0 before the call is done, and without a keeper. To a
+   command of the standard it begins with TPMSIM_REPORT_SIZE bytes: the command's code (4, the highest
+   first), the check that refused it, as in tpmsim_answered (1), and how many random bytes it drew (2). */
 size_t tpmsim_keeper_response(tpmsim_keeper *keeper, uint8_t *buffer, size_t size);
 
 /* Takes what came of the task: of LOOK and NAME the number of the file, which another file never has; of
    LOOK how many bytes the file has; of READ the bytes. Nothing else is read. */
 void tpmsim_keeper_next(tpmsim_keeper *keeper, uint8_t got, uint64_t file, uint64_t file_size,
                         const uint8_t *bytes, size_t size);
+
+/* Writes what a fault says to the front of a buffer, if all of it fits; else nothing is written. It is
+   ASCII without a 0 at its end, and follows a path: "is damaged, and stays as it is". How many bytes it
+   has, written or not; 0 of TPMSIM_FAULT_NONE, TPMSIM_FAULT_NO_KEEPER and of what is no fault. */
+size_t tpmsim_fault_text(uint8_t fault, char *buffer, size_t size);
 
 /* Frees the keeper and its device, if there is one. The handle has none then, and may be used again. */
 void tpmsim_keeper_free(tpmsim_keeper *keeper);

@@ -9,7 +9,7 @@ export TPMSIM_ARCHIVE
 
 # make_hosts FOLDER: builds the module, tpmsim-power and tpmsim-simulator.
 make_hosts() {
-    "$top/hosts/build.sh" tcti "$hosts" && "$top/hosts/build.sh" simulator "$hosts"
+    "$top/hosts/build.sh" tcti "$1" && "$top/hosts/build.sh" simulator "$1"
 }
 
 make_shims() {

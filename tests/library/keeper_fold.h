@@ -5,7 +5,7 @@
 #include "keeper_folder.h"
 
 /* A head is kept of every so many commands, to go back to. */
-enum { EACH = 16, HEAD_BYTES = 128 * 1024, REPORT_BYTES = 7 };
+enum { EACH = 16, HEAD_BYTES = 128 * 1024 };
 
 /* Kinds of commands, and the offsets in those of the standard after the clock, or after what has
  * elapsed. */
@@ -26,9 +26,6 @@ static struct fold {
     uint64_t time;
     mark mark[COMMANDS / EACH + 1];
 } fold;
-
-/* Whether a response begins with what the command was told beside it. */
-static int has_report;
 
 static uint8_t head_text[HEAD_BYTES];
 
@@ -115,18 +112,17 @@ static inline size_t fold_executes(const uint8_t *text, size_t size, uint8_t *re
     tpmsim_answered answered;
     size_t record_size, moment = text[0] == BY_CLOCK ? 8 : 4;
     const uint8_t *rest = text + MOMENT_AT + moment, *buffer = rest + BUFFER_AFTER;
-    uint8_t *at = response + (has_report ? REPORT_BYTES : 0);
+    uint8_t *at = response + TPMSIM_REPORT_SIZE;
     uint8_t told =
         tpmsim_journal_execute(&fold.device, buffer, (size_t)(text + size - buffer),
                                rest[LOCALITY_AFTER], fold_clock(text), rest[COMPLETES_AFTER],
                                rest + RANDOM_AFTER, at, &answered, record, &record_size);
     must(told == TPMSIM_DONE, "a command is not executed");
-    if (!has_report) return answered.size;
     for (int i = 0; i < 4; i++) response[i] = (uint8_t)(answered.code >> (24 - 8 * i));
     response[4] = answered.check;
     response[5] = (uint8_t)(answered.drawn >> 8);
     response[6] = (uint8_t)answered.drawn;
-    return answered.size + REPORT_BYTES;
+    return answered.size + TPMSIM_REPORT_SIZE;
 }
 
 /* A power cycle is the device of its own image, as power comes on. */
@@ -152,7 +148,7 @@ static inline size_t fold_restores(const uint8_t *seed, size_t size, uint8_t *re
 }
 
 static inline void fold_steps(executed *next) {
-    static uint8_t response[RESPONSE_BYTES + REPORT_BYTES];
+    static uint8_t response[RESPONSE_BYTES + TPMSIM_REPORT_SIZE];
     const uint8_t *text = next->text;
     size_t size = *text == CYCLE       ? fold_cycles(text)
                   : *text == RESTORING ? fold_restores(text + 1, next->size - 1, response)

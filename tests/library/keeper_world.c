@@ -15,7 +15,7 @@
 #include <sys/wait.h>
 #include <unistd.h>
 
-enum { PROCESSES = 5, WORLD_EVENTS = 1500, CHILD_EVENTS = 60, JOB_CUT = 4, STATES = 8 };
+enum { PROCESSES = 5, WORLD_EVENTS = 1500, CHILD_EVENTS = 60, STATES = 8 };
 
 /* A process. It was hindered if a task of its call failed, or it was refused memory. */
 typedef struct process {
@@ -28,7 +28,7 @@ typedef struct process {
 } process;
 
 static process processes[PROCESSES];
-static int is_child, has_cut, refused;
+static int is_child, refused;
 
 static struct counts {
     long events, calls, answers, deaths, failures, forks, crashes, drops, starved, worlds;
@@ -126,7 +126,7 @@ static void add_standard(process *it, uint8_t kind) {
 static void add_command(process *it) {
     unsigned roll = rolled(100);
     uint8_t kind = roll < 90 ? BY_CLOCK : roll < 95 ? CYCLE : roll < 98 ? RESTORING : NO_KIND;
-    if (has_report && roll < 20) kind = BY_ELAPSED;
+    if (roll < 20) kind = BY_ELAPSED;
     add(it, &kind, 1);
     if (kind == BY_CLOCK || kind == BY_ELAPSED) add_standard(it, kind);
     if (kind == CYCLE) add_clock(it), add_number(it, rolled(1u << 31));
@@ -142,8 +142,7 @@ static void asks(process *it) {
               : roll < 90 ? TPMSIM_JOB_SHOW
               : roll < 94 ? TPMSIM_JOB_RENEW
               : roll < 98 ? TPMSIM_JOB_BEGIN
-                          : JOB_CUT;
-    if (it->job == JOB_CUT && !has_cut) it->job = TPMSIM_JOB_SHOW;
+                          : TPMSIM_JOB_CUT;
     if (journal()->number == 0 && !chance(8)) it->job = TPMSIM_JOB_BEGIN;
     if (it->job == TPMSIM_JOB_BEGIN) add_seed(it);
     if (it->job == TPMSIM_JOB_EXECUTE) add_command(it);
@@ -442,23 +441,9 @@ static void check_wrong(long events) {
     }
 }
 
-/* Learns which keeper it is: whether it has the job of cutting, and whether responses have reports.
- */
-static void learn(void) {
-    static host alone;
-    static memory folder;
-    memory_host(&alone, &folder, TPMSIM_FORCE_NEVER, UINT64_MAX);
-    has_cut = tpmsim_keeper_begin(&alone.keeper, JOB_CUT, host_text, 0) == TPMSIM_DONE;
-    must(host_begins(&alone) == 0 && host_executes(&alone, STARTUP, sizeof STARTUP) == 0,
-         "no device begins");
-    has_report = alone.response_size == 10 + REPORT_BYTES;
-    tpmsim_keeper_free(&alone.keeper);
-}
-
 int main(int count, char **words) {
     must(count == 3, "usage: keeper_world EVENTS SEED, or keeper_world wrong EVENTS");
     world_begins(1);
-    learn();
     if (strcmp(words[1], "wrong") == 0) return check_wrong(atol(words[2])), 0;
     run(atol(words[1]), (uint64_t)atol(words[2]) * 1000003);
     printf("each answer and each journal is the history's\n");
