@@ -25,7 +25,9 @@ static inline void files_close(int *file) {
 static inline int files_lock(files *it) {
     files_close(&it->lock);
     it->lock = openat(it->folder, "lock", O_RDWR | O_CREAT | O_CLOEXEC, 0600);
-    return it->lock >= 0 && flock(it->lock, LOCK_EX) == 0;
+    if (it->lock >= 0 && flock(it->lock, LOCK_EX) == 0) return 1;
+    files_close(&it->lock);
+    return 0;
 }
 
 /* Opens the file that is named journal, unless it is the one that is open. */
@@ -68,7 +70,8 @@ static inline int files_put(files *it, const tpmsim_ask *ask, const uint8_t *tex
 
 static inline int files_make(files *it, const tpmsim_ask *ask, const uint8_t *text) {
     files_close(&it->fresh);
-    it->fresh = openat(it->folder, "journal.new", O_RDWR | O_CREAT | O_TRUNC | O_CLOEXEC, 0600);
+    if (unlinkat(it->folder, "journal.new", 0) != 0 && errno != ENOENT) return 0;
+    it->fresh = openat(it->folder, "journal.new", O_RDWR | O_CREAT | O_EXCL | O_CLOEXEC, 0600);
     return it->fresh >= 0 && files_write(it->fresh, text, ask->size, 0) && fsync(it->fresh) == 0;
 }
 
