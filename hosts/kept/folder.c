@@ -137,6 +137,7 @@ int folder_make_file(const struct folder *folder, const char *name, struct reaso
     }
     if (fchmod(file, 0600) == 0) return file;
     refuse(reason, folder->path, name, "cannot be given its mode", errno);
+    unlinkat(folder->descriptor, name, 0);
     return closed(file);
 }
 
