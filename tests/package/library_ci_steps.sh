@@ -10,7 +10,8 @@ trap 'end_devices; keep_journals; rm -rf "$room"' EXIT
 # end_devices: ends each device that a step started.
 end_devices() {
     for file in "$room"/*/tpmsim/pid "$room"/*/.tpmsim-device/pid; do
-        [ -f "$file" ] && read -r pid <"$file" || continue
+        [ -f "$file" ] || continue
+        read -r pid <"$file" || continue
         while kill "$pid" 2>/dev/null; do
             sleep 0.05
         done
