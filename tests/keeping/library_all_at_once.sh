@@ -3,7 +3,7 @@
 tests=$(cd "$(dirname "$0")/.." && pwd -P)
 . "$tests/common/cases.sh"
 . "$tests/common/library.sh"
-. "$tests/keeping/hosts.sh"
+. "$tests/common/keeping_hosts.sh"
 
 for seed in 1 2; do
     against failing all_at_once 4 6 "$seed" 2>"$room/said" || cat "$room/said"

@@ -15,7 +15,7 @@ mkdir disk || exit 1
 if [ -z "${own_mounts:-}" ] || ! mount -t tmpfs -o size=1m none disk 2>"$room/error"; then
     skip 'no disk can be mounted for this test alone'
 fi
-. "$tests/keeping/hosts.sh"
+. "$tests/common/keeping_hosts.sh"
 cd disk || exit 1
 against failing all_at_once 5 6 1 fills 2>"$room/said" || cat "$room/said"
 cd ..

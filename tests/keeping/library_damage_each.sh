@@ -3,6 +3,6 @@
 tests=$(cd "$(dirname "$0")/.." && pwd -P)
 . "$tests/common/cases.sh"
 . "$tests/common/library.sh"
-. "$tests/keeping/hosts.sh"
+. "$tests/common/keeping_hosts.sh"
 
 against failing damage_each 5 2>"$room/said" || cat "$room/said"

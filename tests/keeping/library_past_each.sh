@@ -2,6 +2,6 @@
 tests=$(cd "$(dirname "$0")/.." && pwd -P)
 . "$tests/common/cases.sh"
 . "$tests/common/library.sh"
-. "$tests/keeping/hosts.sh"
+. "$tests/common/keeping_hosts.sh"
 
 against failing past_each 2>"$room/said" || cat "$room/said"

@@ -18,7 +18,7 @@ share=${3:-1}
 set -- "${TPMSIM_ARCHIVE:-$tests/../dist/libtpmsim.a}"
 . "$tests/common/cases.sh"
 . "$tests/common/library.sh"
-. "$tests/keeping/hosts.sh"
+. "$tests/common/keeping_hosts.sh"
 
 status=0
 against failing each_call "$share" 2>&1 || status=1
