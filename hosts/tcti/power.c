@@ -1,20 +1,43 @@
-/* tpmsim-power DIR [--cut]: takes power away from the device that is kept in a folder, and gives it
- * back. With --cut a damaged journal is the device of its whole records before the damage. */
+/* tpmsim-power DIR [--cut] [--keep N]: power-cycles the device that is kept in a folder. With --cut a
+ * damaged journal is the device of its whole records before the damage. With --keep N journals of the
+ * past stay in the folder, N of them. */
 #include "kept.h"
 #include <stdio.h>
+#include <stdlib.h>
 #include <string.h>
+
+enum { MOST_KEPT = 99 };
 
 static void tell(const char *sentence) { fprintf(stderr, "tpmsim-power: %s\n", sentence); }
 
+/* Reads how many journals stay: one or two digits. */
+static bool read_keep(const char *word, unsigned *keep) {
+    char *end;
+    if (*word < '0' || *word > '9') return false;
+    unsigned long number = strtoul(word, &end, 10);
+    *keep = (unsigned)number;
+    return *end == 0 && number <= MOST_KEPT;
+}
+
+/* Reads the words after the folder. */
+static bool read_words(struct kept_options *options, char **words) {
+    for (; *words; words++) {
+        if (strcmp(*words, "--cut") == 0)
+            options->cuts = true;
+        else if (strcmp(*words, "--keep") != 0 || !words[1] || !read_keep(*++words, &options->keep))
+            return false;
+    }
+    return true;
+}
+
 int main(int count, char **words) {
     struct reason reason;
-    bool cuts = count == 3 && strcmp(words[2], "--cut") == 0;
-    if (count != 2 && !cuts) {
-        tell("the folder of a kept device is wanted, and then --cut or nothing");
+    struct kept_options options = {.is_there = true, .tell = tell};
+    if (count < 2 || *words[1] == '-' || !read_words(&options, words + 2)) {
+        tell("needs the folder of a kept device; --cut and --keep N, 0 to 99, may follow");
         return 2;
     }
-    struct kept_options options = {
-        .folder = words[1], .is_there = true, .cuts = cuts, .tell = tell};
+    options.folder = words[1];
     struct kept *kept = kept_open(&options, &reason);
     bool is_done = kept && kept_power(kept, &reason);
     kept_close(kept);

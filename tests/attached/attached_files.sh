@@ -32,12 +32,13 @@ echo 'tpmsim-power:'
 mkdir empty
 attach ask ask
 "$room/ask" state=kept 80010000000c000001440000 80010000000c0000017b0000
-for words in '' 'one two' '--cut kept' none empty kept; do
+for words in '' 'one two' '--cut kept' 'kept --keep 100' none empty kept 'kept --keep 1'; do
     # shellcheck disable=SC2086 # they are words
     first/tpmsim-power $words
     echo "status $?"
 done 2>&1
 ls empty
+ls kept
 "$room/ask" state=kept 80010000000c0000017b0000
 echo 'tpmsim-power with a journal that is cut, and with one that is damaged:'
 "$room/ask" state=kept 80010000000c000001440000
