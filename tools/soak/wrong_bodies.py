@@ -19,7 +19,8 @@ the functions that name the constant, and over the whole crate where these are p
 Each check goes on from an earlier one of its crate, and the first from what is kept in its out/.
 
 It prints a line for each, and at last `N of M wrong bodies refused`. The status is 0 where all are,
-and 1 where one is not, or is bad: it cannot be applied, compiled or read. It needs rt.
+and 1 where one is not, or is bad: it cannot be applied, compiled or read, or it is refused only since a
+proof file names what it took away, which says nothing of a contract. It needs rt.
 """
 
 from __future__ import annotations
@@ -54,6 +55,10 @@ UNREAD = re.compile(
 )
 # A function that the borrow checker does not cover is not proved, whatever it does.
 COMPILER_ERROR = re.compile(r"\berror\[[\w-]+\]|the borrow checker does not cover this function")
+# A proof file that names what an edit took away, or what cites that proof, says nothing of a contract.
+GONE = re.compile(
+    r"(?:note: )?(?:\./)?proofs/.*(?:has no field|is not in scope|has no `|was not admitted|was rejected)"
+)
 LIMIT = re.compile(r"ran out of|outgrew the memory limit|stopped at the step limit")
 
 
@@ -373,6 +378,12 @@ def is_not_proved(status: int, said: list[str]) -> bool:
     return status == 1 and is_told and not unread_in(said)
 
 
+def is_of_a_contract(said: list[str]) -> bool:
+    """Whether something is refused that is no name which a proof file has of what is gone."""
+    told = [line for line in said if is_fault(line)]
+    return not told or any(not GONE.match(line) for line in told)
+
+
 def groups_of(bodies: list[WrongBody]) -> list[Group]:
     """The same in groups: no two of one turn the same function."""
     groups: list[tuple[set[Function], Group]] = []
@@ -392,8 +403,12 @@ def refusal_alone(crate: Crate, body: WrongBody) -> str:
     status, said = crate.check([body], is_whole=not body.to_check())
     if body.to_check() and not is_not_proved(status, said):
         status, said = crate.check([body], is_whole=True)
-    told = next((line for line in said if is_fault(line)), "")
+    told = next((line for line in said if is_fault(line) and not GONE.match(line)), "")
     if is_not_proved(status, said):
+        if not is_of_a_contract(said):
+            raise BadEdit(
+                "only a proof file names what it takes away: keep the names, turn a value"
+            )
         return told
     if status == 3 and any(LIMIT.search(line) for line in said):
         return f"only by a limit of the prover: {told}"
@@ -407,7 +422,8 @@ def refusals_told(group: Group, status: int, said: list[str]) -> dict[WrongBody,
     # A function that is proved all the same may have no contract, and others may fail for it.
     if any(it.is_proved_in(said) for body in group for it in body.functions):
         return {}
-    told = {body: [it.fails_in(said) for it in body.functions] for body in group}
+    counted = [line for line in said if not GONE.match(line)]
+    told = {body: [it.fails_in(counted) for it in body.functions] for body in group}
     return {body: next(filter(None, lines)) for body, lines in told.items() if any(lines)}
 
 
