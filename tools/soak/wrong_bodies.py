@@ -584,7 +584,7 @@ def tried(folder: pathlib.Path, names: list[str], jobs: int) -> int:
         take_built(proved, every)
     else:
         prove(proved)
-    crates = [Crate(proved, name, folder) for name in names]
+    crates = [Crate(proved, name, folder) for name in names if edits_of(name)]
     groups = {it: groups_of([it.wrong_body(edit) for edit in edits_of(it.name)]) for it in crates}
     refused = 0
     with concurrent.futures.ThreadPoolExecutor(jobs) as pool:
