@@ -147,7 +147,7 @@ async function contrast() {
   }
 }
 
-const isDone = "document.getElementById('lesson-done').innerText === 'Done.'";
+const isDone = "document.getElementById('lesson-done').innerText.includes('Done.')";
 
 /** Goes by Tab, or back, to what has this id. */
 async function tabTo(page, id, modifiers = 0) {

@@ -187,19 +187,44 @@ async function sizes() {
   }
 }
 
+const isDone = "document.getElementById('lesson-done').innerText.includes('Done.')";
+
 async function lessons(page) {
   await page.front();
   await click(page, "tutorial");
   const wrong = [];
   for (let at = 1; at <= 10; at += 1) {
     const title = await page.text("lesson-title");
-    if (!title.startsWith(`${at}. `) || (await page.text("lesson-done")) === "Done.") wrong.push(title);
+    if (!title.startsWith(`${at}. `) || (await page.text("lesson-done")) !== `Step ${at} of 10.`) wrong.push(title);
     await click(page, "lesson-show");
-    await page.until("document.getElementById('lesson-done').innerText === 'Done.'", 3000).catch(() => wrong.push(`${title}: not done`));
+    await page.until(isDone, 3000).catch(() => wrong.push(`${title}: not done`));
     await click(page, "lesson-next");
   }
   say(!wrong.length, "ten lessons are gone through, and each sees its task done", wrong.join("; "));
   say(await page.value("document.getElementById('lesson').hidden"), "the tutorial ends");
+}
+
+/** The last task as a reader does it, and a lesson that is left and taken up. */
+async function lessonsLeft() {
+  const page = await open();
+  const isHidden = () => page.value("document.getElementById('lesson').hidden");
+  await click(page, "tutorial");
+  for (let at = 1; at < 7; at += 1) await click(page, "lesson-next");
+  const text = (await script(page)).replace("pw:- 8 0", "pw:- 3 0");
+  await page.write(text);
+  await page.until(isDone, 3000).catch(() => {});
+  say((await page.text("lesson-done")) === "Step 7 of 10. Done. It reads 3 bytes.", "a step that is done says so, and what to see", await page.text("lesson-done"));
+  await click(page, "tutorial");
+  const wasHidden = await isHidden();
+  await page.write("do Startup 0\n");
+  await click(page, "tutorial");
+  say(wasHidden && (await page.text("lesson-title")).startsWith("7. ") && (await script(page)) === text, "the tutorial goes on where it was left", await page.text("lesson-title"));
+  for (let at = 7; at < 10; at += 1) await click(page, "lesson-next");
+  await drop(page, "tpm.image", await taken(page, "image"));
+  await page.until(isDone, 3000).catch(() => {});
+  say(!(await isHidden()) && (await page.text("lesson-done")) === "Step 10 of 10. Done.", "an image that is dropped does the last task", await page.text("lesson-done"));
+  await drop(page, "other.tpm", "do Startup 0\n");
+  say(await isHidden(), "another file closes the tutorial");
 }
 
 async function links() {
@@ -354,6 +379,7 @@ async function all() {
   await encrypted(page);
   await pasted(page);
   await lessons(page);
+  await lessonsLeft();
   await hostile(page);
   await files(page);
   await links();

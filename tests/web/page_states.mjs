@@ -74,7 +74,31 @@ function outcomesOf(run) {
   });
 }
 
-for (const lesson of JSON.parse(fs.readFileSync(lessons, "utf8"))) {
+/** Edits that do not do the task of a lesson. */
+const NOT_DONE = [
+  ["Startup", "$", "do GetRandom 4\n"], ["Measure", "6b65726e656c", "6b65726e6566"],
+  ["Policy", "$", "do PolicyAuthValue 03000000\n"], ["Session", "sha256:7,11", "sha256:7"],
+  ["NV", "$", "do NV_Read OWNER 01000001 pw:- 0 3\n"], ["NV", "$", "do NV_Read OWNER 01000001 pw:- 3 5\n"],
+  ["NV", "$", "do NV_Read OWNER 01000001 pw:- 8 0\n"], ["Lockout", "do Unseal 80000001 pw:30303030\n", ""],
+  ["Power", "power\ndo Startup 0", "power\ndo Startup 1"], ["Image", "$", "do NV_DefineSpace OWNER pw:- - 01000001000b0002000200000008\n"],
+];
+/** Edits that do it, otherwise than it is shown. */
+const DONE = [
+  ["NV", "pw:- 8 0", "pw:- 3 0"], ["NV", "do NV_Read", "do NV_Read OWNER 01000001 pw:- 3 0\ndo NV_Read"],
+  ["Policy", "do PolicyPCR", "do PolicyAuthValue 03000000\ndo PolicyPCR"], ["Lockout", "# The", "wait 2000000\n# The"],
+];
+
+const tutorial = JSON.parse(fs.readFileSync(lessons, "utf8"));
+for (const [those, isWanted] of [[NOT_DONE, false], [DONE, true]]) {
+  for (const [title, old, put] of those) {
+    const lesson = tutorial.find((it) => it.title === title);
+    const text = `${lesson.script.join("\n")}\n`.replace(old === "$" ? /$/ : old, put);
+    const { run } = played(text);
+    if (isDone(lesson, { outcomes: () => outcomesOf(run), text: () => text }) !== isWanted) console.log(`${title}: ${put} is not taken as it should be`);
+  }
+}
+
+for (const lesson of tutorial) {
   const text = `${lesson.script.join("\n")}\n`;
   const before = played(text);
   const page = (run, now) => ({ outcomes: () => outcomesOf(run), text: () => now });

@@ -3,10 +3,11 @@
 import { byId, make } from "./dom.js";
 
 /**
- * A task is done once so many events have this command and this code, and the text has this text.
+ * A task is done once the text matches this expression, and so many events have this command and this code.
+ * What is said after it says where to look.
  * @typedef {{
  *   title: string, text: string[], task: string, script: string[], line: number,
- *   done: {name?: string, code?: string, least?: number, has?: string}, show: Show,
+ *   done: {name: string, code: string, least?: number, matches?: string}, after?: string, show: Show,
  * }} Lesson
  * @typedef {{append?: string, replace?: [string, string], image?: boolean}} Show how a task is done
  * @typedef {{
@@ -15,6 +16,8 @@ import { byId, make } from "./dom.js";
  * }} Shell what the tutorial does to the page
  */
 
+const IMAGE = "# image ";
+
 export class Tutorial {
   /** @param {Lesson[]} lessons @param {Shell} page */
   constructor(lessons, page) {
@@ -22,25 +25,57 @@ export class Tutorial {
     this.page = page;
     this.at = -1;
     this.isDone = false;
+    /**
+     * The lesson that was left, and its script then.
+     * @type {{at: number, text: string} | null}
+     */
+    this.left = null;
   }
 
   get isOpen() {
     return this.at >= 0;
   }
 
-  /** @param {number} at */
+  /**
+   * Opens a lesson, or the one that was left.
+   * @param {number} at
+   */
   open(at) {
-    const lesson = this.lessons[at];
+    const { left } = this;
+    const from = left?.at ?? at;
+    const lesson = this.lessons[from];
     if (!lesson) return;
-    this.at = at;
-    this.isDone = false;
-    byId("tutorial").setAttribute("aria-pressed", "true");
-    this.show();
-    this.page.load(`${lesson.script.join("\n")}\n`, lesson.line - 1);
+    this.#show(from);
+    this.page.load(left?.text ?? scriptOf(lesson), lesson.line - 1);
     byId("lesson-title").focus();
   }
 
+  /** Closes the lesson. The page does so too when it opens a file, which may be the image of the task. */
   close() {
+    if (!this.isOpen) return;
+    const left = { at: this.at, text: this.page.text() };
+    this.left = left;
+    this.#hide();
+    if (this.lessons[left.at].show.image) queueMicrotask(() => this.#reopen(left));
+  }
+
+  /**
+   * Shows the lesson that was just left, if an image was opened.
+   * @param {{at: number, text: string}} left
+   */
+  #reopen({ at, text }) {
+    const now = this.page.text();
+    if (this.isOpen || now === text || !now.startsWith(IMAGE)) return;
+    this.#show(at);
+    this.look();
+  }
+
+  #finish() {
+    this.#hide();
+    this.left = null;
+  }
+
+  #hide() {
     const isInside = byId("lesson").contains(document.activeElement);
     this.at = -1;
     byId("lesson").hidden = true;
@@ -48,8 +83,13 @@ export class Tutorial {
     if (isInside) byId("text").focus();
   }
 
-  show() {
-    const lesson = this.lessons[this.at];
+  /** @param {number} at */
+  #show(at) {
+    const lesson = this.lessons[at];
+    this.at = at;
+    this.isDone = false;
+    this.left = null;
+    byId("tutorial").setAttribute("aria-pressed", "true");
     const box = byId("lesson");
     box.hidden = false;
     box.replaceChildren(
@@ -65,17 +105,18 @@ export class Tutorial {
     const isLast = this.at === this.lessons.length - 1;
     return make(
       "div", { class: "foot" },
-      make("output", { id: "lesson-done" }, `Step ${this.at + 1} of ${this.lessons.length}`),
+      make("output", { id: "lesson-done" }, `Step ${this.at + 1} of ${this.lessons.length}.`),
       make("button", { type: "button", disabled: this.at === 0, onclick: () => this.open(this.at - 1) }, "Back"),
       make("button", { type: "button", id: "lesson-show", onclick: () => this.#showTask() }, "Show me"),
-      make("button", { type: "button", id: "lesson-next", onclick: () => (isLast ? this.close() : this.open(this.at + 1)) }, isLast ? "Finish" : "Next"),
+      make("button", { type: "button", id: "lesson-next", onclick: () => (isLast ? this.#finish() : this.open(this.at + 1)) }, isLast ? "Finish" : "Next"),
     );
   }
 
   /** Does the task. */
   #showTask() {
-    const { script, show } = this.lessons[this.at];
-    const text = shownText(`${script.join("\n")}\n`, show, this.page);
+    const lesson = this.lessons[this.at];
+    const { script, show } = lesson;
+    const text = shownText(scriptOf(lesson), show, this.page);
     const lines = text.split("\n");
     const before = script.findIndex((line, at) => line !== lines[at]);
     this.page.edit(text, show.image ? 3 : before < 0 ? script.length : before);
@@ -85,19 +126,22 @@ export class Tutorial {
   look() {
     if (!this.isOpen || this.isDone) return;
     const lesson = this.lessons[this.at];
-    if (this.page.text() === `${lesson.script.join("\n")}\n`) return;
+    if (this.page.text() === scriptOf(lesson)) return;
     this.isDone = isDone(lesson, this.page);
     if (!this.isDone) return;
     const said = byId("lesson-done");
-    said.textContent = "Done.";
+    said.append(` Done. ${lesson.after ?? ""}`.trimEnd());
     said.className = "done";
+    said.scrollIntoView({ block: "nearest" });
   }
 }
 
+/** @param {Lesson} lesson */
+const scriptOf = ({ script }) => `${script.join("\n")}\n`;
+
 /** @param {Lesson} lesson @param {Pick<Shell, "outcomes" | "text">} page */
 export function isDone({ done }, page) {
-  if (done.has && !page.text().includes(done.has)) return false;
-  if (!done.name) return true;
+  if (done.matches && !new RegExp(done.matches, "m").test(page.text())) return false;
   const found = page.outcomes().filter((it) => it.name === done.name && it.code === done.code);
   return found.length >= (done.least ?? 1);
 }
