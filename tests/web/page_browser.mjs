@@ -145,15 +145,40 @@ async function encrypted(page) {
   say((await page.text("detail")).includes("It is not decrypted: the script does not start it."), "or it is said why not", (await page.text("detail")).slice(0, 300));
 }
 
+/** Pastes a text at the caret. */
+const paste = (page, text) => page.value(`(() => {
+  const data = new DataTransfer();
+  data.setData("text/plain", ${JSON.stringify(text)});
+  const event = new ClipboardEvent("paste", { clipboardData: data, bubbles: true, cancelable: true });
+  if (document.getElementById("text").dispatchEvent(event)) document.execCommand("insertText", false, ${JSON.stringify(text)});
+})()`);
+
+// What programs print of one command, whose end looks like hex in characters too.
+const DUMPS = {
+  "hexdump -C": "00000000  80 01 00 00 00 12 00 00  01 7b 00 08 61 62 63 64  |.........{..abcd|\n00000010  65 66                                             |ef|\n00000012\n",
+  xxd: "00000000: 8001 0000 0012 0000 017b 0008 6162 6364  .........{..abcd\n00000010: 6566                                     ef\n",
+  od: "0000000 80 01 00 00 00 12 00 00 01 7b 00 08 61 62 63 64\n0000020 65 66\n0000022\n",
+  Wireshark: "0000   80 01 00 00 00 12 00 00 01 7b 00 08 61 62 63 64   .........{..abcd\r\n0010   65 66                                             ef\r\n",
+  "the page": "0000 8001000000120000017b000861626364\n0010 6566\n",
+};
+
 async function pasted(page) {
   await page.write("");
-  await page.value(`(() => {
-    const data = new DataTransfer();
-    data.setData("text/plain", "80 01 00 00 00 0c 00 00 01 44 00 00\\n80 01 00 00 00 0a 00 00 00 00\\n0x80, 0x01, 0x00, 0x00,\\n0x00, 0x0c, 0x00, 0x00, 0x01, 0x7b, 0x00, 0x08\\n");
-    document.getElementById("text").dispatchEvent(new ClipboardEvent("paste", { clipboardData: data, bubbles: true, cancelable: true }));
-  })()`);
+  await paste(page, "80 01 00 00 00 0c 00 00 01 44 00 00\n80 01 00 00 00 0a 00 00 00 00\n0x80, 0x01, 0x00, 0x00,\n0x00, 0x0c, 0x00, 0x00, 0x01, 0x7b, 0x00, 0x08\n");
   const wanted = "cmd 80010000000c000001440000\n# 80010000000a00000000\ncmd 80010000000c0000017b0008\n";
   say((await script(page)) === wanted, "pasted buffers in hex become commands and their responses", await script(page));
+  const wrong = [];
+  for (const [name, dump] of Object.entries(DUMPS)) {
+    await page.write("");
+    await paste(page, dump);
+    if ((await script(page)) !== "cmd 8001000000120000017b0008616263646566\n") wrong.push(`${name}: ${await script(page)}`);
+  }
+  say(!wrong.length, "dumps lose their offsets and their characters", wrong.join("; "));
+  await page.write("do Startup 0\ncmd ");
+  await paste(page, "80 02 00");
+  say((await script(page)) === "do Startup 0\ncmd 800200", "bytes that are pasted after cmd are joined", await script(page));
+  await drop(page, "command.bin", Buffer.from("80010000000c000001440000", "hex"));
+  say((await script(page)) === "cmd 80010000000c000001440000\n", "a dropped command in binary becomes a line", await script(page));
 }
 
 /** The page of a log that tools/explain.py explained, whose address is beside that of the page. */

@@ -72,7 +72,7 @@ function dump(shown, perRow) {
   const hex = hexOf(bytes);
   const found = make("pre", { class: "dump", "aria-hidden": "true" });
   for (let first = 0; first < bytes.length; first += perRow) {
-    found.append(make("i", {}, hexNumber(first, 4)));
+    found.append(make("i", {}, `${hexNumber(first, 4)} `));
     for (let at = first; at < Math.min(first + perRow, bytes.length); at += 1) {
       const field = fields[owners[at]];
       const kinds = [

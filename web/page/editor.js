@@ -5,7 +5,7 @@ import { faultPlace, faultWords } from "./coloured.js";
 import { byId, cut, make } from "./dom.js";
 import { formShown } from "./form.js";
 import { completionOf, tokensOf } from "./completion.js";
-import { scriptOfBuffers } from "./pasted.js";
+import { pastedText } from "./pasted.js";
 import { ROW, Rows, TOP } from "./rows.js";
 
 /**
@@ -112,14 +112,16 @@ export class Editor {
   }
 
   /**
-   * Buffers in hex become commands, if they begin a line.
+   * Buffers in hex become commands, if they begin a line or come after its `cmd`.
    * @param {ClipboardEvent} event
    */
   #paste(event) {
-    const script = this.caret().column === 0 ? scriptOfBuffers(event.clipboardData?.getData("text") ?? "") : null;
-    if (script === null) return;
+    const { line, column } = this.caret();
+    const text = event.clipboardData?.getData("text") ?? "";
+    const found = pastedText(this.lines[line].slice(0, column), text);
+    if (found === null || found === text) return;
     event.preventDefault();
-    insertText(this.area, script);
+    insertText(this.area, found);
   }
 
   #caretMoved() {

@@ -8,6 +8,8 @@ import { onDevice } from "./script.js";
 const MOST_LINK = 60000;
 const MOST_FILE = 16 * 1024 * 1024;
 const MOST_SCRIPT = 4 * 1024 * 1024;
+/** The first byte of a command, which begins no text. */
+const BINARY = 0x80;
 const FRAGMENT = /^#s=([\w-]+)$/;
 
 // TypeScript of Debian does not know these two.
@@ -88,6 +90,7 @@ export async function opened(file, present) {
   const magic = decoded(bytes.subarray(0, 4));
   if (magic === "TPMI") return onTop(present, "image", bytes, `The script begins on the device of the image ${file.name}.`);
   if (magic === "TPMS") return onTop(present, "state", bytes, `The script goes on with the device of the state text ${file.name}.`);
+  if (bytes[0] === BINARY) return { text: scriptOfBuffers(hexOf(bytes)) ?? `cmd ${hexOf(bytes)}\n`, note: `${file.name} is open.`, isBad: false };
   const text = decoded(bytes).replace(/\r\n?/g, "\n").replace(/\0+$/, "");
   return { text: scriptOfBuffers(text) ?? text, note: `${file.name} is open.`, isBad: false };
 }

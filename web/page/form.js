@@ -16,7 +16,7 @@ export function formShown(text, column) {
 
 /** @type {Record<string, string>} */
 const OTHER_FORMS = {
-  "": "Each line is a command: do, a name, handles, entries, parameters; or cmd and its bytes in hex. # begins a comment. Ctrl+Space shows what may come next.",
+  "": "A line is do, a command's name, handles, entries and parameters; or cmd and bytes in hex. Paste a command's bytes or a hex dump. Ctrl+Space shows what may come next.",
   do: "do and a command in words, such as do GetRandom 8", cmd: "cmd and the bytes of a command in hex",
   wait: "wait and so many milliseconds, which pass before the next command",
   loc: "loc and the locality of later commands, 0 to 4",

@@ -79,6 +79,6 @@ export function showKeys() {
   const list = make("dl");
   for (const [key, words] of KEYS) list.append(make("dt", {}, key), make("dd", {}, words));
   const close = make("button", { type: "button", onclick: () => byId("keys").close() }, "Close");
-  byId("keys").replaceChildren(make("h2", { id: "keys-title" }, "Keys"), list, close);
+  byId("keys").replaceChildren(make("h2", { id: "keys-title" }, "Keyboard"), list, close);
   byId("keys").showModal();
 }

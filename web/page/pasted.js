@@ -1,4 +1,4 @@
-// Buffers in hex, as firmware and libraries print them, as a script.
+// Buffers in hex, as firmware, libraries and programs for dumps print them, as a script.
 
 import { bytesOf, numberOf } from "./bytes.js";
 import { byNumber, facts } from "./facts.js";
@@ -8,21 +8,80 @@ const HEADER = 10;
 const BETWEEN = /0x|[\s,:;]+/gi;
 const BUFFER = /^(?:8001|8002|00c4)(?:[0-9a-f]{2}){8,}$/;
 
+const MOST_DUMP = 1 << 18;
+const MOST_STARS = 32;
+const ROW = /^\s*([0-9a-f]{4,16})(?:(:)\s*|\s+|$)(.*)$/i;
+const PAIRS = /^(?:[0-9a-f]{2})+$/i;
+const OCTAL_DIGITS = 7;
+
 /**
- * The buffers of a text, in hex: a line has one, or one goes on up to its size. Null for another text.
+ * @typedef {{offset: number, hex: string, isRepeated: boolean}} Row of a dump; `isRepeated` if a star after it
+ *   stands for rows of the same bytes
+ */
+
+/**
+ * A row of a dump: its offset and its bytes, without the column of characters. od has offsets of 7 octal digits.
+ * @param {string} line @returns {Row | null}
+ */
+function rowOf(line) {
+  const found = ROW.exec(line.trimEnd());
+  if (!found) return null;
+  const [, offset, colon, rest] = found;
+  const bytes = rest.split(/[|>]/)[0].split(colon ? /\s{2,}/ : /\s{3,}/)[0].split(/\s+/);
+  const end = bytes.findIndex((it) => !PAIRS.test(it));
+  const hex = (end < 0 ? bytes : bytes.slice(0, end)).join("").toLowerCase();
+  return { offset: parseInt(offset, offset.length === OCTAL_DIGITS ? 8 : 16), hex, isRepeated: false };
+}
+
+/**
+ * The bytes of a row in hex, up to the offset of the next one.
+ * @param {Row} row @param {Row | undefined} next
+ */
+function bytesOfRow({ offset, hex, isRepeated }, next) {
+  const digits = 2 * ((next?.offset ?? 0) - offset);
+  if (digits <= 0 || !hex) return hex;
+  return (isRepeated ? hex.repeat(Math.ceil(digits / hex.length)) : hex).slice(0, digits);
+}
+
+/**
+ * The dumps of a text, each as a line of hex; the text itself if it is no dump.
+ * @param {string} text
+ */
+function withoutOffsets(text) {
+  /** @type {Row[]} */
+  const rows = [];
+  let stars = 0;
+  for (const line of text.split("\n").filter((it) => it.trim())) {
+    const row = rowOf(line);
+    const last = rows.at(-1);
+    if (line.trim() === "*" && last && stars < MOST_STARS) {
+      last.isRepeated = true;
+      stars += 1;
+    } else if (!row || row.offset > MOST_DUMP || (!last && row.offset)) {
+      return text;
+    } else {
+      rows.push(row);
+    }
+  }
+  return rows.map((row, at) => `${row.offset ? "" : "\n"}${bytesOfRow(row, rows[at + 1])}`).join("");
+}
+
+/**
+ * The buffers of a text, in hex: a line has some, or one goes on up to its size. Null for another text.
  * @param {string} text
  */
 function buffersIn(text) {
   const found = [];
   let rest = "";
-  for (const line of text.split("\n")) {
+  for (const line of withoutOffsets(text).split("\n")) {
     rest += line.replace(BETWEEN, "").toLowerCase();
-    if (rest.length < 2 * HEADER) continue;
-    const size = numberOf(bytesOf(rest.slice(4, 12)));
-    if (!BUFFER.test(rest) || rest.length > 2 * size) return null;
-    if (rest.length < 2 * size) continue;
-    found.push(rest);
-    rest = "";
+    while (rest.length >= 2 * HEADER) {
+      const digits = 2 * numberOf(bytesOf(rest.slice(4, 12)));
+      if (!BUFFER.test(rest) || digits < 2 * HEADER) return null;
+      if (rest.length < digits) break;
+      found.push(rest.slice(0, digits));
+      rest = rest.slice(digits);
+    }
   }
   return rest || !found.length ? null : found;
 }
@@ -52,4 +111,22 @@ export function scriptOfBuffers(text) {
     return `${isAfterCommand ? "cmd" : "#"} ${buffer}`;
   });
   return `${lines.join("\n")}\n`;
+}
+
+const SPACED = /^cmd\s+((?:(?:0x)?[0-9a-f]{2}[\s,:;]*)+)$/i;
+
+/** @param {string} line */
+const joinedLine = (line) => line.replace(SPACED, (_, /** @type {string} */ bytes) => `cmd ${bytes.replace(BETWEEN, "").toLowerCase()}`);
+
+/**
+ * What is put into the script for a text that is pasted after the beginning of a line; null for the text itself.
+ * @param {string} before @param {string} text
+ */
+export function pastedText(before, text) {
+  if (before !== "" && before !== "cmd ") return null;
+  const script = scriptOfBuffers(text);
+  const joined = script ?? `${before}${text}`.split("\n").map(joinedLine).join("\n");
+  if (before && !joined.startsWith(before)) return null;
+  const found = joined.slice(before.length);
+  return before && script ? found.replace(/\n$/, "") : found;
 }
