@@ -9,7 +9,7 @@ const FLAGS = [
   "--headless=new", "--no-sandbox", "--disable-gpu", "--remote-debugging-pipe", "--no-first-run",
   "--disable-background-networking", "--disable-component-update", "--disable-extensions",
 ];
-const CODES = { Enter: 13, Escape: 27, Tab: 9, ArrowUp: 38, ArrowDown: 40, ArrowLeft: 37, ArrowRight: 39, F6: 117, PageDown: 34 };
+const CODES = { Enter: 13, Escape: 27, Tab: 9, ArrowUp: 38, ArrowDown: 40, ArrowLeft: 37, ArrowRight: 39, Home: 36, End: 35, F6: 117, PageDown: 34 };
 export const ALT = 1, CTRL = 2, SHIFT = 8;
 
 export const sleep = (milliseconds) => new Promise((done) => setTimeout(done, milliseconds));

@@ -114,6 +114,17 @@ async function keyboard(page) {
   say(await page.value("document.getElementById('keys').open"), "a question mark shows the keys");
 }
 
+/** Home shows the start of a long line, which the numbers of lines do not hide. */
+async function longLine(page) {
+  const scrolled = () => page.value("document.getElementById('text').scrollLeft");
+  await page.write(`do Startup 0\ncmd ${"80".repeat(400)}`);
+  await page.key("End");
+  await page.until("document.getElementById('text').scrollLeft > 100");
+  await page.key("Home");
+  await page.until("document.getElementById('text').scrollLeft < 100");
+  say((await scrolled()) === 0, "Home shows the start of a long line", await scrolled());
+}
+
 async function names(page) {
   const { nodes } = await page.send("Accessibility.getFullAXTree", {});
   const role = (it) => it.role?.value;
@@ -399,6 +410,7 @@ async function all() {
   await examples(page);
   await faults(page);
   await keyboard(await open());
+  await longLine(page);
   await names(page);
   await refusal(page);
   await encrypted(page);
