@@ -139,6 +139,15 @@ async function refusal(page) {
   say(text.includes("Refused by check A3.") && text.includes("nvIndex has no WRITTEN"), "a refusal has its check and its sentence", text.slice(0, 200));
   say(text.includes("AUTHWRITE, AUTHREAD") || text.includes("OWNERWRITE"), "and the attributes of the index", text.slice(0, 300));
   say(link === "../docs/table/nv.md#checks-of-a-read", "and a link to its row", link);
+  await page.write("do Startup 0\ndo HierarchyChangeAuth OWNER pw:- 61\ndo HierarchyChangeAuth OWNER pw:62 -\n# end");
+  const wrong = await page.text("detail");
+  const isFirst = wrong.indexOf("password given") < wrong.indexOf("Entry 1 is wrong: its password");
+  say(isFirst && !wrong.includes("policy session"), "a wrong password is shown first, with its own sentence", wrong.slice(0, 400));
+  await click(page, "refusal");
+  const note = await page.text("note");
+  await click(page, "back");
+  say(note.startsWith("No refusal comes after") && (await page.text("note")).startsWith("3 steps"), "what is said of a step goes with it", `${note} ${await page.text("note")}`);
+  await page.write("do Startup 0\ndo NV_DefineSpace OWNER pw:- - 01000001000b0002000200000008\ndo NV_Read OWNER 01000001 pw:- 8 0");
   await click(page, "back");
   const device = await page.text("device");
   say(device.includes("01000001") && device.includes("not written") && device.includes("changed"), "the device after it has the index, set off", device.slice(0, 300));
@@ -152,6 +161,8 @@ async function encrypted(page) {
   await page.value("document.getElementById('slider').value = 5, document.getElementById('slider').dispatchEvent(new Event('input'))");
   const text = await page.text("detail");
   say(text.includes(`line ${at + 1},`) && text.includes("decrypted 61206e65772076616c7565"), "a parameter that a session encrypted is decrypted beside its bytes", text.slice(0, 300));
+  await page.write([...lines.slice(0, at), lines[at].replace(/:[0-9a-f]{2}([0-9a-f]*) /, ":00$1 ")].join("\n"));
+  say((await page.text("detail")).includes("refused the command before it used the parameter"), "and of a refused command that nothing used it", (await page.text("detail")).slice(0, 900));
   await page.write(`do Startup 0\n${lines[at]}`);
   say((await page.text("detail")).includes("It is not decrypted: the script does not start it."), "or it is said why not", (await page.text("detail")).slice(0, 300));
 }
@@ -172,6 +183,21 @@ const DUMPS = {
   Wireshark: "0000   80 01 00 00 00 12 00 00 01 7b 00 08 61 62 63 64   .........{..abcd\r\n0010   65 66                                             ef\r\n",
   "the page": "0000 8001000000120000017b000861626364\n0010 6566\n",
 };
+
+/** An example that replaces a script leaves a way back to it, until the next edit. */
+async function former(page) {
+  const isOffered = () => page.value("!document.getElementById('former').hidden");
+  await page.write("do Startup 0\n# mine");
+  await page.value("(document.getElementById('examples').value = 'measured_boot', document.getElementById('examples').dispatchEvent(new Event('change')))");
+  const first = await isOffered();
+  await click(page, "tutorial");
+  await click(page, "former");
+  say(first && (await script(page)) === "do Startup 0\n# mine" && !(await isOffered()), "a script that an example replaced comes back", await script(page));
+  await click(page, "tutorial");
+  await click(page, "tutorial");
+  await page.write("do Startup 0");
+  say(!(await isOffered()), "until the next edit");
+}
 
 async function pasted(page) {
   await page.write("");
@@ -270,7 +296,11 @@ async function links() {
   await one.until("location.hash.length > 4");
   const fragment = await one.value("location.hash");
   const two = await open({}, fragment);
-  say((await script(two)) === text, "a link holds the script", fragment);
+  say((await script(two)) === text && (await two.text("counter")) === "2 of 2", "a link holds the script and its chosen step", fragment);
+  await click(two, "link");
+  await two.until("document.getElementById('note').innerText.includes('The link')");
+  const note = await two.text("note");
+  say(note.includes("needs tpmsim.html too") && note.includes("passwords too"), "it is said who can open the link, and what it holds", note);
   const wrong = [];
   let seed = 1;
   const random = (most) => (seed = (seed * 48271) % 2147483647) % most;
@@ -415,6 +445,7 @@ async function all() {
   await refusal(page);
   await encrypted(page);
   await pasted(page);
+  await former(page);
   await lessons(page);
   await lessonsLeft();
   await hostile(page);

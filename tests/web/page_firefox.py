@@ -109,7 +109,7 @@ def checks(page: Firefox) -> Iterator[tuple[str, bool]]:
     note = page.value(written("do Startup 0\ndo Startup 0") + NOTE)
     yield "a script plays, and a refusal is counted", note.startswith("2 steps, 1 refused")
     fault = page.value(written("do GetRandom x") + NOTE)
-    yield "a fault of a line is told", "1 line at fault" in fault
+    yield "a fault of a line is told", "1 line that cannot be read" in fault
     wide = "document.documentElement.scrollWidth > innerWidth"
     yield "nothing is wider than the window", page.value(f"return {wide}") is False
 

@@ -10,7 +10,7 @@ const MOST_FILE = 16 * 1024 * 1024;
 const MOST_SCRIPT = 4 * 1024 * 1024;
 /** The first byte of a command, which begins no text. */
 const BINARY = 0x80;
-const FRAGMENT = /^#s=([\w-]+)$/;
+const FRAGMENT = /^#s=([\w-]+)(?:&n=(\d{1,7}))?$/;
 
 // TypeScript of Debian does not know these two.
 const { CompressionStream, DecompressionStream } = /** @type {any} */ (globalThis);
@@ -71,6 +71,12 @@ export async function scriptOf(fragment) {
     return "";
   }
 }
+
+/**
+ * The step that a fragment chooses, from 0; -1 if it chooses none.
+ * @param {string} fragment
+ */
+export const stepOf = (fragment) => Number(FRAGMENT.exec(fragment)?.[2] ?? 0) - 1;
 
 /** @param {string} name @param {BlobPart[]} parts */
 export function download(name, parts) {

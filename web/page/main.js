@@ -18,7 +18,8 @@ function listen(page) {
   on("link", () => page.copyLink());
   on("open", () => byId("file").click());
   on("help", showKeys);
-  on("tutorial", () => (page.tutorial.isOpen ? page.tutorial.close() : page.tutorial.open(0)));
+  on("former", () => page.backToFormer());
+  on("tutorial", () => (page.tutorial.isOpen ? page.tutorial.close() : page.openTutorial()));
   byId("file").addEventListener("change", () => {
     page.open(byId("file").files[0]);
     byId("file").value = "";
@@ -43,6 +44,7 @@ function listenToMenus(page) {
   examples.addEventListener("change", () => {
     page.tutorial.close();
     page.leaveLog();
+    page.keepFormer();
     page.load(exampleOf(examples.value));
     page.keepLink();
     examples.value = "";
@@ -56,7 +58,7 @@ function listenToMenus(page) {
 }
 
 const DOWNLOADS = [
-  ["script", "Script"], ["report", "Report: the lines at fault"], ["log", "Log: the script with its answers"],
+  ["script", "Script"], ["report", "Report: lines that cannot be read"], ["log", "Log: the script with its answers"],
   ["journal", "Journal, since power came on"], ["image", "Image, after this step"],
   ["state", "State text, after this step"],
 ];

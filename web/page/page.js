@@ -7,7 +7,7 @@ import { byId } from "./dom.js";
 import { Editor } from "./editor.js";
 import { byNumber, facts } from "./facts.js";
 import { commandNumber, responseCode } from "./fields.js";
-import { download, fragmentOf, opened, scriptOf } from "./files.js";
+import { download, fragmentOf, opened, scriptOf, stepOf } from "./files.js";
 import { plainCommand, plainResponse, responseOf } from "./plain.js";
 import { Run } from "./run.js";
 import { isAnswer, logOf, onDevice, readScript } from "./script.js";
@@ -23,6 +23,8 @@ import { grouped, plural } from "./words.js";
 const FIRST_EXAMPLE = "measured_boot";
 const SLICE = { first: 3, next: 16 };
 const LINK_WAIT = 400;
+const OF_FILE = location.protocol === "file:" ? "This is a file of this computer: who opens the link needs tpmsim.html too. " : "";
+const LINK_WORDS = `${OF_FILE}The link holds all that the script shows, passwords too.`;
 const NOT_ENCRYPTED = { plainCommand: null, plainResponse: null, plainGiven: null };
 
 /** The whole page, once the device is there. */
@@ -46,8 +48,19 @@ export class Page {
     this.shown = [];
     /** What was opened, which is said until the script is edited. */
     this.opened = "";
+    /** Whether the script is the reader's: typed, opened, or of a link. */
+    this.isOwn = false;
+    /**
+     * The reader's script that another one replaced.
+     * @type {string | null}
+     */
+    this.former = null;
+    /** Whether what is said is of the chosen step, and goes with it. */
+    this.isPassing = false;
     this.slice = 0;
     this.linkWait = 0;
+    /** The script of the last link, and its fragment. */
+    this.linked = { text: "", fragment: "" };
     this.editor = new Editor(chip, {
       fault: (line) => this.script.faults.get(line),
       outcome: (line) => this.outcome(line),
@@ -59,7 +72,10 @@ export class Page {
     measureStep();
     new ResizeObserver(() => measureStep() && this.redraw()).observe(byId("detail"));
     this.tutorial = new Tutorial(JSON.parse(byId("lessons").textContent), {
-      load: (text, line) => this.load(text, line),
+      load: (text, line) => {
+        this.isOwn = false;
+        this.load(text, line);
+      },
       outcomes: () => this.outcomes(),
       text: () => this.editor.text,
       edit: (text, line) => this.load(text, line),
@@ -91,8 +107,33 @@ export class Page {
     this.editor.text = text;
     this.take();
     const at = line < 0 ? 0 : this.countBefore(line + 1) - 1;
-    this.choose(Math.max(0, at), true);
+    this.place(Math.max(0, at), true);
     this.playOn();
+  }
+
+  /** Keeps the script, if it is the reader's, before another one replaces it. */
+  keepFormer() {
+    if (this.isOwn) this.former = this.editor.text;
+    this.isOwn = false;
+    byId("former").hidden = this.former === null;
+  }
+
+  loseFormer() {
+    this.former = null;
+    byId("former").hidden = true;
+  }
+
+  /** Puts the reader's script back in place of the one that replaced it. */
+  backToFormer() {
+    const text = this.former;
+    if (text === null) return;
+    this.tutorial.close();
+    this.leaveLog();
+    this.loseFormer();
+    this.isOwn = true;
+    this.load(text);
+    this.keepLink();
+    byId("text").focus();
   }
 
   /** Reads the text, and plays up to the chosen event. */
@@ -113,6 +154,8 @@ export class Page {
   edited() {
     this.leaveLog();
     this.opened = "";
+    this.isOwn = true;
+    if (!this.tutorial.isOpen) this.loseFormer();
     this.take();
     this.chosen = this.nearest(this.editor.caret().line);
     this.run.play(this.chosen, SLICE.first);
@@ -160,12 +203,25 @@ export class Page {
     this.chosen = step;
     this.show();
     this.editor.paint();
+    this.stepped();
   }
 
   // What is shown.
 
   /** @param {number} step @param {boolean} isRevealed whether the editor goes there */
   choose(step, isRevealed) {
+    this.place(step, isRevealed);
+    this.stepped();
+  }
+
+  /** After the reader chose a step: what was said of another one goes, and the link has this one. */
+  stepped() {
+    if (this.isPassing) this.sayCount();
+    if (!this.told.log) this.keepLink();
+  }
+
+  /** @param {number} step @param {boolean} isRevealed whether the editor goes there */
+  place(step, isRevealed) {
     this.chosen = Math.max(-1, Math.min(step, this.script.steps.length - 1));
     if (this.chosen >= 0) this.run.play(this.chosen, 0);
     this.show();
@@ -252,7 +308,7 @@ export class Page {
     if (!run.isPlayed) parts.push(`playing, at ${grouped(run.answers.length)}`);
     if (this.parted.length) parts.push(`${grouped(this.parted.length)} answered otherwise`);
     const bad = script.faults.size;
-    if (bad) parts.push(`${plural(bad, "line")} at fault and left out`);
+    if (bad) parts.push(`${plural(bad, "line")} that cannot be read, left out`);
     byId("refusal").disabled = !refused && !this.parted.length;
     this.say(`${this.opened} ${parts.join(", ")}`.trim(), false);
     if (!this.opened) byId("note").setAttribute("aria-live", "off");
@@ -261,10 +317,20 @@ export class Page {
   /** @param {string} words @param {boolean} isBad */
   say(words, isBad) {
     const note = byId("note");
+    this.isPassing = false;
     note.setAttribute("aria-live", "polite");
     note.textContent = words;
     note.title = words;
     note.classList.toggle("bad", isBad);
+  }
+
+  /**
+   * Says what holds of the chosen step, or what was just done.
+   * @param {string} words @param {boolean} [isBad]
+   */
+  sayShortly(words, isBad = false) {
+    this.say(words, isBad);
+    this.isPassing = true;
   }
 
   /** @param {number} by */
@@ -278,7 +344,12 @@ export class Page {
     const refusals = this.notable();
     const found = by > 0 ? refusals.find((it) => it > this.chosen) : refusals.filter((it) => it < this.chosen).at(-1);
     if (found !== undefined) return this.choose(found, true);
-    return this.say(by > 0 ? "No refusal comes after this step." : "No refusal comes before this step.", false);
+    return this.sayShortly(by > 0 ? "No refusal comes after this step." : "No refusal comes before this step.");
+  }
+
+  openTutorial() {
+    this.keepFormer();
+    this.tutorial.open(0);
   }
 
   // Files and links.
@@ -308,27 +379,41 @@ export class Page {
 
   keepLink() {
     clearTimeout(this.linkWait);
-    this.linkWait = setTimeout(async () => replaceFragment(await fragmentOf(this.editor.text)), LINK_WAIT);
+    this.linkWait = setTimeout(async () => replaceFragment(await this.fragment()), LINK_WAIT);
+  }
+
+  /** The fragment that holds the script and its chosen step, "" if the script is too long for one. */
+  async fragment() {
+    const { text } = this.editor;
+    if (text !== this.linked.text) this.linked = { text, fragment: await fragmentOf(text) };
+    const { fragment } = this.linked;
+    return fragment && this.chosen > 0 ? `${fragment}&n=${this.chosen + 1}` : fragment;
   }
 
   async copyLink() {
-    const fragment = await fragmentOf(this.editor.text);
-    if (!fragment) return this.say("The script is too long for a link. Download it instead.", true);
+    const fragment = await this.fragment();
+    if (!fragment) return this.sayShortly("The script is too long for a link. Download it instead.", true);
     replaceFragment(fragment);
     const link = location.href.split("#")[0] + fragment;
     try {
       await navigator.clipboard.writeText(link);
-      return this.say(`The link is copied: ${plural(link.length, "character")}.`, false);
+      return this.sayShortly(`The link is copied: ${plural(link.length, "character")}. ${LINK_WORDS}`);
     } catch {
-      return this.say("The link is in the address bar.", false);
+      return this.sayShortly(`The link is in the address bar. ${LINK_WORDS}`);
     }
   }
 
   async openLink() {
     const text = await scriptOf(location.hash);
     if (text === "") this.say("The link holds no script.", true);
-    if (!text || text === this.editor.text) return false;
-    this.load(text);
+    if (!text) return false;
+    const step = stepOf(location.hash);
+    if (text !== this.editor.text) {
+      this.keepFormer();
+      this.isOwn = true;
+      this.load(text);
+    }
+    if (step >= 0) this.place(step, true);
     return true;
   }
 
@@ -339,6 +424,8 @@ export class Page {
     if (!isBad) {
       this.tutorial.close();
       this.leaveLog();
+      this.keepFormer();
+      this.isOwn = true;
       this.load(text, -1, note);
       this.keepLink();
     }
@@ -357,10 +444,10 @@ export class Page {
     return download("log.tpm", [logOf(script, run.answers)]);
   }
 
-  /** The lines at fault, as tpmsim check prints them. */
+  /** The lines that cannot be read, as tpmsim check prints them. */
   report() {
     const lines = [...this.script.faults].map(([line, fault]) => `line ${line + 1}: ${faultName(fault)}\n`);
-    if (!lines.length) return this.say("No line is at fault.", false);
+    if (!lines.length) return this.sayShortly("Every line can be read.");
     return download("report.txt", lines);
   }
 }

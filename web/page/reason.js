@@ -54,7 +54,31 @@ export function rulesOf(check, buffer, meaning, before) {
   const command = byNumber.get(commandNumber(buffer))?.name ?? "";
   let keys = ruleKeys(check, command, meaning).filter(isRule);
   if (meaning?.name === "POLICY_FAIL") keys = [`condition/${failedCondition(buffer, meaning, before)}`];
-  return keys.map((key) => ({ sentence: facts.rules[key][0], link: facts.rules[key][1] }));
+  return keys.map((key) => ({ sentence: sentenceOf(facts.rules[key][0], buffer, meaning, before), link: facts.rules[key][1] }));
+}
+
+/**
+ * Whether a code is that of an entry with a wrong password or HMAC.
+ * @param {Meaning | null} meaning
+ */
+export const isWrongEntry = (meaning) => meaning !== null && ["AUTH_FAIL", "BAD_AUTH"].includes(meaning.name);
+
+/**
+ * A rule with the number of the entry, and of a wrong entry only the case that happened.
+ * @param {string} rule @param {Uint8Array} buffer @param {Meaning | null} meaning @param {State} before
+ */
+function sentenceOf(rule, buffer, meaning, before) {
+  const isOnlyOne = entriesOf(buffer).length === 1;
+  const place = meaning?.kind === "session" ? meaning.number : isOnlyOne ? 1 : 0;
+  const sentence = rule.replace(/\bEntry N\b/, place ? `Entry ${place}` : "An entry");
+  const isCase = isWrongEntry(meaning) && place && sentence !== rule;
+  return isCase ? `${sentence.split(". ")[0].replace(" otherwise", "")}: ${wrongCase(useOf(buffer, place, before))}` : sentence;
+}
+
+/** @param {Use} use */
+function wrongCase({ entry, session }) {
+  if (entry?.isPassword) return "its password, without trailing zeros, is not the handle's authorization value.";
+  return session?.type ? "its hmac is not what its policy session demands." : "its hmac is not the one that it must be.";
 }
 
 /** @param {Uint8Array} buffer @param {Meaning} meaning @param {State} before */

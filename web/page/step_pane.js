@@ -5,7 +5,7 @@ import { bytesShown } from "./bytes_view.js";
 import { byId, cut, heading, isHexWord, listed, make } from "./dom.js";
 import { byNumber, facts } from "./facts.js";
 import { commandNumber, fieldsOfCommand, fieldsOfResponse, responseCode } from "./fields.js";
-import { rulesOf, valuesOf } from "./reason.js";
+import { isWrongEntry, rulesOf, valuesOf } from "./reason.js";
 import { entropyWord, isAnswer } from "./script.js";
 import { changesOf, isBlank } from "./state.js";
 import { commandWords, plural, secondsWords, sizeWords } from "./words.js";
@@ -104,7 +104,7 @@ function commandParts(chip, chosen) {
     ...(told?.parts ?? []),
     changesShown(before, after),
     heading("Command", sizeWords(step.buffer.length)),
-    encryptionShown(chosen.plainCommand),
+    encryptionShown(chosen.plainCommand, code !== 0),
     bytesShown({ bytes: step.buffer, fields, wrong: wrongField(fields, meaning), plain: plain.command }, perRow),
     heading("Response", `${sizeWords(answer.response.length)}${answer.drawn ? `, ${answer.drawn} random` : ""}`),
     encryptionShown(chosen.plainResponse),
@@ -143,13 +143,14 @@ function wordsOf(chip, { step, line }) {
 /** @param {Chosen} chosen @param {Meaning | null} meaning */
 function whyShown({ step, answer, before, told }, meaning) {
   if (told?.hasReason) return null;
-  const rules = rulesOf(answer.check, step.buffer, meaning, before);
   const values = valuesOf(step, meaning, before);
+  const valuesList = values.length ? listed(values) : null;
+  const rules = rulesOf(answer.check, step.buffer, meaning, before).map(({ sentence, link }) => make("p", {}, sentence, " ", tableLink(link)));
+  const isEntryWrong = isWrongEntry(meaning);
   return make(
     "div", { class: "why" },
     make("p", {}, `Refused by check ${answer.check}.`),
-    ...rules.map(({ sentence, link }) => make("p", {}, sentence, " ", tableLink(link))),
-    values.length ? listed(values) : null,
+    ...(isEntryWrong ? [valuesList, ...rules] : [...rules, valuesList]),
     make("p", { class: "dim" }, make("code", {}, answer.trace)),
   );
 }
@@ -181,12 +182,12 @@ const known = (plain) => (plain && !plain.reason ? plain : null);
 
 /**
  * That a parameter is encrypted, and why it stays so.
- * @param {Plain | null} plain
+ * @param {Plain | null} plain @param {boolean} [isRefused] whether its command was refused
  */
-function encryptionShown(plain) {
+function encryptionShown(plain, isRefused = false) {
   if (!plain) return null;
   const words = `Session ${hexNumber(plain.session, 8)} encrypted the first parameter`;
-  return make("p", { class: "dim" }, plain.reason ? `${words}. It is not decrypted: ${plain.reason}.` : `${words}, which is decrypted in the table.`);
+  return make("p", { class: "dim" }, plain.reason ? `${words}. It is not decrypted: ${plain.reason}.` : `${words}, which is decrypted in the table.${isRefused ? " The device refused the command before it used the parameter." : ""}`);
 }
 
 /**
