@@ -139,6 +139,9 @@ async function refusal(page) {
   say(text.includes("Refused by check A3.") && text.includes("nvIndex has no WRITTEN"), "a refusal has its check and its sentence", text.slice(0, 200));
   say(text.includes("AUTHWRITE, AUTHREAD") || text.includes("OWNERWRITE"), "and the attributes of the index", text.slice(0, 300));
   say(link === "../docs/table/nv.md#checks-of-a-read", "and a link to its row", link);
+  await page.value("document.querySelector('.why summary').click()");
+  const rows = await page.text("detail");
+  say(rows.includes("The checks of NV_Read in the table") && rows.includes("Offset and size are together over dataSize"), "the checks of its command open", rows.slice(0, 400));
   await page.write("do Startup 0\ndo HierarchyChangeAuth OWNER pw:- 61\ndo HierarchyChangeAuth OWNER pw:62 -\n# end");
   const wrong = await page.text("detail");
   const isFirst = wrong.indexOf("password given") < wrong.indexOf("Entry 1 is wrong: its password");

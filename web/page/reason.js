@@ -58,6 +58,18 @@ export function rulesOf(check, buffer, meaning, before) {
 }
 
 /**
+ * The rows of the table for a check of all commands, or for the checks of this command: what each says, by its label.
+ * @param {string} check @param {Uint8Array} buffer
+ * @returns {[string, string][]}
+ */
+export function rowsOf(check, buffer) {
+  const command = byNumber.get(commandNumber(buffer))?.name ?? "";
+  const front = check.startsWith("A") ? `${command}/A` : `${check}/`;
+  const keys = Object.keys(facts.rules).filter((key) => key === check || key.startsWith(front));
+  return keys.map((key) => [key.split("/").at(-1)?.replace(/\.\d+$/, "") ?? "", facts.rules[key][0]]);
+}
+
+/**
  * Whether a code is that of an entry with a wrong password or HMAC.
  * @param {Meaning | null} meaning
  */

@@ -5,7 +5,7 @@ import { bytesShown } from "./bytes_view.js";
 import { byId, cut, heading, isHexWord, listed, make } from "./dom.js";
 import { byNumber, facts } from "./facts.js";
 import { commandNumber, fieldsOfCommand, fieldsOfResponse, responseCode } from "./fields.js";
-import { isWrongEntry, rulesOf, valuesOf } from "./reason.js";
+import { isWrongEntry, rowsOf, rulesOf, valuesOf } from "./reason.js";
 import { entropyWord, isAnswer } from "./script.js";
 import { changesOf, isBlank } from "./state.js";
 import { commandWords, plural, secondsWords, sizeWords } from "./words.js";
@@ -152,7 +152,19 @@ function whyShown({ step, answer, before, told }, meaning) {
     make("p", {}, `Refused by check ${answer.check}.`),
     ...(isEntryWrong ? [valuesList, ...rules] : [...rules, valuesList]),
     make("p", { class: "dim" }, make("code", {}, answer.trace)),
+    rowsShown(answer.check, step.buffer),
   );
+}
+
+/**
+ * The rows of the table for a check, which open.
+ * @param {string} check @param {Uint8Array} buffer
+ */
+function rowsShown(check, buffer) {
+  const rows = rowsOf(check, buffer);
+  if (!rows.length) return null;
+  const whose = check.startsWith("A") ? `The checks of ${commandWords(commandNumber(buffer))}` : `Check ${check}`;
+  return make("details", {}, make("summary", {}, `${whose} in the table`), listed(rows));
 }
 
 /**
