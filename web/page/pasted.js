@@ -5,6 +5,7 @@ import { byNumber, facts } from "./facts.js";
 import { commandNumber } from "./fields.js";
 
 const HEADER = 10;
+const MOST_BUFFER = 4096;
 const BETWEEN = /0x|[\s,:;]+/gi;
 const BUFFER = /^(?:8001|8002|00c4)(?:[0-9a-f]{2}){8,}$/;
 
@@ -77,7 +78,7 @@ function buffersIn(text) {
     rest += line.replace(BETWEEN, "").toLowerCase();
     while (rest.length >= 2 * HEADER) {
       const digits = 2 * numberOf(bytesOf(rest.slice(4, 12)));
-      if (!BUFFER.test(rest) || digits < 2 * HEADER) return null;
+      if (digits < 2 * HEADER || digits > 2 * MOST_BUFFER || !BUFFER.test(rest)) return null;
       if (rest.length < digits) break;
       found.push(rest.slice(0, digits));
       rest = rest.slice(digits);
