@@ -5,7 +5,7 @@ import (
 	"fmt"
 )
 
-// headerBytes is how many bytes the header of a response has: tag, size and code.
+// headerBytes is the size of the header of a response: tag, size and code.
 const headerBytes = 10
 
 // A Code is a response code, TPM_RC.
@@ -45,7 +45,7 @@ func (code Code) Name() string {
 	return codes[code]
 }
 
-// String spells a code, as AUTH_FAIL/s1 (98E).
+// String writes a code, as AUTH_FAIL/s1 (98E).
 func (code Code) String() string {
 	name, place := code.Name(), code.Place()
 	if name == "" {

@@ -25,7 +25,7 @@ func (tpm *TPM) logged(line string) {
 	}
 }
 
-// logAnew begins the log anew, if there is one.
+// logAnew begins the log again, if there is one.
 func (tpm *TPM) logAnew() error {
 	if tpm.log == nil {
 		return nil

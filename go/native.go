@@ -100,7 +100,7 @@ func front(bytes []byte) *C.uint8_t {
 	return (*C.uint8_t)(unsafe.Pointer(&bytes[0]))
 }
 
-// fault is what a call tells that reads a text, with the first number of the faults that it looks for.
+// fault is what a call returns that reads a text, with the first number of the faults that it looks for.
 func fault(told, first int, of error) error {
 	switch at := told - first; {
 	case told == C.TPMSIM_DONE:

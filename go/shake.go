@@ -22,7 +22,7 @@ var moves = [24]struct{ target, bits int }{
 	{20, 62}, {14, 18}, {22, 39}, {9, 61}, {6, 20}, {1, 44},
 }
 
-// rate is how many bytes go in and come out between two permutations.
+// rate is the number of bytes that go in and come out between two permutations.
 const rate = 136
 
 type lanes [25]uint64

@@ -159,7 +159,7 @@ func (tpm *TPM) execute(command []byte) (outcome, error) {
 	return told, nil
 }
 
-// accepted returns what stands behind the header, or the refusal. The lock is held.
+// accepted returns what follows the header, or the refusal. The lock is held.
 func (tpm *TPM) accepted(command []byte) ([]byte, error) {
 	told, err := tpm.execute(command)
 	if err != nil {
@@ -180,7 +180,7 @@ func (tpm *TPM) Send(command []byte) ([]byte, error) {
 	return told.response, err
 }
 
-// Execute executes a command, and returns what stands behind the header of the response. The error of a
+// Execute executes a command, and returns what follows the header of the response. The error of a
 // command that is refused is a *Refusal.
 func (tpm *TPM) Execute(command []byte) ([]byte, error) {
 	tpm.lock.Lock()
@@ -224,7 +224,7 @@ func (tpm *TPM) Reset() error {
 	return tpm.restart((*TPM).cycle)
 }
 
-// ManufactureReset does the same, with a new device in place of this one; of a seed it is the same anew.
+// ManufactureReset does the same, with a new device instead of this one; of a seed it is the same again.
 func (tpm *TPM) ManufactureReset() error {
 	return tpm.restart(func(tpm *TPM) error {
 		if err := tpm.manufacture(); err != nil {
@@ -280,7 +280,7 @@ func (tpm *TPM) SetLocality(locality int) error {
 	return nil
 }
 
-// Wait has time pass before the next command, in whole milliseconds. The time of a device is told, and no
+// Wait has time pass before the next command, in whole milliseconds. The caller sets the time of a device, and no
 // call waits.
 func (tpm *TPM) Wait(duration time.Duration) error {
 	tpm.lock.Lock()
@@ -315,7 +315,7 @@ func (tpm *TPM) written(text func(*native) []byte) ([]byte, error) {
 }
 
 // Restore makes the device what a state text says, of any device in any process. Other bytes change
-// nothing. A log begins anew.
+// nothing. A log begins again.
 func (tpm *TPM) Restore(text []byte) error {
 	tpm.lock.Lock()
 	defer tpm.lock.Unlock()

@@ -44,7 +44,7 @@ func open(t *testing.T, options ...Option) *TPM {
 	return tpm
 }
 
-// command is one without sessions: its code, and what stands behind the header.
+// command is one without sessions: its code, and what follows the header.
 func command(code uint32, rest ...byte) []byte {
 	text := binary.BigEndian.AppendUint32([]byte{0x80, 1}, uint32(10+len(rest)))
 	return append(binary.BigEndian.AppendUint32(text, code), rest...)
@@ -322,7 +322,7 @@ func TestSHAKE256(t *testing.T) {
 }
 
 // A thousand devices, each in a goroutine of its own, take less than half a second of each processor. That is not
-// told by a clock, as other programs may have the processors meanwhile.
+// measured by a clock, as other programs may have the processors meanwhile.
 func TestAThousandDevices(t *testing.T) {
 	before := processorTime(t)
 	thousandDevices(t)

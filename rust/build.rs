@@ -7,7 +7,7 @@ use std::env;
 use std::path::{Path, PathBuf};
 use std::process::exit;
 
-/// What the linker is told of a folder: how it links the library that is there.
+/// What the linker needs to know of a folder: how it links the library that is there.
 fn kind_in(folder: &Path) -> Option<&'static str> {
     let has = |name: &str| folder.join(name).exists();
     if has("libtpmsim.a") {

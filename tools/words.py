@@ -1,7 +1,8 @@
 #!/usr/bin/env python3
-"""Names the words in documents that docs/STYLE.md replaces, each with its line and what to write.
+"""Names the words that docs/STYLE.md replaces, in documents and in the comments of code, each with its
+line and what to write.
 
-    tools/words.py              all documents of the repository
+    tools/words.py              all documents of the repository, and the folders of code that are held
     tools/words.py docs/MAP.md  these
 
 Code, links and what docs/STYLE.md shows are left out. The status is 1 if a word is found.
@@ -19,6 +20,13 @@ from pathlib import Path
 TOP = Path(__file__).resolve().parent.parent
 STYLE = TOP / "docs" / "STYLE.md"
 LEXICON = re.compile(r"<!-- lexicon -->\n(.*)<!-- end of lexicon -->", re.DOTALL)
+# The folders of code whose comments are held to the lexicon. The others are not written again yet.
+HELD = ["hosts", "library", "go", "js", "rust", "web"]
+ENDINGS = (".c", ".h", ".hpp", ".go", ".js", ".mjs", ".rs")
+# what JSDoc writes of a type: the names in it are code
+TYPE = re.compile(r"@\w+\s+\{.*\}+\s*\[?\w*|^[\s*]*\}+\s*\w+|import\(.*|\w+\?:|\{[^{}]*\}")
+COMMENT = re.compile(r"/\*.*?\*/|//[^\n]*", re.DOTALL)
+STRING = re.compile(r"\"(?:[^\"\\\n]|\\.)*\"|'(?:[^'\\\n]|\\.)'")
 CRATES, END_OF_CRATES = "<!-- crates -->", "<!-- end of crates -->"
 CODE = re.compile(r"`[^`]*`|\]\([^)]*\)|<!--.*?-->")
 
@@ -27,6 +35,19 @@ CODE = re.compile(r"`[^`]*`|\]\([^)]*\)|<!--.*?-->")
 class Entry:
     words: re.Pattern[str]
     plain: str
+    # the phrases in which a word is allowed
+    allowed: re.Pattern[str] | None
+
+    def found_in(self, line: str) -> Iterator[str]:
+        """The words that a line has, but in a phrase in which they are allowed."""
+        spans = [it.span() for it in self.allowed.finditer(line)] if self.allowed else []
+        for match in self.words.finditer(line):
+            if not any(start <= match.start() < end for start, end in spans):
+                yield match[0]
+
+
+def phrases(words: str) -> re.Pattern[str]:
+    return re.compile(rf"\b(?:{any_of(words)})\b", re.IGNORECASE)
 
 
 def cells_of(row: str) -> list[str]:
@@ -45,9 +66,7 @@ def lexicon() -> list[Entry]:
     entries = []
     for row in table[1].splitlines()[2:]:
         replaced, plain, allowed = cells_of(row)
-        unless = f"(?!(?:{any_of(allowed)})\\b)" if allowed else ""
-        words = re.compile(rf"\b{unless}(?:{any_of(replaced)})\b", re.IGNORECASE)
-        entries.append(Entry(words, plain))
+        entries.append(Entry(phrases(replaced), plain, phrases(allowed) if allowed else None))
     return entries
 
 
@@ -62,24 +81,40 @@ def lines_of(text: str) -> Iterator[tuple[int, str]]:
             yield number, CODE.sub("``", line)
 
 
+def comments_of(text: str) -> Iterator[tuple[int, str]]:
+    """The lines of the comments of C, C++, Go, JavaScript or Rust, with their numbers."""
+    bare = STRING.sub(lambda it: " " * len(it[0]), text)
+    for comment in COMMENT.finditer(bare):
+        first = bare.count("\n", 0, comment.start()) + 1
+        for number, line in enumerate(comment[0].splitlines(), first):
+            yield number, CODE.sub("``", TYPE.sub("``", line))
+
+
 def found_in(path: Path, entries: list[Entry]) -> Iterator[str]:
-    for number, line in lines_of(path.read_text(encoding="utf-8")):
+    lines = comments_of if path.suffix in ENDINGS else lines_of
+    for number, line in lines(path.read_text(encoding="utf-8")):
         for entry in entries:
-            for match in entry.words.finditer(line):
+            for word in entry.found_in(line):
                 name = path.relative_to(TOP) if path.is_relative_to(TOP) else path
-                yield f"{name}:{number}: {match[0]}: write {entry.plain}"
+                yield f"{name}:{number}: {word}: write {entry.plain}"
 
 
-def documents() -> list[Path]:
+def listed(*patterns: str) -> list[Path]:
+    """The files of the repository that match."""
     ran = subprocess.run(
-        ["git", "ls-files", "*.md"], cwd=TOP, check=True, stdout=subprocess.PIPE, text=True
+        ["git", "ls-files", *patterns], cwd=TOP, check=True, stdout=subprocess.PIPE, text=True
     )
-    return [TOP / name for name in ran.stdout.split() if TOP / name != STYLE]
+    return [TOP / name for name in ran.stdout.split()]
+
+
+def held() -> list[Path]:
+    code = [it for it in listed(*HELD) if it.suffix in ENDINGS]
+    return [*(it for it in listed("*.md") if it != STYLE), *code]
 
 
 def main(names: list[str]) -> int:
     entries, count = lexicon(), 0
-    for path in map(Path, names) if names else documents():
+    for path in map(Path, names) if names else held():
         for line in found_in(path, entries):
             print(line)
             count += 1

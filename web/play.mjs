@@ -4,7 +4,7 @@
 //   node play.mjs MODULE trace SCRIPT    prints what `tpmsim run --trace SCRIPT` prints
 //   node play.mjs MODULE check SCRIPT    prints what `tpmsim check SCRIPT` prints
 //   node play.mjs MODULE compare FOLDER..
-//       plays each NAME.tpm of these folders beside which a NAME.out stands, and compares what comes of
+//       plays each NAME.tpm of these folders that has a NAME.out next to it, and compares what comes of
 //       it with that, and with NAME.trace where there is one
 import { existsSync, readFileSync, readdirSync } from 'node:fs';
 import { join } from 'node:path';
@@ -13,7 +13,7 @@ import { fileURLToPath } from 'node:url';
 const KINDS = ['nothing', 'hex', 'words', 'locality', 'wait', 'entropy', 'power'];
 const FAULTS = ['', 'BadName', 'BadField', 'Missing', 'Range', 'TooLong'];
 
-/** The memory that is lent to the module: each buffer by its name and its size. */
+/** The memory that the module works on: each buffer by its name and its size. */
 const LENT = {
     holder: 8, random: 256, response: 4096, answered: 32, trace: 64, waited: 4, written: 32768, wanted: 64, read: 32,
     spelled: 65536, form: 256, place: 4, taken: 8, text: 65536, entry: 9216,
@@ -65,7 +65,7 @@ export class Module {
         return Number(this.view.getBigUint64(this.at[name] + offset, true));
     }
 
-    /** Lends bytes to one call, after all else. @param {Uint8Array} bytes */
+    /** Has bytes in memory for one call, after all else. @param {Uint8Array} bytes */
     lend(bytes) {
         this.grow(this.end + bytes.length);
         this.bytes.set(bytes, this.end);

@@ -18,7 +18,7 @@
    What a caller owes, and nothing looks at. Without it a call's behaviour is undefined:
 
    - One call at a time works on a handle. Calls on different handles may run at once, in any
-     threads, and a handle may be handed from one thread to another, in an order that both see.
+     threads, and one thread may pass a handle to another, in an order that both see.
    - A handle is not copied: a copy of its bytes is no device of its own. It is not changed but by
      these calls, and its last call is tpmsim_free, or its memory is lost.
    - No pointer is NULL, not even with a size of 0. What a pointer leads to has the bytes that are
@@ -41,7 +41,7 @@ extern "C" {
 #endif
 
 /* The version of this header, as tpmsim_version answers it: 65,536 times the number before the
-   first point, 256 times the one behind it, and the last one. */
+   first point, 256 times the one after it, and the last one. */
 #define TPMSIM_VERSION_NUMBER 0x000100
 
 /* A handle. Its member is the library's own: NULL where it has no device. */
@@ -61,7 +61,7 @@ enum tpmsim_told {
     TPMSIM_NO_MEMORY = 3,
     /* Why bytes are no image, in the order in which it is looked for: fewer than 42 bytes; they do
        not begin with TPMI; another version than 1 and 2; not as many bytes as they say; the last 32
-       are not the SHA-256 of those before; what stands between spells no state within the limits of
+       are not the SHA-256 of those before; what is between encodes no state within the limits of
        the version. */
     TPMSIM_IMAGE_SHORT = 4,
     TPMSIM_IMAGE_MAGIC = 5,
@@ -69,7 +69,7 @@ enum tpmsim_told {
     TPMSIM_IMAGE_LENGTH = 7,
     TPMSIM_IMAGE_DIGEST = 8,
     TPMSIM_IMAGE_BODY = 9,
-    /* Why a text is no journal, or was not followed to its end: no head stands at its front; as many
+    /* Why a text is no journal, or was not followed to its end: it does not begin with a head; as many
        bytes as a record says that it has are no record; the device answered the last record that
        was taken otherwise than it says. */
     TPMSIM_NO_JOURNAL = 10,
@@ -77,14 +77,14 @@ enum tpmsim_told {
     TPMSIM_OTHERWISE = 12,
     /* Why bytes are no state text, in the order of the checks: fewer than 42 bytes; they do not begin
        with TPMS; another version than 1; not as many bytes as they say; the last 32 are not the SHA-256
-       of those before; what stands between spells no state. */
+       of those before; what is between encodes no state. */
     TPMSIM_STATE_SHORT = 13,
     TPMSIM_STATE_MAGIC = 14,
     TPMSIM_STATE_VERSION = 15,
     TPMSIM_STATE_LENGTH = 16,
     TPMSIM_STATE_DIGEST = 17,
     TPMSIM_STATE_BODY = 18,
-    /* A number is none of tpmsim_force, or none of tpmsim_job. */
+    /* A number is not one of tpmsim_force, or not one of tpmsim_job. */
     TPMSIM_NO_WORD = 19
 };
 
@@ -94,12 +94,12 @@ enum { TPMSIM_STATE_SIZE = 36323 };
 /* Enough for each record of a journal. */
 enum { TPMSIM_RECORD_ROOM = 9216 };
 
-/* What a command is told beside its response. */
+/* What a call reports of a command, in addition to its response. */
 typedef struct tpmsim_answered {
-    /* How many bytes the response has, 10 to 4,096. */
+    /* The size of the response in bytes, 10 to 4,096. */
     size_t size;
     /* How many of the 256 random bytes the command drew, from their front: none where it was
-       refused. The bytes after them were not used, and may be handed in again. */
+       refused. The bytes after them were not used, and may be passed again. */
     size_t drawn;
     /* The number of the command, TPM_CC; 0 where none was found. */
     uint32_t code;
@@ -132,9 +132,9 @@ static inline char *tpmsim_check_text(uint8_t check, char text[5]) {
 /* The version of the library. */
 uint32_t tpmsim_version(void);
 
-/* Makes a new device, whose seeds and proofs are these random bytes, in place of the handle's own,
-   which is freed. It awaits TPM2_Startup. The same bytes make the same device: who is to have
-   secrets hands in bytes of the system's.
+/* Makes a new device, whose seeds and proofs are these random bytes, instead of the handle's own,
+   which is freed. It awaits TPM2_Startup. The same bytes make the same device: if it is to
+   have secrets, pass bytes of the system's.
 
    TPMSIM_DONE, TPMSIM_NO_MEMORY. */
 uint8_t tpmsim_manufacture(tpmsim *device, const uint8_t random[256]);
@@ -144,10 +144,10 @@ uint8_t tpmsim_manufacture(tpmsim *device, const uint8_t random[256]);
    answered as one of a bad size.
 
    `random` are the random bytes that the command may draw, new for each command; `drawn` says how
-   many it drew. A caller who hands in the same bytes again has the same nonces again.
+   many it drew. The same bytes again make the same nonces again.
 
-   The response is written to the front of `response`, whose other bytes stay, and `answered` says
-   how many bytes it has. A command that the device refuses has a response too, and is done.
+   The response is written to the front of `response`, whose other bytes stay, and `answered` has
+   its size. A command that the device refuses has a response too, and is done.
 
    TPMSIM_DONE, TPMSIM_NO_LOCALITY, TPMSIM_NO_DEVICE. */
 uint8_t tpmsim_execute(tpmsim *device, const uint8_t *buffer, size_t size, uint8_t locality,
@@ -163,27 +163,26 @@ uint8_t tpmsim_complete(tpmsim *device, const uint8_t *buffer, size_t size, uint
                         uint32_t elapsed_ms, const uint8_t random[256], uint8_t response[4096],
                         tpmsim_answered *answered);
 
-/* Takes power away and gives it back: the device has what it keeps without power, and awaits
-   TPM2_Startup.
+/* Power-cycles the device: it has what it keeps without power, and awaits TPM2_Startup.
 
    TPMSIM_DONE, TPMSIM_NO_DEVICE. */
 uint8_t tpmsim_power_cycle(tpmsim *device);
 
 /* Saves the device: its image, which is what it keeps without power, is written to the front of
-   `room`, if that has room for all of it; else nothing is written. The device stays as it is.
+   `buffer`, if all of it fits; else nothing is written. The device stays as it is.
 
-   How many bytes the image has, written or not, at most 28,361; 0 where there is no device. So a
-   result above `size` says how much room is wanted. */
-size_t tpmsim_save(tpmsim *device, uint8_t *room, size_t size);
+   Returns the size of the image, written or not, at most 28,361; 0 if there is no device. So a result
+   above `size` says how large the buffer has to be. */
+size_t tpmsim_save(tpmsim *device, uint8_t *buffer, size_t size);
 
-/* Writes what the device keeps without power, but for Clock, to the front of `room`, if that has room
-   for all of it; else nothing is written. The device stays as it is. Two such texts of a device differ
-   just where more of its image changed than Clock and the digest: so they tell when to save it again.
+/* Writes what the device keeps without power, without Clock, to the front of `buffer`, if all of it
+   fits; else nothing is written. The device stays as it is. Two such texts of a device differ only if
+   more of its image changed than Clock and the digest: so they show when to save it again.
 
-   How many bytes the text has, written or not, at most 28,319; 0 where there is no device. */
-size_t tpmsim_kept(tpmsim *device, uint8_t *room, size_t size);
+   Returns the size of the text, written or not, at most 28,319; 0 if there is no device. */
+size_t tpmsim_kept(tpmsim *device, uint8_t *buffer, size_t size);
 
-/* Opens a device from the image of one: it is that device after a power cycle, in place of the
+/* Opens a device from the image of one: it is that device after a power cycle, instead of the
    handle's own, which is freed.
 
    TPMSIM_DONE; TPMSIM_IMAGE_SHORT to TPMSIM_IMAGE_BODY where the bytes are no image, and
@@ -195,11 +194,11 @@ uint8_t tpmsim_open(tpmsim *device, const uint8_t *image, size_t size);
    transient objects and times, and what the completing layer remembers. The device stays as it is, and
    the call takes no memory. The text has the device's secrets, in the clear.
 
-   How many bytes the text has, written or not, at most TPMSIM_STATE_SIZE; 0 without a device. */
+   Returns the size of the text, written or not, at most TPMSIM_STATE_SIZE; 0 without a device. */
 size_t tpmsim_snapshot(tpmsim *device, uint8_t *buffer, size_t size);
 
 /* Restores a device from its state text: it is that device, with its sessions and the completing layer
-   as they were, in place of the handle's own, which is freed. No power is cycled, and no time passed. A
+   as they were, instead of the handle's own, which is freed. No power is cycled, and no time passed. A
    text without a completing layer makes a new one. The device has no journal: one of its own begins
    with tpmsim_journal_checkpoint, or after a power cycle with tpmsim_journal_begin. A call of
    tpmsim_journal_execute before that counts the host's whole clock, up to 49.7 days, as passed time.
@@ -211,11 +210,11 @@ size_t tpmsim_snapshot(tpmsim *device, uint8_t *buffer, size_t size);
    TPMSIM_NO_MEMORY, whatever the bytes are. */
 uint8_t tpmsim_restore(tpmsim *device, const uint8_t *text, size_t size);
 
-/* Cycles the power of the device, and writes the head of its new journal to the front of `room`, if
-   that has room for all of it; else nothing is done.
+/* Cycles the power of the device, and writes the head of its new journal to the front of `buffer`, if
+   all of it fits; else nothing is done.
 
-   How many bytes the head has, written or not, at most 56,802; 0 where there is no device. */
-size_t tpmsim_journal_begin(tpmsim *device, uint64_t now_ms, uint8_t *room, size_t size);
+   Returns the size of the head, written or not, at most 56,802; 0 if there is no device. */
+size_t tpmsim_journal_begin(tpmsim *device, uint64_t now_ms, uint8_t *buffer, size_t size);
 
 /* Begins a new journal of the device as it is: writes the head of that journal to the front of `buffer`, if
    all of it fits; else nothing is done. The head holds the whole state of the
@@ -223,20 +222,20 @@ size_t tpmsim_journal_begin(tpmsim *device, uint64_t now_ms, uint8_t *room, size
    as they are. The head has the time of the journal, so that the time since the last command still counts;
    `now_ms` is for a device whose journal has not begun, as after tpmsim_restore.
 
-   How many bytes the head has, written or not, at most 72,726; 0 without a device. */
+   Returns the size of the head, written or not, at most 72,726; 0 without a device. */
 size_t tpmsim_journal_checkpoint(tpmsim *device, uint64_t now_ms, uint8_t *buffer, size_t size);
 
-/* Opens the device of a journal, in place of the handle's own, which is freed. `taken` says how many
-   bytes the head and the whole records have. What follows them is what a crash left of one more: the
+/* Opens the device of a journal, instead of the handle's own, which is freed. `taken` is the size of
+   the head and the whole records. What follows them is what a crash left of one more: the
    front of a record, and zeros after it, or nothing. The caller cuts that off before it adds a record.
 
    TPMSIM_DONE; TPMSIM_NO_JOURNAL, TPMSIM_DAMAGED, TPMSIM_OTHERWISE; TPMSIM_IMAGE_SHORT to
-   TPMSIM_IMAGE_BODY if the image of the head is none, and TPMSIM_STATE_SHORT to TPMSIM_STATE_BODY if
-   its state text is none; TPMSIM_NO_MEMORY. */
+   TPMSIM_IMAGE_BODY if the head's image is no image, and TPMSIM_STATE_SHORT to TPMSIM_STATE_BODY if its
+   state text is no state text; TPMSIM_NO_MEMORY. */
 uint8_t tpmsim_journal_open(tpmsim *device, const uint8_t *text, size_t size, size_t *taken);
 
-/* Executes the whole records of a text that was added behind what this device executed. Whatever is
-   told but TPMSIM_NO_DEVICE, the device has executed the records of `taken` bytes.
+/* Executes the whole records of a text that was added after what this device executed. Whatever is
+   returned but TPMSIM_NO_DEVICE, the device has executed the records of `taken` bytes.
 
    TPMSIM_DONE, TPMSIM_DAMAGED, TPMSIM_OTHERWISE, TPMSIM_NO_DEVICE. */
 uint8_t tpmsim_journal_follow(tpmsim *device, const uint8_t *text, size_t size, size_t *taken);
@@ -245,12 +244,12 @@ uint8_t tpmsim_journal_follow(tpmsim *device, const uint8_t *text, size_t size, 
    record, which the caller adds to the journal before it gives the response out. A buffer of more
    than 4,097 bytes is cut to as many, which are refused alike.
 
-   Where `completes` is not 0, the completing layer stands above the device for this command, and the
-   record says so. The device is asked first. The layer answers what the device by design does not:
+   If `completes` is not 0, the completing layer is above the device for this command, and the record
+   says so. The device is asked first. The layer answers what the device by design does not:
    TPM2_ContextSave, TPM2_ContextLoad, TPM2_StirRandom, more of TPM2_GetCapability, and the command by
    which firmware looks for a TPM 1.2; and it makes room for a ninth object where one of the eight can
    be loaded again. `code` and `check` are the device's own. What the layer remembers is the
-   journal's: it begins anew with each head but that of a checkpoint.
+   journal's: it begins again with each head but that of a checkpoint.
 
    TPMSIM_DONE, TPMSIM_NO_LOCALITY, TPMSIM_NO_DEVICE. */
 uint8_t tpmsim_journal_execute(tpmsim *device, const uint8_t *buffer, size_t size,
@@ -272,18 +271,18 @@ typedef struct tpmsim_keeper {
     void *private_;
 } tpmsim_keeper;
 
-/* When what was written is forced to the disk: never, but for a new journal; when a journal begins anew
+/* When what was written is forced to the disk: never, but for a new journal; when a journal begins again
    too, with the folder, as at a power cycle; or before each response. */
 enum tpmsim_force { TPMSIM_FORCE_NEVER = 0, TPMSIM_FORCE_POWER = 1, TPMSIM_FORCE_ALWAYS = 2 };
 
-/* How many bytes the report has with which the response to a command of the standard begins. */
+/* The size of the report with which the response to a command of the standard begins. */
 enum { TPMSIM_REPORT_SIZE = 7 };
 
 /* What a keeper is asked for. */
 enum tpmsim_job {
     /* To execute the command of a text. */
     TPMSIM_JOB_EXECUTE = 0,
-    /* To begin the journal anew, in the same state. The text does not count. */
+    /* To begin the journal again, in the same state. The text does not count. */
     TPMSIM_JOB_RENEW = 1,
     /* To give the head of a journal that begins in this state. The text does not count. */
     TPMSIM_JOB_SHOW = 2,
@@ -351,12 +350,12 @@ enum tpmsim_fault {
 
 /* The next task. What is not said of a task is 0. */
 typedef struct tpmsim_ask {
-    /* Of PUT: to how many bytes the file is cut first. Of MAKE: how many bytes of the old journal the
-       device executed, 0 if there is none. The new journal has nothing of the bytes after them. */
+    /* Of PUT: the size to which the file is cut first. Of MAKE: the number of bytes of the old journal
+       that the device executed, 0 if there is none. The new journal has nothing of the bytes after them. */
     uint64_t cut;
     /* Of READ and PUT: the offset in the file. */
     uint64_t at;
-    /* Of PUT and MAKE: how many bytes tpmsim_keeper_text writes. Of NOTHING: how many
+    /* Of PUT and MAKE: the size of what tpmsim_keeper_text writes. Of NOTHING: of what
        tpmsim_keeper_response writes. */
     size_t size;
     /* A number of tpmsim_task. */
@@ -369,8 +368,8 @@ typedef struct tpmsim_ask {
    done, or nobody knows. Each other number is as the last one. */
 enum tpmsim_got { TPMSIM_GOT_DONE = 0, TPMSIM_GOT_GONE = 1, TPMSIM_GOT_FAILED = 2 };
 
-/* Makes a keeper that has seen nothing, in place of the handle's own, which is freed. A journal begins
-   anew once it has `limit` bytes, and twice as many as it would begin with.
+/* Makes a keeper that has seen nothing, instead of the handle's own, which is freed. A journal begins
+   again once it has `limit` bytes, and twice as many as it would begin with.
 
    TPMSIM_DONE, TPMSIM_NO_WORD, TPMSIM_NO_MEMORY. */
 uint8_t tpmsim_keeper_new(tpmsim_keeper *keeper, uint8_t force, uint64_t limit);
@@ -385,23 +384,23 @@ uint8_t tpmsim_keeper_begin(tpmsim_keeper *keeper, uint8_t job, const uint8_t *t
 void tpmsim_keeper_ask(tpmsim_keeper *keeper, tpmsim_ask *ask);
 
 /* Writes what PUT or MAKE writes to the front of a buffer, if all of it fits; else nothing is written.
-   How many bytes it has, written or not; 0 of each other task, and without a keeper. */
+   Returns its size, written or not; 0 of each other task, and without a keeper. */
 size_t tpmsim_keeper_text(tpmsim_keeper *keeper, uint8_t *buffer, size_t size);
 
 /* Writes the response of a call that is done to the front of a buffer, if all of it fits; else nothing is
-   written. How many bytes it has, written or not; 0 before the call is done, and without a keeper. To a
+   written. Returns its size, written or not; 0 before the call is done, and without a keeper. To a
    command of the standard it begins with TPMSIM_REPORT_SIZE bytes: the command's code (4, the highest
    first), the check that refused it, as in tpmsim_answered (1), and how many random bytes it drew (2). */
 size_t tpmsim_keeper_response(tpmsim_keeper *keeper, uint8_t *buffer, size_t size);
 
 /* Takes what came of the task: of LOOK and NAME the number of the file, which another file never has; of
-   LOOK how many bytes the file has; of READ the bytes. Nothing else is read. */
+   LOOK the size of the file; of READ the bytes. Nothing else is read. */
 void tpmsim_keeper_next(tpmsim_keeper *keeper, uint8_t got, uint64_t file, uint64_t file_size,
                         const uint8_t *bytes, size_t size);
 
 /* Writes what a fault says to the front of a buffer, if all of it fits; else nothing is written. It is
-   ASCII without a 0 at its end, and follows a path: "is damaged, and stays as it is". How many bytes it
-   has, written or not; 0 of TPMSIM_FAULT_NONE, TPMSIM_FAULT_NO_KEEPER and of what is no fault. */
+   ASCII without a 0 at its end, and follows a path: "is damaged, and stays as it is". Returns its
+   size, written or not; 0 of TPMSIM_FAULT_NONE, TPMSIM_FAULT_NO_KEEPER and of what is no fault. */
 size_t tpmsim_fault_text(uint8_t fault, char *buffer, size_t size);
 
 /* Frees the keeper and its device, if there is one. The handle has none then, and may be used again. */

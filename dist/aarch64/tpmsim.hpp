@@ -6,7 +6,7 @@
        libtpmsim::Response response = tpm.execute(get_random);
 
    A device moves, also to another thread, is used by one thread at a time, and is freed by its
-   destructor. What fails throws an Error. The functions that take a Told say there what failed, and
+   destructor. What fails throws an Error. The functions that take a `Told` say there what failed, and
    throw nothing: they alone are there by -fno-exceptions. */
 #ifndef TPMSIM_HPP
 #define TPMSIM_HPP
@@ -30,7 +30,7 @@
 
 namespace libtpmsim {
 
-/* What a call tells: a number of tpmsim_told, or NO_RANDOM if the system has no random bytes. */
+/* What a call returns: a number of tpmsim_told, or NO_RANDOM if the system has no random bytes. */
 using Told = std::uint8_t;
 inline constexpr Told NO_RANDOM = 255;
 
@@ -103,7 +103,7 @@ class Device {
         static constexpr std::uint8_t none = 0;
         return bytes.size() ? bytes.data() : &none;
     }
-    /* The device that a call makes here, if it tells that it did. */
+    /* The device that a call makes here, if it did. */
     template <class Call> static std::optional<Device> made(Told &told, Random source, Call call) {
         Device device(std::move(source));
         told = device.draw(256) ? call(device) : NO_RANDOM;

@@ -1,5 +1,5 @@
 /* The random bytes that commands may draw: fresh ones of the system, or, for runs that repeat,
- * those that were told. */
+ * those that were passed. */
 #ifndef DRAWS_H
 #define DRAWS_H
 #include "fork_mark.h"
@@ -18,7 +18,7 @@ struct draws {
     struct fork_mark mark;
 };
 
-/* Begins with bytes that were told, 1 to 256 of them, repeated to 256; or, where there are none,
+/* Begins with bytes that were passed, 1 to 256 of them, repeated to 256; or, where there are none,
  * with those of the system. */
 void draws_begin(struct draws *draws, const uint8_t *told, size_t size);
 

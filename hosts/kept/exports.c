@@ -19,7 +19,7 @@ static bool is_open(const tpmsim_kept_device *handle, struct reason *reason) {
     return handle->private_ || refuse_told(reason, "the handle", NULL, TPMSIM_NO_DEVICE);
 }
 
-/* Reads the options. False if a number is none of those that it may be. */
+/* Reads the options. False if a number is not one of those that it may be. */
 static bool read_options(const tpmsim_kept_options *asked, struct kept_options *options) {
     static const enum kept_force forces[] = {[TPMSIM_FORCE_NEVER] = KEPT_FORCE_NEVER,
                                              [TPMSIM_FORCE_POWER] = KEPT_FORCE_POWER,

@@ -22,7 +22,7 @@ struct identity identity_of(const struct stat *status) {
     return (struct identity){status->st_dev, status->st_ino};
 }
 
-/* Copies a path without the slashes at its end, behind which a link would be followed. */
+/* Copies a path without the slashes at its end, after which a link would be followed. */
 static char *copy_path(const char *path) {
     size_t size = strlen(path);
     while (size > 1 && path[size - 1] == '/') size--;

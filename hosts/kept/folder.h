@@ -1,4 +1,4 @@
-/* The folder of a kept device: what may stand at its paths, and its lock.
+/* The folder of a kept device: what may be at its paths, and its lock.
  *
  * Only files of the user who runs the process are opened, and only regular ones. A link is not
  * followed. What is made here is the user's alone, whatever the umask is. */
@@ -35,7 +35,7 @@ struct identity identity_of(const struct stat *status);
 bool folder_open(struct folder *folder, const char *path, bool makes, struct reason *reason);
 void folder_close(struct folder *folder);
 
-/* Tells what stands at a name. 1, a regular file of the user; 0, nothing; -1, anything else, with
+/* Looks at what has a name. 1, a regular file of the user; 0, nothing; -1, anything else, with
  * the reason. */
 int folder_look(const struct folder *folder, const char *name, struct stat *status,
                 struct reason *reason);
@@ -44,7 +44,7 @@ int folder_look(const struct folder *folder, const char *name, struct stat *stat
 bool folder_has(const struct folder *folder, const char *name, struct identity identity,
                 struct stat *status);
 
-/* Opens a file that is there, to be read and written, and tells what it is. -1 with the reason. */
+/* Opens a file that is there, to be read and written, and says what it is. -1 with the reason. */
 int folder_open_file(const struct folder *folder, const char *name, struct stat *status,
                      struct reason *reason);
 

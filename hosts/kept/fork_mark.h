@@ -1,6 +1,6 @@
 /* A mark that a fork does not carry over.
  *
- * The number of a process does not tell a fork: in another pid namespace the child may have its
+ * The number of a process does not show a fork: in another pid namespace the child may have its
  * parent's number. So the mark is a page that the kernel fills with zeros in each forked child.
  *
  * A child that shares its parent's memory, by vfork or by clone with CLONE_VM, shares the mark too.

@@ -9,7 +9,7 @@
  * year. */
 bool host_now(uint64_t *now_ms);
 
-/* Fills a room with random bytes of the system. False where it gives none. */
+/* Fills a buffer with random bytes of the system. False if there are none. */
 bool host_random(uint8_t *room, size_t size);
 
 #endif

@@ -4,7 +4,7 @@
 #include "reason.h"
 #include "tpmsim.h"
 
-/* Opens the device of an image, which stands in a file of the user's. */
+/* Opens the device of an image, which is in a file of the user's. */
 bool image_open(tpmsim *device, const char *path, struct reason *reason);
 
 #endif

@@ -12,7 +12,7 @@
 
 #define NEW_NAME "journal.new"
 
-/* A journal begins anew once it has LIMIT bytes. It is read in parts of PART bytes. */
+/* A journal begins again once it has LIMIT bytes. It is read in parts of PART bytes. */
 enum { LIMIT = 256 * 1024, PART = 256 * 1024 };
 
 static bool refuse_file(const struct keeping *keeping, const char *name, const char *said,
@@ -208,7 +208,7 @@ static uint8_t run(struct keeping *keeping, uint8_t job, const uint8_t *text, si
     }
 }
 
-/* Says why the journal does not open, which a look at the whole file tells. */
+/* Says why the journal does not open, by a look at the whole file. */
 static bool refuse_damage(struct keeping *keeping, struct reason *reason) {
     tpmsim device = {0};
     size_t taken, size = (size_t)keeping->size;

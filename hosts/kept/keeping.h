@@ -18,7 +18,7 @@ struct keeping {
     struct identity identity, fresh_identity;
     /* How many files were opened as the journal: the number of the last one. */
     uint64_t number;
-    /* How many bytes the journal has, 0 without one; and how many of them a new one stands for. */
+    /* The size of the journal, 0 without one; and how many of its bytes a new one replaces. */
     uint64_t size, executed;
     /* How many journals of the past stay. */
     unsigned keep;

@@ -85,7 +85,7 @@ static bool execute_in_memory(struct kept *kept, const uint8_t *buffer, size_t s
 
 /* ---- in a folder */
 
-/* Has the keeper do a job, and tells what was cut off the journal. */
+/* Has the keeper do a job, and reports what was cut off the journal. */
 static bool run(struct kept *kept, uint8_t job, const uint8_t *text, size_t size,
                 struct reason *reason) {
     bool is_run = keeping_run(&kept->keeping, job, text, size, reason);
@@ -103,7 +103,7 @@ static bool tell_start(struct kept *kept, struct start *start, struct reason *re
     return true;
 }
 
-/* Has the keeper do a job by a text that is a seed: behind the byte of a restoring, if it is one.
+/* Has the keeper do a job by a text that is a seed: after the byte of a restoring, if it is one.
    */
 static bool run_seed(struct kept *kept, uint8_t job, enum seed seed, const uint8_t *content,
                      size_t size, struct reason *reason) {

@@ -40,7 +40,7 @@ struct kept_options {
     bool is_there;
     /* What follows the first damage in a journal is dropped; else the journal is refused. */
     bool cuts;
-    /* Is told a sentence when something was cut off a journal; NULL: nobody is. */
+    /* Receives a sentence when something was cut off a journal; NULL: nobody does. */
     void (*tell)(const char *sentence);
 };
 
@@ -54,7 +54,7 @@ struct kept *kept_open(const struct kept_options *options, struct reason *reason
 bool kept_execute(struct kept *kept, const uint8_t *buffer, size_t size, uint8_t locality,
                   uint8_t response[4096], tpmsim_answered *answered, struct reason *reason);
 
-/* Takes power away from the device and gives it back, for every process that holds it. */
+/* Power-cycles the device, for every process that holds it. */
 bool kept_power(struct kept *kept, struct reason *reason);
 
 /* Writes the state text of a device in a folder, and its size. */
@@ -62,7 +62,7 @@ bool kept_snapshot(struct kept *kept, uint8_t text[TPMSIM_STATE_SIZE], size_t *s
                    struct reason *reason);
 
 /* Restores the device of a state text in the folder, for every process that holds the one there. If
- * the text is none, that one is as it was. */
+ * the text is not one, that device is as it was. */
 bool kept_restore(struct kept *kept, const uint8_t *text, size_t size, struct reason *reason);
 
 /* Turns the completing layer on or off, for the commands of this holder. */

@@ -13,9 +13,9 @@ struct reason {
     uint8_t told;
 };
 
-/* Puts the sentence together: what it is about, a path or a word, with `/name` behind it where
+/* Puts the sentence together: what it is about, a path or a word, with `/name` after it where
  * there is a name; then what is said of it; then the system's words for an error, where that is
- * not 0. Bytes that would break the line stand in it as question marks. Answers false, which is
+ * not 0. Bytes that would break the line are question marks in it. Answers false, which is
  * what a function answers that did not do its work. errno stays as it is. */
 bool refuse(struct reason *reason, const char *about, const char *name, const char *said,
             int error);

@@ -1,4 +1,4 @@
-/* What stands at a path, and whether a kept device may use it. */
+/* What is at a path, and whether a kept device may use it. */
 #ifndef STANDING_H
 #define STANDING_H
 #include "reason.h"

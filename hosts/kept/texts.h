@@ -6,7 +6,7 @@
 #include <stddef.h>
 #include <stdint.h>
 
-/* How many bytes the text of a command has at most, that of a power cycle, and that of a seed
+/* The size of the text of a command at most, that of a power cycle, and that of a seed
  * before its content. */
 enum { COMMAND_TEXT_SIZE = 11 + 256 + 4097, POWER_TEXT_SIZE = 17, SEED_FRONT_SIZE = 17 };
 

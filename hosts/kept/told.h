@@ -1,4 +1,4 @@
-/* What the library tells by a number, in words. */
+/* What the library reports by a number, in words. */
 #ifndef TOLD_H
 #define TOLD_H
 #include "reason.h"

@@ -75,10 +75,10 @@ typedef struct tpmsim_kept_options {
     uint8_t cuts;
 } tpmsim_kept_options;
 
-/* Opens a device, in place of the handle's own, which is closed.
+/* Opens a device, instead of the handle's own, which is closed.
 
-   TPMSIM_NO_WORD: a number of the options is none. TPMSIM_IMAGE_SHORT to TPMSIM_STATE_BODY: the
-   file of the image, or what the journal begins with, is none. */
+   TPMSIM_NO_WORD: a number of the options is unknown. TPMSIM_IMAGE_SHORT to TPMSIM_STATE_BODY: the
+   file of the image, or what the journal begins with, is not one. */
 uint8_t tpmsim_kept_open(tpmsim_kept_device *kept, const tpmsim_kept_options *options,
                          char reason[TPMSIM_KEPT_REASON_SIZE]);
 
@@ -92,12 +92,12 @@ uint8_t tpmsim_kept_execute(tpmsim_kept_device *kept, const uint8_t *buffer, siz
 uint8_t tpmsim_kept_power(tpmsim_kept_device *kept, char reason[TPMSIM_KEPT_REASON_SIZE]);
 
 /* Writes the state text of the device to the front of the buffer: all that it is, with the
-   completing layer. `size` says how many bytes it has. */
+   completing layer. `size` is its size in bytes. */
 uint8_t tpmsim_kept_snapshot(tpmsim_kept_device *kept, uint8_t text[TPMSIM_STATE_SIZE],
                              size_t *size, char reason[TPMSIM_KEPT_REASON_SIZE]);
 
 /* Restores the device of a state text, for each process that holds this one. TPMSIM_STATE_SHORT to
-   TPMSIM_STATE_BODY: the text is none, and the device is as it was. */
+   TPMSIM_STATE_BODY: the text is not one, and the device is as it was. */
 uint8_t tpmsim_kept_restore(tpmsim_kept_device *kept, const uint8_t *text, size_t size,
                             char reason[TPMSIM_KEPT_REASON_SIZE]);
 

@@ -33,7 +33,7 @@ static bool read_force(struct words *words, const char *value) {
     return false;
 }
 
-/* The value of a digit of hex in either case; 16 where it is none. */
+/* The value of a digit of hex in either case; 16 if it is not one. */
 static unsigned digit_of(char digit) {
     if (digit >= '0' && digit <= '9') return (unsigned)(digit - '0');
     if (digit >= 'a' && digit <= 'f') return (unsigned)(digit - 'a' + 10);
@@ -54,7 +54,7 @@ static bool read_random(struct words *words, const char *value) {
     return true;
 }
 
-/* Reads what stands behind a word's name. */
+/* Reads what follows a word's name. */
 static bool read_value(struct words *words, enum word word, const char *value) {
     switch (word) {
     case STATE: words->options.folder = value; return *value != 0;
@@ -73,7 +73,7 @@ static bool refuse_word(const char *text, const char *said, struct reason *reaso
     return refuse(reason, *text ? text : "an empty word", NULL, said, 0);
 }
 
-/* Reads one word. `seen` says which ones stood before it. */
+/* Reads one word. `seen` says which ones came before it. */
 static bool read_word(struct words *words, bool seen[WORDS], const char *text,
                       struct reason *reason) {
     for (int i = 0; i < WORDS; i++) {
@@ -87,7 +87,7 @@ static bool read_word(struct words *words, bool seen[WORDS], const char *text,
     return refuse_word(text, "is none of the words " WORDS_WANTED, reason);
 }
 
-/* Whether a word that is of use beside the folder alone does not stand without it. */
+/* Whether no word is there without the folder that is of use with the folder alone. */
 static bool has_folder(const bool seen[WORDS], enum word word, struct reason *reason) {
     return !seen[word] || seen[STATE] ||
            refuse(reason, NAMES[word], NULL, "is of use beside state=DIR alone", 0);

@@ -1,9 +1,9 @@
-/* The words by which the module is told what to attach: `state=DIR,complete` and so on. */
+/* The words that say what the module attaches: `state=DIR,complete` and so on. */
 #ifndef WORDS_H
 #define WORDS_H
 #include "kept.h"
 
-/* What the words are, as a sentence has them that says what is wanted. */
+/* What the words are, as a sentence has them that says what is expected. */
 #define WORDS_WANTED                                                                               \
     "state=DIR, complete, cut, keep=0 to 99, locality=0 to 4, image=FILE, random=HEX, force=never, " \
     "force=power or force=always"
@@ -17,7 +17,7 @@ struct words {
 };
 
 /* Reads a text of words with commas between them; NULL and an empty text have none. False with the
- * reason, where a word is none or stands twice, or there is no memory. */
+ * reason, if a word is unknown or is there twice, or there is no memory. */
 bool words_read(struct words *words, const char *text, struct reason *reason);
 
 void words_free(struct words *words);

@@ -1,4 +1,4 @@
-/* What swtpm does for its TPM: it keeps states under their names, and tells the locality. */
+/* What swtpm does for its TPM: it keeps states by name, and reports the locality. */
 #ifndef CALLBACKS_H
 #define CALLBACKS_H
 
@@ -17,7 +17,7 @@ enum kept load_state(const char *name, uint8_t **bytes, size_t *size);
 /* Has swtpm keep a state under a name. */
 bool store_state(const char *name, const uint8_t *bytes, size_t size);
 
-/* The locality that swtpm has now, 0 to 4; another number where it tells none. */
+/* The locality that swtpm has now, 0 to 4; another number if it reports none. */
 uint32_t locality_now(void);
 
 #endif

@@ -1,4 +1,4 @@
-/* What is told of this TPM, whatever its state is. */
+/* What is reported of this TPM, whatever its state is. */
 #include "device.h"
 #include "report.h"
 
@@ -13,7 +13,7 @@
 static const uint32_t VERSION = 10 << 8;
 
 /* The flags of TPMLIB_GetInfo that are answered, in their order; libtpms 0.10 has others, of which nothing
-   is told. */
+   is reported. */
 static const struct {
     unsigned flag;
     const char *text;
@@ -27,7 +27,7 @@ static const struct {
 
 uint32_t TPMLIB_GetVersion(void) { return VERSION; }
 
-/* swtpm tells its user where a version is refused, and asks for each where it prints what it can do. */
+/* swtpm reports if a version is refused, and asks for each when it prints what it can do. */
 TPM_RESULT TPMLIB_ChooseTPMVersion(TPMLIB_TPMVersion ver) {
     return ver == TPMLIB_TPM_VERSION_2 ? TPM_SUCCESS : TPM_FAIL;
 }

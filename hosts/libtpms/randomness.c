@@ -20,7 +20,7 @@ const uint8_t *random_bytes(void) {
             report("the system gives no random bytes: %s", strerror(errno));
             return NULL;
         }
-        /* What is given stands at the front, so a short result leaves nothing fresh behind it. */
+        /* What is there is at the front, so a short result leaves nothing fresh after it. */
         if ((size_t)given == stale) stale = 0;
     }
     return bytes;

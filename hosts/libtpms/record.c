@@ -13,7 +13,7 @@
 enum { PATH_BYTES = 4096, MOST_FILES = 1000 * 1000 };
 
 static int descriptor = -1;
-/* How many bytes the file has, and how many the texts have that are whole. */
+/* The size of the file, and of the texts that are whole. */
 static off_t present, whole;
 
 void end_record(void) {

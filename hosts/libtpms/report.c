@@ -68,7 +68,7 @@ const char *words_of_told(uint8_t told) {
 
 void TPMLIB_SetDebugFD(int fd) { log_descriptor = fd; }
 
-/* Faults are told at each level, and nothing else is. */
+/* Faults are reported at each level, and nothing else is. */
 void TPMLIB_SetDebugLevel(unsigned int level) { (void)level; }
 
 TPM_RESULT TPMLIB_SetDebugPrefix(const char *prefix) {

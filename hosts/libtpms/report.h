@@ -1,4 +1,4 @@
-/* What is told to whoever runs swtpm: a line for each fault, in swtpm's log or on standard error. */
+/* What the user of swtpm reads: a line for each fault, in swtpm's log or on standard error. */
 #ifndef REPORT_H
 #define REPORT_H
 

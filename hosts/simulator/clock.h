@@ -1,5 +1,5 @@
 /* The time of a device in memory, in milliseconds since 1970: the host's time when the simulator began, and
-   what passed since by a clock that never goes back, unless the time stands still. */
+   what passed since by a clock that never goes back, unless the time is stopped. */
 #ifndef CLOCK_H
 #define CLOCK_H
 #include <stdbool.h>

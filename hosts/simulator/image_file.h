@@ -1,5 +1,5 @@
 /* The file where a device in memory keeps its image. The file is replaced whole: a new one is written
-   beside it, FILE.new, forced to the disk, and renamed. FILE.lock is locked as long as the file is held,
+   next to it, FILE.new, forced to the disk, and renamed. FILE.lock is locked as long as the file is held,
    as `tpmsim run --image` locks it, so that one program at a time has the image. */
 #ifndef IMAGE_FILE_H
 #define IMAGE_FILE_H

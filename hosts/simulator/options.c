@@ -61,7 +61,7 @@ static bool is_address(const char *text) {
     return inet_pton(AF_INET, text, room) == 1 || inet_pton(AF_INET6, text, room) == 1;
 }
 
-/* The value of a digit of hex in either case; 16 if it is none. */
+/* The value of a digit of hex in either case; 16 if it is not one. */
 static unsigned digit_of(char digit) {
     static const char DIGITS[] = "0123456789abcdef0123456789ABCDEF";
     const char *found = digit ? strchr(DIGITS, digit) : NULL;

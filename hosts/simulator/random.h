@@ -19,7 +19,7 @@ struct random {
    is a number that no other device of this seed has. */
 void random_begin(struct random *random, const uint8_t *seed, size_t seed_size, unsigned stream);
 
-/* Fills all bytes anew. False if the system gives none. */
+/* Fills all bytes again. False if the system gives none. */
 bool random_renew(struct random *random);
 
 #endif

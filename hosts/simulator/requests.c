@@ -86,7 +86,7 @@ static enum outcome send_command(struct board *board, const uint8_t *bytes, stru
     return is_too_long ? ENDS : GOES_ON;
 }
 
-/* A client of version 0 is none. */
+/* A client of version 0 is refused. */
 static enum outcome handshake(const uint8_t *bytes, struct answer *answer) {
     add_number(answer, VERSION);
     add_number(answer, FEATURES);
@@ -123,7 +123,7 @@ static enum outcome do_command(struct board *board, uint32_t request, const uint
     }
 }
 
-/* Physical presence, cancelling, NV and the cache of keys are what the device need not be told. */
+/* Physical presence, cancelling, NV and the cache of keys do not concern the device. */
 static enum outcome do_platform(struct board *board, uint32_t request, struct answer *answer,
                                 struct reason *reason) {
     switch (request) {

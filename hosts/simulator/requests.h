@@ -15,7 +15,7 @@ enum {
     ANSWER_MOST = 4 + RESPONSE_MOST + 4
 };
 
-/* How many bytes the request at the front of these has, as far as they say. Where that is more than
+/* The size of the request at the front of these, as far as they say. Where that is more than
    there are, more has to come first. */
 size_t request_size(const uint8_t *bytes, size_t size, bool is_of_platform);
 

@@ -24,7 +24,7 @@ struct context {
     uint8_t response[RESPONSE_ROOM];
 };
 
-/* The context, NULL where it is none of this module, or was finalized. */
+/* The context, NULL if it is not one of this module, or was finalized. */
 static struct context *context_of(TSS2_TCTI_CONTEXT *handed) {
     return handed && TSS2_TCTI_MAGIC(handed) == MAGIC ? (struct context *)handed : NULL;
 }
@@ -52,7 +52,7 @@ static TSS2_RC transmit(TSS2_TCTI_CONTEXT *handed, size_t size, const uint8_t *c
     return TSS2_RC_SUCCESS;
 }
 
-/* Hands out the response, or its size where there is no room for it. No timeout can pass, since
+/* Writes the response, or its size if the buffer is too small. No timeout can pass, since
  * the response is there. */
 static TSS2_RC receive(TSS2_TCTI_CONTEXT *handed, size_t *size, uint8_t *response,
                        int32_t timeout) {
@@ -103,7 +103,7 @@ static TSS2_RC set_locality(TSS2_TCTI_CONTEXT *handed, uint8_t locality) {
     return TSS2_RC_SUCCESS;
 }
 
-/* No resource manager stands in between, so handles are the device's own. */
+/* No resource manager is in between, so handles are the device's own. */
 static TSS2_RC make_sticky(TSS2_TCTI_CONTEXT *handed, TPM2_HANDLE *handle, uint8_t sticky) {
     (void)sticky;
     if (!context_of(handed)) return TSS2_TCTI_RC_BAD_CONTEXT;

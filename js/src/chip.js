@@ -100,7 +100,7 @@ export class Chip {
     return this.#answer();
   }
 
-  /** Takes power away and gives it back. */
+  /** Power-cycles the device. */
   cyclePower() {
     mustBeDone(this.#calls.device_cycle_power(this.#device));
   }
@@ -154,7 +154,7 @@ export class Chip {
   }
 
   /**
-   * Begins the journal anew with a checkpoint, which it returns.
+   * Begins the journal again with a checkpoint, which it returns.
    * @param {number} now milliseconds of the host's clock
    */
   checkpointJournal(now) {
@@ -165,7 +165,7 @@ export class Chip {
 
   /**
    * Makes this the device of a journal; BadJournal, BadImage and BadState leave it as it was. Returns
-   * how many bytes the head and the whole entries have.
+   * the size of the head and the whole entries.
    * @param {Uint8Array} text
    */
   openJournal(text) {
@@ -176,7 +176,7 @@ export class Chip {
 
   /**
    * Executes the entries of a text that follows; BadJournal if one is damaged or answered otherwise,
-   * after those before it. Returns how many bytes the whole entries have.
+   * after those before it. Returns the size of the whole entries.
    * @param {Uint8Array} text
    */
   followJournal(text) {
@@ -190,7 +190,7 @@ export class Chip {
    * @param {Uint8Array} command
    * @param {number} locality
    * @param {number} now milliseconds of the host's clock
-   * @param {boolean} completes whether the completing layer stands above the device
+   * @param {boolean} completes whether the completing layer is above the device
    * @param {Uint8Array} random 256 bytes
    * @returns {Answer & {entry: Uint8Array}}
    */

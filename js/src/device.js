@@ -15,7 +15,7 @@ import { Words } from "./words.js";
 
 /**
  * What a command is answered: its response, its row, how many random bytes it drew, and its trace,
- * which is empty if the completing layer stands above the device.
+ * which is empty if the completing layer is above the device.
  * @typedef {{
  *   response: Uint8Array,
  *   row: {code: number, check: string},
@@ -145,7 +145,7 @@ export class Device {
   }
 
   /**
-   * Executes a command in words, such as `GetRandom 4`. BadLine if they spell none.
+   * Executes a command in words, such as `GetRandom 4`. BadLine if they are not a command.
    * @param {string} line
    * @param {Event} [event]
    * @returns {Answer}

@@ -1,4 +1,4 @@
-// What this package throws. Each error has its class's name, so that it can be told from others by
+// What this package throws. Each error has its class's name, so that it can be distinguished from others by
 // `instanceof` as well as by `name`.
 
 /** An argument of a wrong type or out of its range. Nothing was done. */
@@ -56,7 +56,7 @@ export class BadLine extends BadText {
   /**
    * @param {string} fault
    * @param {number} column from 1; 0 if the fault has none
-   * @param {string} wanted what is wanted there
+   * @param {string} wanted what is expected there
    * @param {number} line its number in a script, from 1; else 0
    */
   constructor(fault, column, wanted, line = 0) {

@@ -1,4 +1,4 @@
-// Where the module is: beside this package, and of a clone of the repository in its dist/.
+// Where the module is: next to this package, and of a clone of the repository in its dist/.
 
 import { NoModule } from "./errors.js";
 import { Module } from "./module.js";
@@ -35,7 +35,7 @@ async function found() {
 }
 
 /**
- * The module of a source, or else the one beside this package.
+ * The module of a source, or else the one next to this package.
  * @param {BufferSource | WebAssembly.Module | undefined} source
  */
 export async function loaded(source) {

@@ -1,4 +1,4 @@
-// The memory that the proved module is lent: blocks of it, and the bytes in them.
+// The memory that the proved module works on: blocks of it, and the bytes in them.
 
 const PAGE = 65_536;
 const ALIGNMENT = 16;
@@ -8,7 +8,7 @@ const decoder = new TextDecoder();
 /** @param {number} size */
 const aligned = (size) => Math.ceil(size / ALIGNMENT) * ALIGNMENT;
 
-/** The memory from the heap's base up. Each block is of zeros when it is lent. */
+/** The memory from the heap's base up. Each block is of zeros at first. */
 export class Memory {
   #memory;
   #end;
@@ -67,7 +67,7 @@ export class Memory {
   }
 
   /**
-   * A block for at least so many bytes, in place of one that is too small.
+   * A block for at least so many bytes, instead of one that is too small.
    * @param {{at: number, size: number}} block
    * @param {number} needed
    */
@@ -89,7 +89,7 @@ export class Memory {
   }
 
   /**
-   * What a call writes to a buffer. It returns how many bytes that are, and writes none that do not
+   * What a call writes to a buffer. It returns their number, and writes none that do not
    * fit; then it is called with a larger buffer.
    * @param {(at: bigint, size: bigint) => bigint} call
    */

@@ -7,7 +7,7 @@ import { Memory } from "./memory.js";
 
 /**
  * A line that was read. `fault` is empty, or the fault's name. `column` counts from 1 and is 0
- * without a fault; `wanted` says what is wanted there.
+ * without a fault; `wanted` says what is expected there.
  * @typedef {{bytes: Uint8Array, fault: string, column: number, wanted: string}} Read
  */
 
@@ -34,7 +34,7 @@ export const RANDOM_SIZE = 256;
 export const MOST_MILLISECONDS = 0xffff_ffff;
 export const LOCALITIES = 5;
 
-// How many bytes the structures have, and what calls write to the buffers of a fixed size.
+// The sizes of the structures, and of what calls write to the buffers of a fixed size.
 const SIZES = {
   random: RANDOM_SIZE,
   response: 4096,
@@ -171,7 +171,7 @@ export class Module {
   }
 
   /**
-   * A line in words that spells the buffer; empty if there is none.
+   * A line in words that encodes the buffer; empty if there is none.
    * @param {Uint8Array} command
    */
   spell(command) {

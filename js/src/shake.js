@@ -22,7 +22,7 @@ function roundConstants() {
 
 const CONSTANTS = roundConstants();
 
-// The five columns of a plane, as they are read beside each other: each lane is two words.
+// The five columns of a plane, as they are read one after another: each lane is two words.
 const NEXT = [2, 3, 4, 5, 6, 7, 8, 9, 0, 1];
 const AFTER_NEXT = [4, 5, 6, 7, 8, 9, 0, 1, 2, 3];
 const BEFORE = [8, 9, 0, 1, 2, 3, 4, 5, 6, 7];

@@ -45,7 +45,7 @@ export class Words {
   }
 
   /**
-   * The buffer of a command in words, such as `GetRandom 4`. BadLine if they spell none.
+   * The buffer of a command in words, such as `GetRandom 4`. BadLine if they are not a command.
    * @param {string} line
    * @returns {Uint8Array}
    */
@@ -56,7 +56,7 @@ export class Words {
   }
 
   /**
-   * A line in words that spells just these bytes; null if there is none.
+   * A line in words that encodes just these bytes; null if there is none.
    * @param {Uint8Array} command
    * @returns {string | null}
    */

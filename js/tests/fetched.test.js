@@ -12,7 +12,7 @@ const TYPES = { js: "text/javascript", wasm: "application/wasm" };
 const FLAG = "--experimental-network-imports";
 const IN_CLONE = "../../dist/";
 
-/** Serves the package; a clone's dist/ too, which is beside it. */
+/** Serves the package; a clone's dist/ too, which is next to it. */
 async function served() {
   const server = createServer(async (request, response) => {
     const path = request.url.slice(1);

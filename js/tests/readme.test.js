@@ -1,4 +1,4 @@
-// The examples of README.md print what stands below them.
+// The examples of README.md print what is below them.
 
 import assert from "node:assert/strict";
 import { execFileSync } from "node:child_process";

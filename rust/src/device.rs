@@ -158,7 +158,7 @@ impl Device {
         Ok(())
     }
 
-    /// Has time pass before the next command, in whole milliseconds. The time of a device is told, and
+    /// Has time pass before the next command, in whole milliseconds. The caller sets the time of a device, and
     /// no call waits.
     ///
     /// # Errors
@@ -188,7 +188,7 @@ impl Device {
         self.native.state_text()
     }
 
-    /// Makes the device what a state text says, of any device in any process. A log begins anew.
+    /// Makes the device what a state text says, of any device in any process. A log begins again.
     ///
     /// # Errors
     ///

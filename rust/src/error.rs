@@ -17,7 +17,7 @@ pub enum Fault {
     Length,
     /// The last 32 are not the SHA-256 of those before.
     Digest,
-    /// What stands between spells no state.
+    /// What is between encodes no state.
     Body,
 }
 
@@ -50,7 +50,7 @@ pub enum Error {
     Image(Fault),
     /// The bytes are no state text.
     State(Fault),
-    /// A locality is 0 to 4, and this is none.
+    /// A locality is 0 to 4, and this is another number.
     Locality(u8),
     /// At most 4,294,967,295 milliseconds pass before a command.
     Wait,

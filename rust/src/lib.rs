@@ -16,7 +16,7 @@
 //! definitions say. Each test has a device of its own: devices share no file, lock or variable, so that
 //! tests run in parallel. [`Transport`] and [`DeviceFile`] have the shapes that TPM libraries take.
 //!
-//! A refused command is told in words. [`Device::log`] is what `tpmsim-explain` reads, which tells the
+//! A refused command is said in words. [`Device::log`] is what `tpmsim-explain` reads, which says the
 //! whole reason:
 //!
 //! ```

@@ -16,13 +16,13 @@ pub(crate) const DONE: u8 = 0;
 /// How many random bytes a call takes.
 pub(crate) const RANDOM_BYTES: usize = 256;
 
-/// How many bytes the longest response has.
+/// The size of the longest response.
 const RESPONSE_BYTES: usize = 4096;
 
 /// Enough for each image and each state text.
 const TEXT_BYTES: usize = 36_323;
 
-/// `tpmsim` of the header. No `Sync`, as a pointer is none.
+/// `tpmsim` of the header. No `Sync`, as a pointer is not.
 #[repr(C)]
 struct Holder(*mut c_void);
 
@@ -90,7 +90,7 @@ pub(crate) enum Executor {
     Completed,
 }
 
-/// What is told of a command beside its buffer.
+/// What is passed with a command in addition to its buffer.
 pub(crate) struct Circumstances<'a> {
     pub locality: u8,
     pub elapsed: u32,

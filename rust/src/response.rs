@@ -5,7 +5,7 @@ use crate::names::{name_of, COMMANDS};
 use crate::native::Outcome;
 use std::fmt;
 
-/// How many bytes the header of a response has: tag, size and code.
+/// The size of the header of a response: tag, size and code.
 const HEADER_BYTES: usize = 10;
 
 /// A response, and which check refused its command.
@@ -44,7 +44,7 @@ impl Response {
         self.check
     }
 
-    /// What stands behind the header.
+    /// What follows the header.
     ///
     /// # Errors
     ///

@@ -55,7 +55,7 @@ const MOVES: [(usize, u32); 24] = [
     (1, 44),
 ];
 
-/// How many bytes go in and come out between two permutations.
+/// The number of bytes that go in and come out between two permutations.
 const RATE: usize = 136;
 
 /// The step theta.

@@ -4,7 +4,7 @@ use std::io::{Read, Write};
 use std::time::Duration;
 use tpmsim::{Check, Device, DeviceFile, Error, Fault, ResponseCode, Transport};
 
-/// A command without sessions: its code, and what stands behind the header.
+/// A command without sessions: its code, and what follows the header.
 fn command(code: u32, rest: &[u8]) -> Vec<u8> {
     let size = u32::try_from(10 + rest.len()).expect("a command is short");
     [&[0x80, 1], &size.to_be_bytes()[..], &code.to_be_bytes(), rest].concat()

@@ -1,4 +1,4 @@
-// The bytes of a buffer beside its fields. A field and its bytes are lit together: by the pointer, or
+// The bytes of a buffer next to its fields. A field and its bytes are lit together: by the pointer, or
 // by the arrow keys on the table.
 
 import { hexNumber, hexOf } from "./bytes.js";

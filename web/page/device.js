@@ -47,7 +47,7 @@ export class Chip {
   }
 
   /**
-   * Puts a new device in place of one.
+   * Puts a new device instead of one.
    * @param {number} device @param {Uint8Array} random
    */
   manufacture(device, random) {
@@ -122,7 +122,7 @@ export class Chip {
   }
 
   /**
-   * A line in words that spells a buffer, "" if there is none.
+   * A line in words that encodes a buffer, "" if there is none.
    * @param {Uint8Array} buffer
    */
   spell(buffer) {

@@ -304,7 +304,7 @@ export class Editor {
 }
 
 /**
- * Puts text in place of what is selected, as if it was typed, so that undo knows it.
+ * Puts text instead of what is selected, as if it was typed, so that undo knows it.
  * @param {HTMLTextAreaElement} area @param {string} text
  */
 function insertText(area, text) {

@@ -123,7 +123,7 @@ export class Page {
     byId("former").hidden = true;
   }
 
-  /** Puts the reader's script back in place of the one that replaced it. */
+  /** Puts the reader's script back instead of the one that replaced it. */
   backToFormer() {
     const text = this.former;
     if (text === null) return;
@@ -144,7 +144,7 @@ export class Page {
     this.run.take(this.script.steps);
   }
 
-  /** Leaves what was told of a log behind, and the device that it began on. */
+  /** Forgets what was known of a log, and the device that it began on. */
   leaveLog() {
     if (!this.told.log) return;
     if (this.told.start) this.run.begin(null);

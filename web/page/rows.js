@@ -1,4 +1,4 @@
-// The rows of the editor that can be seen: each line in colours; beside it its number and what came of
+// The rows of the editor that can be seen: each line in colours; next to it its number and what came of
 // it. A row that is as it was stays, so that an edit makes few elements.
 
 import { colouredLine } from "./coloured.js";

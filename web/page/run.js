@@ -1,5 +1,5 @@
 // A script that is played: answers and states by their events. What an edit left as it was is not
-// played anew: each 64th state is kept as its state text, and what follows goes on from there.
+// played again: each 64th state is kept as its state text, and what follows goes on from there.
 
 import { decoded } from "./bytes.js";
 import { responseCode } from "./fields.js";
@@ -48,7 +48,7 @@ export class Run {
   }
 
   /**
-   * Begins anew, on the device of an image or a state text if there is one.
+   * Begins again, on the device of an image or a state text if there is one.
    * @param {Uint8Array | null} text
    */
   begin(text) {
@@ -68,7 +68,7 @@ export class Run {
   }
 
   /**
-   * Takes other events in place of its own.
+   * Takes other events instead of its own.
    * @param {Step[]} steps
    */
   take(steps) {

@@ -40,7 +40,7 @@ export function codeWords(chip, answer) {
 }
 
 /**
- * The code of an answer as the table spells it, such as AUTH_FAIL/s1.
+ * The code of an answer as the table writes it, such as AUTH_FAIL/s1.
  * @param {import("./device.js").Chip} chip @param {number} code
  */
 export function spelledCode(chip, code) {
@@ -214,7 +214,7 @@ function wrongField(fields, meaning) {
 
 let perRow = 16;
 
-/** Reads how many bytes fit in a row of the pane, and returns whether that is another number. */
+/** Reads the number of bytes that fit in a row of the pane, and returns whether that is another number. */
 export function measureStep() {
   const before = perRow;
   perRow = byId("detail").clientWidth - ROW_EDGES >= 16 * BYTE_WIDTH ? 16 : 8;

@@ -1,5 +1,5 @@
 // A log that tools/explain.py explained: its reasons, by the lines of its commands. The page plays the
-// log as it plays any script; an edit leaves the reasons behind.
+// log as it plays any script; an edit drops the reasons.
 
 import { bytesOf } from "./bytes.js";
 import { RANDOM_BYTES } from "./device.js";
@@ -18,7 +18,7 @@ import { tableLink } from "./step_pane.js";
  *   name: string, script: string, line: number, start: string, summary: string,
  *   events: Record<string, Event>,
  * }} Log the text of the log, the line to begin at, the device if the log does not say it, and what is
- *   told of the command in each line
+ *   said of the command in each line
 
  */
 
@@ -57,7 +57,7 @@ export class Told {
   }
 
   /**
-   * What is told of the command in a line, from 0.
+   * What is said of the command in a line, from 0.
    * @param {number} line
    * @returns {ToldShown | null}
    */

@@ -65,7 +65,7 @@ export const saidBytes = (bytes) =>
   isPrintable(bytes) ? `"${decoded(bytes)}"` : sizeWords(bytes.length);
 
 /**
- * Hex, and the text behind it if the bytes are one.
+ * Hex, and the text after it if the bytes are one.
  * @param {Uint8Array} bytes
  */
 export function bytesWords(bytes) {

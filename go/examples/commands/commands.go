@@ -59,7 +59,7 @@ func Front(rest []byte) (buffer, after []byte) {
 	return rest[2:size], rest[size:]
 }
 
-// Join puts texts behind each other.
+// Join puts texts after each other.
 func Join(texts ...[]byte) []byte { return bytes.Join(texts, nil) }
 
 // Number is one of four bytes.
@@ -140,7 +140,7 @@ func Flush(tpm *tpmsim.TPM, handles ...uint32) {
 	}
 }
 
-// DigestOf is the digest of a trial session that was told assertions, which ends.
+// DigestOf is the digest of a trial session with these assertions, which ends.
 func DigestOf(tpm *tpmsim.TPM, tell func(session uint32) error) []byte {
 	trial := StartSession(tpm, Trial)
 	if err := tell(trial); err != nil {
@@ -195,11 +195,11 @@ func Read(tpm *tpmsim.TPM, value string) ([]byte, error) {
 // Measure measures data into a PCR, and returns the digest of the SHA-256 bank.
 func Measure(tpm *tpmsim.TPM, pcr uint32, data string) []byte {
 	answer := Must(tpm, 0x13c, []uint32{pcr}, Password(""), Sized([]byte(data)))
-	// Their number, and that of SHA-1 with its algorithm, stand before it.
+	// Their number, and that of SHA-1 with its algorithm, come before it.
 	return answer.Parameters[4+2+20+2:][:32]
 }
 
-// Tell prints a line of an example: what came of it, or why it was refused.
+// `Tell` prints a line of an example: what came of it, or why it was refused.
 func Tell(what, came string, err error) {
 	if err != nil {
 		came = err.Error()
