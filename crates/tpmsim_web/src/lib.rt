@@ -6,7 +6,7 @@
 //! A [`Holder`](holder::Holder) is one pointer, which is null without a device, so that memory of
 //! zeros is a holder. The exports on a device stand in [`calls`], [`completing`], [`snapshots`] and
 //! [`journal`], and promise what those of tpmsim_library do, by the same words. [`script`] reads the
-//! lines of scripts, and [`words`] has commands and codes in words. `web/EXPORTS.md` lists the
+//! lines of scripts, [`report`] reports on them, and [`words`] has commands and codes in words. `web/EXPORTS.md` lists the
 //! exports for JavaScript, and says what a caller owes.
 
 mod calls;
@@ -18,6 +18,7 @@ mod journal;
 mod lent;
 mod read_line;
 mod recording;
+mod report;
 mod script;
 mod snapshots;
 mod told;

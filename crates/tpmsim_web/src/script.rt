@@ -50,7 +50,11 @@ fn tell_bad(line: &[u8], bad: BadLine, wanted: &mut [u8; 64]) -> ReadLine
 
 /// Reads a line.
 #[tactic(auto, unfolding(tpmsim_script::specs::Checking::line_check))]
-fn read_line(line: &[u8], waited: &mut u32, written: &mut [u8; 32768]) -> Result<ReadLine, BadLine>
+pub(crate) fn read_line(
+    line: &[u8],
+    waited: &mut u32,
+    written: &mut [u8; 32768],
+) -> Result<ReadLine, BadLine>
     ensures { ReadsLine line.now waited.old result written.new waited.new }
 {
     if line.len() > LINE_LIMIT {
