@@ -15,7 +15,7 @@ const FAULTS = ['', 'BadName', 'BadField', 'Missing', 'Range', 'TooLong'];
 
 /** The memory that the module works on: each buffer by its name and its size. */
 const LENT = {
-    holder: 8, random: 256, response: 4096, answered: 32, trace: 64, waited: 4, written: 32768, wanted: 64, read: 32,
+    holder: 8, random: 256, response: 4096, answered: 32, trace: 64, waited: 4, report: 256, written: 32768, wanted: 64, read: 32,
     spelled: 65536, form: 256, place: 4, taken: 8, text: 65536, entry: 9216,
 };
 
@@ -136,14 +136,13 @@ export class Player {
 
 /** Reads a script and prints what is wrong with each bad line. @param {Module} module @param {string} file */
 function check(module, file) {
-    const player = new Player(module, false);
-    player.execute = () => {};
-    player.cyclePower = () => {};
+    module.view.setUint32(module.at.waited, 0, true);
     let number = 0;
     for (const line of linesOf(readFileSync(file))) {
         number += 1;
-        const fault = player.line(line);
-        if (fault !== '') console.log(`line ${number}: ${fault}`);
+        const places = ['waited', 'written', 'report'].map((name) => module.to(name));
+        const size = module.calls.script_report(number, ...module.lend(line), ...places);
+        process.stdout.write(module.front('report', Number(size)));
     }
 }
 

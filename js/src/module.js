@@ -44,6 +44,7 @@ const SIZES = {
   wanted: 64,
   read: 32,
   waited: 4,
+  report: 256,
   taken: 8,
   entry: 9216,
   words: 256,
@@ -72,6 +73,7 @@ const EXPORTS = [
   "device_restore",
   "device_release",
   "script_line",
+  "script_report",
   "line_assemble",
   "line_spell",
   "command_number",
@@ -156,6 +158,23 @@ export class Module {
       number: this.#memory.word(read + 24),
       waited: this.#memory.word(this.#at.waited),
     };
+  }
+
+  /**
+   * What the report of a script says of its line of this number, with a line end; empty for a good line.
+   * @param {number} number
+   * @param {string | Uint8Array} line
+   * @param {number} waited milliseconds since the last command
+   * @returns {{text: string, waited: number}}
+   */
+  report(number, line, waited) {
+    const { written, report } = this.#at;
+    const bytes = typeof line === "string" ? encoder.encode(line) : line;
+    this.#memory.putWord(this.#at.waited, waited);
+    const places = [this.#at.waited, written, report].map(BigInt);
+    const size = Number(this.#calls.script_report(number, ...this.#memory.input(bytes), ...places));
+    if (size > SIZES.report) throw new NoModule(`what is wrong with line ${number} does not fit`);
+    return { text: textOf(this.#memory.take(report, size)), waited: this.#memory.word(this.#at.waited) };
   }
 
   /**

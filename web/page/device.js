@@ -122,6 +122,20 @@ export class Chip {
   }
 
   /**
+   * What `tpmsim check` prints of the lines of a script, a text for each bad one.
+   * @param {string[]} lines
+   */
+  report(lines) {
+    let waited = 0;
+    const texts = lines.map((line, at) => {
+      const said = this.module.report(at + 1, line, waited);
+      waited = said.waited;
+      return said.text;
+    });
+    return texts.filter((text) => text);
+  }
+
+  /**
    * A line in words that encodes a buffer, "" if there is none.
    * @param {Uint8Array} buffer
    */

@@ -446,7 +446,7 @@ export class Page {
 
   /** The lines that cannot be read, as tpmsim check prints them. */
   report() {
-    const lines = [...this.script.faults].map(([line, fault]) => `line ${line + 1}: ${faultName(fault)}\n`);
+    const lines = this.chip.report(this.script.lines);
     if (!lines.length) return this.sayShortly("Every line can be read.");
     return download("report.txt", lines);
   }
