@@ -4,9 +4,9 @@
 #
 #   bench/swtpm.sh [STATES]    STATES is where the states are kept; else /dev/shm
 #
-# All of it runs on one processor. Beside other work, `chrt -f 10 bench/swtpm.sh` keeps that processor.
+# All of it runs on one processor. While other work runs, `chrt -f 10 bench/swtpm.sh` keeps that processor.
 #
-# The folder of `hosts/build.sh libtpms` is that of $ATTACHED, or it is made. $BESIDE may name more such
+# The folder of `hosts/build.sh libtpms` is that of $ATTACHED, or it is made. $OTHERS may name more such
 # folders, of other libraries, which are measured in the same run.
 set -eu
 
@@ -17,4 +17,4 @@ attached=${ATTACHED:-$work/attached}
 [ -n "${ATTACHED:-}" ] || "$top/hosts/build.sh" libtpms "$attached"
 cd "$work"
 # shellcheck disable=SC2086 # they are words
-PYTHONDONTWRITEBYTECODE=1 python3 "$top/bench/swtpm.py" "$attached" ${BESIDE:-}
+PYTHONDONTWRITEBYTECODE=1 python3 "$top/bench/swtpm.py" "$attached" ${OTHERS:-}

@@ -18,15 +18,15 @@ GoesWithClock = (j : Journal) (now : ℕ) (buffer : List ℕ) (locality : ℕ) (
     → let c = command_at buffer locality (elapsed_of now j.time) completes random in
     (journal_after j (entry_of c seen) seen.layer).time ≡ now
 
--- the milliseconds that commands are told together, which are given at these clocks, one after
--- another, where the journal has this time
+-- how many milliseconds elapse, for the device, over commands that are given at these clocks, one
+-- after another, if the journal has this time before them
 abbrev pub told_together : (time : ℕ) → (clocks : List ℕ) → ℕ
 told_together time [] = 0
 told_together time (now ∷ clocks) =
     elapsed_of now time + told_together (time_after time (elapsed_of now time)) clocks
 
--- No millisecond is told twice: where no clock is after the latest, no more milliseconds are told
--- than pass until then, whether the clocks ascend or not.
+-- No millisecond counts twice: if no clock is after the latest, no more milliseconds elapse for the
+-- device than pass until then, whether the clocks ascend or not.
 abbrev pub TellsNoTimeTwice : Type 0
 TellsNoTimeTwice = (time latest : ℕ) (clocks : List ℕ) → time ≤ latest → latest < 2 ^ 64
     → AllByRecursion (λ now. now ≤ latest) clocks → time + told_together time clocks ≤ latest

@@ -34,8 +34,8 @@ pub fn playing_laws()
 {}
 
 /// A journal's time begins at the clock of its head, and after each command it is the clock at which
-/// the command was given. No millisecond is told twice: all commands together are told at most the
-/// milliseconds from the journal's time to the latest clock, also where the clock goes back.
+/// the command was given. No millisecond counts twice: over all commands together at most the
+/// milliseconds from the journal's time to the latest clock elapse, even if the clock goes back.
 #[inline(always)]
 #[tactic(auto, using(crate::proofs::Times::begins_at_clock, crate::proofs::Times::goes_with_clock, crate::proofs::Times::tells_no_time_twice))]
 pub fn time_laws()
