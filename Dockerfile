@@ -1,4 +1,4 @@
-# A recipe, which was not tried: no docker was where it was written.
+# This recipe was not tried: there was no docker where it was written.
 #   docker build -t tpmsim . && docker run -i tpmsim run - <examples/measured_boot.tpm
 FROM debian:12 AS made
 RUN apt-get update && apt-get install -y gcc git libtpms-dev libtss2-dev python3

@@ -1,11 +1,11 @@
-# What is done with this repository most. None of it needs `rt` but `dist`.
+# The most frequent tasks. Only `dist` needs `rt`.
 #
-#   make check                      what a change is looked at by, and all tests that are scripts
-#   make dist                       proves and builds what dist/ has; half an hour to an hour
-#   make dist-arm64                 what dist/aarch64 has, after make dist
+#   make check                      runs the quick checks of a change, and all tests that are scripts
+#   make dist                       proves and builds the contents of dist/; half an hour to an hour
+#   make dist-arm64                 those of dist/aarch64, after make dist
 #   make dist-web                   the module for web pages, after make dist
 #   make hosts                      builds the modules for libtss2 and swtpm, and the simulator, in out/
-#   make install PREFIX=/usr/local  installs what dist/ has; DESTDIR stands before PREFIX
+#   make install PREFIX=/usr/local  installs the contents of dist/; DESTDIR is a folder in front of PREFIX
 #   make deb                        makes the package for Debian in out/; deb-arm64 the one for ARM64
 #   make crate, make wheel          make the packages for Rust and Python in out/
 PREFIX = /usr/local

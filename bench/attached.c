@@ -12,8 +12,8 @@ static const char STARTUP[] = "80010000000c000001440000";
 static const char DEFINE[] = "80020000002d0000012a40000001000000094000000900000000000000"
                              "000e01500020000b0006000600000040";
 
-/* What a command's text begins with; how many bytes follow, of which the first is another one each
- * time; and what is behind those. */
+/* The front of a command; the size of its filling, whose first byte differs each time; and the bytes after
+ * the filling. */
 static const struct {
     const char *name, *front;
     size_t filling;
@@ -47,7 +47,7 @@ static size_t read_hex(const char *text, uint8_t *room) {
     return size;
 }
 
-/* Makes a command, and tells where its filling is; the command's end where it has none. */
+/* Makes a command, and says where its filling is; that is its end if it has none. */
 static size_t command_of(const char *name, uint8_t *room, size_t *filling) {
     for (size_t i = 0; i < sizeof COMMANDS / sizeof *COMMANDS; i++) {
         if (strcmp(name, COMMANDS[i].name) != 0) continue;
@@ -61,7 +61,7 @@ static size_t command_of(const char *name, uint8_t *room, size_t *filling) {
     return 0;
 }
 
-/* Executes a command, and answers its response code. */
+/* Executes a command, and returns its response code. */
 static unsigned execute(TSS2_TCTI_CONTEXT *device, const uint8_t *command, size_t size) {
     uint8_t response[4096];
     size_t room = sizeof response;

@@ -1,9 +1,9 @@
-"""Measures a kept device behind the module for libtss2, beside swtpm, and prints tables:
+"""Measures a kept device attached by the module for libtss2, and swtpm, and prints tables:
 
     tools/python.sh bench/attached.py MODULE CLIENT DISK [ROUNDS]
 
-MODULE is the module, CLIENT a program that is made of attached.c, and DISK a folder on a disk. In
-each round every way has its turn. Figures are the least and, in brackets, the median.
+MODULE is the module, CLIENT a program built from attached.c, and DISK a folder on a disk. Each round
+measures every transport in turn. Figures are the minimum and, in brackets, the median.
 """
 
 import itertools
@@ -44,7 +44,7 @@ class Swtpm:
     process: subprocess.Popen[bytes] | None = None
 
     def start(self) -> str:
-        """Starts it, and gives what libtss2 reaches it by."""
+        """Starts it, and returns the string by which libtss2 connects to it."""
         self.folder.mkdir()
         words = ["swtpm", "socket", "--tpm2", "--tpmstate", f"dir={self.folder}"]
         words += ["--server", f"type=tcp,port={self.port}", "--flags", "not-need-init"]
@@ -64,14 +64,14 @@ class Swtpm:
 
 
 def run(words: list[str], transport: str) -> None:
-    """Runs a tool of tpm2-tools, which has to end well."""
+    """Runs a tool of tpm2-tools, which has to succeed."""
     environment = os.environ | {"TPM2TOOLS_TCTI": transport}
     nowhere = subprocess.DEVNULL
     subprocess.run(words, env=environment, check=True, stdout=nowhere, stderr=nowhere)
 
 
 def tool_time(tools: list[list[str]], transport: str) -> list[float]:
-    """The milliseconds of tools, each a process of its own."""
+    """Returns the milliseconds of tools, each in a process of its own."""
     before = time.perf_counter()
     for words in tools:
         run(words, transport)
@@ -79,7 +79,7 @@ def tool_time(tools: list[list[str]], transport: str) -> list[float]:
 
 
 def asked(client: str, command: str, count: int, transport: str) -> list[float]:
-    """The least and the median microseconds of a command in one process."""
+    """Returns the minimum and the median, in microseconds, for a command within one process."""
     words = [client, transport, command, str(count)]
     output = subprocess.run(words, check=True, capture_output=True, text=True).stdout
     return [float(figure) for figure in output.split()]
@@ -88,7 +88,7 @@ def asked(client: str, command: str, count: int, transport: str) -> list[float]:
 def measure_each(
     label: str, ways: dict[str, str], rounds: int, tasks: dict[str, Callable[[str], list[float]]]
 ) -> None:
-    """A table of what each task takes each way."""
+    """Prints a table of the time of each task with each transport."""
     print(f"\n| {label} | " + " | ".join(ways) + " |")
     print("|---" * (len(ways) + 1) + "|")
     for name, task in tasks.items():
@@ -112,7 +112,7 @@ def measure_commands(client: str, ways: dict[str, str], rounds: int) -> None:
 
 
 def measure_replay(client: str, module: str, folder: Path) -> None:
-    """What it takes to open a journal of many commands."""
+    """Measures the time to open a journal of many commands."""
     state = folder / "replay"
     transport = f"{module}:state={state},force=never"
     print()

@@ -1,17 +1,17 @@
-"""Prints a script that one of the measurements beside it plays: what comes first, and then a command
-so many times.
+"""Prints a script for one of the measurements in this folder: preparing commands, and then one command
+COUNT times.
 
-    bench/commands.py plain NAME COUNT            by no session
+    bench/commands.py plain NAME COUNT            without a session
     bench/commands.py object NAME COUNT           of objects
     bench/commands.py session NAME BINDING COUNT  reset or extend of a PCR, write or read of an index
                                                   by its own value, in an HMAC session that is bound
                                                   to none, owner or index
-    bench/commands.py nv NAME SIZE INDICES COUNT  read, write or increment of the first of so many
-                                                  indices, of SIZE bytes
+    bench/commands.py nv NAME SIZE INDICES COUNT  read, write or increment of the first of INDICES
+                                                  indices, each of SIZE bytes
 
-tools/python.sh runs it. Commands are by a password, but for those by a session. What takes a place is
-flushed again. For sessions the random bytes are the same for each command, so that the device draws
-the same nonce again, and one prepared buffer is accepted as often as it is sent.
+tools/python.sh runs it. Commands without a session use a password. An object or a session that a command
+makes is flushed. With sessions all commands get the same random bytes: the device then always draws the
+same nonce, and so accepts one prepared buffer each time.
 """
 
 import sys
@@ -29,7 +29,7 @@ PCR = 0x10
 BINDINGS = {"none": RH_NULL, "owner": RH_OWNER, "index": FIRST}
 STARTUP = "do Startup 0"
 
-# OWNERWRITE and OWNERREAD, of an ordinary index and of a counter.
+# OWNERWRITE and OWNERREAD, for an ordinary index and for a counter.
 ORDINARY, COUNTER = 0x0002_0002, 0x0002_0012
 
 PREPARED = [
@@ -54,7 +54,7 @@ PLAIN = {
 
 
 def in_hex(lines):
-    """Lines, with their buffers in hex."""
+    """Returns lines with their buffers in hex."""
     buffers = map(buffer_of, lines)
     return [it if data is None else line_in_bytes(data) for it, data in zip(lines, buffers)]
 
@@ -82,7 +82,7 @@ def nv_commands(name, size, indices):
 
 
 def begun():
-    """A caller of a device that is started."""
+    """Returns a caller of a device after TPM2_Startup."""
     tpm = ScriptCaller(Script("bench", ""))
     tpm.script.startup()
     return tpm

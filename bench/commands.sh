@@ -1,11 +1,11 @@
 #!/bin/sh
-# Counts where the instructions of a command go, for twelve commands: the difference of two lengths of
-# a script under callgrind, so that start and end do not count. Needs valgrind, python3, and rt where
+# Counts where the instructions of a command go, for twelve commands. It runs a short and a long script under
+# callgrind and subtracts the counts, so that start and end do not count. Needs valgrind, python3, and rt if
 # the program is not built yet. Not part of the gate.
 #
-# The device's is what `Machine::execute_into` and all that it calls take. Of it, hashing and ciphers
-# are the functions of the hash crates, of tpm_mac and of tpm_aes, and clearing and copying are the C
-# library's; what the compiler put into a caller counts as the caller's. The rest is the text.
+# The device's instructions are those of `Machine::execute_into` and of everything it calls; the rest is the
+# text. Of the device's instructions, those in the hash crates, tpm_mac and tpm_aes count as hashing and
+# ciphers, and those in the C library as clearing and copying. Inlined code counts as the caller's.
 set -eu
 
 top=$(CDPATH='' cd "$(dirname "$0")/.." && pwd -P)
@@ -13,8 +13,8 @@ program=$(cd "$top" && . tools/lib/program.sh) || exit 1
 folder=$(mktemp -d)
 trap 'rm -rf "$folder"' EXIT
 
-# The C library clears and copies blocks of these lengths by vectors, as it does shorter ones. Else
-# it uses one repeated instruction, which callgrind counts again for each byte.
+# This makes the C library clear and copy blocks of these lengths by vectors, as it does shorter ones. By
+# default it uses one repeated instruction, which callgrind counts again for each byte.
 limits=glibc.cpu.x86_rep_stosb_threshold=1000000:glibc.cpu.x86_rep_movsb_threshold=1000000
 
 # script COMMAND COUNT: prints the script.
@@ -36,8 +36,8 @@ run_under() {
     callgrind_annotate --threshold=100 "$folder/calls"
 }
 
-# counts COMMAND COUNT: the instructions: all, the device's, and of these in hashing and ciphers, and
-# in clearing and copying.
+# counts COMMAND COUNT: the instructions: all, the device's, and of these those of hashing and ciphers,
+# and those of clearing and copying.
 counts() {
     script "$1" "$2" >"$folder/script"
     run_under >"$folder/all"

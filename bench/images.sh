@@ -1,10 +1,10 @@
 #!/bin/sh
-# Measures an open of the image of a full device (sixteen persistent objects, 64 NV indices of 16,384
-# bytes, a saved state), and a save of that device: microseconds, the fastest of ten runs, and the
-# instructions for each byte of the image, by callgrind. Each is the difference of two runs, so that
-# start and end do not count. Then the instructions of a TPM2_GetCapability line that lists all
-# commands. Needs GNU time, valgrind, python3, and rt, which builds a small program of its own on the
-# crates as they are built here. It works in a temporary folder. Not part of the gate.
+# Measures opening and saving the image of a full device (sixteen persistent objects, 64 NV indices of 16,384
+# bytes, a saved state): the microseconds of the fastest of ten runs, and the instructions per byte of the
+# image, by callgrind. It subtracts the figures of two runs, so that start and end do not count. Then it
+# counts the instructions of a TPM2_GetCapability line that lists all commands. Needs GNU time, valgrind,
+# python3, and rt, which builds a small program on the crates that are built here. It works in a temporary
+# folder. Not part of the gate.
 set -eu
 
 top=$(CDPATH='' cd "$(dirname "$0")/.." && pwd -P)
@@ -14,7 +14,7 @@ trap 'rm -rf "$folder"' EXIT
 
 (cd "$top/crates/tpm_image" && rt lib >"$folder/build" 2>&1) || { cat "$folder/build"; exit 1; }
 
-# The crates of this repository that tpm_image stands on, and itself.
+# The crates of this repository that tpm_image uses, and tpm_image.
 crates=$(awk -F: '
     function visit(crate, i, count, names) {
         if (!(crate in uses) || crate in needed) return
@@ -98,13 +98,13 @@ measured=$folder/crates/measured/out/measured
     >"$folder/image"
 bytes=$((($(wc -c <"$folder/image") - 1) / 2))
 
-# input WORD LINES: what the program is to do.
+# input WORD LINES: the program's input.
 input() {
     cat "$folder/image"
     awk -v word="$1" -v lines="$2" 'BEGIN { for (i = 0; i < lines; i++) print word }'
 }
 
-# instructions WORD LINES: what it takes for so many lines of the word.
+# instructions WORD LINES: the instructions for LINES lines of the word.
 instructions() {
     input "$1" "$2" >"$folder/input"
     valgrind --tool=callgrind --callgrind-out-file=/dev/null "$measured" \
@@ -130,7 +130,7 @@ for word in open save; do
         }'
 done
 
-# commands LINES: the instructions of a script with so many lines that ask for all commands.
+# commands LINES: the instructions of a script with LINES lines that ask for all commands.
 commands() {
     awk -v lines="$1" 'BEGIN {
         print "do Startup 0"

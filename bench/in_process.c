@@ -1,20 +1,20 @@
 /* A device of libtpms and one of libtpmsim in one process, which in_process.py measures. It reads
  * lines:
  *
- *     use DEVICE                      which device the lines behind speak of
+ *     use DEVICE                      selects the device of the following lines
  *     cmd HEX                         prints the response
- *     power                           takes the power of the device and gives it back
- *     time COUNT HEX..                executes these commands in turn, so many times
- *     session COUNT HANDLE NONCE      executes TPM2_PCR_Reset so many times by this HMAC session
+ *     power                           power-cycles the device
+ *     time COUNT HEX..                executes these commands in turn, COUNT times
+ *     session COUNT HANDLE NONCE      executes TPM2_PCR_Reset COUNT times by this HMAC session
  *     save|open|new|cycle|snapshot|restore COUNT
- *                                     does that so many times with a device of libtpmsim
- *     volatile COUNT                  has libtpms write its volatile state so many times
+ *                                     does that COUNT times with a device of libtpmsim
+ *     volatile COUNT                  makes libtpms write its volatile state COUNT times
  *     sizes                           prints the bytes of an image, of a state text, and of the
  *                                     volatile state of libtpms
  *
- * DEVICE is tpms, sim, which is that of libtpmsim with fresh bytes for those that a command drew,
- * or still, which is the same device with random bytes that stay. The lines from `time` to
- * `volatile` print how many nanoseconds passed. A command that is refused ends the program. */
+ * DEVICE is tpms; sim, the device of libtpmsim with fresh bytes for those that a command drew; or
+ * still, the same device with constant random bytes. The lines from `time` to `volatile` print the
+ * nanoseconds that passed. A command that is refused ends the program. */
 #define _GNU_SOURCE
 #include "tpmsim.h"
 #include <libtpms/tpm_error.h>
@@ -119,7 +119,7 @@ static void start_libtpms(void) {
         fail("libtpms does not start");
 }
 
-/* The device of libtpmsim, and what is handed to it. */
+/* The device of libtpmsim, and what its calls take. */
 static struct tpmsim device;
 static uint8_t random_bytes[RANDOM_BYTES], room[RESPONSE_BYTES];
 static uint64_t last_ms;
@@ -132,7 +132,7 @@ static void renew(size_t count) {
 static const unsigned char *response;
 static uint32_t response_size;
 
-/* At the first use of an algorithm libtpms tests itself, and wants the command once more. */
+/* At the first use of an algorithm libtpms tests itself, and has to be given the command once more. */
 static void execute_by_libtpms(unsigned char *buffer, uint32_t size) {
     static unsigned char *kept;
     static uint32_t kept_room;
@@ -240,7 +240,7 @@ static void cycle_power(void) {
     if (TPMLIB_MainInit() != TPM_SUCCESS) fail("libtpms does not start again");
 }
 
-/* Times a call of libtpmsim that is no command. */
+/* Times a call of libtpmsim that is not a command. */
 static void time_call(const char *call, long times) {
     static uint8_t image[IMAGE_BYTES], text[TPMSIM_STATE_SIZE];
     struct tpmsim other = {0};
@@ -267,7 +267,7 @@ static void time_call(const char *call, long times) {
     tpmsim_free(&other);
 }
 
-/* Has libtpms write its volatile state, and returns how many bytes it has. */
+/* Makes libtpms write its volatile state, and returns its size in bytes. */
 static uint32_t store_volatile(void) {
     unsigned char *state = NULL;
     uint32_t size = 0;

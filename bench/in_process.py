@@ -1,9 +1,9 @@
-"""Measures libtpmsim beside libtpms, both in one process, and prints a table:
+"""Measures libtpmsim and libtpms, both in one process, and prints a table:
 
     tools/python.sh bench/in_process.py PROGRAM [ROUNDS]
 
-PROGRAM is made of in_process.c. In each round every row is measured with each device in turn. A
-figure is the median of the rounds, in microseconds; the least is in brackets.
+PROGRAM is built from in_process.c. Each round measures every row on each device in turn. A figure is the
+median of the rounds, in microseconds; the minimum is in brackets.
 """
 
 import itertools
@@ -21,7 +21,7 @@ ROUNDS = 15
 TARGETS = "tpms", "sim", "still"
 SUCCESS = "00000000"
 
-# How many sessions libtpmsim has at most, and how many libtpms has loaded at most.
+# The largest number of sessions of libtpmsim, and of loaded sessions of libtpms.
 MOST_SESSIONS, MOST_SESSIONS_OF_LIBTPMS = 16, 3
 
 HMAC_KEY = replace(hmac_key(), attributes=0x0004_0052)
@@ -32,7 +32,7 @@ BOUND = f"StartAuthSession NULL OWNER {'00' * 32} - 0 null sha256"
 BY_SESSION = "PCR_Reset by an HMAC session"
 PARENT, KEY, LOADED = "80000000", "80000001", "80000002"
 
-# TPM2_PCR_Allocate of the banks of SHA-1 and SHA-256 and of no other, which are those of libtpmsim.
+# TPM2_PCR_Allocate that selects only the SHA-1 and SHA-256 banks, which are those of libtpmsim.
 BANKS = "00000004000403ffffff000b03ffffff000c03000000000d03000000"
 ALLOCATE = f"8002000000370000012b4000000c00000009400000090000000000{BANKS}"
 
@@ -71,14 +71,14 @@ class Program:
         return answer
 
     def command(self, buffer: str) -> str:
-        """The response to a command, which has to be a success."""
+        """Returns the response to a command, which has to succeed."""
         response = self.ask(f"cmd {buffer}")
         if response[12:20] != SUCCESS:
             sys.exit(f"{buffer[:100]} is answered {response[:20]}")
         return response
 
     def load(self, public: Public) -> str:
-        """A command that loads a new object under the storage key."""
+        """Returns a command that loads a new object under the storage key."""
         fields = Fields(bytes.fromhex(self.command(create(public)))[14:])
         made = Made(fields.sized(), Public.read(fields.sized()), b"")
         return PREPARING.loading(int(PARENT, 16), made).buffer().hex()
@@ -86,8 +86,8 @@ class Program:
 
 @dataclass
 class Row:
-    """What is measured: its name, how often in a round, for each device the line that does it, and
-    as how many of what the name says that counts.
+    """A measurement: its name, how often it runs in a round, the line that runs it on each device,
+    and the number of executions in that line.
     """
 
     name: str
@@ -117,7 +117,7 @@ def in_words(name: str, count: int, *commands: str, times_each: int = 1) -> Row:
 
 
 def prepare(program: Program, target: str) -> str:
-    """Makes what the rows need, and the line that seals, which is another for each device."""
+    """Makes what the rows need; returns the line that seals, which differs between the devices."""
     program.tell(f"use {target}")
     for words in PREPARED:
         program.command(hex_of(words))
@@ -146,14 +146,14 @@ def rows(seals: dict[str, str]) -> list[Row]:
 
 
 def next_session(program: Program, target: str) -> str:
-    """The line of a new HMAC session, whose nonce is known."""
+    """Returns the line for a new HMAC session, whose nonce is known."""
     program.tell(f"use {target}")
     session = program.command(hex_of(SESSION.format(0)))
     return f"session {session[20:28]} {session[32:64]}"
 
 
 def measure(program: Program, row: Row, target: str) -> None:
-    """Measures a row once. One by an HMAC session has a new one each time."""
+    """Measures a row once. A row with an HMAC session gets a new session each time."""
     if row.name != BY_SESSION:
         row.measure(program, target)
         return
@@ -163,7 +163,7 @@ def measure(program: Program, row: Row, target: str) -> None:
 
 
 def start_sessions(program: Program, target: str, count: int) -> None:
-    """Starts so many HMAC sessions that are bound to the owner."""
+    """Starts this many HMAC sessions that are bound to the owner."""
     program.tell(f"use {target}")
     for _ in range(count):
         program.command(hex_of(BOUND))
@@ -200,7 +200,7 @@ def main() -> None:
     for number in range(rounds + 1):
         for row, target in itertools.product(table, TARGETS):
             measure(program, row, target)
-        # In the first round libtpms still tests itself.
+        # In the first round libtpms still runs its self-test.
         for row in table if number == 0 else []:
             row.times = {it: [] for it in TARGETS}
     print("| commands | libtpms | libtpmsim | with random bytes that stay | ratio |")

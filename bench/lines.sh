@@ -1,8 +1,8 @@
 #!/bin/sh
-# Measures GetRandom lines in words beside the same commands in hex: the time of a million of each,
-# the fastest of ten runs in turn; the instructions of a line; and the allocations, which a longer
-# script must not add to. Needs GNU time, valgrind, and rt where the program is not built yet. Not
-# part of the gate.
+# Measures GetRandom lines in words and the same commands in hex: the time of a million of each, the
+# fastest of ten runs in turn; the instructions of a line; and the allocations, whose number must not
+# grow with the script. Needs GNU time, valgrind, and rt if the program is not built yet. Not part of
+# the gate.
 set -eu
 
 top=$(CDPATH='' cd "$(dirname "$0")/.." && pwd -P)
@@ -10,20 +10,20 @@ program=$(cd "$top" && . tools/lib/program.sh) || exit 1
 folder=$(mktemp -d)
 trap 'rm -rf "$folder"' EXIT
 
-# seconds KIND: how long a run of the script of this kind takes.
+# seconds KIND: the time of a run of the script of this kind.
 seconds() {
     /usr/bin/time -f '%e' -o "$folder/figure" "$program" run "$folder/$1" >"$folder/answers.$1"
     cat "$folder/figure"
 }
 
-# instructions KIND LINES: what a script of so many lines takes.
+# instructions KIND LINES: the instructions of a script of LINES lines.
 instructions() {
     "$top/bench/script.sh" "$2" "$1" >"$folder/script"
     valgrind --tool=callgrind --callgrind-out-file=/dev/null \
         "$program" run "$folder/script" 2>&1 >/dev/null | sed -n 's/.*Collected : \([0-9]*\).*/\1/p'
 }
 
-# allocations KIND LINES: how many of them a script of so many lines takes.
+# allocations KIND LINES: the allocations of a script of LINES lines.
 allocations() {
     "$top/bench/script.sh" "$2" "$1" >"$folder/script"
     valgrind "$program" run "$folder/script" 2>&1 >/dev/null |

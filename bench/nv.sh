@@ -1,10 +1,10 @@
 #!/bin/sh
-# Counts the instructions that TPM2_NV_Read, TPM2_NV_Write and TPM2_NV_Increment take, with one NV
-# index, with 32 and with 64: the difference of two lengths of a script under callgrind, so that start
-# and end do not count. Needs valgrind, python3, and rt where the program is not built yet. Not part of
-# the gate.
+# Counts the instructions of TPM2_NV_Read, TPM2_NV_Write and TPM2_NV_Increment with one NV index, with 32
+# and with 64. It runs a short and a long script under callgrind and subtracts the counts, so that start and
+# end do not count. Needs valgrind, python3, and rt if the program is not built yet. Not part of the gate.
 #
-# The device's is what `Machine::execute_into` and all that it calls take; the rest is the text.
+# The device's instructions are those of `Machine::execute_into` and of everything it calls; the rest is the
+# text.
 set -eu
 
 top=$(CDPATH='' cd "$(dirname "$0")/.." && pwd -P)
@@ -12,8 +12,8 @@ program=$(cd "$top" && . tools/lib/program.sh) || exit 1
 folder=$(mktemp -d)
 trap 'rm -rf "$folder"' EXIT
 
-# The C library clears and copies blocks of these lengths by vectors, as it does shorter ones. Else
-# it uses one repeated instruction, which callgrind counts again for each byte.
+# This makes the C library clear and copy blocks of these lengths by vectors, as it does shorter ones. By
+# default it uses one repeated instruction, which callgrind counts again for each byte.
 limits=glibc.cpu.x86_rep_stosb_threshold=1000000:glibc.cpu.x86_rep_movsb_threshold=1000000
 
 # counts COMMAND SIZE INDICES LINES: the instructions of such a script: all, and those of

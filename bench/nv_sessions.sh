@@ -1,8 +1,8 @@
 #!/bin/sh
-# Counts where the instructions go of TPM2_NV_Write, TPM2_NV_Read and TPM2_PCR_Extend by an HMAC
-# session, which is bound to nothing, to the owner or to the index that it authorizes: the difference
-# of two lengths of a script under callgrind, as commands.sh has it. Needs valgrind, python3, and rt
-# where the program is not built yet. Not part of the gate.
+# Counts where the instructions of TPM2_NV_Write, TPM2_NV_Read and TPM2_PCR_Extend go, if an HMAC session
+# authorizes them that is bound to nothing, to the owner or to the index. Like commands.sh it subtracts the
+# counts of a short and a long script under callgrind. Needs valgrind, python3, and rt if the program is not
+# built yet. Not part of the gate.
 set -eu
 
 top=$(CDPATH='' cd "$(dirname "$0")/.." && pwd -P)
@@ -10,8 +10,8 @@ program=$(cd "$top" && . tools/lib/program.sh) || exit 1
 folder=$(mktemp -d)
 trap 'rm -rf "$folder"' EXIT
 
-# The C library clears and copies blocks of these lengths by vectors, as it does shorter ones. Else
-# it uses one repeated instruction, which callgrind counts again for each byte.
+# This makes the C library clear and copy blocks of these lengths by vectors, as it does shorter ones. By
+# default it uses one repeated instruction, which callgrind counts again for each byte.
 limits=glibc.cpu.x86_rep_stosb_threshold=1000000:glibc.cpu.x86_rep_movsb_threshold=1000000
 
 # counts COMMAND BINDING COUNT: the device's instructions, and of these those of hashing.

@@ -1,8 +1,8 @@
 #!/bin/sh
-# Counts the instructions for each byte of HMAC-SHA-256, of AES-128 in cipher feedback, and of hex
-# that is written and read, over texts of 1,024 bytes: the difference of two runs under callgrind,
-# so that start and end do not count. Needs rt, which proves and builds a small program, and
-# valgrind. It works in a temporary folder and leaves nothing behind. Not part of the gate.
+# Counts the instructions per byte of HMAC-SHA-256, of AES-128 in cipher feedback, and of hex that is read or
+# written, for texts of 1,024 bytes. It subtracts the counts of two runs under callgrind, so that start and
+# end do not count. Needs rt, which proves and builds a small program, and valgrind. It works in a temporary
+# folder and removes it. Not part of the gate.
 set -eu
 
 repository=$(cd "$(dirname "$0")/.." && pwd)
@@ -80,7 +80,7 @@ PROGRAM
     exit 1
 }
 
-# instructions WORD LINES: what the program executes on so many lines of the word
+# instructions WORD LINES: the program's instructions for LINES lines of the word
 instructions() {
     line=0
     : > "$folder/input"

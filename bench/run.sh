@@ -1,6 +1,6 @@
 #!/bin/sh
-# Measures `tpmsim run` at two lengths of script: commands per second, and the most memory that is
-# resident. Needs GNU time, and rt where the program is not built yet. Not part of the gate.
+# Measures `tpmsim run` at two lengths of script: commands per second, and the largest resident memory.
+# Needs GNU time, and rt if the program is not built yet. Not part of the gate.
 set -eu
 
 top=$(CDPATH='' cd "$(dirname "$0")/.." && pwd -P)
@@ -17,8 +17,8 @@ runs() {
     done
 }
 
-# measure LINES: says how the fastest run of a script of this many lines went, and how much memory
-# the largest took.
+# measure LINES: prints the figures of a script of LINES lines: those of the fastest run, and the memory of
+# the largest.
 measure() {
     "$top/bench/script.sh" "$1" >"$folder/script"
     runs >"$folder/runs"

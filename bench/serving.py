@@ -2,8 +2,8 @@
 
     python3 serving.py PROGRAM BARE IMAGE
 
-PROGRAM is tpmsim, BARE a program that answers each twelve bytes on a socket with as many as
-TPM2_GetRandom of 32 bytes is answered with, and does nothing else, and IMAGE the image of a device.
+PROGRAM is tpmsim. BARE is a program that only answers every twelve bytes on a socket, with as many bytes
+as the response to a TPM2_GetRandom of 32 bytes. IMAGE is the image of a device.
 """
 
 import contextlib
@@ -23,7 +23,7 @@ ROUNDS = 20_000
 
 
 def connected(path):
-    """A connection to a socket, as soon as it is there."""
+    """Returns a connection to a socket, as soon as the socket exists."""
     client = socket.socket(socket.AF_UNIX, socket.SOCK_STREAM)
     while client.connect_ex(path):
         pass
@@ -36,7 +36,7 @@ def received(client, size):
 
 
 def round_trip(client):
-    """The microseconds of one command and its response, the least of five times many."""
+    """Returns the microseconds of one command and its response: the minimum of five series."""
     took = []
     for _ in range(5):
         start = time.perf_counter()
@@ -49,7 +49,7 @@ def round_trip(client):
 
 @contextlib.contextmanager
 def served(words, path):
-    """A program that serves a connection at a path, and the connection."""
+    """Returns a program that serves a connection at a path, and the connection."""
     server = subprocess.Popen(words)
     with connected(path) as client:
         yield server, client
@@ -67,7 +67,7 @@ def start(client):
 
 
 def first_answer(program):
-    """The milliseconds from the start of the program to its first answer."""
+    """Returns the milliseconds from the start of the program to its first response."""
     began = time.perf_counter()
     with serving(program) as (_, client):
         start(client)

@@ -1,10 +1,11 @@
 #!/bin/sh
-# Says which share of its instructions `tpmsim run` spends on the device and which on the text
-# around it (reading lines, decoding hex, printing), for each command of a script of GetRandom
-# lines: the difference of two lengths under callgrind, so that start and end do not count.
-# Needs valgrind, and rt where the program is not built yet. Not part of the gate.
+# Says which share of its instructions `tpmsim run` spends on the device, and which on the text around it
+# (reading lines, decoding hex, printing), for each command of a script of GetRandom lines. It runs a short
+# and a long script under callgrind and subtracts the counts, so that start and end do not count. Needs
+# valgrind, and rt if the program is not built yet. Not part of the gate.
 #
-# The device's is what `Machine::execute_into` and all that it calls take; the rest is the text.
+# The device's instructions are those of `Machine::execute_into` and of everything it calls; the rest is the
+# text.
 set -eu
 
 top=$(CDPATH='' cd "$(dirname "$0")/.." && pwd -P)
@@ -12,12 +13,12 @@ program=$(cd "$top" && . tools/lib/program.sh) || exit 1
 folder=$(mktemp -d)
 trap 'rm -rf "$folder"' EXIT
 
-# The C library clears and copies blocks of these lengths by vectors, as it does shorter ones. Else
-# it uses one repeated instruction, which callgrind counts again for each byte.
+# This makes the C library clear and copy blocks of these lengths by vectors, as it does shorter ones. By
+# default it uses one repeated instruction, which callgrind counts again for each byte.
 limits=glibc.cpu.x86_rep_stosb_threshold=1000000:glibc.cpu.x86_rep_movsb_threshold=1000000
 
-# counts LINES: the instructions of a script of this many lines: all, those of
-# `Machine::execute_into` with what it calls, and of these those that clear and copy.
+# counts LINES: the instructions of a script of LINES lines: all, those of `Machine::execute_into` with what
+# it calls, and of these those that clear and copy.
 counts() {
     "$top/bench/script.sh" "$1" >"$folder/script"
     GLIBC_TUNABLES=$limits valgrind --tool=callgrind --callgrind-out-file="$folder/calls" \

@@ -1,12 +1,12 @@
-"""Measures commands over the socket of a swtpm, in turn with its own libtpms, as a tpmsim, and as one
-that is recorded:
+"""Measures commands over the socket of swtpm, in turn: with its own libtpms, with a tpmsim, and with a
+recorded tpmsim:
 
     python3 swtpm.py ATTACHED..
 
-ATTACHED is the folder of `hosts/build.sh libtpms`; where there are more, each is measured. The states
-are kept below the folder that it runs in. All run on one processor, so that none has to wake, and other work
-on the machine changes little. Each number is the median of seven rounds in microseconds, and in brackets the
-least.
+ATTACHED is the folder of `hosts/build.sh libtpms`; each named folder is measured. The states are stored
+below the current folder. All processes run on one processor, so that none has to wake up, and other work
+on the machine has little effect. Each number is the median of seven rounds in microseconds, followed by
+the minimum in brackets.
 """
 
 import itertools
@@ -31,7 +31,7 @@ DIGEST = f"{1:064x}"
 
 
 def writes() -> Iterator[bytes]:
-    """TPM2_NV_Write of eight bytes, other ones each time."""
+    """Yields TPM2_NV_Write commands of eight bytes, which differ each time."""
     head = f"80020000002c00000137{INDEX}{INDEX}0000000a400000090000010001610008"
     return (bytes.fromhex(f"{head}{number:016x}0000") for number in itertools.count(1))
 
@@ -60,7 +60,7 @@ class Tpm:
         self.done(DEFINITION)
 
     def done(self, buffer: bytes) -> None:
-        """Executes a command that has to succeed, again where it is asked for."""
+        """Executes a command that has to succeed; repeats it if libtpms asks for that."""
         code = RETRY
         while code == RETRY:
             self.client.sendall(buffer)

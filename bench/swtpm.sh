@@ -1,13 +1,13 @@
 #!/bin/sh
-# Measures commands over the socket of a swtpm: with its own libtpms, and as a tpmsim, in turn. Needs python3
+# Measures commands over the socket of a swtpm, in turn with its own libtpms and as a tpmsim. Needs python3
 # and what hosts/build.sh needs. Not part of the gate.
 #
-#   bench/swtpm.sh [STATES]    STATES is where the states are kept; else /dev/shm
+#   bench/swtpm.sh [STATES]    STATES is the folder of the states, /dev/shm by default
 #
 # All of it runs on one processor. While other work runs, `chrt -f 10 bench/swtpm.sh` keeps that processor.
 #
-# The folder of `hosts/build.sh libtpms` is that of $ATTACHED, or it is made. $OTHERS may name more such
-# folders, of other libraries, which are measured in the same run.
+# $ATTACHED is the folder of `hosts/build.sh libtpms`; without it the script makes one. $OTHERS may name more
+# such folders, of other libraries, which are measured in the same run.
 set -eu
 
 top=$(CDPATH='' cd "$(dirname "$0")/.." && pwd -P)

@@ -1,7 +1,7 @@
-"""Writes anti_rollback.tpm. A boot loader keeps the lowest version that may be started in a
-counter, which never goes back. The key of the disk is sealed for each image: it is given out while
-the image is the measured one and its version is not below the counter. So an old image with a known
-fault cannot be brought back, though it is authentic and its sealed key is still on the disk.
+"""Writes anti_rollback.tpm. A boot loader keeps the lowest version that may start in a counter, which
+never goes back. The key of the disk is sealed for each image: the TPM returns it while the image is the
+measured one and its version is not below the counter. So nobody can bring back an old image with a known
+fault, though it is authentic and its sealed key is still on the disk.
 """
 
 import hashlib
@@ -23,7 +23,7 @@ platform_auths = 0
 
 
 def version_text(version):
-    """As the counter is compared with it: eight bytes."""
+    """The eight bytes with which the counter is compared."""
     return number(version, 8)
 
 
@@ -49,7 +49,7 @@ def start(version):
 
 
 def hand_over():
-    """The platform's value is empty from TPM2_Startup on; behind the boot loader it is random."""
+    """platformAuth is empty after TPM2_Startup, until the boot loader sets it to a random value."""
     global platform_auths
     platform_auths += 1
     value = hashlib.sha256(b"platform %d" % platform_auths).digest()

@@ -1,6 +1,6 @@
-"""Writes disk_unlock.tpm. An encrypted disk is unlocked by the TPM where the computer was started
-by the software that it was enrolled with, as systemd-cryptenroll and clevis do for LUKS. Their
-storage key is an ECC or RSA key; here it is an AES key, and the steps are the same.
+"""Writes disk_unlock.tpm. The TPM unlocks an encrypted disk if the computer was started by the software
+with which it was enrolled, as systemd-cryptenroll and clevis do for LUKS. Their storage key is an ECC or
+RSA key; here it is an AES key, and the steps are the same.
 """
 
 import hashlib
@@ -11,8 +11,8 @@ from tpmsim.standard import digest, policy, selection, SHA256
 from tpmsim.standard.objects import Attribute
 from tests.common.teller import Example
 
-# Each piece of software is measured into its PCR before it runs, as the boot loader and the stub of
-# a unified kernel image do. PCR 7 and 11 are chosen, as by `--tpm2-pcrs=7+11`.
+# Each piece of software is measured into its PCR before it runs, as the boot loader and the stub of a
+# unified kernel image do. PCRs 7 and 11 are chosen, as by `--tpm2-pcrs=7+11`.
 FIRMWARE = (0, "The firmware, PCR 0", b"firmware 1.0")
 SECURE_BOOT = (7, "That secure boot is on, PCR 7", b"secure boot on")
 LOADER = (4, "The boot loader, PCR 4", b"boot loader")
@@ -36,7 +36,7 @@ def value_behind(pcr, measurements):
 
 
 def policy_of(measurements):
-    """The authPolicy that TPM2_PolicyPCR makes behind these measurements."""
+    """The authPolicy that TPM2_PolicyPCR makes after these measurements."""
     values = b"".join(value_behind(pcr, measurements) for _, pcrs in CHOSEN for pcr in pcrs)
     values_digest = digest(SHA256, values)
     return policy.after_pcr(SHA256, bytes(32), selection(*CHOSEN), values_digest)

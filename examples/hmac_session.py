@@ -1,5 +1,5 @@
-"""Writes hmac_session.tpm. The owner's authorization value is changed through an HMAC session, so
-that no value crosses the wire in plain, and no command can be sent again or altered on its way.
+"""Writes hmac_session.tpm. An HMAC session changes the owner's authorization value, so that no value
+crosses the wire in plain, and nobody can send a command again or alter it on its way.
 """
 
 from tpmsim.caller import Use

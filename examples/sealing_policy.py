@@ -1,7 +1,7 @@
-"""Writes sealing_policy.tpm. The key of an encrypted disk is to be sealed: the device gives it out
-again where the computer was started by the same software, to the operating system alone, and to who
-knows a PIN. This is what an unlocker does beforehand: it makes the policy, a digest of 32 bytes,
-with which the key is then sealed. Nothing is authorized by it yet, and so a trial session does.
+"""Writes sealing_policy.tpm. The key of an encrypted disk is to be sealed: the device returns it only if
+the computer was started by the same software, to the operating system alone, and to someone who knows a
+PIN. This is what an unlocker does beforehand: it makes the policy, a digest of 32 bytes, with which the
+key is then sealed. The policy authorizes nothing yet, and so a trial session makes it.
 """
 
 from tpmsim.standard import CC, digest, policy, selection, SHA256
@@ -22,7 +22,7 @@ tpm = Example(__name__, __doc__)
 
 
 def measured_by(measurements):
-    """The digest of the chosen PCRs' values behind a start."""
+    """The digest of the chosen PCRs' values after a start."""
     values = {
         pcr: digest(SHA256, bytes(32) + digest(SHA256, data)) for pcr, _, data in measurements
     }
@@ -35,7 +35,7 @@ def start_of(measurements):
 
 
 def for_every_branch(session, words):
-    """What is asked whatever the software is: the locality, the command and the PIN."""
+    """What the policy asks whatever the software is: the locality, the command and the PIN."""
     locality, code, value = words
     tpm(f"TPM2_PolicyLocality{locality}").locality(session, 1)
     tpm(f"TPM2_PolicyCommandCode{code}").command_code(session, CC.Unseal)

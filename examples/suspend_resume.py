@@ -1,7 +1,7 @@
-"""Writes suspend_resume.tpm. A laptop sleeps (ACPI state S3): the memory keeps its content, and the
-TPM loses its power, and with it the PCRs. The software in memory goes on where it was; it was
-measured when it started, and is not measured again. So the operating system asks the TPM to save
-the PCRs before it sleeps, and the firmware asks for them back.
+"""Writes suspend_resume.tpm. A laptop sleeps (ACPI state S3): the memory keeps its content, and the TPM
+loses its power, and with it the PCRs. The software in memory continues where it was. It was measured when
+it started, and is not measured again. So the operating system asks the TPM to save the PCRs before it
+sleeps, and the firmware restores them.
 """
 
 import hashlib
@@ -46,7 +46,7 @@ def unlock(outcome, handle):
 
 
 def sealed_key():
-    """What TPM2_Create answers, for the PCRs of now."""
+    """The response of TPM2_Create, for the current PCRs."""
     trial = tpm.trial("A trial session, for the policy")
     tpm("TPM2_PolicyPCR of PCR 0, 4 and 11").pcrs(trial, CHOSEN)
     answer = tpm.does("TPM2_PolicyGetDigest", tpm.get_digest(trial))

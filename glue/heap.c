@@ -1,22 +1,22 @@
-/* The heap, as proved code calls it. These three functions are not proved: they are trusted to do what
- * the contracts of Rattle's library `libc` say, which stand here in words. The kit has them for x86-64. */
+/* The heap, as proved code calls it. These three functions are not proved: they are trusted to do what the
+ * contracts of Rattle's library `libc` say, as their comments do in prose. The kit has them for x86-64. */
 #include "glue.h"
 #include <stdlib.h>
 
-/* Where a block without memory leads: it is not null, and nobody reads or writes it. */
+/* The address of a block after a failed allocation: it is not null, and nobody reads or writes it. */
 static char no_block;
 
 static struct tried tried_of(void *block) {
     return (struct tried){.ok = block != NULL, .block = block != NULL ? block : &no_block};
 }
 
-/* malloc aligns to 16, and so to each alignment that is asked for. */
+/* malloc aligns to 16, and so to every requested alignment. */
 struct tried rattle_alloc(size_t size, size_t alignment) {
     return tried_of(malloc(size != 0 ? size : alignment));
 }
 
 struct tried rattle_realloc(void *block, size_t kept, size_t size, size_t alignment) {
-    (void)kept; /* realloc keeps whatever fits. */
+    (void)kept; /* realloc preserves the bytes that fit. */
     return tried_of(realloc(block, size != 0 ? size : alignment));
 }
 

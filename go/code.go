@@ -14,12 +14,12 @@ type Code uint32
 // Success is the code of a command that was accepted.
 const Success = Code(0)
 
-// CodeOf returns the code of a response, which has at least 10 bytes.
+// CodeOf returns the code of a response of at least 10 bytes.
 func CodeOf(response []byte) Code {
 	return Code(binary.BigEndian.Uint32(response[headerBytes-4 : headerBytes]))
 }
 
-// Place says what a code is about, as p1, h2 or s1: a parameter, a handle or a session; or nothing.
+// Place returns the parameter, handle or session that a code is about, such as p1, h2 or s1, or an empty string.
 func (code Code) Place() string {
 	number := uint32(code) >> 8 & 0xf
 	switch {
@@ -34,7 +34,7 @@ func (code Code) Place() string {
 	}
 }
 
-// Name returns the name without its place, as AUTH_FAIL; nothing of a code that this device does not answer.
+// Name returns the name without its place, such as AUTH_FAIL; empty for a code that this device never returns.
 func (code Code) Name() string {
 	if code == Success {
 		return "SUCCESS"
@@ -45,7 +45,7 @@ func (code Code) Name() string {
 	return codes[code]
 }
 
-// String writes a code, as AUTH_FAIL/s1 (98E).
+// String returns a code as text, such as AUTH_FAIL/s1 (98E).
 func (code Code) String() string {
 	name, place := code.Name(), code.Place()
 	if name == "" {
@@ -67,7 +67,7 @@ type Refusal struct {
 	check   uint8
 }
 
-// Check returns the check that refused, by its name in a trace and in the table of the device, as G9.
+// Check returns the check that refused, by its name in traces and in docs/table, such as G9.
 func (it *Refusal) Check() string {
 	switch {
 	case it.check == 255:
@@ -79,7 +79,7 @@ func (it *Refusal) Check() string {
 	}
 }
 
-// Error says what was refused, and why, as in "GetRandom: INITIALIZE (100), by G5".
+// Error returns what was refused and why, such as "GetRandom: INITIALIZE (100), by G5".
 func (it *Refusal) Error() string {
 	name, known := commands[it.Command]
 	if !known {

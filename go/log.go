@@ -5,7 +5,7 @@ import (
 	"strings"
 )
 
-// log has the lines of a script, with the responses as comments.
+// log contains the lines of a script, with the responses as comments.
 type log struct{ text strings.Builder }
 
 func (it *log) line(line string) { it.text.WriteString(line + "\n") }
@@ -25,7 +25,7 @@ func (tpm *TPM) logged(line string) {
 	}
 }
 
-// logAnew begins the log again, if there is one.
+// logAnew restarts the log, if there is one.
 func (tpm *TPM) logAnew() error {
 	if tpm.log == nil {
 		return nil
@@ -48,15 +48,15 @@ func (tpm *TPM) beginLog() error {
 	return nil
 }
 
-// BeginLog begins a log with the device as it is. Until then no log is kept.
+// BeginLog starts a log from the current state of the device. Before that, no log is kept.
 func (tpm *TPM) BeginLog() error {
 	tpm.lock.Lock()
 	defer tpm.lock.Unlock()
 	return tpm.beginLog()
 }
 
-// Log returns the log, a script with the responses as comments: tpmsim-explain reports why each command of
-// it was refused. It is empty without BeginLog. It has all secrets.
+// Log returns the log, a script with the responses as comments. tpmsim-explain reports why each command in it
+// was refused. It is empty without BeginLog. It contains all secrets.
 func (tpm *TPM) Log() string {
 	tpm.lock.Lock()
 	defer tpm.lock.Unlock()

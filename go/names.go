@@ -1,6 +1,6 @@
 package tpmsim
 
-// codes are the response codes without their places (Part 2, section 6.6.3), by their numbers.
+// codes names the response codes, without their places (Part 2, section 6.6.3), by number.
 var codes = map[Code]string{
 	0x01e: "BAD_TAG",
 	0x082: "ATTRIBUTES",
@@ -53,7 +53,7 @@ var codes = map[Code]string{
 	0x921: "LOCKOUT",
 }
 
-// commands are those that are served (Part 2, section 6.5.2), by their numbers.
+// commands names the implemented commands (Part 2, section 6.5.2), by number.
 var commands = map[uint32]string{
 	0x120: "EvictControl",
 	0x122: "NV_UndefineSpace",

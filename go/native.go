@@ -27,10 +27,10 @@ var faults = []string{
 	"they spell no state",
 }
 
-// native is a holder of the library's, in Go's memory; it has a pointer of C's alone, or none.
+// native is a handle of the library, in Go's memory; it contains only a pointer to C memory, or none.
 type native struct{ holder C.tpmsim }
 
-// outcome is what came of a command.
+// outcome is the result of a command.
 type outcome struct {
 	response []byte
 	drawn    int
@@ -42,7 +42,7 @@ func (it *native) isThere() bool { return it.holder.private_ != nil }
 
 func (it *native) free() { C.tpmsim_free(&it.holder) }
 
-// isOfHeader says whether the linked library is of the version of the header.
+// isOfHeader reports whether the linked library has the version of the header.
 func isOfHeader() bool { return C.tpmsim_version() == C.TPMSIM_VERSION_NUMBER }
 
 func (it *native) manufacture(random *[randomBytes]byte) error {
@@ -62,7 +62,7 @@ func (it *native) restore(text []byte) error {
 	return fault(int(told), C.TPMSIM_STATE_SHORT, ErrState)
 }
 
-// execute executes a command. There is a device, and the locality is one.
+// execute executes a command. The caller ensures that there is a device and that the locality is valid.
 func (it *native) execute(command []byte, locality uint8, elapsed uint32,
 	random *[randomBytes]byte, completes bool) outcome {
 	var answered C.tpmsim_answered
@@ -92,7 +92,7 @@ func (it *native) stateText() []byte {
 	return text[:C.tpmsim_snapshot(&it.holder, front(text), C.size_t(len(text)))]
 }
 
-// front is where bytes begin, which is never nil.
+// front returns a pointer to the first byte, which is never nil.
 func front(bytes []byte) *C.uint8_t {
 	if len(bytes) == 0 {
 		bytes = []byte{0}
@@ -100,7 +100,7 @@ func front(bytes []byte) *C.uint8_t {
 	return (*C.uint8_t)(unsafe.Pointer(&bytes[0]))
 }
 
-// fault is what a call returns that reads a text, with the first number of the faults that it looks for.
+// fault converts the result of a call that reads a text; first is the number of the first fault that it checks.
 func fault(told, first int, of error) error {
 	switch at := told - first; {
 	case told == C.TPMSIM_DONE:
@@ -112,7 +112,7 @@ func fault(told, first int, of error) error {
 	}
 }
 
-// Version returns the version of the linked library, as 0.1.0.
+// Version returns the version of the linked library, such as 0.1.0.
 func Version() string {
 	number := uint32(C.tpmsim_version())
 	return fmt.Sprintf("%d.%d.%d", number>>16, number>>8&0xff, number&0xff)

@@ -6,16 +6,16 @@ import (
 	"strconv"
 )
 
-// source is where random bytes come from: a seed, or the system. Of the system's, those that no command
-// drew are as good as new.
+// source provides random bytes, from a seed or from the system. System bytes that no command has drawn are
+// used again.
 type source struct {
 	seeded bool
 	seed   []byte
-	count  uint64 // how many commands had theirs, of a seed
+	count  uint64 // with a seed: how many commands have received bytes
 	bytes  [randomBytes]byte
 }
 
-// drawn fills bytes with random ones of the system's.
+// drawn fills bytes with random bytes of the system.
 func drawn(bytes []byte) error {
 	if _, err := rand.Read(bytes); err != nil {
 		return fmt.Errorf("%w: %v", ErrRandom, err)
@@ -30,7 +30,7 @@ func (it *source) begin() error {
 	return drawn(it.bytes[:])
 }
 
-// ofNewDevice returns the bytes of which a new device is made.
+// ofNewDevice returns the bytes from which a new device is made.
 func (it *source) ofNewDevice() (*[randomBytes]byte, error) {
 	if it.seeded {
 		bytes := shake256(it.seed)
@@ -49,7 +49,7 @@ func (it *source) next() *[randomBytes]byte {
 	return &it.bytes
 }
 
-// renew replaces what a command drew.
+// renew replaces the bytes that a command drew.
 func (it *source) renew(count int) error {
 	if it.seeded {
 		return nil

@@ -2,7 +2,7 @@ package tpmsim
 
 import "io"
 
-// Read reads the response to what Write wrote; io.EOF after its end.
+// Read reads the response to the command that Write executed; it returns io.EOF after the end.
 func (tpm *TPM) Read(buffer []byte) (int, error) {
 	tpm.lock.Lock()
 	defer tpm.lock.Unlock()

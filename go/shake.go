@@ -14,7 +14,7 @@ var roundConstants = [24]uint64{
 	0x8000000000008080, 0x0000000080000001, 0x8000000080008008,
 }
 
-// moves are the steps rho and pi, from lane to lane: where a lane goes, and by how many bits it is rotated.
+// moves are the steps rho and pi, lane by lane: the target of each lane, and the number of bits of its rotation.
 var moves = [24]struct{ target, bits int }{
 	{10, 1}, {7, 3}, {11, 6}, {17, 10}, {18, 15}, {3, 21},
 	{5, 28}, {16, 36}, {8, 45}, {21, 55}, {24, 2}, {4, 14},
@@ -22,7 +22,7 @@ var moves = [24]struct{ target, bits int }{
 	{20, 62}, {14, 18}, {22, 39}, {9, 61}, {6, 20}, {1, 44},
 }
 
-// rate is the number of bytes that go in and come out between two permutations.
+// rate is the number of bytes absorbed or squeezed between two permutations.
 const rate = 136
 
 type lanes [25]uint64
@@ -64,7 +64,7 @@ func (it *lanes) permute() {
 	}
 }
 
-// add adds a byte at a place.
+// add adds a byte at an offset.
 func (it *lanes) add(at int, value byte) {
 	it[at/8] ^= uint64(value) << (at % 8 * 8)
 }

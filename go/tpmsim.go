@@ -7,11 +7,11 @@
 //	defer tpm.Close()
 //	response, err := tpm.Send(command)
 //
-// A TPM is made by libtpmsim, which is linked statically and proved to answer what its definitions say.
-// Each test has one of its own: they share no file, lock or variable. It has the methods of go-tpm's
+// A TPM is made by libtpmsim, which is linked statically and proved to respond as its specification says.
+// Each test has its own TPM: TPMs share no file, lock or variable. A TPM has the methods of go-tpm's
 // transport.TPMCloser, and of the simulator of go-tpm-tools.
 //
-// It needs cgo, on Linux on amd64 or arm64. CGO_LDFLAGS=-LFOLDER names another folder of libtpmsim.a.
+// It needs cgo, on Linux on amd64 or arm64. CGO_LDFLAGS=-LFOLDER selects another folder with libtpmsim.a.
 package tpmsim
 
 import (
@@ -23,7 +23,7 @@ import (
 	"time"
 )
 
-// What can fail; the error of a call wraps one of these, or is a *Refusal.
+// The errors of this package. The error of a call wraps one of these, or is a *Refusal.
 var (
 	ErrMemory   = errors.New("tpmsim: there is no memory for a device")
 	ErrRandom   = errors.New("tpmsim: the system has no random bytes")
@@ -70,18 +70,18 @@ type opening struct {
 	image []byte
 }
 
-// WithSeed makes all secrets and random bytes of the TPM follow from a seed, so that each run has the same.
-// A device in Python or Rust that has the same seed is the same device.
+// WithSeed derives all secrets and random bytes of the TPM from a seed, so that they are the same in each run.
+// A device in Python or Rust with the same seed is the same device.
 func WithSeed(seed []byte) Option {
 	return func(it *opening) { it.seed = append([]byte{}, seed...) }
 }
 
-// WithImage opens the device of an image that Save made, after a power cycle.
+// WithImage opens the device of an image that Save made, in the state after a power cycle.
 func WithImage(image []byte) Option {
 	return func(it *opening) { it.image = append([]byte{}, image...) }
 }
 
-// WithoutStartup leaves TPM2_Startup to the caller, whenever the power comes on.
+// WithoutStartup leaves TPM2_Startup to the caller after each power-on.
 func WithoutStartup() Option {
 	return func(it *opening) { it.tpm.starts = false }
 }
@@ -106,7 +106,7 @@ func Open(options ...Option) (*TPM, error) {
 	return it.tpm, nil
 }
 
-// begin makes the device, of an image if there is one.
+// begin makes the device, from an image if there is one.
 func (tpm *TPM) begin(image []byte) error {
 	if !isOfHeader() {
 		return ErrVersion
@@ -132,7 +132,7 @@ func (tpm *TPM) manufacture() error {
 	return tpm.native.manufacture(random)
 }
 
-// started executes TPM2_Startup(CLEAR), unless the caller does.
+// started executes TPM2_Startup(CLEAR), unless the caller has taken that over.
 func (tpm *TPM) started() error {
 	if !tpm.starts {
 		return nil
@@ -141,7 +141,7 @@ func (tpm *TPM) started() error {
 	return err
 }
 
-// execute executes a command, and renews what it drew. The lock is held.
+// execute executes a command, and replaces the random bytes that it drew. The caller must hold the lock.
 func (tpm *TPM) execute(command []byte) (outcome, error) {
 	if !tpm.native.isThere() {
 		return outcome{}, ErrClosed
@@ -159,7 +159,7 @@ func (tpm *TPM) execute(command []byte) (outcome, error) {
 	return told, nil
 }
 
-// accepted returns what follows the header, or the refusal. The lock is held.
+// accepted returns the bytes after the header, or the refusal. The caller must hold the lock.
 func (tpm *TPM) accepted(command []byte) ([]byte, error) {
 	told, err := tpm.execute(command)
 	if err != nil {
@@ -171,8 +171,8 @@ func (tpm *TPM) accepted(command []byte) ([]byte, error) {
 	return told.response[headerBytes:], nil
 }
 
-// Send executes a command, whichever bytes it has, and returns the response. A command that is refused
-// has a response too.
+// Send executes a command, whatever its bytes are, and returns the response. A refused command also has a
+// response.
 func (tpm *TPM) Send(command []byte) ([]byte, error) {
 	tpm.lock.Lock()
 	defer tpm.lock.Unlock()
@@ -180,8 +180,8 @@ func (tpm *TPM) Send(command []byte) ([]byte, error) {
 	return told.response, err
 }
 
-// Execute executes a command, and returns what follows the header of the response. The error of a
-// command that is refused is a *Refusal.
+// Execute executes a command, and returns the bytes after the header of the response. If the command is
+// refused, the error is a *Refusal.
 func (tpm *TPM) Execute(command []byte) ([]byte, error) {
 	tpm.lock.Lock()
 	defer tpm.lock.Unlock()
@@ -211,20 +211,20 @@ func (tpm *TPM) Close() error {
 	return nil
 }
 
-// IsClosed says whether Close was called.
+// IsClosed reports whether Close was called.
 func (tpm *TPM) IsClosed() bool {
 	tpm.lock.Lock()
 	defer tpm.lock.Unlock()
 	return !tpm.native.isThere()
 }
 
-// Reset restarts the TPM as if its computer was: TPM2_Shutdown(CLEAR) if it is started, a power cycle, and
-// TPM2_Startup(CLEAR).
+// Reset restarts the TPM as a reboot of its computer would: TPM2_Shutdown(CLEAR) if it is started, a power cycle,
+// and TPM2_Startup(CLEAR).
 func (tpm *TPM) Reset() error {
 	return tpm.restart((*TPM).cycle)
 }
 
-// ManufactureReset does the same, with a new device instead of this one; of a seed it is the same again.
+// ManufactureReset does the same with a new device; with a seed, the new device is the same as the first one.
 func (tpm *TPM) ManufactureReset() error {
 	return tpm.restart(func(tpm *TPM) error {
 		if err := tpm.manufacture(); err != nil {
@@ -260,8 +260,7 @@ func (tpm *TPM) cycle() error {
 	return nil
 }
 
-// PowerCycle takes the power away, with no TPM2_Shutdown, and gives it back: the device awaits
-// TPM2_Startup.
+// PowerCycle power-cycles the device without TPM2_Shutdown: the device then expects TPM2_Startup.
 func (tpm *TPM) PowerCycle() error {
 	tpm.lock.Lock()
 	defer tpm.lock.Unlock()
@@ -280,8 +279,8 @@ func (tpm *TPM) SetLocality(locality int) error {
 	return nil
 }
 
-// Wait has time pass before the next command, in whole milliseconds. The caller sets the time of a device, and no
-// call waits.
+// Wait lets time pass before the next command, in whole milliseconds. It returns at once, since the caller sets
+// the time of a device.
 func (tpm *TPM) Wait(duration time.Duration) error {
 	tpm.lock.Lock()
 	defer tpm.lock.Unlock()
@@ -299,8 +298,8 @@ func (tpm *TPM) Save() ([]byte, error) {
 	return tpm.written((*native).image)
 }
 
-// Snapshot returns the state text: all that the device is, with its sessions, objects, PCRs and times. It has
-// all secrets in the clear. It has no locality, and no time that no command followed yet.
+// Snapshot returns the state text: the whole state, with sessions, objects, PCRs and times. It contains all
+// secrets in the clear. It does not contain the locality, or elapsed time that no command has followed yet.
 func (tpm *TPM) Snapshot() ([]byte, error) {
 	return tpm.written((*native).stateText)
 }
@@ -314,8 +313,8 @@ func (tpm *TPM) written(text func(*native) []byte) ([]byte, error) {
 	return text(&tpm.native), nil
 }
 
-// Restore makes the device what a state text says, of any device in any process. Other bytes change
-// nothing. A log begins again.
+// Restore sets the device to a state text, which may be of any device in any process. Other bytes change
+// nothing. The log restarts.
 func (tpm *TPM) Restore(text []byte) error {
 	tpm.lock.Lock()
 	defer tpm.lock.Unlock()

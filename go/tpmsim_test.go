@@ -16,7 +16,7 @@ import (
 	"time"
 )
 
-// The shapes of go-tpm's transport.TPMCloser, and of the simulator of go-tpm-tools.
+// The interfaces of go-tpm's transport.TPMCloser, and of the simulator of go-tpm-tools.
 type tpmCloser interface {
 	Send(input []byte) ([]byte, error)
 	io.Closer
@@ -44,7 +44,7 @@ func open(t *testing.T, options ...Option) *TPM {
 	return tpm
 }
 
-// command is one without sessions: its code, and what follows the header.
+// command returns a command without sessions: its code, and the bytes after the header.
 func command(code uint32, rest ...byte) []byte {
 	text := binary.BigEndian.AppendUint32([]byte{0x80, 1}, uint32(10+len(rest)))
 	return append(binary.BigEndian.AppendUint32(text, code), rest...)
@@ -52,7 +52,7 @@ func command(code uint32, rest ...byte) []byte {
 
 func getRandom(count byte) []byte { return command(0x17b, 0, count) }
 
-// flush is TPM2_FlushContext of the first HMAC session, and startSession what makes it.
+// flush is TPM2_FlushContext of the first HMAC session, and startSession the command that starts the session.
 func flush() []byte { return command(0x165, 2, 0, 0, 0) }
 
 func startSession() []byte {
@@ -97,7 +97,7 @@ func wantRefusal(t *testing.T, err error, wanted string) {
 	}
 }
 
-// clock is the time since the power came on.
+// clock returns the time since power-on.
 func clock(t *testing.T, tpm *TPM) time.Duration {
 	t.Helper()
 	answer := accept(t, tpm, command(0x181))
@@ -187,7 +187,7 @@ func TestResets(t *testing.T) {
 	wantRefusal(t, err, "FlushContext: HANDLE/p1 (1CB), by A2")
 	same, err := tpm.Save()
 	succeed(t, err)
-	// The seeds of the hierarchies are of the device: they are at the front of an image.
+	// The seeds of the hierarchies belong to the device: they are at the front of an image.
 	if !bytes.Equal(image[10:80], same[10:80]) {
 		t.Error("it is another device")
 	}
@@ -321,8 +321,8 @@ func TestSHAKE256(t *testing.T) {
 	}
 }
 
-// A thousand devices, each in a goroutine of its own, take less than half a second of each processor. That is not
-// measured by a clock, as other programs may have the processors meanwhile.
+// A thousand devices, each in its own goroutine, take less than half a second of each processor. This is not
+// measured with a clock, since other programs may use the processors at the same time.
 func TestAThousandDevices(t *testing.T) {
 	before := processorTime(t)
 	thousandDevices(t)

@@ -7,9 +7,9 @@
 #                                     it so; for libvirt's path, swtpm and swtpm_setup
 #   hosts/build.sh simulator FOLDER   tpmsim-simulator
 #
-# The library is that of dist/ for this machine, or the archive that TPMSIM_ARCHIVE names, with tpmsim.h
-# beside it. CC, NM and STRIP are the tools, as those for another machine, and CFLAGS are further words for
-# CC: with them nothing is stripped. Needs a C compiler and Debian's binutils; for tcti the headers of
+# The library is that of dist/ for this machine, or the archive that TPMSIM_ARCHIVE names, with tpmsim.h next
+# to it. CC, NM and STRIP are the tools, such as those for another machine. CFLAGS are further words for CC;
+# with them nothing is stripped. Needs a C compiler and Debian's binutils; for tcti the headers of
 # libtss2-dev, for libtpms those of libtpms-dev.
 set -u
 LC_ALL=C
@@ -76,7 +76,7 @@ deliver() {
 
 build_tcti() {
     module=libtss2-tcti-tpmsim.so.0
-    compile_shared "$module" tcti/tcti.map -fvisibility=hidden -Ikept tcti/tcti.c kept/*.c ||
+    compile_shared "$module" tcti/tcti.map -fvisibility=hidden -Ikept tcti/tcti.c tcti/loaded.c kept/*.c ||
         fail "$module is not compiled"
     compile tpmsim-power -Ikept tcti/power.c kept/*.c || fail 'tpmsim-power is not compiled'
     deliver "$work/$module" "$module" 644
@@ -126,5 +126,5 @@ archive=$(realpath -e "$archive") || exit 1
 mkdir -p "$folder" || fail "the folder $folder is not written"
 work=$(mktemp -d) || exit 1
 trap 'rm -rf "$work"' EXIT
-# The compiler is told of sources by their places in this folder, so that no path gets into what is built.
+# The compiler gets the sources by their places in this folder, so that no path gets into the result.
 cd "$sources" && "build_$1"

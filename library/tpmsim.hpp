@@ -5,9 +5,9 @@
        const std::array<std::uint8_t, 12> get_random{0x80, 1, 0, 0, 0, 12, 0, 0, 1, 0x7b, 0, 16};
        libtpmsim::Response response = tpm.execute(get_random);
 
-   A device moves, also to another thread, is used by one thread at a time, and is freed by its
-   destructor. What fails throws an Error. The functions that take a `Told` say there what failed, and
-   throw nothing: they alone are there by -fno-exceptions. */
+   A device can be moved, also to another thread. One thread at a time may use it, and its destructor
+   frees it. A failing function throws an Error. The functions that take a `Told` report failures there
+   and do not throw; with -fno-exceptions there are only these. */
 #ifndef TPMSIM_HPP
 #define TPMSIM_HPP
 
@@ -54,7 +54,7 @@ struct Error : std::runtime_error {
 #if __cplusplus >= 202002L
 using Bytes = std::span<const std::uint8_t>;
 #else
-/* Somebody's bytes: a pointer and a size, or what has data() and size(), as a vector. */
+/* Borrowed bytes: a pointer and a size, or anything with data() and size(), such as a vector. */
 class Bytes {
     const std::uint8_t *start;
     std::size_t count;
@@ -73,15 +73,15 @@ inline constexpr std::array<std::uint8_t, 12> startup{0x80, 1, 0, 0, 0, 12, 0, 0
 
 struct Response {
     std::vector<std::uint8_t> bytes; /* all of it; none if nothing was executed */
-    std::uint32_t code = 0;          /* TPM_RC, 0 of a command that was accepted */
+    std::uint32_t code = 0;          /* TPM_RC, 0 for a command that was accepted */
     std::uint32_t command = 0;       /* TPM_CC, 0 if none was found */
     std::string check;               /* "ok", or which check refused, as "G9" in docs/table */
 };
 
-/* Fills so many bytes, and says whether it did. */
+/* Fills this many bytes; returns whether it succeeded. */
 using Random = std::function<bool(std::uint8_t *, std::size_t)>;
 
-/* With the system's random bytes. */
+/* Uses the system's random bytes. */
 inline bool system_random(std::uint8_t *start, std::size_t size) {
     while (size > 0) {
         const ssize_t count = getrandom(start, size, 0);
@@ -103,7 +103,7 @@ class Device {
         static constexpr std::uint8_t none = 0;
         return bytes.size() ? bytes.data() : &none;
     }
-    /* The device that a call makes here, if it did. */
+    /* The device that a call makes here, if the call succeeded. */
     template <class Call> static std::optional<Device> made(Told &told, Random source, Call call) {
         Device device(std::move(source));
         told = device.draw(256) ? call(device) : NO_RANDOM;
@@ -150,22 +150,22 @@ class Device {
     }
     ~Device() { tpmsim_free(&holder); }
 
-    /* A new device, which awaits TPM2_Startup. Its secrets and all that it draws are of `source`. */
+    /* Makes a new device, which expects TPM2_Startup. Its secrets and random bytes come from `source`. */
     static std::optional<Device> make(Told &told, Random source = system_random) {
         return made(told, std::move(source), [](Device &device) {
             return tpmsim_manufacture(&device.holder, device.drawable.data());
         });
     }
-    /* The device of an image, after a power cycle. */
+    /* Opens the device of an image, in the state after a power cycle. */
     static std::optional<Device> open(Bytes image, Told &told, Random source = system_random) {
         return made(told, std::move(source), [image](Device &device) {
             return tpmsim_open(&device.holder, start_of(image), image.size());
         });
     }
     Response execute(Bytes buffer, Told &told) { return executed(tpmsim_execute, buffer, told); }
-    /* With the completing layer above the device. */
+    /* Executes a command with the completing layer above the device. */
     Response complete(Bytes buffer, Told &told) { return executed(tpmsim_complete, buffer, told); }
-    /* Makes the device what a state text says. */
+    /* Restores the device of a state text. */
     void restore(Bytes text, Told &told) {
         told = tpmsim_restore(&holder, start_of(text), text.size());
     }

@@ -1,13 +1,13 @@
-//! Has the linker find libtpmsim: in the folder `TPMSIM_LIB_DIR`, else in `native/MACHINE`, where a packed
-//! package has it, else in the repository's `dist/`.
+//! Makes the linker find libtpmsim: in the folder `TPMSIM_LIB_DIR`, else in `native/MACHINE`, where a packed
+//! package contains it, else in the repository's `dist/`.
 //!
-//! The build script of a package above reads that folder from `DEP_TPMSIM_LIBDIR`.
+//! The build script of a dependent package reads the folder from `DEP_TPMSIM_LIBDIR`.
 
 use std::env;
 use std::path::{Path, PathBuf};
 use std::process::exit;
 
-/// What the linker needs to know of a folder: how it links the library that is there.
+/// What the linker needs to know about a folder: how to link the library in it.
 fn kind_in(folder: &Path) -> Option<&'static str> {
     let has = |name: &str| folder.join(name).exists();
     if has("libtpmsim.a") {
@@ -16,12 +16,12 @@ fn kind_in(folder: &Path) -> Option<&'static str> {
     has("libtpmsim.so").then_some("dylib")
 }
 
-/// What cargo says to a build script, or nothing.
+/// A variable that cargo sets for a build script, if it is set.
 fn told(name: &str) -> String {
     env::var(name).unwrap_or_default()
 }
 
-/// What the repository ships for a machine.
+/// The folder that the repository ships for a machine.
 fn shipped(repository: &Path, machine: &str) -> PathBuf {
     let dist = repository.join("dist");
     match machine {

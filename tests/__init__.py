@@ -1,1 +1,1 @@
-"""The tests' own programs in Python; those in one folder find those in another by this package."""
+"""The tests' programs in Python. This package lets those in one folder find those in another."""

@@ -1,9 +1,9 @@
-"""Writes scripts anew, and what they print, by the programs that stand beside them:
+"""Writes scripts and their outputs again, by the programs next to them:
 
     tools/python.sh tests/anew.py tests/objects/create.py ..
 
-A program has the caller `tpm`, whose script is written when the program has ended, or a function
-`write_script`; or it has written its own by then.
+A program has either the caller `tpm`, whose script is written when the program has ended, or a
+function `write_script`; or it has written its own script by then.
 """
 
 import importlib

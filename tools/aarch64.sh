@@ -1,10 +1,11 @@
 #!/bin/sh
-# Makes what dist/aarch64 has for Linux on ARM64: the program, libtpmsim.a, libtpmsim.so.0, and PROVED, which
-# names the kit, and the checksums of the sources and of these three; and by hosts/shared.sh what that makes. The two crates are proved for that
-# machine, which the prover's verdict names, over the crates below them as these were proved for x86-64.
+# Makes the contents of dist/aarch64, for Linux on ARM64: the program, libtpmsim.a, libtpmsim.so.0 and PROVED,
+# which names the kit and the checksums of the sources and of these three; then what hosts/shared.sh makes.
+# The two crates are proved for ARM64, which the prover's verdict names; the crates below them were proved for
+# x86-64.
 #
-# The crates below both stand built here, as `rt ci` leaves them, with no newer source: tools/build.sh and
-# tools/library.sh make the same for x86-64 first. Needs `rt`, and Debian's gcc-aarch64-linux-gnu.
+# All crates below the two have to be built here, as `rt ci` leaves them, and no source may be newer:
+# tools/build.sh and tools/library.sh do that for x86-64 first. Needs `rt`, and Debian's gcc-aarch64-linux-gnu.
 set -u
 cd "$(dirname "$0")/.." && top=$(pwd -P) || exit 1
 . tools/lib/proved.sh
@@ -17,15 +18,15 @@ work=$(mktemp -d) || exit 1
 trap 'rm -rf "$work"' EXIT
 log=$work/log
 
-# fail REASON: ends the script, and shows what was logged last.
+# fail REASON: ends the script, and prints the end of the log.
 fail() {
     [ ! -s "$log" ] || tail -n 20 "$log" >&2
     echo "$0: $1" >&2
     exit 1
 }
 
-# compile_here CRATE FILE: compiles a crate for the other machine, and prints the prover's verdict. Each has a
-# log of its own, as both are compiled at the same time.
+# compile_here CRATE FILE: compiles a crate for ARM64, and prints the prover's verdict. Each crate has its own
+# log, since both are compiled at the same time.
 compile_here() {
     log=$log.$1
     compile "$top" "$1" "$work/$2" --target "$target" --cpu generic >"$log" 2>&1 &&
@@ -46,7 +47,7 @@ link_program() (
         program.o heap.o arguments.o errors.o && "${prefix}strip" --strip-unneeded tpmsim
 ) >>"$log" 2>&1
 
-# Puts the archive and the shared object together, as tools/library.sh does.
+# Makes the archive and the shared object, as tools/library.sh does.
 link_library() (
     mkdir "$work/objects" && cd "$work/objects" && "${prefix}ar" x ../exports.a && cp ../heap.o . &&
         "${prefix}ar" rcsD ../libtpmsim.a ./*.o &&
@@ -67,7 +68,7 @@ tell_proved() {
     echo "library shared object: $(checksum <"$folder/libtpmsim.so.0")"
 }
 
-# Puts everything in its place.
+# Moves everything to its place.
 deliver() {
     mkdir -p "$folder" && mv "$work/tpmsim" "$work/libtpmsim.a" "$work/libtpmsim.so.0" "$folder/" &&
         cp library/tpmsim.h library/tpmsim.hpp library/tpmsim.pc "$folder/" && tell_proved >"$folder/PROVED"

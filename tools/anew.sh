@@ -1,13 +1,13 @@
 #!/bin/sh
-# Writes all scripts of tests/ and examples/ anew by their programs, in a copy, and their outputs by
-# the device in Python; and compares what was written with what is there, byte for byte. Needs
-# python3; takes half a minute on four processors. JOBS says how many programs run side by side.
+# Writes all scripts of tests/ and examples/ again by their programs, in a copy, and their outputs by
+# the device in Python; and compares the files with those of the repository, byte for byte. Needs
+# python3; takes half a minute on four processors. JOBS is the number of programs that run at a time.
 #
 #   tools/anew.sh           compares
-#   tools/anew.sh --write   takes over what differs
+#   tools/anew.sh --write   replaces the files that differ
 #
-# It names each file that differs or is not there. The last line is `N files as they are, M others`,
-# and the status is 1 where there are others, or where a program fails.
+# It names each file that differs or is missing. The last line is `N files as they are, M others`. The
+# status is 1 if there are others, or if a program fails.
 set -u
 
 top=$(CDPATH='' cd "$(dirname "$0")/.." && pwd -P) || exit 1
@@ -29,7 +29,7 @@ export PYTHONPYCACHEPREFIX="$work/compiled"
 cd "$work" || exit 1
 
 failed=0
-# A program says in its first line what it writes: what has its name goes away first.
+# A program's first line says what it writes. Files of that name are removed first.
 grep -lE '^"""Writes [a-z_0-9]+[.](tpm|out)' tests/*/*.py examples/*.py >programs
 while read -r program; do
     rm -f "${program%.py}.tpm" "${program%.py}.out"

@@ -1,10 +1,10 @@
 #!/usr/bin/env python3
-"""Judges the log of a device, as python/tpmsim/audit/main.py says; it needs python3 alone."""
+"""Audits a device's log; see python/tpmsim/audit/main.py. Needs only python3."""
 
 import pathlib
 import sys
 
-# What Python compiles is not kept in the repository.
+# The repository contains no Python bytecode.
 sys.dont_write_bytecode = sys.pycache_prefix is None
 sys.path.insert(0, str(pathlib.Path(__file__).resolve().parents[1] / "python"))
 

@@ -1,23 +1,23 @@
 #!/bin/sh
-# Looks at what is cheap to look at before a commit: the layout of the crates that were changed, the
-# links and the words of the documents, the shell scripts, and the programs in Python. As a hook of git:
+# Runs the quick checks before a commit: the layout of the changed crates, the links and words of the
+# documents, the shell scripts, and the programs in Python. As a hook of git:
 #
 #   ln -s ../../tools/before_commit.sh .git/hooks/pre-commit
 #
-# A check whose tool is not there is skipped. The last line is `N passed, M failed`, and after that
-# `, K skipped` where a check was. The status is 1 where one failed.
+# A check is skipped if its tool is missing. The last line is `N passed, M failed`, followed by `, K
+# skipped` if a check was skipped. The status is 1 if one failed.
 set -u
 top=$(git rev-parse --show-toplevel) && cd "$top" || exit 1
 passed=0
 failed=0
 skipped=0
 
-# has TOOL: whether it is there.
+# has TOOL: whether it is installed.
 has() {
     command -v "$1" >/dev/null
 }
 
-# check NAME COMMAND..: counts a check, and shows what its command says where it fails.
+# check NAME COMMAND..: counts a check, and prints what its command says if it fails.
 check() {
     name=$1
     shift
@@ -36,7 +36,7 @@ skip() {
     skipped=$((skipped + 1))
 }
 
-# Lays out the crates that differ from the last commit; fails where that changes a file.
+# Lays out the crates that differ from the last commit; fails if that changes a file.
 lay_out() {
     status=0
     for crate in $(git diff --name-only HEAD -- crates | cut -d/ -f2 | sort -u); do
@@ -56,7 +56,7 @@ follow_links() {
     python3 tests/common/links.py . $(git ls-files '*.md')
 }
 
-# The scripts for sh: those that say so in their first line, and all *.sh.
+# The scripts for sh: those whose first line says so, and all *.sh.
 shell_scripts() {
     git ls-files '*.sh'
     git grep -lI -e '^#!/bin/sh$' -- ':!*.sh' ':!*.md' ':!*.py'

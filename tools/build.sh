@@ -1,10 +1,10 @@
 #!/bin/sh
-# Proves all that the program tpmsim stands on, from nothing, and builds it. The launcher calls this
-# where it has no proved program, and prefers what this leaves to the one in dist/. Needs `rt`, the
-# command of the Rattle toolchain, and git.
+# Proves the program tpmsim and every crate that it uses, from nothing, and builds it. The launcher
+# calls this if it has no proved program, and prefers the result to the program in dist/. Needs `rt`,
+# the command of the Rattle toolchain, and git.
 #
 #   tools/build.sh                    the program for x86-64
-#   tools/build.sh --target aarch64   what dist/aarch64 has, with the library (tools/aarch64.sh)
+#   tools/build.sh --target aarch64   the contents of dist/aarch64, with the library (tools/aarch64.sh)
 set -u
 cd "$(dirname "$0")/.." && top=$(pwd -P) || exit 3
 case $* in
@@ -17,9 +17,9 @@ esac
 out=$top/crates/tpmsim/out
 log=$out/build.log
 
-# Proves each crate that the program stands on and the program, side by side where they do not stand
-# on each other, and builds the program. It is dated by the start of the build, so that an edit made
-# meanwhile counts as newer.
+# Proves each crate that the program uses, and the program; crates that do not use each other are
+# proved at the same time. Then it builds the program, which gets the time at which the build started,
+# so that a later edit counts as newer.
 build() {
     mkdir -p "$out" && : >"$log" && : >"$out/build_start" || return 1
     crates="$(crates_below tpmsim) tpmsim"

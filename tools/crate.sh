@@ -1,6 +1,6 @@
 #!/bin/sh
-# Makes the Rust package, tpmsim-VERSION.crate, with the library of each machine that dist/ has in it, and
-# prints its path. No network is asked.
+# Makes the Rust package, tpmsim-VERSION.crate, with the library for each machine that dist/ has, and
+# prints its path. It uses no network.
 #
 #   tools/crate.sh [FOLDER]   in FOLDER; else in out/
 #
@@ -19,7 +19,8 @@ work=$(mktemp -d) || exit 1
 trap 'rm -rf "$work"' EXIT
 PATH=$PATH:${HOME:-/root}/.cargo/bin
 command -v cargo >"$work/found" || fail 'there is no cargo'
-# A copy, as cargo writes beside what it reads, with the library of each machine.
+# Cargo writes next to the files that it reads, so it works on a copy, which has the library of each
+# machine.
 mkdir -p "$work/rust/native/x86_64" "$work/rust/native/aarch64" || fail 'there is no folder for a copy'
 { (cd rust && cp -r Cargo.toml README.md build.rs examples src tests "$work/rust/") &&
     cp dist/libtpmsim.a "$work/rust/native/x86_64/" &&

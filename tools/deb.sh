@@ -1,14 +1,14 @@
 #!/bin/sh
 # Makes the package for Debian and its like, tpmsim_VERSION_amd64.deb, and prints its path. The same
-# commit makes the same bytes by the same tools.
+# commit and the same tools make the same bytes.
 #
 #   tools/deb.sh [--machine aarch64] [FOLDER]   in FOLDER; else in out/
 #
-# With --machine aarch64 it is tpmsim_VERSION_arm64.deb, of what dist/aarch64 has, and needs Debian's
+# With --machine aarch64 it is tpmsim_VERSION_arm64.deb, made of dist/aarch64, and needs Debian's
 # gcc-aarch64-linux-gnu.
-# TPMSIM_MAINTAINER is whom the package names, else who wrote the last commit; TPMSIM_PACKING is how
-# dpkg-deb packs, else xz. tools/install.sh says what is in the package. Needs dpkg-deb and python3;
-# no proof is run.
+# TPMSIM_MAINTAINER is the package's maintainer; else it is the author of the last commit.
+# TPMSIM_PACKING is the compression of dpkg-deb, else xz. tools/install.sh says what the package has.
+# Needs dpkg-deb and python3; nothing is proved.
 set -u
 umask 022
 unset TPMSIM_MACHINE
@@ -26,18 +26,18 @@ fail() {
     exit 1
 }
 
-# How many KiB the files have that are installed, each rounded up, on whatever file system.
+# The size of the installed files in KiB, each rounded up, on whatever file system.
 size() {
     find "$root/usr" -type f -printf '%s\n' | awk '{ sum += int(($1 + 1023) / 1024) } END { print sum }'
 }
 
-# Prints packaging/control with the facts of this package in the places of their names.
+# Prints packaging/control with its placeholders replaced by the facts of this package.
 control() {
     sed -e "s|@VERSION@|$version|" -e "s|@MAINTAINER@|$maintainer|" -e "s|@SIZE@|$(size)|" \
         -e "s|@PURPOSE@|$purpose|" -e "s|@ARCHITECTURE@|$architecture|" packaging/control
 }
 
-# Puts what Debian wants of each package beside what is installed.
+# Adds what Debian requires in each package.
 describe() {
     documents=$root/usr/share/doc/tpmsim
     mkdir "$root/DEBIAN" || return 1
@@ -57,8 +57,8 @@ describe() {
         >"$root/DEBIAN/md5sums"
 }
 
-# for_aarch64: sets the tools for ARM64. Their compiler does not look where Debian has headers for all
-# machines.
+# for_aarch64: selects the tools for ARM64. Their compiler does not look where Debian has the headers for
+# all machines.
 for_aarch64() {
     architecture=arm64
     multiarch=aarch64-linux-gnu

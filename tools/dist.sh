@@ -1,21 +1,21 @@
 #!/bin/sh
-# Makes the program in dist/: the one that `rt ci` built and proved here, and its lines in PROVED,
-# which name the kit of that, and the checksums of the sources and of the program. Needs `rt`.
-# tools/library.sh makes the library, hosts/shared.sh the host of kept devices for other languages, and
-# tools/web.sh the module for web pages.
+# Copies the program that `rt ci` proved and built here to dist/, and writes its lines of PROVED: the
+# kit, and the checksums of the sources and of the program. Needs `rt`. tools/library.sh makes the
+# library, hosts/shared.sh the host of kept devices for other languages, and tools/web.sh the module for
+# web pages.
 #
-#   tools/dist.sh           makes it, where no source is newer than the program that was built here
-#   tools/dist.sh --check   says whether dist/ is of the sources as they stand and, where it names
-#                           the kit that is here, whether the program has the bytes that were built
-#                           here. The library is not built anew: its bytes are those that PROVED
-#                           names
+#   tools/dist.sh           copies the program, unless a source is newer than the one built here
+#   tools/dist.sh --check   says whether dist/ was made of the current sources and, if it was made by
+#                           the kit that is installed here, whether the program has the bytes of the
+#                           one built here. The library is not built again: its bytes have to be those
+#                           that PROVED names
 set -u
 cd "$(dirname "$0")/.." || exit 1
 . tools/lib/proved.sh
-# What is made here is for x86-64, whatever machine a package is for.
+# This script makes what is for x86-64, even if a package is for another machine.
 ship x86_64
 
-# What is wrong with dist/, a fault a line.
+# What is wrong with dist/, one fault a line.
 faults() {
     faults_of_program
     faults_of_library
@@ -55,8 +55,8 @@ faults_of_library() {
     done
 }
 
-# What is for ARM64, if it is there, is not built again either: it has the bytes that its own PROVED names,
-# of these sources.
+# What is for ARM64, if it is there, is not built again either: its bytes have to be those that its own
+# PROVED names, made of these sources.
 faults_of_aarch64() (
     ship aarch64
     [ -d "$distribution" ] || return 0

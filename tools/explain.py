@@ -1,10 +1,10 @@
 #!/usr/bin/env python3
-"""Explains the refusals of a log, as python/tpmsim/explain/main.py says; it needs python3 alone."""
+"""Explains the refusals in a log; see python/tpmsim/explain/main.py. Needs only python3."""
 
 import pathlib
 import sys
 
-# What Python compiles is not kept in the repository.
+# The repository contains no Python bytecode.
 sys.dont_write_bytecode = sys.pycache_prefix is None
 sys.path.insert(0, str(pathlib.Path(__file__).resolve().parents[1] / "python"))
 

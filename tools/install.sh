@@ -1,19 +1,20 @@
 #!/bin/sh
-# Puts the shipped program, and all that belongs to it, where software is installed. It builds no
-# proof: the program and the library are those of dist/.
+# Installs the shipped program and everything that belongs to it. It proves nothing: the program and
+# the library are those of dist/.
 #
 #   tools/install.sh    with these variables:
-#     PREFIX     the folder that all is put in; /usr/local
-#     DESTDIR    what stands before that, as of a package that is made; nothing
+#     PREFIX     the folder of the installation; /usr/local
+#     DESTDIR    a folder in front of PREFIX, as for a package; nothing
 #     LIBRARIES  the folder of libraries in PREFIX; lib
 #     PACKAGES   the folder of Python packages in PREFIX; the one where python3 looks, if it is in
 #                PREFIX, else lib/tpmsim/python
-#     TPMSIM_MACHINE  the machine that all is for, x86_64 or aarch64; this one
+#     TPMSIM_MACHINE  the machine of the installation, x86_64 or aarch64; this one
 #     FUNCTIONS  the folder of zsh's functions in PREFIX; share/zsh/site-functions
 #
-# The modules for libtss2 and for swtpm, and tpmsim-simulator, are made where the headers are there that
-# they need, and are left out with a line else. Without DESTDIR it has root's ldconfig tell the loader of the libraries, and
-# says what a user sets to find what neither the loader nor python3 finds. Needs python3.
+# The modules for libtss2 and for swtpm, and tpmsim-simulator, are built if their headers are installed;
+# else a line says that they are left out. Without DESTDIR, root's ldconfig adds the libraries to the
+# loader's cache, and the script says what a user sets to find what neither the loader nor python3
+# finds. Needs python3.
 set -u
 umask 022
 cd "$(dirname "$0")/.." || exit 1
@@ -38,12 +39,12 @@ print(*[it.removeprefix(start) for it in site.getsitepackages() if it.startswith
 ' "$prefix"
 }
 
-# put MODE SOURCE PLACE: a file, by its place in PREFIX.
+# put MODE SOURCE PLACE: copies a file to its place in PREFIX.
 put() {
     install -D -m "$1" "$2" "$root/$3" || fail "$root/$3 is not written"
 }
 
-# link TARGET PLACE: a link, which leads from its own place.
+# link TARGET PLACE: makes a link, whose target is relative to its place.
 link() {
     if ! { mkdir -p "$root/$(dirname "$2")" && ln -sf "$1" "$root/$2"; }; then
         fail "$root/$2 is not written"
@@ -115,7 +116,7 @@ put_modules() {
     fi
 }
 
-# tell_loader: has the loader find the libraries, or says what finds them.
+# tell_loader: makes the loader find the libraries, or says what finds them.
 tell_loader() {
     PATH=$PATH:/usr/sbin:/sbin
     if [ "$(id -u)" -eq 0 ] && command -v ldconfig >"$work/told"; then
@@ -125,7 +126,7 @@ tell_loader() {
         echo "The loader finds the libraries by LD_LIBRARY_PATH=$prefix/$libraries"
 }
 
-# tell_python: says what finds the package, where python3 does not.
+# tell_python: says what finds the package, if python3 does not.
 tell_python() {
     (cd / && python3 -B -c '
 import sys, tpmsim

@@ -2,9 +2,9 @@
 # Makes the library in dist/: libtpmsim.a, libtpmsim.so.0, tpmsim.h, tpmsim.hpp and tpmsim.pc; and its
 # lines in dist/PROVED, which name the kit, and the checksums of the sources and of the first two.
 #
-# The exports are proved and compiled over the crates below them, as `rt ci` left these here, where
-# no source is newer; else over a copy of them, which is proved first. Needs `rt`, git, a C compiler
-# and Debian's binutils.
+# The exports are proved and compiled over the crates below them, as `rt ci` left these here. If a
+# source is newer, the crates are first proved in a copy. Needs `rt`, git, a C compiler and Debian's
+# binutils.
 #
 #   tools/library.sh                    what is for x86-64
 #   tools/library.sh --target aarch64   what is for ARM64, with the program (tools/aarch64.sh)
@@ -25,14 +25,14 @@ work=$(mktemp -d) || exit 1
 trap 'rm -rf "$work"' EXIT
 log=$work/log
 
-# fail REASON: ends the script, and shows what was logged last.
+# fail REASON: ends the script, and prints the end of the log.
 fail() {
     [ ! -s "$log" ] || tail -n 20 "$log" >&2
     echo "$0: $1" >&2
     exit 1
 }
 
-# Proves the exports and all below them in a copy.
+# Proves the exports and all crates below them in a copy.
 prove() {
     echo "tpmsim: proving what the library stands on; from nothing this takes half an hour to an hour" >&2
     crates="$below $exports"
@@ -41,7 +41,7 @@ prove() {
     tail -n 1 "$log" | grep -q ' 0 failed' || fail 'not everything is proved'
 }
 
-# Puts the archive together, of what was compiled and of the kit's way to the C library's allocator;
+# Makes the archive, of the compiled exports and of the kit's connection to the C library's allocator,
 # and the shared object of the same.
 link() (
     mkdir "$work/objects" && cd "$work/objects" && ar x "$work/exports.a" &&
@@ -52,7 +52,7 @@ link() (
         chmod 644 "$work"/libtpmsim.*
 ) >>"$log" 2>&1
 
-# Writes the library's lines of dist/PROVED behind those of the program.
+# Writes the library's lines of dist/PROVED after those of the program.
 tell_proved() {
     version=$(rt version) || return 1
     {
@@ -64,7 +64,7 @@ tell_proved() {
     } >"$proved.new" && mv "$proved.new" "$proved"
 }
 
-# Puts everything in its place.
+# Moves everything to its place.
 deliver() {
     mkdir -p dist && mv "$work/libtpmsim.a" "$archive" && mv "$work/libtpmsim.so.0" "$shared" &&
         cp library/tpmsim.h library/tpmsim.hpp library/tpmsim.pc dist/ && tell_proved

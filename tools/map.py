@@ -1,8 +1,8 @@
 #!/usr/bin/env python3
-"""Makes the list of crates in docs/MAP.md of the first clause of each crate's root file.
+"""Makes the list of crates in docs/MAP.md, from the first clause of each crate's root file.
 
-`tools/map.py` compares the list that stands there with the made one, and its status is 1 where they
-differ; `tools/map.py --write` writes it.
+`tools/map.py` compares the list in the document with the new one, and its status is 1 if they differ;
+`tools/map.py --write` writes it.
 """
 
 import re
@@ -15,8 +15,9 @@ BEGIN, END = "<!-- crates -->\n", "<!-- end of crates -->\n"
 
 
 def first_clause(crate: Path) -> str:
-    """The first sentence of the comment at the head of a crate's root file, or what stands before
-    its colon where that has three words."""
+    """Returns the first sentence of the comment at the head of a crate's root file, or the part
+    before its colon, if that part has three words.
+    """
     root = crate / "src" / "lib.rt"
     text = (root if root.exists() else crate / "src" / "main.rt").read_text()
     lines = re.search(r"(?m)^(?://!.*\n)+", text)
@@ -31,14 +32,14 @@ def first_clause(crate: Path) -> str:
 
 
 def in_order(names: list[str]) -> list[str]:
-    """The names of crates from the bottom up, as crates.txt builds them."""
+    """Returns the names of crates from the bottom up, in the order of crates.txt."""
     built = re.findall(r"(?m)^(\w+)", (TOP / "crates.txt").read_text())
     order = {name: at for at, name in enumerate(built)}
     return sorted(names, key=lambda name: (order.get(name, len(built)), name))
 
 
 def listed() -> str:
-    """The list of all crates."""
+    """Returns the list of all crates."""
     crates = {path.name: path for path in (TOP / "crates").iterdir() if (path / "src").is_dir()}
     return "".join(f"- {name}: {first_clause(crates[name])}\n" for name in in_order(list(crates)))
 

@@ -1,11 +1,11 @@
 #!/usr/bin/env python3
-"""Runs the gate and writes what it took into docs/gate.json.
+"""Runs the gate and writes its figures to docs/gate.json.
 
-`tools/measure.py` runs .ci/run at the top of the repository, prints what that prints, and adds up the
-processor seconds of every process of the toolchain by crate and kind; `tools/measure.py --proofs` does
-so with `rt ci` alone, and `tools/measure.py WORDS..` with another command, of which it prints the figures
-and writes nothing. Under `taskset` the figures are those of so many processors, and are written beside
-those of all. Linux alone.
+`tools/measure.py` runs .ci/run at the top of the repository, prints its output, and adds up the CPU
+seconds of all toolchain processes, by crate and kind of process. `tools/measure.py --proofs` does the same
+with only `rt ci`. `tools/measure.py WORDS..` does it with another command, prints the figures and writes
+nothing. Under `taskset` the figures are for fewer processors, and are written next to those for all.
+Runs only on Linux.
 
 `tools/measure.py --wrong REFUSED TRIED` writes how many wrong bodies outside the gate were refused.
 """
@@ -33,7 +33,7 @@ Use = tuple[str, str, float]
 
 
 def status_of(pid: str) -> tuple[str, float, str]:
-    """The parent of a process, its processor seconds, and when it began."""
+    """Returns a process's parent, CPU seconds and start time."""
     fields = Path(f"/proc/{pid}/stat").read_text().rsplit(")", 1)[1].split()
     return fields[1], (int(fields[11]) + int(fields[12])) / TICKS, fields[19]
 
@@ -48,7 +48,7 @@ def is_ours(pid: str) -> bool:
 
 
 def use_of(pid: str) -> tuple[Process, Use] | None:
-    """What a process of the toolchain has used; none of another process."""
+    """Returns the resources that a toolchain process has used, or None for any other process."""
     words = Path(f"/proc/{pid}/cmdline").read_bytes().decode(errors="replace").split("\0")
     if os.path.basename(words[0]) not in TOOLS or not is_ours(pid):
         return None
@@ -61,7 +61,7 @@ def use_of(pid: str) -> tuple[Process, Use] | None:
 
 
 def watch(uses: dict[Process, Use], is_over: threading.Event) -> None:
-    """Notes twice a second what each process of the toolchain has used until then."""
+    """Records twice a second what each process of the toolchain has used so far."""
     while not is_over.wait(0.5):
         for pid in filter(str.isdigit, os.listdir("/proc")):
             try:
@@ -73,7 +73,9 @@ def watch(uses: dict[Process, Use], is_over: threading.Event) -> None:
 
 
 def run(words: list[str]) -> tuple[list[str], int, float, dict[Process, Use]]:
-    """Runs a command: its lines, which are printed too, its status, its minutes, and what it used."""
+    """Runs a command and echoes its output; returns the output lines, the exit status, the minutes
+    and the resource usage.
+    """
     uses: dict[Process, Use] = {}
     is_over = threading.Event()
     watcher = threading.Thread(target=watch, args=(uses, is_over))
@@ -93,7 +95,7 @@ def run(words: list[str]) -> tuple[list[str], int, float, dict[Process, Use]]:
 
 
 def output_of(*words: str) -> str:
-    """The first line that a command prints, empty where it cannot be run."""
+    """Returns the first line that a command prints; empty if the command cannot be run."""
     try:
         done = subprocess.run(words, cwd=TOP, capture_output=True, text=True, check=True)
     except (OSError, subprocess.CalledProcessError):
@@ -102,20 +104,22 @@ def output_of(*words: str) -> str:
 
 
 def machine() -> str:
-    """The processor, and how many of them this process may use."""
+    """Returns the processor, and the number of processors that this process may use."""
     found = re.search(r"(?m)^model name\s*: (.*)$", Path("/proc/cpuinfo").read_text())
     name = found[1] if found else "unknown processor"
     return f"{len(os.sched_getaffinity(0))} x {name}"
 
 
 def stolen() -> float:
-    """The processor minutes that the host of a virtual machine has given to others since it began."""
+    """Returns the CPU minutes that a virtual machine's host has given to other guests since
+    boot.
+    """
     fields = Path("/proc/stat").read_text().split("\n", 1)[0].split()
     return int(fields[8]) / TICKS / 60
 
 
 def figures(lines: list[str], minutes: float, uses: dict[Process, Use]) -> dict[str, object]:
-    """What is said of a run of the gate: minutes of the clock and processor minutes."""
+    """Returns the figures of a run of the gate: elapsed minutes and CPU minutes."""
     seconds: defaultdict[tuple[str, str], float] = defaultdict(float)
     for crate, kind, used in uses.values():
         seconds[crate, kind] += used
@@ -139,14 +143,14 @@ def figures(lines: list[str], minutes: float, uses: dict[Process, Use]) -> dict[
 
 
 def write(key: str, told: Mapping[str, object]) -> None:
-    """Writes one part of docs/gate.json, and leaves the others."""
+    """Writes one part of docs/gate.json, and leaves the other parts unchanged."""
     known = json.loads(FIGURES.read_text()) if FIGURES.exists() else {}
     known[key] = told
     FIGURES.write_text(json.dumps(known, indent=1) + "\n")
 
 
 def main(words: list[str]) -> int:
-    """Runs the gate, or what is asked for."""
+    """Runs the gate, or what the arguments ask for."""
     if words[:1] == ["--wrong"]:
         where = {"date": date.today().isoformat(), "commit": output_of("git", "rev-parse", "HEAD")}
         write("wrong_bodies", {**where, "refused": int(words[1]), "tried": int(words[2])})

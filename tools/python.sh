@@ -1,6 +1,6 @@
 #!/bin/sh
-# Runs python3 with the package under python/ and the programs under tests/ to be found, as those
-# in Python under tests/, tools/ and bench/ need it:
+# Runs python3 so that it finds the package under python/ and the programs under tests/, which the
+# programs under tests/, tools/ and bench/ import:
 #
 #   tools/python.sh tests/objects/create.py
 set -u
@@ -8,6 +8,6 @@ set -u
 top=$(CDPATH='' cd "$(dirname "$0")/.." && pwd -P) || exit 1
 PYTHONPATH=$top/python:$top
 export PYTHONPATH
-# What Python compiles is not kept in the repository.
+# The bytecode of Python is not kept in the repository.
 [ -n "${PYTHONPYCACHEPREFIX:-}" ] || export PYTHONDONTWRITEBYTECODE=1
 exec python3 "$@"

@@ -1,12 +1,12 @@
 #!/bin/sh
-# Makes a release of the last commit, and says what it did: the tag vVERSION, and in a folder the
-# package for Debian, the sources, dist/PROVED, what CHANGELOG.md says of the version, and SHA256SUMS
-# of these. It sends nothing anywhere.
+# Makes a release of the last commit, and says what it did: the tag vVERSION; and in a folder the package
+# for Debian, the sources, dist/PROVED, the version's section of CHANGELOG.md, and SHA256SUMS of these.
+# It sends nothing anywhere.
 #
 #   tools/release.sh [FOLDER]   in FOLDER; else in out/vVERSION
 #
-# CHANGELOG.md begins with the version's section, `## VERSION, DATE`; nothing may differ from the last
-# commit; and dist/ has what is proved of its sources. Needs git, dpkg-deb, tar, gzip and python3.
+# CHANGELOG.md has to begin with the version's section, `## VERSION, DATE`; nothing may differ from the
+# last commit; and dist/ has to be made of its sources. Needs git, dpkg-deb, tar, gzip and python3.
 set -u
 told_folder=${1:+$(realpath -m "$1")}
 cd "$(dirname "$0")/.." || exit 1
@@ -18,7 +18,7 @@ fail() {
     exit 1
 }
 
-# What stands in the way of a release, a line each.
+# What prevents a release, one reason a line.
 faults() {
     [ -z "$(git status --porcelain)" ] || echo 'something differs from the last commit'
     tools/version.sh >"$work/versions" || cat "$work/versions"
@@ -38,7 +38,7 @@ notes() {
         CHANGELOG.md
 }
 
-# How many milliseconds a clone of the tag takes until it has answered a command.
+# The milliseconds until a new clone of the tag has answered a command.
 answering() {
     git -c advice.detachedHead=false clone -q --branch "v$version" . "$work/clone" || return 1
     start=$(date +%s%3N)

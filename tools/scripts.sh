@@ -1,39 +1,37 @@
 #!/bin/sh
-# Runs the scripts of tests/ and examples/, and the shell tests of tests/, with each of the two
-# programs that `rt ci` leaves, and with the one in dist/ where that has other bytes, and compares
-# what comes of them with the files beside them. Then it runs the scripts that are to end well with
-# tpmsim_lists, which keeps the device's state in lists and not in fixed places, for the same bytes
-# over both keeps; and the shell tests of that program; and those of the library and of what is
-# attached by it, over the one in dist/. Where nothing was built here, what is in dist/ is run alone;
-# that needs no `rt`.
+# Plays the scripts of tests/ and examples/, and the shell tests of tests/, and compares the results with
+# the expected files next to them. It uses each of the two programs that `rt ci` leaves, and the one in
+# dist/ if that has other bytes. Then tpmsim_lists, which keeps the device's state in lists and not in
+# fixed places, plays the scripts that are to end well, and has to print the same bytes. At last come the
+# shell tests of that program, and those of the library in dist/ and of what attaches it. If nothing was
+# built here, only what is in dist/ is tested; that needs no `rt`.
 #
 #   tools/scripts.sh                   all of them
 #   tools/scripts.sh --shipped         those of what is in dist/ alone
-#   tools/scripts.sh --built           the others: those of the programs built here that have other bytes
+#   tools/scripts.sh --built           the others: those of programs built here that have other bytes
 #   tools/scripts.sh pcr_extend files  these
 #   tools/scripts.sh 'nv/*' 'torn*'    those of the folder tests/nv, and those whose names begin so
 #   JOBS=1 tools/scripts.sh            one after another, and not one on each processor
 #
-# The tests work in folders in memory, where there is room for them, or in TMPDIR, where that is set.
+# The tests work in folders in memory, if there is enough, or in TMPDIR, if that is set.
 #
 # NAME.tpm is run as `PROGRAM run NAME.tpm`, or as `tpmsim_lists <NAME.tpm`, and NAME.sh as `sh
 # NAME.sh PROGRAM`. A shell test whose name begins with lists_ is run with tpmsim_lists alone, one
 # whose name begins with library_ or attached_ with dist/libtpmsim.a, and all others with the
 # other programs.
-# NAME.out is what standard output must be, NAME.err what standard error must be (no file: empty),
-# and NAME.status the exit status (no file: 0). Where there is a NAME.trace, NAME.tpm is run as
-# `PROGRAM run --trace NAME.tpm` too, which is a further test, and NAME.trace is what standard
-# output must be. A shell test that cannot run here ends with status 77, and prints one line, its
-# reason: it is skipped, and so counted, as is one whose program is not there. What is said stands
-# in the order of programs and of tests, whichever ends first. The last line is `N passed, M
-# failed`, and behind that `, K skipped` where a test was. Before it stands a line with the packages of
-# Debian's that would play what was skipped, where there are any.
+# NAME.out is the expected standard output, NAME.err the expected standard error (no file: empty), and
+# NAME.status the expected status (no file: 0). If there is a NAME.trace, a further test runs NAME.tpm
+# as `PROGRAM run --trace NAME.tpm` and expects NAME.trace as standard output. A shell test that cannot
+# run here ends with status 77, and prints one line, its reason: it is skipped, and so counted, as is
+# a test whose program is missing. Results are printed in the order of programs and of tests, whichever
+# ends first. The last line is `N passed, M failed`, followed by `, K skipped` if a test was skipped. The
+# line before it names the packages of Debian with which the skipped tests could be played, if any.
 set -u
 
 top=$(CDPATH='' cd "$(dirname "$0")/.." && pwd -P) || exit 1
 out=$top/crates/tpmsim/out
 lists=$top/crates/tpmsim_lists/out/tpmsim_lists
-# What is shipped for this machine.
+# The shipped files for this machine.
 in_dist=$top/dist/tpmsim
 [ "$(uname -sm)" != 'Linux aarch64' ] || in_dist=$top/dist/aarch64/tpmsim
 library=${in_dist%/*}/libtpmsim.a
@@ -46,20 +44,20 @@ work=
 [ -n "$work" ] || work=$(mktemp -d) || exit 1
 trap 'rm -rf "$work"' EXIT
 mkdir "$work/told" "$work/rooms" "$work/queue" || exit 1
-# A test may be played as another user, who has to reach its folder.
+# A test may run as another user, who has to reach its folder.
 chmod a+x "$work" "$work/rooms"
 export TMPDIR="$work/rooms"
-# Where python3 only starts another one, as pyenv's does, the tests start that one at once.
+# If python3 only starts another one, as pyenv's does, the tests start that one directly.
 if found=$(command -v python3); then
     started=$(python3 -c 'import sys; print(sys.executable)')
     [ "${started:-$found}" = "$found" ] || PATH=${started%/*}:$PATH
 fi
-# Whether Python is whole is found out once.
+# This checks once whether Python is whole.
 . "$top/tools/lib/python.sh"
 unset TPMSIM_PYTHON
 ! python_is_whole || export TPMSIM_PYTHON=whole
-# The tests share what Python compiles, which the environment may forbid it to keep, and what several
-# of them compile of C.
+# The tests share the bytecode of Python, which the environment may forbid it to keep, and the C programs
+# that several of them compile.
 export PYTHONPYCACHEPREFIX="$work/python" TPMSIM_BUILT="$work/built"
 unset PYTHONDONTWRITEBYTECODE
 number=0
@@ -67,13 +65,13 @@ number=0
 # The tests that take longest begin first, then the other shell tests, and then the scripts.
 longest=' audit python policy_audit images bent_lines starved library_scripts launcher torn '
 
-# say WORDS: a line that stands between what is said of tests.
+# say WORDS: prints a line between the results of tests.
 say() {
     number=$((number + 1))
     echo "$1" >"$work/told/$number"
 }
 
-# check TEST PROGRAM WANTED [OPTION]: a test that is to be played.
+# check TEST PROGRAM WANTED [OPTION]: queues a test.
 check() {
     number=$((number + 1))
     printf '%s\t%s\t%s\t%s\n' "$1" "$2" "$3" "${4:-}" >"$work/queue/$number"
@@ -89,7 +87,7 @@ skip() {
     say "skipped: $1: $2"
 }
 
-# is_test PATH: whether it is a test; what tests/common has is none.
+# is_test PATH: whether it is a test; the files of tests/common are not.
 is_test() {
     case $1 in
     "$top/tests/common/"*) false ;;
@@ -121,8 +119,7 @@ for name do
     [ -n "$found" ] || say "FAILED: $name: there is no such test"
 done
 
-# is_of_library TEST: whether it is a test of the library, of what is attached by it, or of the module for
-# web pages.
+# is_of_library TEST: whether it tests the library, what attaches it, or the module for web pages.
 is_of_library() {
     case $1 in
     */library_*.sh | */attached_*.sh | */web/*.sh) true ;;
@@ -130,13 +127,13 @@ is_of_library() {
     esac
 }
 
-# Whether the program in dist/ is of the sources as they stand.
+# Whether the program in dist/ was made of the current sources.
 shipped_is_of_sources() (
     cd "$top" && . tools/lib/proved.sh && is_proved sources "$(sources_checksum)"
 )
 
-# is_asked PROGRAM: whether it is one of those that are asked for. A program that was built here is
-# played as the one in dist/, where it has the same bytes and that is of the sources.
+# is_asked PROGRAM: whether it is one of the programs to be tested. A program that was built here counts
+# as the one in dist/ if it has the same bytes, and that was made of the current sources.
 is_asked() {
     case $asked,$1 in
     shipped,"$in_dist" | ,*) true ;;
@@ -145,7 +142,7 @@ is_asked() {
     esac
 }
 
-# missing PROGRAM: says so, where others were built here.
+# missing PROGRAM: says that it is missing, if others were built here.
 missing() {
     [ ! -x "$out/tpmsim" ] || say "${1#"$top/"} is not there"
 }
@@ -179,7 +176,7 @@ for program in "$out/tpmsim" "$out/tpmsim.by-rattle" "$in_dist"; do
 done
 [ "$programs" -gt 0 ] || say 'FAILED: no program was there to be run'
 
-# ends_well SCRIPT: whether it is to.
+# ends_well SCRIPT: whether its expected status is 0.
 ends_well() {
     [ ! -f "${1%.*}.status" ] || [ "$(cat "${1%.*}.status")" -eq 0 ]
 }
@@ -201,14 +198,14 @@ for test do
     esac
 done
 
-# Whether the library in dist/ is of the sources as they stand, and the one that was proved.
+# Whether the library in dist/ was made of the current sources, and is the proved one.
 library_is_proved() (
     cd "$top" && . tools/lib/proved.sh &&
         is_proved 'library sources' "$(sources_checksum tpmsim_library)" &&
         is_proved 'library archive' "$(checksum <"$library")"
 )
 
-# Why no test of the library can run; nothing where they can.
+# Why no test of the library can run; nothing if they can.
 missing_library() {
     [ -f "$library" ] || { echo "${library#"$top/"} is not there" && return; }
     library_is_proved || echo "${library#"$top/"} was proved of other sources than these"
@@ -226,7 +223,7 @@ for test do
     fi
 done
 
-# Shows what is told of the next tests, as far as it is.
+# Prints the results of the next tests, as far as they are known.
 next=1
 show() {
     while [ -f "$work/told/$next" ]; do
@@ -235,7 +232,7 @@ show() {
     done
 }
 
-# The shell tests begin first, which take longest; of the scripts a process plays several.
+# The shell tests begin first, since they take longest; a process plays several of the scripts.
 touch "$work/longest" "$work/long" "$work/short"
 { cat "$work/longest" "$work/long" && xargs -r -n 12 <"$work/short"; } |
     xargs -r -P "$jobs" -L 1 sh "$top/tools/lib/play_tests.sh" "$work" |
@@ -248,7 +245,7 @@ touch "$work/longest" "$work/long" "$work/short"
         done
     }
 
-# count WORD: how many tests were told with this word.
+# count WORD: the number of tests whose result begins with this word.
 count() {
     find "$work/told" -type f -exec cat {} + | grep -c "^$1: "
 }

@@ -1,5 +1,5 @@
 #!/bin/sh
-# Tells the version at each place that says it, a place a line. The status is 1 where they differ.
+# Prints the version at each place that has it, one place a line. The status is 1 if they differ.
 #
 #   tools/version.sh [PROGRAM]   of this program; else of dist/tpmsim
 set -u
@@ -10,7 +10,7 @@ case $program in
 esac
 cd "$(dirname "$0")/.." || exit 1
 
-# of_header FILE: the version that a header has as a number, by its digits in hex.
+# of_header FILE: the version that a header has as a number in hex.
 of_header() {
     number=$(sed -n 's/^#define TPMSIM_VERSION_NUMBER 0x\([0-9a-f]\{6\}\)$/\1/p' "$1")
     rest=${number#??}

@@ -3,30 +3,30 @@
 # prover's verdict for the module's own target, the kit, the checksums of the sources and of the module,
 # and the tool that lowered it.
 #
-# The kit links a module whose memory has 64-bit addresses. Debian's binaryen makes one of it whose memory
-# has 32-bit addresses, which every browser and node run without a flag: only that one is shipped.
-# binaryen is no step of the proof, as the linker is none.
+# The kit links a module whose memory has 64-bit addresses. Debian's binaryen converts it to one with 32-bit
+# addresses, which every browser and node run without a flag: only that one is shipped. binaryen is not part
+# of the proof, nor is the linker.
 #
 #   tools/web.sh           makes it
-#   tools/web.sh --check   makes it again, and compares it with dist/tpmsim.wasm: the bytes, where the kit
-#                          and binaryen are those that PROVED names, and else the checksums alone
+#   tools/web.sh --check   makes it again, and compares it with dist/tpmsim.wasm: its bytes, if kit and
+#                          binaryen are those that PROVED names, and else its checksums alone
 #
-# The crates below stand built here, as `rt ci` leaves them, with no newer source: tools/build.sh builds
-# them. Needs `rt`, and Debian's binaryen.
+# The crates below have to be built here, as `rt ci` leaves them, and no source may be newer:
+# tools/build.sh builds them. Needs `rt`, and Debian's binaryen.
 set -u
 cd "$(dirname "$0")/.." && top=$(pwd -P) || exit 1
 . tools/lib/proved.sh
 . tools/lib/compiling.sh
 ship x86_64
 target=wasm64-unknown-unknown
-# The stack in bytes, which lies below all that a page lends.
+# The size of the stack in bytes, which is below all memory that a page passes to the module.
 stack=1048576
 work=$(mktemp -d) || exit 1
 trap 'rm -rf "$work"' EXIT
 log=$work/log
 : >"$log"
 
-# fail REASON: ends the script, and shows what was logged last.
+# fail REASON: ends the script, and prints the end of the log.
 fail() {
     [ ! -s "$log" ] || tail -n 20 "$log" >&2
     echo "$0: $1" >&2
@@ -45,14 +45,14 @@ link() {
             -o "$work/wide.wasm" "$work/exports.a" >>"$log" 2>&1
 }
 
-# The module uses these features of WebAssembly, which all browsers have, besides wide memory.
+# Besides wide memory the module uses these features of WebAssembly, which all browsers have.
 lower() {
     wasm-opt --enable-memory64 --enable-bulk-memory --enable-sign-ext --enable-mutable-globals \
         --enable-nontrapping-float-to-int --memory64-lowering "$work/wide.wasm" -o "$work/tpmsim.wasm" \
         >>"$log" 2>&1
 }
 
-# Writes the module's lines of dist/PROVED behind the others.
+# Writes the module's lines of dist/PROVED after the others.
 tell_proved() {
     {
         [ ! -f "$proved" ] || sed '/^web /d' "$proved"
@@ -68,7 +68,7 @@ deliver() {
     mkdir -p dist && mv "$work/tpmsim.wasm" "$module" && chmod 644 "$module" && tell_proved
 }
 
-# What is wrong with dist/tpmsim.wasm, a fault a line.
+# What is wrong with dist/tpmsim.wasm, one fault a line.
 faults() {
     faults_of_module
     if ! { is_proved 'web kit' "$kit" && is_proved "web lowering, which is no prover's step" "$binaryen"; }; then

@@ -1,11 +1,11 @@
 #!/usr/bin/env python3
-"""Makes the Python package with the library and the program in it, and prints its path:
-tpmsim-VERSION-py3-none-manylinux_2_34_MACHINE.whl, which pip installs without a network. The same sources
+"""Makes the Python package, which contains the library and the program, and prints its path:
+tpmsim-VERSION-py3-none-manylinux_2_34_MACHINE.whl. pip installs it without a network. The same sources
 make the same bytes.
 
-    tools/wheel.py [--machine aarch64] [FOLDER]   in FOLDER; else in out/
+    tools/wheel.py [--machine aarch64] [FOLDER]   in FOLDER; by default in out/
 
-It is for this machine, or by --machine for another. It needs python3 3.11 alone.
+The package is for this machine, or for the one that --machine names. Needs only python3 3.11.
 """
 
 import argparse
@@ -14,7 +14,7 @@ import pathlib
 import platform
 import sys
 
-# What Python compiles is not kept in the repository.
+# The repository contains no Python bytecode.
 sys.dont_write_bytecode = sys.pycache_prefix is None
 TOP = pathlib.Path(__file__).resolve().parents[1]
 sys.path.insert(0, str(TOP / "python" / "packing"))
@@ -23,7 +23,7 @@ import tpmsim_wheel  # noqa: E402
 
 
 def faults(machine: str) -> list[str]:
-    """What is in dist/ and has other bytes than PROVED names."""
+    """Returns the files of dist/ whose bytes differ from those that PROVED names."""
     folder = tpmsim_wheel.shipped(machine)
     lines = (folder / "PROVED").read_text("ascii").splitlines()
     proved = dict(line.split(": ", 1) for line in lines)

@@ -1,34 +1,39 @@
 #!/usr/bin/env python3
-"""Names the words that docs/STYLE.md replaces, in documents and in the comments of code, each with its
-line and what to write.
+"""Reports the words that docs/STYLE.md replaces, in documents and in the comments of code, each with its
+line and what to write instead.
 
-    tools/words.py              all documents of the repository, and the folders of code that are held
-    tools/words.py docs/MAP.md  these
+    tools/words.py              all documents of the repository, and all code
+    tools/words.py docs/MAP.md  only these files
 
-Code, links and what docs/STYLE.md shows are left out. The status is 1 if a word is found.
+Skips code, links and the examples in docs/STYLE.md. The status is 1 if a word is found.
 """
 
 from __future__ import annotations
 
+import ast
 import dataclasses
+import io
 import re
 import subprocess
 import sys
-from collections.abc import Iterator
+import tokenize
+from collections.abc import Callable, Iterator
 from pathlib import Path
 
 TOP = Path(__file__).resolve().parent.parent
 STYLE = TOP / "docs" / "STYLE.md"
 LEXICON = re.compile(r"<!-- lexicon -->\n(.*)<!-- end of lexicon -->", re.DOTALL)
-# The folders of code whose comments are held to the lexicon. The others are not written again yet.
-HELD = ["hosts", "library", "go", "js", "rust", "web"]
-ENDINGS = (".c", ".h", ".hpp", ".go", ".js", ".mjs", ".rs")
-# what JSDoc writes of a type: the names in it are code
+# A comment of a definition or of a proof, and a comment of a shell script.
+DASHES = re.compile(r"(?:^|\s)--\s(.*)$")
+HASH = re.compile(r"^\s*#(?!!)(.*)$")
+# the part of JSDoc that describes a type: the names in it are code
 TYPE = re.compile(r"@\w+\s+\{.*\}+\s*\[?\w*|^[\s*]*\}+\s*\w+|import\(.*|\w+\?:|\{[^{}]*\}")
 COMMENT = re.compile(r"/\*.*?\*/|//[^\n]*", re.DOTALL)
 STRING = re.compile(r"\"(?:[^\"\\\n]|\\.)*\"|'(?:[^'\\\n]|\\.)'")
 CRATES, END_OF_CRATES = "<!-- crates -->", "<!-- end of crates -->"
-CODE = re.compile(r"`[^`]*`|\]\([^)]*\)|<!--.*?-->")
+CODE = re.compile(r"`[^`]*`|\]\([^)]*\)|<!--.*?-->|[\w/.-]+\.(?:sh|py|out)\b|\w+/\w[\w/]*")
+# the name of a shell function, with its arguments, as its comment starts
+USAGE = re.compile(r"^\s*\w+(?: [][A-Z_.]+)*: ")
 
 
 @dataclasses.dataclass(frozen=True)
@@ -39,10 +44,11 @@ class Entry:
     allowed: re.Pattern[str] | None
 
     def found_in(self, line: str) -> Iterator[str]:
-        """The words that a line has, but in a phrase in which they are allowed."""
+        """Yields the words that a line contains, except in names and in phrases that allow them."""
         spans = [it.span() for it in self.allowed.finditer(line)] if self.allowed else []
         for match in self.words.finditer(line):
-            if not any(start <= match.start() < end for start, end in spans):
+            is_name = match[0][1:] != match[0][1:].lower()
+            if not is_name and not any(start <= match.start() < end for start, end in spans):
                 yield match[0]
 
 
@@ -55,7 +61,7 @@ def cells_of(row: str) -> list[str]:
 
 
 def any_of(words: str) -> str:
-    """A pattern for words and phrases with commas between them."""
+    """Returns a pattern for words and phrases separated by commas."""
     return "|".join(re.escape(it.strip()).replace(r"\ ", r"\s+") for it in words.split(","))
 
 
@@ -71,8 +77,9 @@ def lexicon() -> list[Entry]:
 
 
 def lines_of(text: str) -> Iterator[tuple[int, str]]:
-    """The lines of a document, with their numbers, without its code and the list of crates, which is made
-    of comments in code."""
+    """Yields the lines of a document, with their numbers, without its code and without the list of
+    crates, which consists of comments in code.
+    """
     is_code = False
     for number, line in enumerate(text.splitlines(), 1):
         if line.lstrip().startswith("```") or line in (CRATES, END_OF_CRATES):
@@ -82,16 +89,64 @@ def lines_of(text: str) -> Iterator[tuple[int, str]]:
 
 
 def comments_of(text: str) -> Iterator[tuple[int, str]]:
-    """The lines of the comments of C, C++, Go, JavaScript or Rust, with their numbers."""
+    """Yields the lines of comments in C, C++, Go, JavaScript or Rust, with their numbers."""
     bare = STRING.sub(lambda it: " " * len(it[0]), text)
+    number, seen = 1, 0
     for comment in COMMENT.finditer(bare):
-        first = bare.count("\n", 0, comment.start()) + 1
-        for number, line in enumerate(comment[0].splitlines(), first):
-            yield number, CODE.sub("``", TYPE.sub("``", line))
+        number += bare.count("\n", seen, comment.start())
+        seen = comment.start()
+        for offset, line in enumerate(comment[0].splitlines()):
+            yield number + offset, CODE.sub("``", TYPE.sub("``", line))
+
+
+def matched(pattern: re.Pattern[str], text: str) -> Iterator[tuple[int, str]]:
+    """Yields what a pattern matches in each line, with the line's number."""
+    for number, line in enumerate(text.splitlines(), 1):
+        if found := pattern.search(line):
+            yield number, CODE.sub("``", found[1])
+
+
+def of_definitions(text: str) -> Iterator[tuple[int, str]]:
+    return matched(DASHES, text)
+
+
+def of_shell(text: str) -> Iterator[tuple[int, str]]:
+    for number, line in matched(HASH, text):
+        yield number, USAGE.sub("", line)
+
+
+def docstrings(text: str) -> Iterator[ast.Constant]:
+    """Yields the docstrings of a Python module, and of its classes and functions."""
+    for node in ast.walk(ast.parse(text)):
+        body = node.body if isinstance(node, DOCUMENTED) else []
+        if body and isinstance(body[0], ast.Expr) and isinstance(body[0].value, ast.Constant):
+            if isinstance(body[0].value.value, str):
+                yield body[0].value
+
+
+def of_python(text: str) -> Iterator[tuple[int, str]]:
+    """Yields the lines of docstrings and comments; indented lines of a docstring are code."""
+    lines = text.splitlines()
+    for string in docstrings(text):
+        for number in range(string.lineno, (string.end_lineno or string.lineno) + 1):
+            line = lines[number - 1][string.col_offset :]
+            if not line.startswith("    "):
+                yield number, CODE.sub("``", line)
+    for token in tokenize.generate_tokens(io.StringIO(text).readline):
+        if token.type == tokenize.COMMENT:
+            yield token.start[0], CODE.sub("``", token.string)
+
+
+def reader_of(path: Path) -> Callable[[str], Iterator[tuple[int, str]]] | None:
+    """Returns the function that reads the English lines of a file."""
+    if path.suffix in READERS:
+        return READERS[path.suffix]
+    with path.open("rb") as file:
+        return of_shell if not path.suffix and file.read(9) == b"#!/bin/sh" else None
 
 
 def found_in(path: Path, entries: list[Entry]) -> Iterator[str]:
-    lines = comments_of if path.suffix in ENDINGS else lines_of
+    lines = reader_of(path) or lines_of
     for number, line in lines(path.read_text(encoding="utf-8")):
         for entry in entries:
             for word in entry.found_in(line):
@@ -99,17 +154,24 @@ def found_in(path: Path, entries: list[Entry]) -> Iterator[str]:
                 yield f"{name}:{number}: {word}: write {entry.plain}"
 
 
-def listed(*patterns: str) -> list[Path]:
-    """The files of the repository that match."""
-    ran = subprocess.run(
-        ["git", "ls-files", *patterns], cwd=TOP, check=True, stdout=subprocess.PIPE, text=True
-    )
-    return [TOP / name for name in ran.stdout.split()]
+DOCUMENTED = (ast.Module, ast.ClassDef, ast.FunctionDef, ast.AsyncFunctionDef)
+READERS: dict[str, Callable[[str], Iterator[tuple[int, str]]]] = {
+    **dict.fromkeys((".rt", ".c", ".h", ".hpp", ".go", ".js", ".mjs", ".rs"), comments_of),
+    ".antt": of_definitions,
+    ".sh": of_shell,
+    ".py": of_python,
+    ".md": lines_of,
+}
 
 
 def held() -> list[Path]:
-    code = [it for it in listed(*HELD) if it.suffix in ENDINGS]
-    return [*(it for it in listed("*.md") if it != STYLE), *code]
+    """Returns the files of the repository whose English must follow the lexicon."""
+    ran = subprocess.run(
+        ["git", "ls-files"], cwd=TOP, check=True, stdout=subprocess.PIPE, text=True
+    )
+    files = [TOP / name for name in ran.stdout.splitlines()]
+    text = (it for it in files if it != STYLE and it.suffix in ("", *READERS) and it.is_file())
+    return [it for it in text if reader_of(it)]
 
 
 def main(names: list[str]) -> int:

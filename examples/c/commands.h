@@ -9,19 +9,19 @@
 #include <string.h>
 #include <sys/random.h>
 
-#define NONE 0xffffffffu /* behind the last handle of a command */
+#define NONE 0xffffffffu /* follows the last handle of a command */
 
 enum { OWNER = 0x40000001, NULL_HANDLE = 0x40000007, PASSWORD = 0x40000009 };
 enum { LOCKOUT = 0x4000000a, INDEX = 0x01000001 };
 enum { POLICY = 1, TRIAL = 3 };
 
-/* Bytes that are put behind each other. */
+/* Bytes that are appended one after another. */
 typedef struct {
     size_t size;
     uint8_t bytes[4096];
 } text;
 
-/* A TPM, and what it last answered: its response code, a handle, and its parameters with their size. */
+/* A TPM, and its last response: the response code, a handle, and the parameters with their size. */
 typedef struct {
     tpmsim device;
     uint8_t random[256];
@@ -50,7 +50,7 @@ static inline void put_number(text *to, uint64_t number, unsigned size) {
     while (size-- > 0) to->bytes[to->size++] = (uint8_t)(number >> 8 * size);
 }
 
-/* Puts a buffer with its size before it. */
+/* Appends a buffer with its size in front. */
 static inline void put_sized(text *to, const void *bytes, size_t size) {
     put_number(to, size, 2);
     put(to, bytes, size);
@@ -66,7 +66,7 @@ static inline uint32_t number_at(const uint8_t *bytes, unsigned size) {
     return number;
 }
 
-/* Ends the program, if something that cannot fail did. */
+/* Ends the program if something failed that cannot fail. */
 static inline void need(int holds, const char *what) {
     if (holds) return;
     fprintf(stderr, "%s\n", what);
@@ -82,7 +82,7 @@ static inline void begin(tpm *it) {
     tpmsim_execute(&it->device, startup, sizeof startup, 0, 0, it->random, it->response, &it->told);
 }
 
-/* Puts the authorization area of one entry. */
+/* Appends the authorization area of one entry. */
 static inline void put_sized_area(text *to, const text *entry) {
     put_number(to, entry->size, 4);
     put(to, entry->bytes, entry->size);
@@ -102,7 +102,7 @@ static inline void put_entry(text *to, by who) {
     put_sized_area(to, &entry);
 }
 
-/* The bytes of a command with its handles, of which NONE is the last. */
+/* The bytes of a command with its handles, the last of which is NONE. */
 static inline text command_of(uint32_t code, const uint32_t *handles, const by *who,
                               const text *parameters) {
     text body = {0}, command = {0};
@@ -116,7 +116,7 @@ static inline text command_of(uint32_t code, const uint32_t *handles, const by *
     return command;
 }
 
-/* Sends the bytes of a command. Whether it is accepted. */
+/* Sends the bytes of a command. Returns whether it is accepted. */
 static inline int send_bytes(tpm *it, const text *command, uint32_t code, int has_entry) {
     need(!tpmsim_execute(&it->device, command->bytes, command->size, 0, it->elapsed_ms, it->random,
                          it->response, &it->told),
@@ -125,7 +125,7 @@ static inline int send_bytes(tpm *it, const text *command, uint32_t code, int ha
     need(getrandom(it->random, it->told.drawn, 0) == (ssize_t)it->told.drawn, "no random bytes");
     it->code = number_at(it->response + 6, 4);
     it->parameters = it->response + 10;
-    if (code == 0x131 || code == 0x157 || code == 0x176) { /* these answer a handle */
+    if (code == 0x131 || code == 0x157 || code == 0x176) { /* these return a handle */
         it->handle = number_at(it->parameters, 4);
         it->parameters += 4;
     }
@@ -137,14 +137,14 @@ static inline int send_bytes(tpm *it, const text *command, uint32_t code, int ha
     return it->code == 0;
 }
 
-/* Sends a command with its handles, of which NONE is the last. Whether it is accepted. */
+/* Sends a command with its handles, the last of which is NONE. Returns whether it is accepted. */
 static inline int send_command(tpm *it, uint32_t code, const uint32_t *handles, const by *who,
                                const text *parameters) {
     const text command = command_of(code, handles, who, parameters);
     return send_bytes(it, &command, code, who != NULL);
 }
 
-/* Sends a command that is accepted. */
+/* Sends a command that has to be accepted. */
 static inline void must(tpm *it, uint32_t code, const uint32_t *handles, const by *who,
                         const text *parameters) {
     need(send_command(it, code, handles, who, parameters), "a command is refused");
@@ -164,7 +164,7 @@ static inline text take_buffer(tpm *it) {
     return buffer;
 }
 
-/* Puts PCRs of the SHA-256 bank: bit N stands for PCR N. */
+/* Appends a selection of PCRs of the SHA-256 bank: bit N stands for PCR N. */
 static inline void put_selection(text *to, uint32_t pcrs) {
     put(to, "\0\0\0\1\0\013\3", 7);
     for (unsigned at = 0; at < 3; at++) put_number(to, pcrs >> 8 * at & 0xff, 1);
@@ -187,7 +187,7 @@ static inline void flush(tpm *it, uint32_t handle) {
     must(it, 0x165, HANDLES(NONE), NULL, &parameters);
 }
 
-/* The digest of a trial session, which ends. */
+/* The digest of a trial session, which is then flushed. */
 static inline text digest_of(tpm *it, uint32_t trial) {
     must(it, 0x189, HANDLES(trial), NULL, NULL);
     const text digest = take_buffer(it);
@@ -195,7 +195,7 @@ static inline text digest_of(tpm *it, uint32_t trial) {
     return digest;
 }
 
-/* A storage key of the owner's: an AES key, which the same template makes again. */
+/* A storage key of the owner's: an AES key. The same template makes it again. */
 static inline uint32_t storage_key(tpm *it, const char *owner) {
     text parameters = {0};
     put_number(&parameters, 4, 2);
@@ -206,7 +206,7 @@ static inline uint32_t storage_key(tpm *it, const char *owner) {
     return it->handle;
 }
 
-/* Seals data below a storage key, with a value and a policy, and loads them. */
+/* Seals data under a storage key, with a value and a policy, and loads them. */
 static inline uint32_t seal(tpm *it, uint32_t parent, const char *value, text policy,
                             const char *data) {
     text sensitive = {0}, public = {0}, parameters = {0}, areas = {0};
@@ -254,10 +254,10 @@ static inline const uint8_t *measure(tpm *it, uint32_t pcr, const char *data) {
     text parameters = {0};
     put_sized(&parameters, data, strlen(data));
     must(it, 0x13c, HANDLES(pcr), BY_PASSWORD(""), &parameters);
-    return it->parameters + 4 + 2 + 20 + 2; /* their number, and that of SHA-1, stand before it */
+    return it->parameters + 4 + 2 + 20 + 2; /* their number and the SHA-1 digest come first */
 }
 
-/* Prints a line of an example: the buffer that was answered, or the code and the check of a refusal. */
+/* Prints a line of an example: the returned buffer, or the code and the check of a refusal. */
 static inline void tell(tpm *it, const char *what) {
     char check[5];
     if (it->code) {

@@ -1,5 +1,5 @@
-/* A disk's key is sealed to PCRs 7 and 11 and a PIN. It is refused after PCR 11 moved on, and recovered by a
-   second branch of its policy, which asks for the owner's passphrase. */
+/* A disk's key is sealed to PCRs 7 and 11 and a PIN. It is refused after PCR 11 has changed. Then a second
+   branch of its policy, which asks for the owner's passphrase, recovers it. */
 #include "commands.h"
 
 static const char disk_key[] = "the key of a disk, of 32 bytes..";
@@ -44,7 +44,7 @@ static text make_policy(tpm *it) {
     return digest_of(it, trial);
 }
 
-/* Unseals the disk's key by the first branch that holds, and prints it, or why there is none. */
+/* Unseals the disk's key by the first branch that holds, and prints it, or the reason why not. */
 static void open_disk(tpm *it, const char *what, uint32_t disk, const char *given_pin,
                       const char *given_passphrase) {
     const uint32_t session = start_session(it, POLICY);

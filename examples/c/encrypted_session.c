@@ -1,5 +1,5 @@
-/* A secret crosses the way to the TPM encrypted, by a session that is bound to the owner, whose value is not
-   sent either. Who listens learns neither, and cannot send again what was heard. */
+/* A secret travels to the TPM encrypted, by a session that is bound to the owner, whose value is not sent
+   either. Someone who listens learns neither, and cannot send the same bytes again. */
 #include "session.h"
 
 static const char secret[] = "a secret of 24 bytes, ok";
@@ -10,7 +10,7 @@ enum { SECRET_BYTES = sizeof secret - 1 };
 /* An NV index that the owner writes and reads; the device adds that it is written. */
 enum { BY_OWNER = 0x00020002, WRITTEN = 0x20000000 };
 
-/* All that crossed the way to the TPM, the last command, and the last response in plain. */
+/* All that was sent to the TPM, the last command, and the last response in plain. */
 static text heard, last, plain;
 
 static const char *told(const char *what, size_t size) {
@@ -29,7 +29,7 @@ static text area(uint32_t attributes) {
     return public;
 }
 
-/* What cpHash has of the owner and of the index. */
+/* The part of cpHash for the owner and the index. */
 static text names(uint32_t attributes) {
     text both = {0};
     put_number(&both, OWNER, 4);
@@ -38,7 +38,7 @@ static text names(uint32_t attributes) {
     return both;
 }
 
-/* Sends a command that the owner authorizes, and listens. Whether it is accepted. */
+/* Sends a command that the owner authorizes, and listens. Returns whether it is accepted. */
 static int send_by(tpm *it, session *by_session, uint32_t code, const uint32_t *handles, text names,
                    text parameters, uint8_t attributes) {
     const text entry = entry_of(by_session, code, &names, &parameters, CONTINUES | attributes);
@@ -50,7 +50,7 @@ static int send_by(tpm *it, session *by_session, uint32_t code, const uint32_t *
     return accepted;
 }
 
-/* Reads the secret, which the response has encrypted, and prints it. */
+/* Reads the secret, which is encrypted in the response, and prints it. */
 static void read_secret(tpm *it, session *by_session, const char *what) {
     const text sizes = {4, {0, SECRET_BYTES, 0, 0}};
     if (send_by(it, by_session, 0x14e, HANDLES(OWNER, INDEX), names(BY_OWNER | WRITTEN), sizes,

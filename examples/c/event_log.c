@@ -1,5 +1,5 @@
-/* A measured boot: each piece of software is measured into a PCR before it runs, and its digest goes to a log.
-   Who has the log and the PCRs replays the log on another TPM, and believes it if the same values come of it. */
+/* A measured boot: each piece of software is measured into a PCR before it runs, and its digest goes to a
+   log. Someone with the log and the PCRs replays the log on another TPM, and trusts it if the PCRs agree. */
 #include "commands.h"
 
 enum { COUNT = 5 };
@@ -12,12 +12,12 @@ typedef struct {
 
 static const uint32_t pcrs[] = {0, 4, 7, 11};
 
-/* The values of the four PCRs, with the size of each before it. */
+/* The values of the four PCRs, each with its size in front. */
 static text values_of(tpm *it) {
     text values = {0}, parameters = {0};
     put_selection(&parameters, 1u << 0 | 1u << 4 | 1u << 7 | 1u << 11);
     must(it, 0x17e, HANDLES(NONE), NULL, &parameters);
-    /* The update counter, the selection and the number of values stand before them. */
+    /* The update counter, the selection and the number of values come first. */
     put(&values, it->parameters + 4 + 10 + 4, 4 * (2 + 32));
     return values;
 }
@@ -37,7 +37,7 @@ static text replayed(const measurement *log, size_t count) {
     return values;
 }
 
-/* Prints what who replays a log says of it. */
+/* Prints the judgement of someone who replays a log. */
 static void judge(const char *what, const measurement *log, size_t count, text values) {
     const text found = replayed(log, count);
     const char *between = ": PCR ";

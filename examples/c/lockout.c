@@ -1,14 +1,14 @@
-/* Wrong PINs are counted. After three of them the TPM looks at none any more, until an hour of device time has
-   passed; or at once by the lockout's own value. */
+/* The TPM counts wrong PINs. After three of them it checks none any more, until an hour of device time has
+   passed, or until lockoutAuth resets the count. */
 #include "commands.h"
 
-/* An index that its value writes and reads. */
+/* An index that is written and read with its own value. */
 static const uint32_t by_value = 0x00040004;
 
 static const char pin[] = "7391";
 static const uint32_t hour = 3600;
 
-/* Prints the data of the index by a PIN, or why there are none. */
+/* Prints the data of the index, read with a PIN, or the reason why not. */
 static void tell_data(tpm *it, const char *what, const char *given) {
     read_index(it, given);
     tell(it, what);

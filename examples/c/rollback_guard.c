@@ -1,8 +1,8 @@
-/* A counter holds the lowest version that may be started. A key that is sealed for a version is given out while
-   the counter is not above it; and the counter never goes back, whatever becomes of its index. */
+/* A counter holds the lowest version that may start. The TPM returns the key that is sealed for a version
+   while the counter is not above it. The counter never goes back, whatever becomes of its index. */
 #include "commands.h"
 
-/* A counter that its value and the owner write and read. */
+/* A counter that is read and written with its own value, or by the owner. */
 static const uint32_t counter = 0x00060016;
 
 static void increment(tpm *it) { must(it, 0x134, HANDLES(INDEX, INDEX), BY_PASSWORD(""), NULL); }
@@ -17,11 +17,11 @@ static int at_most(tpm *it, uint32_t session, uint32_t version) {
     text parameters = {0};
     put_number(&parameters, 8, 2);
     put_number(&parameters, version, 8);
-    put_number(&parameters, 9, 4); /* from offset 0 on, less than or equal to, without sign */
+    put_number(&parameters, 9, 4); /* from offset 0 on; unsigned, less than or equal */
     return send_command(it, 0x149, HANDLES(INDEX, INDEX, session), BY_PASSWORD(""), &parameters);
 }
 
-/* Prints the key of a version, or why there is none. */
+/* Prints the key of a version, or the reason why not. */
 static void tell_key(tpm *it, const char *what, uint32_t version) {
     const uint32_t trial = start_session(it, TRIAL);
     need(at_most(it, trial, version), "a trial session refuses");

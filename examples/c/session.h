@@ -5,8 +5,8 @@
 
 #include "commands.h"
 
-/* Attributes of an entry: the session goes on; what the device does with the first parameter, of the command
-   or of the response. */
+/* Attributes of an entry: the session continues; the device decrypts the command's first parameter, or
+   encrypts the response's. */
 enum { CONTINUES = 0x01, DECRYPTS = 0x20, ENCRYPTS = 0x40 };
 
 enum { HASH_BYTES = 32, BLOCK_BYTES = 16, NONCE_BYTES = 16 };
@@ -148,7 +148,7 @@ static inline void encrypt_block(const uint8_t *first_key, uint8_t *block) {
     }
 }
 
-/* AES-128 in mode CFB: the keys have a key and a block to begin with. */
+/* AES-128 in mode CFB, with a key and an initial block. */
 static inline void cfb(hash keys, int encrypts, uint8_t *data, size_t size) {
     uint8_t *before = keys.bytes + BLOCK_BYTES;
     for (size_t at = 0; at < size; at++) {
@@ -178,7 +178,7 @@ static inline session start_bound(tpm *device, uint32_t bind, const char *value)
     return it;
 }
 
-/* The keys that encrypt, of two nonces. */
+/* The encryption keys that follow from two nonces. */
 static inline hash keys_of(const session *it, const uint8_t *newer, const uint8_t *older) {
     text key = {0};
     put(&key, it->key.bytes, HASH_BYTES);
@@ -186,7 +186,7 @@ static inline hash keys_of(const session *it, const uint8_t *newer, const uint8_
     return kdfa(&key, "CFB", newer, older);
 }
 
-/* The HMAC of an entry, from the front of what cpHash or rpHash is made of. */
+/* The HMAC of an entry; `hashed` is the front of the bytes of cpHash or rpHash. */
 static inline hash mac_of(const session *it, text hashed, const text *parameters,
                           const uint8_t *newer, const uint8_t *older, uint8_t attributes) {
     text key = {0}, message = {0};
@@ -199,7 +199,7 @@ static inline hash mac_of(const session *it, text hashed, const text *parameters
     return hmac(&key, &message);
 }
 
-/* The entry of a command with these Names of its handles. Its first parameter is encrypted, if the attributes
+/* The entry of a command with these Names of its handles. The first parameter is encrypted if the attributes
    say so. */
 static inline text entry_of(session *it, uint32_t code, const text *names, text *parameters,
                             uint8_t attributes) {

@@ -1,5 +1,5 @@
-"""A disk's key is sealed to PCRs 7 and 11 and a PIN. It is refused after PCR 11 moved on, and recovered by a
-second branch of its policy, which asks for the owner's passphrase.
+"""A disk's key is sealed to PCRs 7 and 11 and a PIN. It is refused after PCR 11 has changed. Then a second
+branch of its policy, which asks for the owner's passphrase, recovers it.
 """
 
 from tpmsim.caller import Caller, digest_of, HERE, Refused, sealed, storage_key
@@ -23,7 +23,7 @@ or
 
 
 def unseal(tpm: Caller, handle: int, policy: str) -> str:
-    """The disk's key, or why there is none."""
+    """The disk's key, or the reason why there is none."""
     try:
         return tpm.send(tpm.unsealing(handle, tpm.policy(policy)))["outData"].decode()
     except Refused as refused:

@@ -1,5 +1,5 @@
-"""A secret crosses the way to the TPM encrypted, by a session that is bound to the owner, whose value is not
-sent either. Who listens learns neither, and cannot send again what was heard.
+"""A secret travels to the TPM encrypted, by a session that is bound to the owner, whose value is not sent
+either. Someone who listens learns neither, and cannot send the same bytes again.
 """
 
 from tpmsim.caller import area, BY_OWNER, Caller, Refused
@@ -10,7 +10,7 @@ SECRET, OWNER = b"a secret of 24 bytes, ok", b"the owner's value"
 
 
 class Way:
-    """The way to a TPM, where somebody listens."""
+    """A connection to a TPM on which somebody listens."""
 
     def __init__(self, device: Transport) -> None:
         self.device, self.heard = device, b""

@@ -1,5 +1,5 @@
-"""A measured boot: each piece of software is measured into a PCR before it runs, and its digest goes to a log.
-Who has the log and the PCRs replays the log, and believes it if the same values come of it.
+"""A measured boot: each piece of software is measured into a PCR before it runs, and its digest goes to a
+log. Someone with the log and the PCRs replays the log, and trusts it if the PCRs agree.
 """
 
 import hashlib
@@ -37,7 +37,7 @@ def replayed(log: Log) -> list[bytes]:
 
 
 def verdict(log: Log, values: list[bytes]) -> str:
-    """What who replays a log says of it."""
+    """The judgement of someone who replays a log."""
     wrong = [str(pcr) for pcr, *both in zip(PCRS, replayed(log), values) if both[0] != both[1]]
     return f"PCR {', '.join(wrong)} differ" if wrong else "the PCRs are those of the log"
 

@@ -1,5 +1,5 @@
-"""Wrong PINs are counted. After three of them the TPM looks at none any more, until an hour of device time has
-passed; or at once by the lockout's own value.
+"""The TPM counts wrong PINs. After three of them it checks none any more, until an hour of device time has
+passed, or until lockoutAuth resets the count.
 """
 
 from tpmsim.caller import area, BY_VALUE, Caller, Refused
@@ -10,7 +10,7 @@ PIN, WRONG, HOUR = b"7391", b"1234", 3_600
 
 
 def read(tpm: Caller, index: int, pin: bytes) -> str:
-    """The data of the index by a PIN, or why there are none."""
+    """The data of the index, read with a PIN, or the reason why there are none."""
     try:
         return tpm.send(tpm.reading(index, 8, pin))["data"].decode()
     except Refused as refused:

@@ -1,5 +1,5 @@
-"""A counter holds the lowest version that may be started. A key that is sealed for a version is given out while
-the counter is not above it; and the counter never goes back, whatever becomes of its index.
+"""A counter holds the lowest version that may start. The TPM returns the key that is sealed for a version
+while the counter is not above it. The counter never goes back, whatever becomes of its index.
 """
 
 from tpmsim.caller import Caller, counter, digest_of, HERE, Refused, sealed, storage_key
@@ -19,7 +19,7 @@ def policy_of(tpm: Caller, index: int, version: int) -> str:
 
 
 def unseal(tpm: Caller, index: int, version: int) -> str:
-    """The key of a version, or why there is none."""
+    """The key of a version, or the reason why there is none."""
     words = policy_of(tpm, index, version)
     parent = tpm.create_primary(storage_key())
     made = tpm.create(parent, sealed(attributes=HERE, auth_policy=digest_of(words)), data=KEY)

@@ -3,10 +3,10 @@
 #include <stdlib.h>
 #include <string.h>
 
-enum word { STATE, COMPLETE, CUT, KEEP, LOCALITY, IMAGE, RANDOM, FORCE, WORDS };
+enum word { STATE, COMPLETE, DEVICE, RM, CUT, KEEP, LOCALITY, IMAGE, RANDOM, FORCE, WORDS };
 
-static const char *const NAMES[WORDS] = {"state=",    "complete", "cut",     "keep=",
-                                         "locality=", "image=",   "random=", "force="};
+static const char *const NAMES[WORDS] = {"state=", "complete",  "device", "rm",      "cut",
+                                         "keep=",  "locality=", "image=", "random=", "force="};
 
 static bool read_locality(struct words *words, const char *value) {
     if (value[0] < '0' || value[0] > '4' || value[1]) return false;
@@ -58,7 +58,9 @@ static bool read_random(struct words *words, const char *value) {
 static bool read_value(struct words *words, enum word word, const char *value) {
     switch (word) {
     case STATE: words->options.folder = value; return *value != 0;
-    case COMPLETE: words->options.completes = true; return *value == 0;
+    case COMPLETE: return *value == 0;
+    case DEVICE: words->options.completes = false; return *value == 0;
+    case RM: words->flushes = true; return *value == 0;
     case CUT: words->options.cuts = true; return *value == 0;
     case KEEP: return read_keep(words, value);
     case LOCALITY: return read_locality(words, value);
@@ -93,6 +95,12 @@ static bool has_folder(const bool seen[WORDS], enum word word, struct reason *re
            refuse(reason, NAMES[word], NULL, "is of use beside state=DIR alone", 0);
 }
 
+/* Whether the layer is not both asked for and switched off. */
+static bool has_one_layer(const bool seen[WORDS], struct reason *reason) {
+    return !seen[COMPLETE] || !seen[DEVICE] ||
+           refuse(reason, NAMES[COMPLETE], NULL, "cannot be combined with device", 0);
+}
+
 static bool read_words(struct words *words, struct reason *reason) {
     bool seen[WORDS] = {false};
     char *rest = words->text;
@@ -100,12 +108,13 @@ static bool read_words(struct words *words, struct reason *reason) {
         const char *text = strsep(&rest, ",");
         if (!read_word(words, seen, text, reason)) return false;
     }
-    return has_folder(seen, FORCE, reason) && has_folder(seen, CUT, reason) &&
-           has_folder(seen, KEEP, reason);
+    return has_one_layer(seen, reason) && has_folder(seen, FORCE, reason) &&
+           has_folder(seen, CUT, reason) && has_folder(seen, KEEP, reason) &&
+           has_folder(seen, RM, reason);
 }
 
 bool words_read(struct words *words, const char *text, struct reason *reason) {
-    *words = (struct words){.text = strdup(text ? text : "")};
+    *words = (struct words){.text = strdup(text ? text : ""), .options.completes = true};
     if (!words->text)
         return refuse(reason, "the module", NULL, "wants memory that is not there", 0);
     if (!*words->text || read_words(words, reason)) return true;

@@ -1,4 +1,4 @@
-/* The functions that swtpm registered, and what they answer. */
+/* The callbacks that swtpm registered, and what they return. */
 #include "callbacks.h"
 
 #include "report.h"

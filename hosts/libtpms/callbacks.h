@@ -1,4 +1,4 @@
-/* What swtpm does for its TPM: it keeps states by name, and reports the locality. */
+/* What swtpm does for its TPM: it stores states by name, and reports the locality. */
 #ifndef CALLBACKS_H
 #define CALLBACKS_H
 
@@ -6,18 +6,18 @@
 #include <stddef.h>
 #include <stdint.h>
 
-/* Has swtpm get ready. */
+/* Makes swtpm prepare. */
 bool begin_callbacks(void);
 
 enum kept { KEPT, NOT_KEPT, NOT_READ };
 
-/* Whether swtpm keeps a state under a name. Where it does, the bytes are the caller's to free. */
+/* Whether swtpm stores a state under a name. If so, the caller has to free the bytes. */
 enum kept load_state(const char *name, uint8_t **bytes, size_t *size);
 
-/* Has swtpm keep a state under a name. */
+/* Makes swtpm store a state under a name. */
 bool store_state(const char *name, const uint8_t *bytes, size_t size);
 
-/* The locality that swtpm has now, 0 to 4; another number if it reports none. */
+/* Returns swtpm's current locality, 0 to 4; another number if it reports none. */
 uint32_t locality_now(void);
 
 #endif

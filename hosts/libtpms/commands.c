@@ -11,7 +11,7 @@
 
 enum { LOCALITIES = 5 };
 
-/* TPM_RC_FAILURE, where a command is not executed. */
+/* TPM_RC_FAILURE, for a command that is not executed. */
 static const uint8_t FAILURE[] = {0x80, 0x01, 0, 0, 0, 10, 0, 0, 0x01, 0x01};
 
 /* Executes a command at swtpm's locality. */
@@ -46,5 +46,5 @@ TPM_RESULT TPMLIB_Process(unsigned char **respbuffer, uint32_t *resp_size, uint3
     return TPM_SUCCESS;
 }
 
-/* A command is done before anything can cancel it. */
+/* A command completes before anything can cancel it. */
 TPM_RESULT TPMLIB_CancelCommand(void) { return TPM_SUCCESS; }

@@ -1,4 +1,4 @@
-/* The device, and what is written of each command before it is answered. */
+/* The device, and what is written about each command before it is answered. */
 #include "device.h"
 
 #include "host_clock.h"
@@ -9,7 +9,7 @@
 
 #include <string.h>
 
-/* The head of a journal has at most 72,726 bytes. */
+/* The head of a journal is at most 72,726 bytes long. */
 enum { HEAD_MOST = 72 * 1024 };
 
 static tpmsim device;
@@ -18,7 +18,7 @@ static uint64_t latest;
 /* The record of the last command, until it is written. */
 static uint8_t record[TPMSIM_RECORD_ROOM];
 static size_t record_size;
-/* Whether the record or the permanent state was not written when it had to be. */
+/* Whether writing the record or the permanent state has failed. */
 static bool is_behind;
 
 tpmsim *the_device(void) { return &device; }
@@ -29,7 +29,7 @@ void let_device_complete(bool completes) { completing = completes; }
 
 uint64_t time_of_device(void) { return latest; }
 
-/* The head that a journal of the device begins with, and with it a record. */
+/* Makes the head of the device's journal, and starts a record with it. */
 static uint8_t head[HEAD_MOST];
 
 static bool begin_with_head(size_t size) {
@@ -61,7 +61,7 @@ bool write_last(void) {
     return !is_behind;
 }
 
-/* Executes a command: with its record, with the completing layer, or the device alone. */
+/* Executes a command: with its record, with the completing layer, or only by the device. */
 static uint8_t run(const uint8_t *buffer, size_t size, uint8_t locality, uint32_t elapsed,
                    const uint8_t *random, uint8_t *response, tpmsim_answered *answered) {
     if (is_recorded())

@@ -17,33 +17,33 @@ struct response {
 /* The device, for calls that do not execute a command. */
 tpmsim *the_device(void);
 
-/* Whether there is one. */
+/* Whether there is a device. */
 bool device_is_on(void);
 
-/* Whether the completing layer is on, from now on. */
+/* Switches the completing layer on or off, from now on. */
 void let_device_complete(bool completes);
 
-/* The device's power comes on: its completing layer, its clock and its record begin. */
+/* Powers the device on: its completing layer, its clock and its record start. */
 bool begin_device(void);
 
-/* The device goes on whose last command was executed at this time of a host's clock; its record begins. */
+/* Continues the device whose last command was executed at this time of a host's clock; its record starts. */
 bool resume_device(uint64_t time);
 
 /* The time of the host's clock at the last command. */
 uint64_t time_of_device(void);
 
-/* Executes a command from a locality of 0 to 4, writes its record if one is asked for, and has the permanent
-   state written if that changed. If one is not written, the reason is reported, there is no response, and no
-   other command is executed until both are. */
+/* Executes a command from a locality of 0 to 4, writes its record if recording was requested, and has the
+   permanent state written if it changed. If writing either fails, the reason is reported, there is no
+   response, and no other command is executed until both are written. */
 bool execute(const uint8_t *buffer, size_t size, uint8_t locality, struct response *response);
 
-/* Whether the last command's record and the permanent state are written, as far as they have to be. */
+/* Whether the last command's record and the permanent state are written, if they have to be. */
 bool last_was_written(void);
 
-/* Writes what of them is to be written. If it cannot, the reason is reported. */
+/* Writes whichever of them has to be written. On failure, the reason is reported. */
 bool write_last(void);
 
-/* Takes the power away. */
+/* Powers the device off. */
 void free_device(void);
 
 #endif

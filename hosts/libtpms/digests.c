@@ -1,4 +1,4 @@
-/* The two digests of FIPS 180-4, which have blocks and padding in common. */
+/* The two digests of FIPS 180-4, which share blocks and padding. */
 #include "digests.h"
 
 #include <string.h>

@@ -1,4 +1,4 @@
-/* What is reported of this TPM, whatever its state is. */
+/* What is reported about this TPM, whatever its state is. */
 #include "device.h"
 #include "report.h"
 
@@ -9,11 +9,11 @@
 #include <stdlib.h>
 #include <string.h>
 
-/* The version of libtpms whose names are here. */
+/* The version of libtpms whose interface this implements. */
 static const uint32_t VERSION = 10 << 8;
 
-/* The flags of TPMLIB_GetInfo that are answered, in their order; libtpms 0.10 has others, of which nothing
-   is reported. */
+/* The supported flags of TPMLIB_GetInfo, in their order; libtpms 0.10 has others, for which nothing is
+   reported. */
 static const struct {
     unsigned flag;
     const char *text;
@@ -27,7 +27,7 @@ static const struct {
 
 uint32_t TPMLIB_GetVersion(void) { return VERSION; }
 
-/* swtpm reports if a version is refused, and asks for each when it prints what it can do. */
+/* swtpm reports a refused version, and tries every version when it prints its capabilities. */
 TPM_RESULT TPMLIB_ChooseTPMVersion(TPMLIB_TPMVersion ver) {
     return ver == TPMLIB_TPM_VERSION_2 ? TPM_SUCCESS : TPM_FAIL;
 }
@@ -62,7 +62,7 @@ char *TPMLIB_GetInfo(enum TPMLIB_InfoFlags flags) {
     return NULL;
 }
 
-/* A profile chooses among algorithms and commands, and this device has one choice. */
+/* A profile selects algorithms and commands; for this device there is only one selection. */
 TPM_RESULT TPMLIB_SetProfile(const char *profile);
 TPM_RESULT TPMLIB_SetProfile(const char *profile) {
     if (profile == NULL) return TPM_SUCCESS;

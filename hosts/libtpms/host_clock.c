@@ -1,11 +1,11 @@
-/* The clock of a device that is on: it does not hear when somebody sets the time of day. */
+/* The clock of a device that is on: changes of the time of day do not affect it. */
 #include "host_clock.h"
 
 #include <time.h>
 
 static uint64_t begun_at, stopwatch_then;
 
-/* A clock of the system in milliseconds; 0 where there is none, so that no time passes. */
+/* Returns a clock of the system in milliseconds; 0 if there is none, so that no time passes. */
 static uint64_t milliseconds(clockid_t clock) {
     struct timespec told;
     if (clock_gettime(clock, &told) != 0 || told.tv_sec < 0) return 0;

@@ -1,5 +1,5 @@
 /* A dynamic launch, by commands from locality 4: PCRs 17 to 22 are reset, and PCR 17 is extended by the
-   digests of what was hashed. */
+   digests of the hashed data. */
 #include "launch.h"
 
 #include "callbacks.h"
@@ -15,10 +15,10 @@
 enum { HARDWARE = 4, TRUSTED_SYSTEM = 3, FIRST_PCR = 17, LAST_PCR = 22, PCR_AT = 13 };
 enum { RESPONSE_CODE_AT = 6, HEAD_BYTES = 10 };
 
-/* TPM2_PCR_Reset of a PCR by an empty password; the last byte of its handle is at PCR_AT. */
+/* TPM2_PCR_Reset of a PCR with an empty password; the last byte of its handle is at PCR_AT. */
 static const uint8_t RESET[] = {0x80, 0x02, 0, 0, 0, 27, 0,    0, 0x01, 0x3d, 0, 0, 0, 0,
                                 0,    0,    0, 9, 0x40, 0, 0, 9, 0,    0,    0, 0, 0};
-/* TPM2_PCR_Extend of PCR 17 by an empty password, with two digests. */
+/* TPM2_PCR_Extend of PCR 17 with an empty password and two digests. */
 static const uint8_t EXTEND[] = {0x80, 0x02, 0, 0, 0, 87, 0, 0, 0x01, 0x82, 0, 0, 0, FIRST_PCR, 0, 0,
                                  0,    9,    0x40, 0, 0, 9, 0, 0, 0,  0,    0, 0, 0, 0,         2};
 static const uint8_t SHA1_ALGORITHM[] = {0, 0x04}, SHA256_ALGORITHM[] = {0, 0x0b};

@@ -1,13 +1,13 @@
-/* A dynamic launch: what is hashed by the hardware, at locality 4. */
+/* A dynamic launch: the hardware hashes data at locality 4. */
 #ifndef LAUNCH_H
 #define LAUNCH_H
 
 #include <stdbool.h>
 
-/* Whether there was a launch that nothing has taken back. */
+/* Whether there was a launch that has not been revoked. */
 bool was_launched(void);
 
-/* Says so from now on. */
+/* Sets that from now on. */
 void tell_launch(bool was_launched);
 
 #endif

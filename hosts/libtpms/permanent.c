@@ -1,4 +1,4 @@
-/* What the device keeps without power, as it was when it was stored last. */
+/* What the device keeps without power, as it was last stored. */
 #include "permanent.h"
 
 #include "callbacks.h"
@@ -8,7 +8,7 @@
 #include <stdlib.h>
 #include <string.h>
 
-/* An image has at most 28,361 bytes, and what is kept without Clock has fewer. */
+/* An image is at most 28,361 bytes long, and what is kept without Clock is shorter. */
 enum { IMAGE_MOST = 32 * 1024 };
 
 struct text {

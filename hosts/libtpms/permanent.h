@@ -1,5 +1,5 @@
-/* The permanent state, which is the device's image. It is written when the device changed in more than its
-   clock. */
+/* The permanent state, which is the device's image. It is written if more than the device's clock has
+   changed. */
 #ifndef PERMANENT_H
 #define PERMANENT_H
 
@@ -8,25 +8,25 @@
 #include <stdbool.h>
 #include <tpmsim.h>
 
-/* Makes the permanent state of a device, whose bytes are the caller's to free. */
+/* Makes the permanent state of a device; the caller has to free the bytes. */
 bool make_permanent_state(tpmsim *device, struct state *state);
 
-/* Opens the device of a permanent state, as its power comes on. */
+/* Opens the device of a permanent state, in the state after power-on. */
 bool open_permanent_state(tpmsim *device, const struct state *state);
 
-/* Takes the image of a device for what is kept. */
+/* Notes that the image of this device is the stored one. */
 void take_as_permanent(tpmsim *device);
 
-/* Whether a device keeps without power what is kept, its clock aside. */
+/* Whether what a device keeps without power is what is stored, except for its clock. */
 bool is_permanent(tpmsim *device);
 
-/* Has swtpm keep the image of a device. */
+/* Makes swtpm store the image of a device. */
 bool store_permanent(tpmsim *device);
 
-/* Has swtpm keep the image of a device that is not what is kept, its clock aside. */
+/* Makes swtpm store the image of a device if more than the clock differs from the stored one. */
 bool keep_permanent(tpmsim *device);
 
-/* Clears what was noted, which holds secrets. */
+/* Clears what was noted, which contains secrets. */
 void forget_permanent(void);
 
 #endif

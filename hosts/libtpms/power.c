@@ -1,4 +1,4 @@
-/* The power of the device, which swtpm gives and takes. */
+/* The power of the device, which swtpm switches on and off. */
 #include "callbacks.h"
 #include "device.h"
 #include "launch.h"
@@ -13,10 +13,10 @@
 #include <stdlib.h>
 #include <string.h>
 
-/* Whether the last power on made a new device. */
+/* Whether the last power-on made a new device. */
 static bool was_manufactured;
 
-/* Whether the completing layer is asked for, by the environment. */
+/* Whether the environment requests the completing layer. */
 static bool read_completing(void) {
     const char *asked = getenv("TPMSIM_COMPLETE");
     if (asked == NULL || *asked == 0 || strcmp(asked, "0") == 0) {
@@ -38,7 +38,7 @@ static bool manufacture(void) {
     return was_manufactured;
 }
 
-/* Opens the device of the permanent state, or makes a new one where there is none. */
+/* Opens the device of the permanent state, or makes a new one if there is none. */
 static bool open_permanent(bool *is_to_be_stored) {
     struct state state;
     enum kept kept = find_state(TPMLIB_STATE_PERMANENT, &state);
@@ -50,7 +50,7 @@ static bool open_permanent(bool *is_to_be_stored) {
     return is_open;
 }
 
-/* Has the device go on where it was left. What it keeps without power has to be what is kept. */
+/* Continues the device where it stopped. What it keeps without power has to be what is stored. */
 static bool resume(const struct state *state) {
     struct moment moment;
     if (!open_volatile_state(the_device(), state, &moment)) return false;
@@ -62,7 +62,7 @@ static bool resume(const struct state *state) {
     return resume_device(moment.time);
 }
 
-/* Goes on from the volatile state, or begins as power comes on where there is none. */
+/* Continues from the volatile state, or powers on if there is none. */
 static bool open_volatile(void) {
     struct state state;
     enum kept kept = find_state(TPMLIB_STATE_VOLATILE, &state);

@@ -1,4 +1,4 @@
-/* Random bytes by getrandom, as many as were drawn. */
+/* Random bytes from getrandom, to replace those that were drawn. */
 #include "randomness.h"
 
 #include "report.h"
@@ -9,7 +9,7 @@
 #include <sys/types.h>
 
 static uint8_t bytes[RANDOM_BYTES];
-/* How many at the front are not fresh. */
+/* The number of bytes at the front that are not fresh. */
 static size_t stale = RANDOM_BYTES;
 
 const uint8_t *random_bytes(void) {
@@ -20,7 +20,7 @@ const uint8_t *random_bytes(void) {
             report("the system gives no random bytes: %s", strerror(errno));
             return NULL;
         }
-        /* What is there is at the front, so a short result leaves nothing fresh after it. */
+        /* getrandom fills the front, so after a short result the bytes at the end are still stale. */
         if ((size_t)given == stale) stale = 0;
     }
     return bytes;

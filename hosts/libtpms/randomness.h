@@ -1,4 +1,4 @@
-/* The host's random bytes: 256 that each command gets, of which those are replaced that it drew. */
+/* The host's random bytes: each command gets 256, and those that it drew are then replaced. */
 #ifndef RANDOMNESS_H
 #define RANDOMNESS_H
 
@@ -7,10 +7,10 @@
 
 enum { RANDOM_BYTES = 256 };
 
-/* RANDOM_BYTES bytes that nothing has drawn yet; NULL where the system gives none. */
+/* Returns RANDOM_BYTES bytes that nothing has drawn yet; NULL if the system provides none. */
 const uint8_t *random_bytes(void);
 
-/* So many bytes were drawn, from the front of the last ones. */
+/* Notes that this many bytes were drawn, from the front of the last ones. */
 void random_bytes_were_drawn(size_t count);
 
 /* Clears all of them. */

@@ -1,4 +1,4 @@
-/* A file that is written as the device goes on, its owner's alone. */
+/* A file that is written while the device runs, and that only its owner can read. */
 #include "record.h"
 
 #include "report.h"
@@ -13,7 +13,7 @@
 enum { PATH_BYTES = 4096, MOST_FILES = 1000 * 1000 };
 
 static int descriptor = -1;
-/* The size of the file, and of the texts that are whole. */
+/* The size of the file, and that of the complete texts in it. */
 static off_t present, whole;
 
 void end_record(void) {
@@ -48,7 +48,7 @@ bool begin_record(const uint8_t *text, size_t size) {
     return false;
 }
 
-/* Takes back what was written of a text that is not whole. Until that is done nothing is written after it. */
+/* Removes the incomplete text at the end. Until that succeeds, nothing is written after it. */
 static bool take_back(void) {
     if (present == whole) return true;
     if (ftruncate(descriptor, whole) != 0 || lseek(descriptor, whole, SEEK_SET) != whole) {

@@ -1,5 +1,5 @@
-/* What is asked for by TPMSIM_RECORD: a journal since power came on, or since the device went on from a volatile
-   state, in a file of the folder that it names. */
+/* The record that TPMSIM_RECORD requests: a journal since power-on, or since the device was restored from a
+   volatile state, in a file of the folder that it names. */
 #ifndef RECORD_H
 #define RECORD_H
 
@@ -7,14 +7,14 @@
 #include <stddef.h>
 #include <stdint.h>
 
-/* Begins a file with a text, where it is asked for: FOLDER/boot-N.tpm, with the first N that is free. */
+/* Creates FOLDER/boot-N.tpm, with the first unused N, and writes this text to it, if recording was requested. */
 bool begin_record(const uint8_t *text, size_t size);
 
-/* Writes a further text, whole, or reports why it is not. What was written of that one is taken back, now or
-   by the next call, which fails as long as that does. Without a record there is nothing to write. */
+/* Appends a whole text, or reports why it could not. An incomplete text is removed, now or by the next call,
+   which fails as long as the removal does. Without a record there is nothing to write. */
 bool write_record(const uint8_t *text, size_t size);
 
-/* Whether there is one. */
+/* Whether there is a record. */
 bool is_recorded(void);
 
 void end_record(void);

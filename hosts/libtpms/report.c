@@ -1,4 +1,4 @@
-/* Lines about faults, and where swtpm has them written to. */
+/* Lines about faults, and where swtpm has them written. */
 #include "report.h"
 
 #include <errno.h>
@@ -13,7 +13,7 @@
 
 enum { LINE_BYTES = 512, PREFIX_BYTES = 64 };
 
-/* The descriptor of swtpm's log; -1 where there is none. */
+/* The descriptor of swtpm's log; -1 if there is none. */
 static int log_descriptor = -1;
 static char log_prefix[PREFIX_BYTES];
 
@@ -68,7 +68,7 @@ const char *words_of_told(uint8_t told) {
 
 void TPMLIB_SetDebugFD(int fd) { log_descriptor = fd; }
 
-/* Faults are reported at each level, and nothing else is. */
+/* Faults are reported at every log level, and nothing else is. */
 void TPMLIB_SetDebugLevel(unsigned int level) { (void)level; }
 
 TPM_RESULT TPMLIB_SetDebugPrefix(const char *prefix) {

@@ -1,4 +1,4 @@
-/* States that are set, kept, made and looked at. */
+/* Sets, stores, makes and checks states. */
 #include "states.h"
 
 #include "device.h"
@@ -20,7 +20,7 @@ static const char *const names[TYPES] = {TPM_PERMANENT_ALL_NAME, TPM_VOLATILESTA
                                          TPM_SAVESTATE_NAME};
 static struct state set[TYPES];
 
-/* The place of a type, TYPES where there is no such type. */
+/* The index of a type; TYPES if there is no such type. */
 static size_t place_of(enum TPMLIB_StateType type) {
     size_t place = 0;
     while (place < TYPES && types[place] != type) place++;
@@ -57,7 +57,7 @@ enum kept find_state(enum TPMLIB_StateType type, struct state *state) {
     return copy(set[place].bytes, set[place].size, &state->bytes) ? KEPT : NOT_READ;
 }
 
-/* Whether a device can be opened of a state. */
+/* Whether a device can be opened from a state. */
 static bool is_state(enum TPMLIB_StateType type, const struct state *state) {
     tpmsim scratch = {0};
     struct moment moment;
@@ -97,8 +97,8 @@ TPM_RESULT TPMLIB_SetState(enum TPMLIB_StateType st, const unsigned char *buffer
     return result;
 }
 
-/* The volatile state of the device that is on. If the last command was not written, swtpm's user may already
-   have an older permanent state: there is no volatile state this time, even if the command is written now. */
+/* The volatile state of the running device. If the last command was not written, swtpm's user may already
+   have an older permanent state. Then there is no volatile state, even if the command is written now. */
 static bool make_present_volatile_state(struct state *state) {
     struct moment moment = {.time = time_of_device(), .was_launched = was_launched()};
     const char *reason = "the power is off";
@@ -111,7 +111,7 @@ static bool make_present_volatile_state(struct state *state) {
     return false;
 }
 
-/* The state of a device that is on. */
+/* The state of a running device. */
 static TPM_RESULT present_state(enum TPMLIB_StateType type, struct state *state) {
     bool is_made = true;
     if (type == TPMLIB_STATE_PERMANENT) is_made = make_permanent_state(the_device(), state);

@@ -1,4 +1,4 @@
-/* The states of a device: those that swtpm sets before power comes on, and else those that it keeps. */
+/* The states of a device: those that swtpm sets before power-on, and otherwise those that it stores. */
 #ifndef STATES_H
 #define STATES_H
 
@@ -16,14 +16,14 @@ struct state {
     bool is_set;
 };
 
-/* What is set, or else kept, of a type; its bytes are the caller's to free. A type that there is none of is
-   not kept. */
+/* Returns the state of a type that is set, or else the stored one; the caller has to free the bytes. A
+   missing state counts as not stored. */
 enum kept find_state(enum TPMLIB_StateType type, struct state *state);
 
 /* Clears the bytes of a state, and frees them. */
 void free_state(struct state *state);
 
-/* Forgets all that was set. */
+/* Forgets all states that were set. */
 void forget_states(void);
 
 #endif

@@ -1,5 +1,5 @@
-/* A state text, and a tail of 41 bytes: the time (8), whether there was a launch (1), and the SHA-256 of
-   these and of the last 32 bytes of the text, which are the digest of all before them (32). */
+/* A state text and a tail of 41 bytes: the time (8), whether there was a launch (1), and a SHA-256 (32) over
+   these and the last 32 bytes of the text, which are the digest of everything before them. */
 #include "volatile.h"
 
 #include "digests.h"
@@ -22,7 +22,7 @@ static void write_tail(uint8_t *tail, const struct moment *moment) {
     end_digests(&digests, sha1, tail + DIGEST_AT);
 }
 
-/* Reads the tail after a text of at least 32 bytes. Bytes that would not be written so are none. */
+/* Reads the tail after a text of at least 32 bytes. Only bytes as the writer writes them are a tail. */
 static bool read_tail(const uint8_t *tail, struct moment *moment) {
     uint8_t written[SHA256_BYTES + TAIL_BYTES];
     *moment = (struct moment){.was_launched = tail[LAUNCH_AT] != 0};
@@ -44,7 +44,7 @@ bool make_volatile_state(tpmsim *device, const struct moment *moment, struct sta
     return true;
 }
 
-/* Why a volatile state is refused; NULL where its device was opened. */
+/* Returns why a volatile state is refused; NULL if its device was opened. */
 static const char *fault_of(tpmsim *device, const struct state *state, struct moment *moment) {
     size_t size = state->size < TAIL_BYTES ? 0 : state->size - TAIL_BYTES;
     if (is_older_state(state->bytes, state->size))

@@ -1,5 +1,5 @@
-/* The volatile state: the state text of the device with its completing layer, and after it what is not the
-   device's. */
+/* The volatile state: the state text of the device with its completing layer, followed by data that are not
+   part of the device. */
 #ifndef VOLATILE_H
 #define VOLATILE_H
 
@@ -9,17 +9,17 @@
 #include <stdint.h>
 #include <tpmsim.h>
 
-/* When the device was left, and what swtpm asks about it. */
+/* When the device stopped, and what swtpm asks about it. */
 struct moment {
     /* The host's clock at the last command, in milliseconds. */
     uint64_t time;
     bool was_launched;
 };
 
-/* Makes the volatile state of a device, whose bytes are the caller's to free. */
+/* Makes the volatile state of a device; the caller has to free the bytes. */
 bool make_volatile_state(tpmsim *device, const struct moment *moment, struct state *state);
 
-/* Opens the device of a volatile state, also of one by an older library. */
+/* Opens the device of a volatile state, also of one from an older version of the library. */
 bool open_volatile_state(tpmsim *device, const struct state *state, struct moment *moment);
 
 #endif

@@ -3,16 +3,16 @@
 
 enum { HARDWARE = 4, FIRST_PCR = 17, LAST_PCR = 22, PCR_AT = 13, CODE_AT = 6, CODE_BYTES = 4 };
 
-/* TPM2_PCR_Reset of a PCR by an empty password; the last byte of its handle is at PCR_AT. */
+/* TPM2_PCR_Reset of a PCR with an empty password; the last byte of its handle is at PCR_AT. */
 static const uint8_t RESET[] = {0x80, 0x02, 0, 0, 0, 27, 0,    0, 0x01, 0x3d, 0, 0, 0, 0,
                                 0,    0,    0, 9, 0x40, 0, 0, 9, 0,    0,    0, 0, 0};
 
-/* TPM2_PCR_Extend of PCR 17 by an empty password, with two digests, which follow. */
+/* TPM2_PCR_Extend of PCR 17 with an empty password; the two digests follow. */
 static const uint8_t EXTEND[] = {0x80, 0x02, 0, 0, 0, 87, 0, 0, 0x01, 0x82, 0, 0, 0, FIRST_PCR, 0, 0,
                                  0,    9,    0x40, 0, 0, 9, 0, 0, 0,  0,    0, 0, 0, 0,         2};
 static const uint8_t SHA1_ALGORITHM[] = {0, 0x04}, SHA256_ALGORITHM[] = {0, 0x0b};
 
-/* The response without a session that TPM_RC_LOCALITY has. */
+/* The response TPM_RC_LOCALITY, without a session. */
 static const uint8_t WRONG_LOCALITY[] = {0x80, 0x01, 0, 0, 0, 10, 0, 0, 0x09, 0x07};
 
 bool board_execute(struct board *board, const uint8_t *buffer, size_t size, uint8_t locality,
@@ -40,7 +40,7 @@ bool board_reset(struct board *board, struct reason *reason) {
     return !board->is_powered || device_cycle_power(board->device, reason);
 }
 
-/* Executes a command from the locality of the hardware, and says whether it succeeded. */
+/* Executes a command from the hardware's locality, and reports whether it succeeded. */
 static bool execute_from_hardware(struct board *board, const uint8_t *command, size_t size,
                                   bool *succeeded, struct reason *reason) {
     static const uint8_t success[CODE_BYTES];

@@ -1,4 +1,4 @@
-/* The power of a device, and the signals of its platform. Both ports of a device have the same board. */
+/* The power of a device, and the signals of its platform. Both ports of a device share one board. */
 #ifndef BOARD_H
 #define BOARD_H
 #include "device.h"
@@ -8,29 +8,29 @@
 struct board {
     struct device *device;
     bool is_powered;
-    /* A dynamic launch has begun, whose code is hashed. */
+    /* A dynamic launch has started, and its code is being hashed. */
     bool is_launching;
     struct digests launched;
 };
 
-/* Each returns false with the reason if the device cannot go on; the simulator ends then. */
+/* Each function returns false with the reason if the device cannot continue; the simulator then ends. */
 
-/* Executes a command. Without power the response is empty; from a locality above 4 it is LOCALITY. */
+/* Executes a command. Without power the response is empty; for a locality above 4 it is LOCALITY. */
 bool board_execute(struct board *board, const uint8_t *buffer, size_t size, uint8_t locality,
                    struct response *response, struct reason *reason);
 
-/* Turns the power on, which cycles it if it was off. */
+/* Turns the power on; if it was off, the device is power-cycled. */
 bool board_power_on(struct board *board, struct reason *reason);
 void board_power_off(struct board *board);
 
-/* Cycles the power if it is on. */
+/* Power-cycles the device if its power is on. */
 bool board_reset(struct board *board, struct reason *reason);
 
-/* A dynamic launch: resets PCRs 17 to 22. Without power, or if the device refuses one, none begins. */
+/* Starts a dynamic launch: resets PCRs 17 to 22. No launch starts without power, or if a reset is refused. */
 bool board_begin_launch(struct board *board, struct reason *reason);
 void board_add_to_launch(struct board *board, const uint8_t *text, size_t size);
 
-/* Extends PCR 17 by the digests of what was added, if a launch has begun. */
+/* Extends PCR 17 with the digests of the added data, if a launch has started. */
 bool board_end_launch(struct board *board, struct reason *reason);
 
 #endif

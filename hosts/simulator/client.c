@@ -8,7 +8,7 @@
 #include <sys/socket.h>
 #include <unistd.h>
 
-/* What a client has while a request or its answer is on the way. */
+/* What a client needs while a request or its answer is in transit. */
 struct traffic {
     size_t came;
     size_t sent;
@@ -20,7 +20,7 @@ struct client {
     int socket;
     struct board *board;
     bool is_of_platform;
-    /* What is done once the answer is taken. */
+    /* What is done once the client has received the answer. */
     enum outcome next;
     /* NULL for an idle client. */
     struct traffic *traffic;
@@ -43,14 +43,14 @@ bool client_writes(const struct client *client) {
 
 static bool is_later(int error) { return error == EAGAIN || error == EWOULDBLOCK; }
 
-/* Says at once that bytes have come. Clients send a request in pieces, and their hosts wait with each
-   for the word on the one before, which a host else puts off for 40 ms. */
+/* Acknowledges received bytes at once. Clients send a request in pieces, and their hosts wait with each
+   piece for the acknowledgement of the previous one, which a host otherwise delays by 40 ms. */
 static void acknowledge(const struct client *client) {
     int on = 1;
     setsockopt(client->socket, IPPROTO_TCP, TCP_QUICKACK, &on, sizeof on);
 }
 
-/* Writes what is left of the answer. GOES_ON: all of it is taken, or the rest is for later. */
+/* Writes what is left of the answer. GOES_ON: all of it is sent, or the rest is sent later. */
 static enum outcome write_answer(struct client *client) {
     struct traffic *traffic = client->traffic;
     while (traffic->sent < traffic->answer.size) {
@@ -63,7 +63,7 @@ static enum outcome write_answer(struct client *client) {
     return client->next;
 }
 
-/* Does the request at the front, if it is whole, and begins to write its answer. */
+/* Executes the request at the front, if it is complete, and starts to write its answer. */
 static enum outcome do_request(struct client *client, bool *is_done, struct reason *reason) {
     struct traffic *traffic = client->traffic;
     size_t size = request_size(traffic->request, traffic->came, client->is_of_platform);
@@ -78,7 +78,7 @@ static enum outcome do_request(struct client *client, bool *is_done, struct reas
     return write_answer(client);
 }
 
-/* Does all whole requests, as far as their answers are taken. */
+/* Executes all complete requests, as long as their answers can be sent. */
 static enum outcome do_requests(struct client *client, struct reason *reason) {
     enum outcome outcome = GOES_ON;
     for (bool is_done = true; is_done && outcome == GOES_ON && !client_writes(client);)
@@ -86,7 +86,7 @@ static enum outcome do_requests(struct client *client, struct reason *reason) {
     return outcome;
 }
 
-/* Reads once. ENDS: there is nothing more, or a fault. */
+/* Reads once. ENDS: the input has ended or failed. */
 static enum outcome read_some(struct client *client) {
     struct traffic *traffic = client->traffic;
     ssize_t moved = recv(client->socket, traffic->request + traffic->came,
@@ -105,7 +105,7 @@ static bool begin_traffic(struct client *client) {
     return client->traffic != NULL;
 }
 
-/* Frees what an idle client has no use for. Commands and answers may have secrets. */
+/* Frees what an idle client does not need. Commands and answers may contain secrets. */
 static void end_traffic(struct client *client) {
     if (client->traffic) explicit_bzero(client->traffic, sizeof *client->traffic);
     free(client->traffic);
@@ -120,8 +120,8 @@ enum outcome client_go_on(struct client *client, struct reason *reason) {
     return outcome;
 }
 
-/* Reads what has come and is not needed. If a socket is closed with unread bytes, its client sees a reset,
-   and may lose the last answer. */
+/* Reads and discards received bytes. If a socket is closed with unread bytes, its client sees a reset, and
+   may lose the last answer. */
 static void read_rest(const struct client *client) {
     enum { PARTS = 16 };
     uint8_t unwanted[4096];

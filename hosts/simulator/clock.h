@@ -1,5 +1,5 @@
-/* The time of a device in memory, in milliseconds since 1970: the host's time when the simulator began, and
-   what passed since by a clock that never goes back, unless the time is stopped. */
+/* The time of a device in memory, in milliseconds since 1970: the host's time when the simulator started,
+   plus, unless time is stopped, what has passed since then on a clock that never goes back. */
 #ifndef CLOCK_H
 #define CLOCK_H
 #include <stdbool.h>

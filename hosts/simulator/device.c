@@ -13,7 +13,7 @@
 #include <sys/stat.h>
 
 struct device {
-    /* The device in a folder; NULL: it is in memory, and what follows is its own. */
+    /* The device in a folder; if NULL, the device is in memory, and uses the fields that follow. */
     struct kept *kept;
     tpmsim handle;
     struct clock clock;
@@ -47,7 +47,7 @@ static bool keep(struct device *device, bool always, struct reason *reason) {
     return !device->has_image || image_file_keep(&device->image, &device->handle, always, reason);
 }
 
-/* Cycles the power: a journal begins, and its record, if one is asked for. */
+/* Power-cycles the device: starts a journal, and its record if recording was requested. */
 static bool cycle(struct device *device, struct reason *reason) {
     uint64_t now_ms = clock_now(&device->clock);
     size_t size = tpmsim_journal_begin(&device->handle, now_ms, device->entry, 0);
@@ -108,7 +108,7 @@ static void tell_line(const char *sentence) {
     fprintf(stderr, "tpmsim-simulator: %s\n", sentence);
 }
 
-/* The folder of a device: the one that was named, or one of several within it. */
+/* The folder of a device: the named folder, or one of several within it. */
 static bool name_folder(const struct options *options, unsigned number, char folder[PATH_MAX],
                         struct reason *reason) {
     int size = options->devices == 1 ? snprintf(folder, PATH_MAX, "%s", options->folder)

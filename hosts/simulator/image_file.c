@@ -13,10 +13,10 @@
 #include <sys/file.h>
 #include <unistd.h>
 
-/* An image has fewer bytes. */
+/* Larger than any image. */
 enum { IMAGE_MOST = 64 * 1024 };
 
-/* Puts `end` after the path. False if that is too long. */
+/* Appends `end` to the path. False if the result is too long. */
 static bool path_with(char room[PATH_MAX], const char *path, const char *end,
                       struct reason *reason) {
     int size = snprintf(room, PATH_MAX, "%s%s", path, end);
@@ -62,7 +62,7 @@ bool image_file_open(struct image_file *file, const char *path, bool *is_there,
            refuse(reason, path, NULL, "cannot be looked at", errno);
 }
 
-/* Writes the new file, whole, and forces it to the disk. */
+/* Writes the whole new file, and syncs it to the disk. */
 static bool write_new(const char *path, const uint8_t *image, size_t size, struct reason *reason) {
     if (unlink(path) != 0 && errno != ENOENT)
         return refuse(reason, path, NULL, "cannot be removed", errno);
@@ -75,7 +75,7 @@ static bool write_new(const char *path, const uint8_t *image, size_t size, struc
     return is_written;
 }
 
-/* Forces the folder of the file to the disk. */
+/* Syncs the folder of the file to the disk. */
 static bool force_folder(const char *path, struct reason *reason) {
     char copy[PATH_MAX];
     if (!path_with(copy, path, "", reason)) return false;

@@ -1,6 +1,6 @@
-/* The file where a device in memory keeps its image. The file is replaced whole: a new one is written
-   next to it, FILE.new, forced to the disk, and renamed. FILE.lock is locked as long as the file is held,
-   as `tpmsim run --image` locks it, so that one program at a time has the image. */
+/* The file with the image of a device in memory. The file is replaced as a whole: a new one, FILE.new, is
+   written next to it, synced to the disk, and renamed. FILE.lock is locked as long as the file is in use,
+   as `tpmsim run --image` does, so that only one program at a time uses the image. */
 #ifndef IMAGE_FILE_H
 #define IMAGE_FILE_H
 #include "reason.h"
@@ -12,19 +12,19 @@
 struct image_file {
     const char *path;
     int lock;
-    /* What the device keeps without power, but for its clock, as it was written last. */
+    /* What the device keeps without power, except its clock, as it was last written. */
     uint8_t *kept;
     size_t kept_size;
-    /* Memory for the same now, and for an image. */
+    /* Memory for the current value of the same, and for an image. */
     uint8_t *now;
     uint8_t *image;
 };
 
-/* Locks the file. `is_there` says whether it has an image. False with the reason. */
+/* Locks the file. `is_there` reports whether it contains an image. False with the reason. */
 bool image_file_open(struct image_file *file, const char *path, bool *is_there,
                      struct reason *reason);
 
-/* Writes the image if the device keeps something else than what was written last, or if `always`.
+/* Writes the image if what the device keeps differs from what was last written, or if `always` is true.
    False with the reason. */
 bool image_file_keep(struct image_file *file, tpmsim *device, bool always, struct reason *reason);
 

@@ -8,7 +8,7 @@
 #include <sys/socket.h>
 #include <unistd.h>
 
-/* Clients that wait to be accepted, and how often two free ports are looked for. */
+/* The number of clients that may wait to be accepted, and how often two free ports are searched for. */
 enum { MOST_WAITING = 100, TRIES = 100 };
 
 union address {
@@ -30,12 +30,12 @@ static socklen_t address_of(const char *text, uint16_t port, union address *addr
     return sizeof address->six;
 }
 
-/* Both kinds of addresses have the port at one place. */
+/* Both kinds of addresses have the port at the same offset. */
 static uint16_t port_of(const union address *address) {
     return ntohs(address->any.sa_family == AF_INET ? address->four.sin_port : address->six.sin6_port);
 }
 
-/* A socket that listens; -1 with errno. `port` becomes the one that it has. */
+/* Returns a listening socket, or -1 with errno. `port` is set to its port. */
 static int listen_at(const char *text, uint16_t *port) {
     union address address;
     socklen_t size = address_of(text, *port, &address);
@@ -54,7 +54,7 @@ static int listen_at(const char *text, uint16_t *port) {
     return -1;
 }
 
-/* Two sockets at ports that follow each other. False with errno. */
+/* Opens two sockets with consecutive ports. False with errno. */
 static bool listen_at_two(const char *text, uint16_t port, int sockets[2]) {
     uint16_t first = port;
     sockets[0] = listen_at(text, &first);
@@ -69,7 +69,7 @@ static bool listen_at_two(const char *text, uint16_t port, int sockets[2]) {
     return false;
 }
 
-/* The same, where port 0 is two that are free. */
+/* The same, but port 0 stands for two free ports. */
 static bool open_pair(const char *text, uint16_t port, int sockets[2]) {
     int tries = port == 0 ? TRIES : 1;
     while (tries-- > 0)

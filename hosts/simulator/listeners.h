@@ -1,4 +1,4 @@
-/* The ports at which clients come: two for each device. */
+/* The ports at which clients connect: two for each device. */
 #ifndef LISTENERS_H
 #define LISTENERS_H
 #include "options.h"
@@ -6,12 +6,12 @@
 #include <netinet/in.h>
 
 struct listeners {
-    /* Of each device the socket of commands, and the one of the platform; -1 where there is none yet. */
+    /* For each device the socket for commands and the one for the platform; -1 if there is none yet. */
     int *sockets;
     size_t count;
 };
 
-/* Listens at all ports. False with the reason. */
+/* Listens on all ports. False with the reason. */
 bool listeners_open(struct listeners *listeners, const struct options *options,
                     struct reason *reason);
 

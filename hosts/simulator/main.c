@@ -1,4 +1,4 @@
-/* tpmsim-simulator: devices by the protocol of Microsoft's simulator. */
+/* tpmsim-simulator: serves devices with the protocol of Microsoft's simulator. */
 #define _GNU_SOURCE
 #include "board.h"
 #include "listeners.h"
@@ -18,7 +18,7 @@ static bool open_devices(struct board *boards, const struct options *options,
     return true;
 }
 
-/* Ends all devices. False with the reason of the first that cannot be kept. */
+/* Ends all devices. False with the reason for the first one that cannot be saved. */
 static bool close_devices(struct board *boards, unsigned count, struct reason *reason) {
     bool is_done = true;
     struct reason other;
@@ -29,7 +29,7 @@ static bool close_devices(struct board *boards, unsigned count, struct reason *r
     return is_done;
 }
 
-/* Serves until the end, and then ends the devices, before the clients hear of it. */
+/* Serves until the end, and then ends the devices, before the clients notice. */
 static bool serve(struct board *boards, const struct options *options,
                   const struct listeners *listeners, struct reason *reason) {
     struct server *server = server_of(listeners, boards, reason);

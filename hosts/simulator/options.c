@@ -42,13 +42,13 @@ static const char HELP_TEXT[] =
     "request to stop end it. The status is 2 for wrong words, and 3 if it cannot listen, or if the\n"
     "device cannot be had or kept.\n";
 
-/* Says what is wrong with the words. */
+/* Prints what is wrong with the words. */
 static enum options_read wrong(const char *said) {
     fprintf(stderr, "tpmsim-simulator: %s\n", said);
     return OPTIONS_WRONG;
 }
 
-/* Reads a decimal number of digits alone. */
+/* Reads a decimal number, which consists only of digits. */
 static bool read_number(const char *text, unsigned long most, unsigned long *number) {
     char *end;
     if (*text < '0' || *text > '9' || strlen(text) > 9) return false;
@@ -61,7 +61,7 @@ static bool is_address(const char *text) {
     return inet_pton(AF_INET, text, room) == 1 || inet_pton(AF_INET6, text, room) == 1;
 }
 
-/* The value of a digit of hex in either case; 16 if it is not one. */
+/* Returns the value of a hex digit in either case; 16 if it is not one. */
 static unsigned digit_of(char digit) {
     static const char DIGITS[] = "0123456789abcdef0123456789ABCDEF";
     const char *found = digit ? strchr(DIGITS, digit) : NULL;
@@ -96,7 +96,7 @@ static bool read_clock(struct options *options, const char *text) {
     return options->is_timeless || strcmp(text, "host") == 0;
 }
 
-/* Reads the value of a word. */
+/* Reads the value of an option. */
 static bool read_value(struct options *options, enum word word, const char *text) {
     unsigned long number = 0;
     bool is_good = true;
@@ -124,7 +124,7 @@ static bool read_value(struct options *options, enum word word, const char *text
     }
 }
 
-/* What does not go together, or NULL. */
+/* Returns which options cannot be combined, or NULL. */
 static const char *clash_in(const struct options *options, bool has_force, bool has_keep) {
     if (options->folder && (options->image || options->record || options->is_timeless))
         return "--state goes without --image, --record and --clock commands";

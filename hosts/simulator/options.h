@@ -1,4 +1,4 @@
-/* What the words of the simulator's command line ask for. */
+/* The options on the simulator's command line. */
 #ifndef OPTIONS_H
 #define OPTIONS_H
 #include "kept.h"
@@ -9,18 +9,18 @@
 enum { SEED_BYTES = 256, MOST_DEVICES = 1000 };
 
 struct options {
-    /* The port of the first device's commands. 0: each device has two ports that are free. */
+    /* The port for the first device's commands. 0: each device gets two free ports. */
     uint16_t port;
-    /* An address by its numbers. */
+    /* A numeric address. */
     const char *address;
     unsigned devices;
-    /* The folder where the device is kept; NULL: it is in memory. */
+    /* The folder in which the device is kept; NULL: it is in memory. */
     const char *folder;
-    /* The file where the image of a device in memory is kept; NULL: nowhere. */
+    /* The file to which the image of a device in memory is saved; NULL: none. */
     const char *image;
-    /* The folder that gets a journal of each time of power of a device in memory; NULL: none. */
+    /* The folder for the journals of a device in memory, one for each power-on; NULL: none. */
     const char *record;
-    /* The bytes of which all random ones are made, for runs that repeat; none: those of the system. */
+    /* The seed of all random bytes, for reproducible runs; empty: the system's random bytes. */
     uint8_t seed[SEED_BYTES];
     size_t seed_size;
     enum kept_force force;
@@ -33,8 +33,8 @@ struct options {
 
 enum options_read { OPTIONS_GOOD, OPTIONS_SHOWN, OPTIONS_WRONG };
 
-/* Reads the words. OPTIONS_SHOWN: help or the version was asked for, and was written to standard output.
-   OPTIONS_WRONG: the words are wrong, which a line on standard error says. */
+/* Reads the words. OPTIONS_SHOWN: help or the version was requested, and was written to standard output.
+   OPTIONS_WRONG: the words are wrong, and a line on standard error says why. */
 enum options_read options_read(struct options *options, int count, char **words);
 
 #endif

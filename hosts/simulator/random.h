@@ -1,5 +1,5 @@
-/* The random bytes of a device: fresh ones of the system, or, for runs that repeat, those that a seed
-   leads to: block after block the SHA-256 of the seed and the block's number. */
+/* The random bytes of a device: fresh ones from the system or, for reproducible runs, bytes from a seed: for
+   each block the SHA-256 of the seed and the block's number. */
 #ifndef RANDOM_H
 #define RANDOM_H
 #include <stdbool.h>
@@ -15,11 +15,11 @@ struct random {
     uint8_t bytes[RANDOM_BYTES];
 };
 
-/* Begins; `seed` lies there as long as this does, and has a size of 0 if the system is asked. `stream`
-   is a number that no other device of this seed has. */
+/* Initializes it. `seed` must exist as long as this; size 0 selects the system's bytes. No other device
+   with this seed has the same number `stream`. */
 void random_begin(struct random *random, const uint8_t *seed, size_t seed_size, unsigned stream);
 
-/* Fills all bytes again. False if the system gives none. */
+/* Replaces all bytes. False if the system provides none. */
 bool random_renew(struct random *random);
 
 #endif

@@ -1,5 +1,5 @@
-/* The journals of a device in memory: a file for each time of power, FOLDER/boot-N.tpm, with the first
-   N that is free. Each holds secrets, and is its owner's alone. */
+/* The journals of a device in memory: a file for each power-on, FOLDER/boot-N.tpm, with the first unused N.
+   Each contains secrets, and only its owner can read it. */
 #ifndef RECORD_FILE_H
 #define RECORD_FILE_H
 #include "reason.h"
@@ -14,14 +14,14 @@ struct record_file {
     uint64_t size;
 };
 
-/* No file has begun yet. */
+/* No file has been started yet. */
 struct record_file record_file_of(const char *folder);
 
-/* Begins a file with a head. False with the reason. */
+/* Starts a file with a head. False with the reason. */
 bool record_file_begin(struct record_file *record, const uint8_t *head, size_t size,
                        struct reason *reason);
 
-/* Adds a text, whole; what was written of one that is not whole is cut off. False with the reason. */
+/* Appends a whole text; an incomplete text is removed. False with the reason. */
 bool record_file_add(struct record_file *record, const uint8_t *text, size_t size,
                      struct reason *reason);
 

@@ -1,7 +1,7 @@
 #include "requests.h"
 #include <string.h>
 
-/* The requests of commands, by their numbers; and those of the platform. */
+/* The numbers of the requests for commands, and of those for the platform. */
 enum command_request {
     HASH_START = 5,
     HASH_DATA = 6,
@@ -24,14 +24,14 @@ enum platform_request {
     RESET = 17,
     RESTART = 18
 };
-/* Those of both ports. */
+/* The requests at both ports. */
 enum either_request { SESSION_END = 20, STOP = 21 };
 
-/* The version that a handshake returns, and its features: commands go as they are, and there is a
+/* The version that a handshake returns, and its features: commands are sent unchanged, and there is a
    platform. */
 enum { VERSION = 1, FEATURES = 5 };
 
-/* The numbers that end answers. */
+/* The numbers at the end of answers. */
 enum { DONE = 0, UNKNOWN = 1 };
 
 enum { NUMBER = 4, LOCALITY_AT = NUMBER, COMMAND_SIZE_AT = NUMBER + 1, COMMAND_AT = COMMAND_SIZE_AT + NUMBER };
@@ -50,8 +50,8 @@ static enum outcome done(struct answer *answer) {
     return GOES_ON;
 }
 
-/* The end of a request whose size is at an offset. What is too long is not read: of a command its
-   head, of data nothing. */
+/* Returns the end of a request whose size is at an offset. A request that is too long is not read: only
+   the head of a command, and nothing of data. */
 static size_t sized_end(const uint8_t *bytes, size_t size, size_t size_at, size_t most_head) {
     size_t start = size_at + NUMBER;
     if (size < start) return start;
@@ -70,7 +70,7 @@ size_t request_size(const uint8_t *bytes, size_t size, bool is_of_platform) {
     }
 }
 
-/* Executes a command. One that is too long is answered COMMAND_SIZE, and ends the connection. */
+/* Executes a command. If it is too long, the answer is COMMAND_SIZE, and the connection ends. */
 static enum outcome send_command(struct board *board, const uint8_t *bytes, struct answer *answer,
                                  struct reason *reason) {
     struct response response;

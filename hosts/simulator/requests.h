@@ -1,5 +1,5 @@
-/* The requests of the protocol: how they are cut from what a client sends, and what each does.
-   Numbers have four bytes, the first the highest. */
+/* The requests of the protocol: how a client's bytes are split into requests, and what each request does.
+   Numbers are four bytes long, big-endian. */
 #ifndef REQUESTS_H
 #define REQUESTS_H
 #include "board.h"
@@ -15,11 +15,11 @@ enum {
     ANSWER_MOST = 4 + RESPONSE_MOST + 4
 };
 
-/* The size of the request at the front of these, as far as they say. Where that is more than
-   there are, more has to come first. */
+/* Returns the size of the request at the front of these bytes, as far as they show it. If it is larger than
+   `size`, more bytes have to arrive first. */
 size_t request_size(const uint8_t *bytes, size_t size, bool is_of_platform);
 
-/* What becomes of the connection, or of the simulator, after an answer. */
+/* What happens to the connection, or to the simulator, after an answer. */
 enum outcome { GOES_ON, ENDS, STOPS, FAILS };
 
 struct answer {
@@ -27,7 +27,7 @@ struct answer {
     uint8_t bytes[ANSWER_MOST];
 };
 
-/* Does a whole request, and writes its answer. FAILS, with the reason: the device cannot go on. */
+/* Executes a complete request, and writes its answer. FAILS, with the reason: the device cannot continue. */
 enum outcome request_do(struct board *board, const uint8_t *bytes, bool is_of_platform,
                         struct answer *answer, struct reason *reason);
 

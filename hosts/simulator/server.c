@@ -9,15 +9,15 @@
 #include <sys/socket.h>
 #include <unistd.h>
 
-/* Descriptors that are left to the devices; for how long no client is accepted after the system refuses
-   one; and how many sockets are served in one turn. */
+/* The number of descriptors reserved for the devices; for how long no client is accepted after the system
+   refuses one; and how many sockets are served in one turn. */
 enum { FILES_LEFT = 8, MILLISECONDS_TO_NEXT_TRY = 1000, MOST_IN_A_TURN = 64 };
 
-/* What an event is of: a listener, by its number, or a client. */
+/* The source of an event: a listener, by its number, or a client. */
 struct source {
     struct client *client;
     size_t number;
-    /* What is waited for of the client. */
+    /* The events of the client that are waited for. */
     uint32_t events;
 };
 
@@ -26,7 +26,7 @@ struct server {
     struct board *boards;
     int epoll;
     struct source *of_listeners;
-    /* Those of the clients, each by its number. */
+    /* The sources that are clients, each by its number. */
     struct source **of_clients;
     size_t count;
     size_t room;
@@ -61,7 +61,7 @@ static bool watch(const struct server *server, int how, int socket, uint32_t eve
 
 /* ---- clients that come and go */
 
-/* Has memory for one client more. */
+/* Ensures memory for one more client. */
 static bool has_room(struct server *server) {
     if (server->count < server->room) return true;
     size_t room = server->room ? 2 * server->room : 16;
@@ -72,14 +72,14 @@ static bool has_room(struct server *server) {
     return true;
 }
 
-/* A new descriptor has the lowest number that is free, so it shows how few are left. */
+/* A new descriptor has the lowest free number, so it shows how many are left. */
 static bool is_one_too_many(int socket) {
     struct rlimit most;
     return getrlimit(RLIMIT_NOFILE, &most) == 0 && most.rlim_cur != RLIM_INFINITY &&
            (rlim_t)socket + FILES_LEFT >= most.rlim_cur;
 }
 
-/* Makes a client of a socket, and waits for what it sends. */
+/* Makes a client for a socket, and waits for its input. */
 static bool add_client(struct server *server, int socket, size_t listener) {
     struct source *source = has_room(server) ? malloc(sizeof *source) : NULL;
     if (!source) return false;
@@ -94,7 +94,7 @@ static bool add_client(struct server *server, int socket, size_t listener) {
     return true;
 }
 
-/* The last client takes the number of the one that goes. */
+/* The last client takes the number of the removed one. */
 static void remove_client(struct server *server, struct source *source) {
     struct source *last = server->of_clients[--server->count];
     server->of_clients[source->number] = last;
@@ -111,7 +111,7 @@ static bool wait_for(const struct server *server, struct source *source) {
     return watch(server, EPOLL_CTL_MOD, client_socket(source->client), events, source);
 }
 
-/* One that stops the simulator stays until its end. */
+/* A client that stops the simulator stays until the simulator ends. */
 static enum outcome serve_client(struct server *server, struct source *source,
                                  struct reason *reason) {
     enum outcome outcome = client_go_on(source->client, reason);
@@ -122,7 +122,7 @@ static enum outcome serve_client(struct server *server, struct source *source,
 
 /* ---- listeners */
 
-/* Whether the fault of an accept is of that client alone, and others can come. */
+/* Whether an error of accept concerns only that client, and others can connect. */
 static bool is_of_client(int error) {
     return error == EINTR || error == ECONNABORTED || error == EAGAIN || error == EWOULDBLOCK;
 }
@@ -161,7 +161,7 @@ static enum outcome fail(const char *said, struct reason *reason) {
     return FAILS;
 }
 
-/* One turn: waits, and serves whom it finds. */
+/* One turn: waits, and serves the sockets that are ready. */
 static enum outcome turn(struct server *server, struct reason *reason) {
     struct epoll_event events[MOST_IN_A_TURN];
     bool was_full = server->is_full;

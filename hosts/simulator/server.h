@@ -5,21 +5,21 @@
 #include "listeners.h"
 #include "reason.h"
 
-/* Has SIGTERM and SIGINT end what server_run waits for. Before it is called these end the process. */
+/* Makes SIGTERM and SIGINT end the wait of server_run. Before this call they end the process. */
 bool server_take_signals(struct reason *reason);
 
 struct server;
 
-/* A server of these boards, one for each two listeners, which lie there as long as it does. NULL with the
-   reason. */
+/* Makes a server for these boards, one for each two listeners; they must exist as long as the server. NULL
+   with the reason. */
 struct server *server_of(const struct listeners *listeners, struct board *boards,
                          struct reason *reason);
 
-/* Serves until the end. False with the reason: a device cannot go on. */
+/* Serves until the end. False with the reason if a device cannot continue. */
 bool server_run(struct server *server, struct reason *reason);
 
-/* Closes all connections of a server, which may be NULL. Whoever asked for the end sees it by that: the
-   devices have to be closed before. */
+/* Closes all connections of a server, which may be NULL. This shows the end to the client that requested it,
+   so close the devices first. */
 void server_end(struct server *server);
 
 #endif

@@ -1,6 +1,6 @@
 /* tpmsim-power DIR [--cut] [--keep N]: power-cycles the device that is kept in a folder. With --cut a
- * damaged journal is the device of its whole records before the damage. With --keep N journals of the
- * past stay in the folder, N of them. */
+ * damaged journal opens to the device of its complete records before the damage. With --keep N the last N
+ * journals stay in the folder. */
 #include "kept.h"
 #include <stdio.h>
 #include <stdlib.h>
@@ -10,7 +10,7 @@ enum { MOST_KEPT = 99 };
 
 static void tell(const char *sentence) { fprintf(stderr, "tpmsim-power: %s\n", sentence); }
 
-/* Reads how many journals stay: one or two digits. */
+/* Reads the number of journals to keep: one or two digits. */
 static bool read_keep(const char *word, unsigned *keep) {
     char *end;
     if (*word < '0' || *word > '9') return false;

@@ -1,7 +1,8 @@
 /* libtss2-tcti-tpmsim: a device for libtss2, in the process that loads this module, or kept in a
  * folder. The module is a TCTI of version 2, as the TCG's "TSS 2.0 TPM Command Transmission
- * Interface" has it. A fault is a line on standard error, and one of that paper's return codes. */
+ * Interface" defines it. A fault is reported as a line on standard error, and as a return code defined there. */
 #define _GNU_SOURCE
+#include "loaded.h"
 #include "words.h"
 #include <stdio.h>
 #include <string.h>
@@ -9,7 +10,7 @@
 
 #define EXPORTED __attribute__((visibility("default")))
 
-/* What a context of this module begins with: "TPMSIM", and its version. */
+/* The start of a context of this module: "TPMSIM", and its version. */
 static const uint64_t MAGIC = 0x54504d53494d0001;
 
 enum { RESPONSE_ROOM = 4096 };
@@ -18,13 +19,16 @@ struct context {
     TSS2_TCTI_CONTEXT_COMMON_V2 common;
     struct kept *kept;
     uint8_t locality;
-    /* Whether a response waits to be received, and its bytes. */
+    /* Whether what this process has loaded is flushed at the end, and what it has loaded. */
+    bool flushes;
+    struct loaded loaded;
+    /* Whether a response is ready to be received, and its bytes. */
     bool waits;
     size_t size;
     uint8_t response[RESPONSE_ROOM];
 };
 
-/* The context, NULL if it is not one of this module, or was finalized. */
+/* Returns the context; NULL if it is not one of this module, or was finalized. */
 static struct context *context_of(TSS2_TCTI_CONTEXT *handed) {
     return handed && TSS2_TCTI_MAGIC(handed) == MAGIC ? (struct context *)handed : NULL;
 }
@@ -36,7 +40,7 @@ static TSS2_RC tell(const struct reason *reason, TSS2_RC code) {
     return code;
 }
 
-/* Executes the command: its response is there when this returns. */
+/* Executes the command: its response is ready when this returns. */
 static TSS2_RC transmit(TSS2_TCTI_CONTEXT *handed, size_t size, const uint8_t *command) {
     struct context *context = context_of(handed);
     struct reason reason;
@@ -49,11 +53,13 @@ static TSS2_RC transmit(TSS2_TCTI_CONTEXT *handed, size_t size, const uint8_t *c
         return tell(&reason, TSS2_TCTI_RC_IO_ERROR);
     context->size = answered.size;
     context->waits = true;
+    if (context->flushes)
+        loaded_follow(&context->loaded, command, size, context->response, answered.size);
     return TSS2_RC_SUCCESS;
 }
 
-/* Writes the response, or its size if the buffer is too small. No timeout can pass, since
- * the response is there. */
+/* Writes the response, or its size if the buffer is too small. No timeout can expire, since the
+ * response is ready. */
 static TSS2_RC receive(TSS2_TCTI_CONTEXT *handed, size_t *size, uint8_t *response,
                        int32_t timeout) {
     struct context *context = context_of(handed);
@@ -70,16 +76,25 @@ static TSS2_RC receive(TSS2_TCTI_CONTEXT *handed, size_t *size, uint8_t *respons
     return TSS2_RC_SUCCESS;
 }
 
+/* Flushes what this process has loaded and not flushed. */
+static void flush(struct context *context) {
+    struct reason reason;
+    if (!loaded_flush(&context->loaded, context->kept, context->locality, &reason))
+        tell_line(reason.text);
+    loaded_end(&context->loaded);
+}
+
 static void finalize(TSS2_TCTI_CONTEXT *handed) {
     struct context *context = context_of(handed);
     if (!context) return;
+    if (context->flushes) flush(context);
     kept_close(context->kept);
     context->kept = NULL;
     TSS2_TCTI_MAGIC(handed) = 0;
 }
 
-/* A command that was transmitted is executed already, so it comes too late to cancel it: its
- * response is received as before. */
+/* A transmitted command has already been executed, so it is too late to cancel it: its response is
+ * received as usual. */
 static TSS2_RC cancel(TSS2_TCTI_CONTEXT *handed) {
     struct context *context = context_of(handed);
     if (!context) return TSS2_TCTI_RC_BAD_CONTEXT;
@@ -103,19 +118,21 @@ static TSS2_RC set_locality(TSS2_TCTI_CONTEXT *handed, uint8_t locality) {
     return TSS2_RC_SUCCESS;
 }
 
-/* No resource manager is in between, so handles are the device's own. */
+/* There is no resource manager in between, so handles are the device's own. */
 static TSS2_RC make_sticky(TSS2_TCTI_CONTEXT *handed, TPM2_HANDLE *handle, uint8_t sticky) {
     (void)sticky;
     if (!context_of(handed)) return TSS2_TCTI_RC_BAD_CONTEXT;
     return handle ? TSS2_TCTI_RC_NOT_IMPLEMENTED : TSS2_TCTI_RC_BAD_REFERENCE;
 }
 
-/* Fills a context in for a device that is open. */
-static void begin(TSS2_TCTI_CONTEXT *handed, struct kept *kept, uint8_t locality) {
+/* Initializes a context for an open device. */
+static void begin(TSS2_TCTI_CONTEXT *handed, struct kept *kept, const struct words *words) {
     struct context *context = (struct context *)handed;
     memset(context, 0, sizeof *context);
     context->kept = kept;
-    context->locality = locality;
+    context->locality = words->locality;
+    context->flushes = words->flushes;
+    if (context->flushes) loaded_begin(&context->loaded);
     TSS2_TCTI_MAGIC(handed) = MAGIC;
     TSS2_TCTI_VERSION(handed) = 2;
     TSS2_TCTI_TRANSMIT(handed) = transmit;
@@ -142,7 +159,7 @@ TSS2_RC Tss2_Tcti_Tpmsim_Init(TSS2_TCTI_CONTEXT *handed, size_t *size, const cha
     if (!words_read(&words, config, &reason)) return tell(&reason, TSS2_TCTI_RC_BAD_VALUE);
     words.options.tell = tell_line;
     struct kept *kept = kept_open(&words.options, &reason);
-    if (kept) begin(handed, kept, words.locality);
+    if (kept) begin(handed, kept, &words);
     words_free(&words);
     return kept ? TSS2_RC_SUCCESS : tell(&reason, TSS2_TCTI_RC_IO_ERROR);
 }

@@ -1,9 +1,9 @@
-// The checks of what a program passes: each refuses with BadArgument, which names the argument.
+// Checks of a program's arguments: each throws BadArgument, which names the argument.
 
 import { BadArgument } from "./errors.js";
 
 /**
- * The argument, if it is a Uint8Array, as a Buffer of node is; of this window or of another one.
+ * Returns the argument, if it is a Uint8Array (as node's Buffer is), of this window or another one.
  * @param {string} name
  * @param {unknown} given
  * @returns {Uint8Array}
@@ -36,7 +36,7 @@ export function text(name, given) {
 }
 
 /**
- * A whole number from 0 to the largest one.
+ * Returns the argument, if it is an integer from 0 to the largest one.
  * @param {string} name
  * @param {unknown} given
  * @param {number} largest
@@ -58,7 +58,7 @@ export function truth(name, given) {
 }
 
 /**
- * Options by their names, and no others.
+ * Returns the options, if all of them have known names.
  * @template {object} Options
  * @param {Options | undefined} given
  * @param {readonly (keyof Options & string)[]} names

@@ -1,4 +1,4 @@
-// One device of the proved module: what the exports on it take, write and return.
+// One device of the proved module: what the exports for it take, write and return.
 
 import { BadArgument, BadImage, BadJournal, BadState, DeviceEnded } from "./errors.js";
 
@@ -6,8 +6,8 @@ import { BadArgument, BadImage, BadJournal, BadState, DeviceEnded } from "./erro
 /** @typedef {import("./module.js").Blocks} Blocks */
 
 /**
- * A command's answer. `check` is `ok`, or the check that refused the command, as `G9`; `code` is the
- * command's number, 0 for none; `drawn` counts the random bytes that it drew, from their front.
+ * The result of a command. `check` is `ok`, or the check that refused the command, such as `G9`; `code` is
+ * the command's number, 0 for none; `drawn` is the number of random bytes that it drew, from their front.
  * @typedef {{response: Uint8Array, code: number, check: string, drawn: number, trace: string}} Answer
  */
 
@@ -15,12 +15,12 @@ const HOLDER_SIZE = 8;
 const TEXT_FAULTS = ["Short", "Magic", "Version", "Length", "Digest", "Body"];
 const JOURNAL_FAULTS = ["NoJournal", "Damaged", "Otherwise"];
 
-// The numbers that calls return: those below are of a device that is not there, and of a locality.
+// The numbers that calls return: below these are those for a missing device and for a bad locality.
 const IMAGE_FROM = 4;
 const JOURNAL_FROM = 10;
 const STATE_FROM = 13;
 
-/** @param {number} number that of a check */
+/** @param {number} number the number of a check */
 const checkText = (number) => {
   if (number === 0) return "ok";
   if (number === 255) return "M";
@@ -28,7 +28,7 @@ const checkText = (number) => {
 };
 
 /**
- * Throws the error of a number that is not 0.
+ * Throws the error for a number that is not 0.
  * @param {number} told
  */
 const mustBeDone = (told) => {
@@ -40,7 +40,7 @@ const mustBeDone = (told) => {
   throw new DeviceEnded();
 };
 
-/** One device of a module. It has its memory until it is released. */
+/** One device of a module. It owns its memory until it is released. */
 export class Chip {
   #calls;
   #memory;
@@ -65,7 +65,7 @@ export class Chip {
     calls.device_manufacture(...[this.#holder, this.#place.at, at.random].map(BigInt));
   }
 
-  /** The parameter that is the holder. */
+  /** The holder, as a parameter. */
   get #device() {
     return BigInt(this.#holder);
   }
@@ -110,13 +110,13 @@ export class Chip {
     return this.#memory.output((at, size) => this.#calls.device_save(this.#device, at, size));
   }
 
-  /** What is kept without power, but for the clock. */
+  /** What is kept without power, except the clock. */
   kept() {
     return this.#memory.output((at, size) => this.#calls.device_kept(this.#device, at, size));
   }
 
   /**
-   * Makes this the device of an image; BadImage leaves it as it was.
+   * Makes this the device of an image. If it throws BadImage, the device is unchanged.
    * @param {Uint8Array} image
    */
   open(image) {
@@ -129,14 +129,14 @@ export class Chip {
   }
 
   /**
-   * Makes this the device of a state text; BadState leaves it as it was.
+   * Restores the device from a state text. If it throws BadState, the device is unchanged.
    * @param {Uint8Array} text
    */
   restore(text) {
     mustBeDone(this.#calls.device_restore(this.#device, ...this.#memory.input(text)));
   }
 
-  /** Gives the memory back. This is the last call. */
+  /** Frees the memory. This is the last call. */
   release() {
     this.#calls.device_release(this.#device);
     this.#memory.free(this.#holder, HOLDER_SIZE);
@@ -144,7 +144,7 @@ export class Chip {
   }
 
   /**
-   * Cycles the power, and returns the head of a new journal.
+   * Power-cycles the device, and returns the head of a new journal.
    * @param {number} now milliseconds of the host's clock
    */
   beginJournal(now) {
@@ -154,7 +154,7 @@ export class Chip {
   }
 
   /**
-   * Begins the journal again with a checkpoint, which it returns.
+   * Restarts the journal with a checkpoint, and returns the checkpoint.
    * @param {number} now milliseconds of the host's clock
    */
   checkpointJournal(now) {
@@ -164,8 +164,8 @@ export class Chip {
   }
 
   /**
-   * Makes this the device of a journal; BadJournal, BadImage and BadState leave it as it was. Returns
-   * the size of the head and the whole entries.
+   * Makes this the device of a journal, and returns the size of its head and complete entries. If it throws
+   * BadJournal, BadImage or BadState, the device is unchanged.
    * @param {Uint8Array} text
    */
   openJournal(text) {
@@ -175,8 +175,8 @@ export class Chip {
   }
 
   /**
-   * Executes the entries of a text that follows; BadJournal if one is damaged or answered otherwise,
-   * after those before it. Returns the size of the whole entries.
+   * Executes the entries of a later part of the journal, and returns the size of the complete entries. Throws
+   * BadJournal, after the entries before it, if an entry is damaged or its response differs.
    * @param {Uint8Array} text
    */
   followJournal(text) {
@@ -186,7 +186,7 @@ export class Chip {
   }
 
   /**
-   * Executes a command by the host's clock, and returns its entry for the journal too.
+   * Executes a command at a time of the host's clock, and also returns its entry for the journal.
    * @param {Uint8Array} command
    * @param {number} locality
    * @param {number} now milliseconds of the host's clock
@@ -204,7 +204,7 @@ export class Chip {
   }
 
   /**
-   * The parameters of a command's event, from the holder to the random bytes.
+   * Returns the parameters for a command's event, from the holder to the random bytes.
    * @param {Uint8Array} command
    * @param {number} locality
    * @param {number} elapsed

@@ -14,7 +14,7 @@ import { Words } from "./words.js";
 /** @typedef {import("./script.js").Played} Played */
 
 /**
- * What a command is answered: its response, its row, how many random bytes it drew, and its trace,
+ * The result of a command: its response, its row, the number of random bytes that it drew, and its trace,
  * which is empty if the completing layer is above the device.
  * @typedef {{
  *   response: Uint8Array,
@@ -25,8 +25,8 @@ import { Words } from "./words.js";
  */
 
 /**
- * How a command comes: from a locality, 0 if that is left out; so many milliseconds after the last
- * one, 0 if left out; with its own 256 random bytes; below the completing layer.
+ * The circumstances of a command: its locality (default 0); the milliseconds since the last command (default
+ * 0); 256 random bytes of its own; whether the completing layer is above the device.
  * @typedef {{
  *   locality?: number,
  *   elapsed?: number,
@@ -36,8 +36,8 @@ import { Words } from "./words.js";
  */
 
 /**
- * What a device is made of: a seed, for the same random bytes in each run; its 256 bytes of secrets;
- * an image or a state text of another device; and a module, if it is not to be found.
+ * What a device is made from: a seed, for the same random bytes in each run; its 256 bytes of secrets; an
+ * image or a state text of another device; and a module, if the package is not to look for one.
  * @typedef {{
  *   seed?: string | Uint8Array,
  *   manufactured?: Uint8Array,
@@ -47,14 +47,14 @@ import { Words } from "./words.js";
  * }} Making
  */
 
-/** Only `Device.create` has it. */
+/** Only `Device.create` has access to it. */
 const KEY = Symbol("Device.create");
 
-// A device that its program forgets gives its memory back all the same.
+// The memory of a device is also freed if the device is garbage-collected.
 const forgotten = new FinalizationRegistry((/** @type {Chip} */ chip) => chip.release());
 
 /**
- * The random bytes of a device.
+ * Returns the source of a device's random bytes.
  * @param {string | Uint8Array | undefined} seed
  * @returns {Source}
  */
@@ -87,7 +87,7 @@ export class Device {
   }
 
   /**
-   * Makes a device whose power is just on: a new one, or that of an image or a state text.
+   * Makes a new device, which has just been powered on, or the device of an image or a state text.
    * @param {Making} [making]
    * @returns {Promise<Device>}
    */
@@ -122,7 +122,7 @@ export class Device {
   }
 
   /**
-   * Executes a command, whichever bytes it has.
+   * Executes a command, whatever its bytes are.
    * @param {Uint8Array} command
    * @param {Event} [event]
    * @returns {Answer}
@@ -145,7 +145,7 @@ export class Device {
   }
 
   /**
-   * Executes a command in words, such as `GetRandom 4`. BadLine if they are not a command.
+   * Executes a command in words, such as `GetRandom 4`. Throws BadLine for other words.
    * @param {string} line
    * @param {Event} [event]
    * @returns {Answer}
@@ -155,7 +155,7 @@ export class Device {
   }
 
   /**
-   * Plays a script, line by line, as its events are asked for. BadLine, with its `line`, ends it.
+   * Plays a script line by line, as its events are iterated over. A bad line throws BadLine with its `line`.
    * @param {string | Uint8Array} script
    * @returns {Generator<Played, void, undefined>}
    */
@@ -164,7 +164,7 @@ export class Device {
     return played(this, this.#module, lines);
   }
 
-  /** Takes the power away and gives it back: the device awaits TPM2_Startup. */
+  /** Power-cycles the device, which then expects TPM2_Startup. */
   powerCycle() {
     this.#live.cyclePower();
   }
@@ -178,7 +178,7 @@ export class Device {
   }
 
   /**
-   * What the device keeps without power, but for its clock. It changes when the image is to be saved.
+   * What the device keeps without power, except its clock. If it has changed, the image should be saved.
    * @returns {Uint8Array}
    */
   kept() {
@@ -186,7 +186,7 @@ export class Device {
   }
 
   /**
-   * Makes this the device of an image, as after a power cycle. BadImage leaves it as it was.
+   * Makes this the device of an image, as after a power cycle. If it throws BadImage, nothing changes.
    * @param {Uint8Array} image
    */
   open(image) {
@@ -194,7 +194,7 @@ export class Device {
   }
 
   /**
-   * The state text: all that the device is, with its sessions and its secrets.
+   * The state text: the whole state of the device, with its sessions and its secrets.
    * @returns {Uint8Array}
    */
   snapshot() {
@@ -202,14 +202,14 @@ export class Device {
   }
 
   /**
-   * Makes this the device of a state text, as it was. BadState leaves this one as it was.
+   * Restores the device from a state text. If it throws BadState, nothing changes.
    * @param {Uint8Array} state
    */
   restore(state) {
     this.#live.restore(bytes("state", state));
   }
 
-  /** Gives the device's memory back, with no secret in it. Each later call is DeviceEnded. */
+  /** Frees the device's memory, cleared of secrets. Each later call throws DeviceEnded. */
   dispose() {
     if (this.#chip === null) return;
     forgotten.unregister(this);

@@ -1,11 +1,11 @@
-// What this package throws. Each error has its class's name, so that it can be distinguished from others by
-// `instanceof` as well as by `name`.
+// The errors that this package throws. The `name` of each is that of its class, so that errors can be
+// distinguished by `instanceof` as well as by `name`.
 
-/** An argument of a wrong type or out of its range. Nothing was done. */
+/** An argument has a wrong type or is out of range. The call had no effect. */
 export class BadArgument extends TypeError {
   /**
    * @param {string} argument its name
-   * @param {string} wanted what it has to be
+   * @param {string} wanted what is expected
    */
   constructor(argument, wanted) {
     super(`${argument} is not ${wanted}`);
@@ -14,7 +14,7 @@ export class BadArgument extends TypeError {
   }
 }
 
-/** A text is not what it has to be; `fault` names its first fault. */
+/** A text is invalid; `fault` names its first fault. */
 export class BadText extends Error {
   /**
    * @param {string} name
@@ -27,7 +27,7 @@ export class BadText extends Error {
   }
 }
 
-/** Bytes that are no image: Short, Magic, Version, Length, Digest or Body. */
+/** Bytes are not an image: Short, Magic, Version, Length, Digest or Body. */
 export class BadImage extends BadText {
   /** @param {string} fault */
   constructor(fault) {
@@ -35,7 +35,7 @@ export class BadImage extends BadText {
   }
 }
 
-/** Bytes that are no state text: Short, Magic, Version, Length, Digest or Body. */
+/** Bytes are not a state text: Short, Magic, Version, Length, Digest or Body. */
 export class BadState extends BadText {
   /** @param {string} fault */
   constructor(fault) {
@@ -43,7 +43,7 @@ export class BadState extends BadText {
   }
 }
 
-/** A text that is no journal, or was not followed to its end: NoJournal, Damaged or Otherwise. */
+/** A text is not a journal, or was not followed to its end: NoJournal, Damaged or Otherwise. */
 export class BadJournal extends BadText {
   /** @param {string} fault */
   constructor(fault) {
@@ -51,13 +51,13 @@ export class BadJournal extends BadText {
   }
 }
 
-/** A line that does not say what it has to: BadName, BadField, Missing, Range or TooLong. */
+/** A line has a fault: BadName, BadField, Missing, Range or TooLong. */
 export class BadLine extends BadText {
   /**
    * @param {string} fault
-   * @param {number} column from 1; 0 if the fault has none
+   * @param {number} column counted from 1; 0 if the fault has no column
    * @param {string} wanted what is expected there
-   * @param {number} line its number in a script, from 1; else 0
+   * @param {number} line its number in a script, counted from 1; 0 if there is no script
    */
   constructor(fault, column, wanted, line = 0) {
     super("BadLine", fault);
@@ -77,7 +77,7 @@ export class DeviceEnded extends Error {
   }
 }
 
-/** There is no module, or it is not the one of this version. */
+/** There is no module, or the module is not of this version. */
 export class NoModule extends Error {
   /**
    * @param {string} reason

@@ -1,4 +1,4 @@
-// Where the module is: next to this package, and of a clone of the repository in its dist/.
+// Finds the module: next to this package or, in a clone of the repository, in dist/.
 
 import { NoModule } from "./errors.js";
 import { Module } from "./module.js";
@@ -9,13 +9,13 @@ const IN_CLONE = "../../dist/tpmsim.wasm";
 /** @typedef {{process?: {getBuiltinModule?: (name: string) => any}}} Host */
 const host = /** @type {Host} */ (/** @type {unknown} */ (globalThis));
 
-// The modules by what they were loaded from: all devices of one source are in one module.
+// The modules, by their source: all devices with the same source share one module.
 /** @type {WeakMap<object, Promise<Module>>} */
 const kept = new WeakMap();
 const BESIDE_PACKAGE = {};
 
 /**
- * A file's bytes. No import names node's module of files, so a bundler for browsers looks for none.
+ * Returns a file's bytes. No import names node's file module, so a bundler for browsers does not look for it.
  * @param {URL} place
  */
 async function bytesAt(place) {
@@ -35,7 +35,7 @@ async function found() {
 }
 
 /**
- * The module of a source, or else the one next to this package.
+ * Returns the module of a source, or else the one next to this package.
  * @param {BufferSource | WebAssembly.Module | undefined} source
  */
 export async function loaded(source) {

@@ -8,7 +8,7 @@ const decoder = new TextDecoder();
 /** @param {number} size */
 const aligned = (size) => Math.ceil(size / ALIGNMENT) * ALIGNMENT;
 
-/** The memory from the heap's base up. Each block is of zeros at first. */
+/** The memory from the heap's base up. Each block contains zeros at first. */
 export class Memory {
   #memory;
   #end;
@@ -31,14 +31,14 @@ export class Memory {
     this.#output = { at: this.lend(PAGE), size: PAGE };
   }
 
-  /** The views are of the memory as it is; growing it ends them. */
+  /** Makes the views of the current memory; growing the memory invalidates them. */
   #look() {
     this.#bytes = new Uint8Array(this.#memory.buffer);
     this.#view = new DataView(this.#memory.buffer);
   }
 
   /**
-   * The address of a block that nobody else has.
+   * Allocates a block, and returns its address.
    * @param {number} size
    */
   lend(size) {
@@ -55,7 +55,7 @@ export class Memory {
   }
 
   /**
-   * Takes a block back, and forgets what it had.
+   * Frees a block, and clears its contents.
    * @param {number} at
    * @param {number} size
    */
@@ -67,7 +67,7 @@ export class Memory {
   }
 
   /**
-   * A block for at least so many bytes, instead of one that is too small.
+   * Replaces a block that is too small by one of at least `needed` bytes.
    * @param {{at: number, size: number}} block
    * @param {number} needed
    */
@@ -79,7 +79,7 @@ export class Memory {
   }
 
   /**
-   * Puts bytes where a call reads them, until the next ones are put there: its two parameters.
+   * Stores bytes for a call, until the next bytes are stored; returns the two parameters for them.
    * @param {Uint8Array} bytes
    */
   input(bytes) {
@@ -89,8 +89,8 @@ export class Memory {
   }
 
   /**
-   * What a call writes to a buffer. It returns their number, and writes none that do not
-   * fit; then it is called with a larger buffer.
+   * Returns the bytes that a call writes to a buffer. The call returns the size. If the bytes do not fit, it
+   * writes nothing, and is called again with a larger buffer.
    * @param {(at: bigint, size: bigint) => bigint} call
    */
   output(call) {
@@ -119,7 +119,7 @@ export class Memory {
   }
 
   /**
-   * A copy of bytes.
+   * Returns a copy of bytes.
    * @param {number} at
    * @param {number} size
    */

@@ -1,13 +1,13 @@
-// The proved module: how it is loaded, and its exports on words. Those on a device are in chip.js; no
-// other file knows an export. Nothing here checks arguments: device.js and words.js do.
+// The proved module: how it is loaded, and its exports for words. The exports for devices are in chip.js; no
+// other file uses an export. Nothing here checks arguments: device.js and words.js do.
 
 import { Chip } from "./chip.js";
 import { NoModule } from "./errors.js";
 import { Memory } from "./memory.js";
 
 /**
- * A line that was read. `fault` is empty, or the fault's name. `column` counts from 1 and is 0
- * without a fault; `wanted` says what is expected there.
+ * A parsed line. `fault` is empty, or the fault's name. `column` is counted from 1, and is 0 without a
+ * fault; `wanted` says what is expected there.
  * @typedef {{bytes: Uint8Array, fault: string, column: number, wanted: string}} Read
  */
 
@@ -20,13 +20,13 @@ import { Memory } from "./memory.js";
  */
 
 /**
- * What a response code says: its name, and the handle, parameter or session that is at fault.
+ * The meaning of a response code: its name, and the handle, parameter or session that is at fault.
  * @typedef {"" | "handle" | "parameter" | "session"} Place
  * @typedef {{name: string, place: Place, number: number}} Meaning
  */
 
 /**
- * Where the blocks of a fixed size are.
+ * The addresses of the blocks with fixed sizes.
  * @typedef {Record<keyof typeof SIZES, number>} Blocks
  */
 
@@ -34,7 +34,7 @@ export const RANDOM_SIZE = 256;
 export const MOST_MILLISECONDS = 0xffff_ffff;
 export const LOCALITIES = 5;
 
-// The sizes of the structures, and of what calls write to the buffers of a fixed size.
+// The sizes of the structures, and of the buffers of fixed size that calls write to.
 const SIZES = {
   random: RANDOM_SIZE,
   response: 4096,
@@ -93,14 +93,14 @@ const decoder = new TextDecoder();
 /** @param {Uint8Array} bytes */
 const textOf = (bytes) => decoder.decode(bytes);
 
-/** The module, with as many devices as are asked for. */
+/** The module, with any number of devices. */
 export class Module {
   /** @type {any} */ #calls;
   #memory;
   #at;
 
   /**
-   * Compiles a module, if that is not done, and makes its memory. NoModule if it is another one.
+   * Compiles a module, if it is not compiled yet, and makes its memory. Throws NoModule for a different one.
    * @param {BufferSource | WebAssembly.Module} source
    * @returns {Promise<Module>}
    */
@@ -126,14 +126,14 @@ export class Module {
     this.#at = /** @type {Blocks} */ (Object.fromEntries(blocks));
   }
 
-  /** The version, as `0.1.0`. */
+  /** The version, such as `0.1.0`. */
   get version() {
     const number = this.#calls.device_version() >>> 0;
     return `${number >>> 16}.${(number >>> 8) & 0xff}.${number & 0xff}`;
   }
 
   /**
-   * A new device, whose secrets are these bytes.
+   * Makes a new device, with these bytes as its secrets.
    * @param {Uint8Array} random
    */
   manufacture(random) {
@@ -141,7 +141,7 @@ export class Module {
   }
 
   /**
-   * Reads a line of a script, without its end.
+   * Parses a line of a script, without its newline.
    * @param {string | Uint8Array} line
    * @param {number} waited milliseconds since the last command
    * @returns {ScriptLine}
@@ -161,7 +161,8 @@ export class Module {
   }
 
   /**
-   * What the report of a script says of its line of this number, with a line end; empty for a good line.
+   * Returns what the report on a script says about the line with this number, with a newline; empty for a good
+   * line.
    * @param {number} number
    * @param {string | Uint8Array} line
    * @param {number} waited milliseconds since the last command
@@ -178,7 +179,7 @@ export class Module {
   }
 
   /**
-   * The buffer of a command in words.
+   * Returns the buffer of a command in words.
    * @param {string | Uint8Array} words
    * @returns {Read}
    */
@@ -190,7 +191,7 @@ export class Module {
   }
 
   /**
-   * A line in words that encodes the buffer; empty if there is none.
+   * Returns a line in words that encodes the buffer; empty if there is none.
    * @param {Uint8Array} command
    */
   spell(command) {
@@ -199,7 +200,7 @@ export class Module {
   }
 
   /**
-   * The number of the command of this name, 0 for none.
+   * Returns the number of the command with this name, 0 if there is none.
    * @param {string} name
    */
   commandNumber(name) {
@@ -207,7 +208,7 @@ export class Module {
   }
 
   /**
-   * How a command is said in words, as `NV_Write @Entity Index Buffer u16`; empty for none.
+   * Returns the form of a command in words, such as `NV_Write @Entity Index Buffer u16`; empty if there is none.
    * @param {number} number
    */
   commandForm(number) {
@@ -216,7 +217,7 @@ export class Module {
   }
 
   /**
-   * An example of what follows the name of a command.
+   * Returns an example of what follows the name of a command.
    * @param {number} number
    */
   commandExample(number) {
@@ -225,7 +226,7 @@ export class Module {
   }
 
   /**
-   * What a response code says; null if there is no such code.
+   * Returns the meaning of a response code; null if there is no such code.
    * @param {number} code
    * @returns {Meaning | null}
    */
@@ -239,7 +240,7 @@ export class Module {
   }
 
   /**
-   * What a line says, or its fault.
+   * Returns the meaning of a line, or its fault.
    * @param {number} at where its bytes are
    */
   #read(at) {

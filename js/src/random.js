@@ -1,15 +1,15 @@
-// The random bytes of a device: those of the system, or those of a seed.
+// The random bytes of a device, from the system or from a seed.
 
 import { RANDOM_SIZE } from "./module.js";
 import { shake256 } from "./shake.js";
 
 const encoder = new TextEncoder();
 
-/** What a device draws from: first its secrets, and then 256 bytes for each command.
+/** The source of a device's random bytes: first its secrets, and then 256 bytes for each command.
  * @typedef {{secrets(): Uint8Array, next(): Uint8Array, spend(drawn: number): void}} Source
  */
 
-/** The system's bytes. Those that no command drew are kept for the next one. @implements {Source} */
+/** The system's bytes. Those that a command did not draw are used for the next one. @implements {Source} */
 export class SystemBytes {
   #bytes = new Uint8Array(RANDOM_SIZE);
 
@@ -31,7 +31,7 @@ export class SystemBytes {
   }
 }
 
-/** The same bytes in each run: those that Python's `Device(seed=..)` draws. @implements {Source} */
+/** The same bytes in each run, as in Python's `Device(seed=..)`. @implements {Source} */
 export class SeededBytes {
   #seed;
   #drawings = 0;

@@ -1,4 +1,4 @@
-// The lines of a script, played on a device one after another, as `tpmsim run` does.
+// Plays the lines of a script on a device one after another, like `tpmsim run`.
 
 import { BadLine } from "./errors.js";
 import { RANDOM_SIZE } from "./module.js";
@@ -8,7 +8,7 @@ import { RANDOM_SIZE } from "./module.js";
 /** @typedef {import("./module.js").Module} Module */
 
 /**
- * What a line did: a command and its answer, or a power cycle, whose trace is `power`.
+ * The effect of a line: a command with its result, or a power cycle, whose trace is `power`.
  * @typedef {{line: number, command: Uint8Array, answer: Answer, trace: string}} PlayedCommand
  * @typedef {{line: number, command: null, answer: null, trace: "power"}} PlayedPower
  * @typedef {PlayedCommand | PlayedPower} Played
@@ -18,7 +18,7 @@ const NEWLINE = 0x0a;
 const encoder = new TextEncoder();
 
 /**
- * The lines of a text, each without its newline, which the last one need not have.
+ * Returns the lines of a text without their newlines; the last line need not have one.
  * @param {Uint8Array} text
  */
 function* lines(text) {
@@ -31,7 +31,7 @@ function* lines(text) {
 }
 
 /**
- * A text, repeated to the size of a command's random bytes.
+ * Returns a text, repeated to the size of a command's random bytes.
  * @param {Uint8Array} text
  */
 const repeated = (text) => Uint8Array.from({ length: RANDOM_SIZE }, (_, at) => text[at % text.length]);

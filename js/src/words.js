@@ -1,4 +1,4 @@
-// Commands, response codes and scripts in words, which the proved module reads and writes.
+// Commands, response codes and scripts in words, which the proved module parses and writes.
 
 import { bytes, number, options, text } from "./arguments.js";
 import { BadArgument, BadLine } from "./errors.js";
@@ -12,7 +12,7 @@ const CODE_AT = 6;
 const HEADER_SIZE = 10;
 
 /**
- * The code of a response.
+ * Returns the code of a response.
  * @param {Uint8Array} response
  */
 function codeOf(response) {
@@ -21,7 +21,7 @@ function codeOf(response) {
   return new DataView(checked.buffer, checked.byteOffset).getUint32(CODE_AT);
 }
 
-/** What the module says in words. */
+/** The module's conversions to and from words. */
 export class Words {
   #module;
 
@@ -39,13 +39,13 @@ export class Words {
     return new Words(await loaded(options(given, ["module"]).module));
   }
 
-  /** The version of the module, as `0.1.0`. */
+  /** The version of the module, such as `0.1.0`. */
   get version() {
     return this.#module.version;
   }
 
   /**
-   * The buffer of a command in words, such as `GetRandom 4`. BadLine if they are not a command.
+   * Returns the buffer of a command in words, such as `GetRandom 4`. Throws BadLine for other words.
    * @param {string} line
    * @returns {Uint8Array}
    */
@@ -56,7 +56,7 @@ export class Words {
   }
 
   /**
-   * A line in words that encodes just these bytes; null if there is none.
+   * Returns a line in words that encodes exactly these bytes; null if there is none.
    * @param {Uint8Array} command
    * @returns {string | null}
    */
@@ -65,7 +65,7 @@ export class Words {
   }
 
   /**
-   * What a response, or a response code, says. Null if there is no such code.
+   * Returns the meaning of a response or a response code; null if there is no such code.
    * @param {Uint8Array | number} given
    * @returns {Meaning | null}
    */
@@ -75,7 +75,7 @@ export class Words {
   }
 
   /**
-   * The number of the command of this name; null for none.
+   * Returns the number of the command with this name; null if there is none.
    * @param {string} name
    * @returns {number | null}
    */
@@ -84,7 +84,7 @@ export class Words {
   }
 
   /**
-   * The name of the command of this number; null for none.
+   * Returns the name of the command with this number; null if there is none.
    * @param {number} code
    * @returns {string | null}
    */
@@ -93,7 +93,7 @@ export class Words {
   }
 
   /**
-   * How a command is said in words, as `NV_Write @Entity Index Buffer u16`; null for none.
+   * Returns the form of a command in words, such as `NV_Write @Entity Index Buffer u16`; null if there is none.
    * @param {number} code
    * @returns {string | null}
    */
@@ -102,7 +102,7 @@ export class Words {
   }
 
   /**
-   * A whole line of a command, as an example; null for none.
+   * Returns a whole line for a command, as an example; null if there is none.
    * @param {number} code
    * @returns {string | null}
    */

@@ -1,6 +1,6 @@
 // What the tests share.
 
-/** The bytes by which a script's device is manufactured. */
+/** The bytes with which a script's device is manufactured. */
 export const ZERO_TO_FF = Uint8Array.from({ length: 256 }, (_, at) => at);
 
 /** @param {Uint8Array} bytes */

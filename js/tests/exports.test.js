@@ -1,4 +1,4 @@
-// What the package exports is what index.d.ts declares, and each of it is tested here.
+// The package exports what index.d.ts declares, and each export is tested here.
 
 import assert from "node:assert/strict";
 import { readFile, readdir } from "node:fs/promises";

@@ -1,4 +1,4 @@
-// The package as a page has it: its files come from a server, and the module by `fetch`.
+// The package as a page loads it: its files come from a server, and the module through `fetch`.
 
 import assert from "node:assert/strict";
 import { execFile } from "node:child_process";
@@ -12,7 +12,7 @@ const TYPES = { js: "text/javascript", wasm: "application/wasm" };
 const FLAG = "--experimental-network-imports";
 const IN_CLONE = "../../dist/";
 
-/** Serves the package; a clone's dist/ too, which is next to it. */
+/** Serves the package, and also a clone's dist/, which is next to it. */
 async function served() {
   const server = createServer(async (request, response) => {
     const path = request.url.slice(1);

@@ -1,4 +1,4 @@
-// Memory: what devices take of it, and give back.
+// Memory: what devices allocate and free.
 
 import assert from "node:assert/strict";
 import { readFile } from "node:fs/promises";
@@ -7,7 +7,7 @@ import { setTimeout } from "node:timers/promises";
 import { setFlagsFromString } from "node:v8";
 import { runInNewContext } from "node:vm";
 
-// How many pages the module's memory grew by.
+// The number of pages by which the module's memory grew.
 let grown = 0;
 const { grow } = WebAssembly.Memory.prototype;
 WebAssembly.Memory.prototype.grow = function count(pages) {
@@ -22,7 +22,7 @@ const collect = runInNewContext("gc");
 
 const zeros = new Uint8Array(256);
 
-/** How many pages are grown by a task. */
+/** Returns the number of pages by which the memory grows during a task. */
 async function grownBy(task) {
   const before = grown;
   await task();

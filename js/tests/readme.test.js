@@ -1,4 +1,4 @@
-// The examples of README.md print what is below them.
+// The examples of README.md print the output below them.
 
 import assert from "node:assert/strict";
 import { execFileSync } from "node:child_process";

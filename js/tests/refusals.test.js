@@ -1,4 +1,4 @@
-// Wrong arguments: each is refused by its name, and changes nothing.
+// Wrong arguments: each error names its argument, and nothing changes.
 
 import assert from "node:assert/strict";
 import { test } from "node:test";
@@ -10,7 +10,7 @@ const tpm = await Device.create({ seed: "mine" });
 const command = tpm.words.assemble("Startup 0");
 const zeros = new Uint8Array(256);
 
-/** Whether a call is refused for this argument. */
+/** Returns a check that an error is about this argument. */
 const refused = (argument) => (it) =>
   it instanceof BadArgument && it instanceof TypeError && it.name === "BadArgument" && it.argument === argument;
 

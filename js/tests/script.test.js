@@ -1,4 +1,4 @@
-// Scripts: those of the repository are answered and traced as by the program.
+// Scripts: those of the repository get the same responses and traces as from the program.
 
 import assert from "node:assert/strict";
 import { existsSync, readFileSync, readdirSync } from "node:fs";
@@ -24,7 +24,7 @@ function* scripts(folder) {
   }
 }
 
-/** What the program prints of a script, without and with traces, and its fault. */
+/** Returns what the program prints for a script, without and with traces, and its fault. */
 async function played(path) {
   const tpm = await fresh();
   const [answers, traced] = [[], []];

@@ -1,4 +1,4 @@
-// A seed: the same random bytes in each run, which are those of the package in Python.
+// A seed: the same random bytes in each run and in the Python package.
 
 import assert from "node:assert/strict";
 import { spawnSync } from "node:child_process";
@@ -23,7 +23,7 @@ test("SHAKE256 is node's", () => {
   }
 });
 
-/** The image of a new device of a seed, and its answers. */
+/** Returns the image of a new device from a seed, and its responses. */
 async function told(seed) {
   const tpm = await Device.create({ seed });
   const lines = ["Startup 0", "GetRandom 8", "ReadClock", "GetRandom 16"];

@@ -1,5 +1,5 @@
-// Takes the module into this folder for `npm pack`, which packs no file from elsewhere, and removes it
-// after that: the repository has it in dist/ alone.
+// Copies the module into this folder for `npm pack`, which packs no file from elsewhere, and removes it
+// afterwards: the repository contains it only in dist/.
 //
 //   node tools/module.js take|leave
 

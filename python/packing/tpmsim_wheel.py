@@ -1,7 +1,8 @@
-"""Packs the package as a wheel, by the standard library alone: pip calls these functions (PEP 517 and
-660), and tools/wheel.py calls `write_wheel`. Nothing is written beside the sources.
+"""Packs the package as a wheel, with the standard library alone. pip calls these functions (PEP 517
+and 660), and tools/wheel.py calls `write_wheel`. Nothing is written next to the sources.
 
-A wheel for a machine has the libraries and the program of dist/ in it, so that it needs nothing else.
+A wheel for a machine has the libraries and the program of dist/ in it, so that it needs nothing
+else.
 """
 
 import base64
@@ -24,10 +25,10 @@ LIBRARY, KEPT_LIBRARY, PROGRAM = "libtpmsim.so.0", "libtpmsim-kept.so.0", "tpmsi
 # The page that shows explained logs, and its place in the package.
 PAGE, PAGE_PLACE = DISTRIBUTION / "tpmsim.html", "tpmsim/explain/tpmsim.html"
 
-# The glibc that the program and the library need.
+# The version of glibc that the program and the library need.
 GLIBC = 2, 34
 
-# A zip has no earlier time.
+# A zip file cannot have an earlier time.
 FIRST_TIME = 315_532_800
 
 Settings = dict[str, Any] | None
@@ -57,7 +58,7 @@ def stem() -> str:
 
 
 def sources() -> list[pathlib.Path]:
-    """The modules of the package and its data, in the order of their names."""
+    """The modules of the package and its data, sorted by name."""
     found = set(SOURCES.glob(f"{project()['name']}/**/*.py"))
     for package, patterns in told()["tool"]["tpmsim"]["package-data"].items():
         for pattern in patterns:
@@ -66,13 +67,13 @@ def sources() -> list[pathlib.Path]:
 
 
 def package() -> list[Entry]:
-    """All files of the package: its sources, and the page, where the repository is there."""
+    """All files of the package: its sources, and the page, if the repository is there."""
     files = [Entry(it.relative_to(SOURCES).as_posix(), it.read_bytes()) for it in sources()]
     return [*files, Entry(PAGE_PLACE, PAGE.read_bytes())] if PAGE.is_file() else files
 
 
 def metadata() -> str:
-    """What Python is told of the package that is installed."""
+    """What Python learns about the installed package."""
     facts = project()
     return (
         f"Metadata-Version: 2.1\nName: {facts['name']}\nVersion: {facts['version']}\n"
@@ -90,17 +91,17 @@ def entry_points() -> str:
 
 
 def shipped(machine: str) -> pathlib.Path:
-    """The folder of what is shipped for a machine."""
+    """The folder of the files that are shipped for a machine."""
     return DISTRIBUTION / machine if machine == "aarch64" else DISTRIBUTION
 
 
 def tag(machine: str | None) -> str:
-    """For which Python and machine a wheel is."""
+    """The tag of a wheel: for which Python and machine it is."""
     return f"py3-none-manylinux_{GLIBC[0]}_{GLIBC[1]}_{machine}" if machine else "py3-none-any"
 
 
 def described(machine: str | None) -> list[Entry]:
-    """The files that say what a wheel is, but for its RECORD."""
+    """The files that describe a wheel, except its RECORD."""
     wheel = (
         f"Wheel-Version: 1.0\nGenerator: tpmsim\nRoot-Is-Purelib: {str(not machine).lower()}\n"
         f"Tag: {tag(machine)}\n"
@@ -130,7 +131,7 @@ def record(entries: list[Entry]) -> Entry:
 
 
 def packed_at() -> int:
-    """The time of all files of a wheel: $SOURCE_DATE_EPOCH, or always the same one."""
+    """The time of all files of a wheel: $SOURCE_DATE_EPOCH, or else always the same one."""
     return max(FIRST_TIME, int(os.environ.get("SOURCE_DATE_EPOCH", FIRST_TIME)))
 
 
@@ -145,8 +146,8 @@ def write_zip(path: pathlib.Path, entries: list[Entry]) -> None:
 
 
 def write_wheel(folder: str, machine: str | None) -> pathlib.Path:
-    """The wheel for a machine, or the one for all, which has no library; OSError where it cannot be
-    written, or dist/ lacks something.
+    """Writes the wheel for a machine, or the one for every machine, which has no library. Returns
+    its path; raises OSError if it cannot be written, or if dist/ lacks something.
     """
     path = pathlib.Path(folder, f"{stem()}-{tag(machine)}.whl")
     write_zip(path, [*contents(machine), *described(machine)])
@@ -154,7 +155,7 @@ def write_wheel(folder: str, machine: str | None) -> pathlib.Path:
 
 
 def this_machine() -> str | None:
-    """The machine here, if dist/ has a library for it and it has the C library that this needs."""
+    """This machine, if dist/ has a library for it and it has the C library that this one needs."""
     system, version = platform.libc_ver()
     numbers = tuple(int(it) for it in version.split(".") if it.isdigit())
     machine = platform.machine()
@@ -164,19 +165,19 @@ def this_machine() -> str | None:
 
 
 def build_wheel(folder: str, settings: Settings = None, described_in: str | None = None) -> str:
-    """pip calls it: the name of the wheel for this machine."""
+    """Called by pip: writes the wheel for this machine, and returns its name."""
     return write_wheel(folder, this_machine()).name
 
 
 def build_editable(folder: str, settings: Settings = None, described_in: str | None = None) -> str:
-    """pip calls it with -e: a wheel that leads to the sources, which find dist/ themselves."""
+    """Called by pip with -e: writes a wheel that leads to the sources, which find dist/ themselves."""
     path = pathlib.Path(folder, f"{stem()}-{tag(None)}.whl")
     write_zip(path, [Entry(f"{stem()}.pth", f"{SOURCES}\n".encode()), *described(None)])
     return path.name
 
 
 def build_sdist(folder: str, settings: Settings = None) -> str:
-    """pip calls it for a source distribution, which has no library."""
+    """Called by pip for a source distribution, which has no library."""
     path = pathlib.Path(folder, f"{stem()}.tar.gz")
     packing = sorted((SOURCES / "packing").glob("*.py"))
     files = [SOURCES / "README.md", SOURCES / "pyproject.toml", *packing]

@@ -1,15 +1,30 @@
-"""Commands at random for a device with the completing layer: objects and sessions that come and go, their
-contexts, lists, and what else the layer answers; a few commands are bent, or are those of a caller
-without the layer.
+"""Random commands for a device with the completing layer: objects and sessions that come and go,
+their contexts, lists, and what else the layer answers. A few commands are bent, or come from a
+caller without the layer.
 """
 
 from tpmsim.caller import storage_key
-from tpmsim.standard import CC, command, frames, number, RH_NULL, RH_OWNER, SHA256, sized, TRANSIENT
+from tpmsim.standard import CC, command, frames, number, NV, nv, RH_LOCKOUT, RH_NULL, RH_OWNER
+from tpmsim.standard import RH_PLATFORM, SHA256, sized, TRANSIENT
+from tpmsim.standard.handle_kinds import PRIMARY_HIERARCHIES
 
 CONTEXT_SAVE, CONTEXT_LOAD, STIR_RANDOM, QUOTE = 0x162, 0x161, 0x146, 0x158
+INCREMENTAL_SELF_TEST, GET_TEST_RESULT, HASH, TEST_PARMS = 0x142, 0x17C, 0x17D, 0x18A
 OF_FAMILY_1 = bytes.fromhex("00c10000000c00000099") + b"\0\1"
 KINDS, OTHERS = (0x80, 0x80, 0x80, 0x80, 0x02, 0x03), (0x81, 0x01, 0x00, 0x40)
-PASSWORD = frames.area(frames.entry())
+PASSWORD, TAG = frames.area(frames.entry()), frames.SESSIONS
+
+# The parameters of a KEYEDHASH or a SYMCIPHER, those that the device does not take, and RSA's.
+PARAMETERS = tuple(
+    bytes.fromhex(it)
+    for it in (
+        *("0008 0010", "0008 0005 0004", "0008 0005 000b", "0025 0006 0080 0043"),
+        *("0008 0005 000c", "0008 0007", "0025 0006 0100 0043", "0025 0010", "0001 0010", "0008"),
+    )
+)
+
+# A counter that the owner writes and reads.
+COUNTER = nv.of_type(nv.Type.COUNTER) | nv.Attribute.OWNERWRITE | nv.Attribute.OWNERREAD
 
 
 def handle_of(chance):
@@ -33,18 +48,53 @@ def session(chance):
 
 
 def listing(chance):
-    asked = chance.choice((0, 1, 1, 1, 2, 5, 6, 9))
-    first = {0: chance.randrange(80), 1: handle_of(chance), 2: chance.randrange(0x11F, 0x194)}
-    wanted = first.get(asked, chance.choice((0, 0x100, 0x112, 0x129, 0x20E)))
+    asked = chance.choice((0, 1, 1, 1, 2, 3, 4, 5, 6, 6, 6, 7, 8, 9))
+    first = {0: chance.randrange(80), 7: chance.randrange(0x16), 1: handle_of(chance), 2: chance.randrange(0x11F, 0x194)}
+    wanted = first.get(asked, chance.choice((0, 0x100, 0x112, 0x129, 0x200, 0x207, 0x20E)))
     count = chance.choice((0, 1, 3, 64, 100))
     return command(CC.GetCapability, b"".join(number(it, 4) for it in (asked, wanted, count)))
 
 
-class Scripts:
-    """The next command of a caller, by what was answered before."""
+def testing(chance):
+    """A test, a digest, or a question about parameters."""
+    data = chance.choice((b"", bytes.fromhex("ff544347"), b"\xff\x54\x43", chance.randbytes(1024)))
+    algorithm = chance.choice((SHA256, frames.SHA1, 0x0C))
+    hierarchy = chance.choice((*PRIMARY_HIERARCHIES, RH_LOCKOUT))
+    count = chance.choice((0, 1, 64, 65))
+    code, parameters = chance.choice(
+        (
+            (INCREMENTAL_SELF_TEST, number(count, 4) + bytes(2 * count)),
+            (GET_TEST_RESULT, b""),
+            (HASH, sized(data) + number(algorithm, 2) + number(hierarchy, 4)),
+            (TEST_PARMS, chance.choice(PARAMETERS)),
+        )
+    )
+    return command(code, parameters)
 
-    def __init__(self, chance):
-        self.chance, self.contexts = chance, list[bytes]()
+
+def changed(chance):
+    """A command that changes what the properties report: an authorization value, a counter, whether
+    TPM2_Clear is disabled, or a shutdown."""
+    owner, platform = number(RH_OWNER, 4), number(RH_PLATFORM, 4)
+    counter = frames.nv_public_area(NV << 24 | chance.randrange(3), SHA256, COUNTER, b"", 8)
+    return chance.choice(
+        (
+            command(CC.HierarchyChangeAuth, number(RH_LOCKOUT, 4) + PASSWORD + sized(b"x"), TAG),
+            command(CC.Clear, platform + PASSWORD, TAG),
+            command(CC.ClearControl, platform + PASSWORD + bytes([chance.randrange(2)]), TAG),
+            command(CC.NV_DefineSpace, owner + PASSWORD + sized(b"") + sized(counter), TAG),
+            command(CC.Shutdown, number(1, 2)),
+        )
+    )
+
+
+class Scripts:
+    """The next command of a caller, which depends on the earlier answers. With `changes` some commands
+    change what outlasts the power.
+    """
+
+    def __init__(self, chance, changes=False):
+        self.chance, self.contexts, self.changes = chance, list[bytes](), changes
 
     def heard(self, buffer, response):
         if int.from_bytes(buffer[6:10], "big") == CONTEXT_SAVE and not any(response[6:10]):
@@ -70,25 +120,29 @@ class Scripts:
                 lambda: command(STIR_RANDOM, sized(bytes(chance.choice((0, 9, 128, 129))))),
                 lambda: listing(chance),
                 lambda: command(CC.ReadPublic, number(TRANSIENT << 24 | chance.randrange(9), 4)),
-                lambda: command(CC.Startup, bytes(2)),
+                lambda: command(CC.Startup, number(chance.choice((0, 0, 1)), 2)),
                 lambda: command(QUOTE, number(handle_of(chance), 4)),
                 lambda: OF_FAMILY_1,
                 lambda: chance.randbytes(chance.randrange(12)),
+                lambda: testing(chance),
+                lambda: changed(chance),
             ),
-            (6, 3, 9, 6, 6, 1, 5, 2, 0.3, 0.5, 0.5, 0.5),
+            (6, 3, 9, 6, 6, 1, 5, 2, 2, 0.5, 0.5, 0.5, 3, 0.3 * self.changes),
         )[0]()
         return self.bent(found) if found and chance.random() < 0.04 else found
 
 
-def play(device, chance, count, completed=0.97):
-    """So many commands, such a part of them with the layer; what each was answered since power came on
-    last.
+def play(device, chance, count, completed=0.97, changes=False):
+    """Plays `count` commands, a fraction `completed` of them with the layer. Returns what was
+    answered since the last time that power came on.
     """
-    scripts, answered = Scripts(chance), list[bytes]()
+    scripts, answered = Scripts(chance, changes), list[bytes]()
     device.execute(command(CC.Startup, bytes(2)))
     answered.append(device.events[-1].response)
     for _ in range(count):
         if chance.random() < 0.002:
+            if changes and chance.random() < 0.5:
+                device.execute(command(CC.Shutdown, number(1, 2)))
             device.power_cycle()
             answered.clear()
             continue

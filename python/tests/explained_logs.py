@@ -9,12 +9,12 @@ EXAMPLE = TOP / "examples" / "disk_unlock.tpm"
 
 
 def lines_with(words):
-    """The numbers of the lines of the example that begin so."""
+    """The numbers of the lines of the example that begin with these words."""
     lines = EXAMPLE.read_text().splitlines()
     return [at for at, it in enumerate(lines, 1) if it.startswith(words)]
 
 
-# Where the disk stays locked, as another text went into PCR 7.
+# Where the disk stays locked, since another text went into PCR 7.
 LOCKED, MOVED = lines_with("do Unseal")[-1], lines_with("do PCR_Event 00000007")[-1]
 
 
@@ -23,12 +23,12 @@ def events_of(*lines, answers=None):
 
 
 def last(*lines):
-    """The reason of the last line, behind a start."""
+    """The reason of the last line, after a start."""
     return events_of("do Startup 0", *lines)[-1].reason
 
 
 def explained(device, tried=()):
-    """The last event of a device's trace, as it is explained, with values that are tried."""
+    """The last event of a device's trace, explained with values to try."""
     play = Play()
     play.tried = tried
     events = list(play.events("\n".join(device.trace).encode()))
@@ -45,6 +45,6 @@ def sessions_of(device):
 
 
 def without_value(tpm):
-    """The encryption of a caller that leaves the authorization value out of its key."""
+    """Encrypts as a caller does that leaves the authorization value out of its key."""
     right = type(tpm).encrypted
     return lambda use, handle, parameters: right(tpm, use, None, parameters)

@@ -1,4 +1,4 @@
-"""Journals as docs/ATTACHED.md has them, written of the device in Python, so that tests need no library."""
+"""Journals as in docs/ATTACHED.md, written by the device in Python, so that tests need no library."""
 
 from tpmsim.model.image import image
 from tpmsim.model.machine import Model
@@ -9,8 +9,8 @@ from tpmsim.standard import number
 
 
 class Journal:
-    """The text of a device that plays lines; a power cycle begins it anew. All random bytes that a command
-    is given are told as drawn.
+    """The text of a device that plays lines; a power cycle begins it again. All random bytes that a
+    command receives are recorded as drawn.
     """
 
     def __init__(self, model=None):
@@ -23,12 +23,12 @@ class Journal:
         self.head(1, self.image)
 
     def cycle(self):
-        """A power cycle, after which it begins anew with the whole state."""
+        """A power cycle, after which the journal begins again with the whole state."""
         self.model.power_cycle()
         self.go_on()
 
     def go_on(self, layer=None):
-        """Begins anew with the whole state, in place of all that was executed."""
+        """Begins again with the whole state, instead of everything that was executed."""
         self.head(2, state_text(self.model, layer))
 
     def head(self, kind, text):

@@ -1,4 +1,4 @@
-"""Programs that tests run beside themselves."""
+"""Programs that tests run at the same time as themselves."""
 
 import atexit
 import contextlib
@@ -9,13 +9,13 @@ import shutil
 import tempfile
 import unittest
 
-# What tests/python/python.sh has built, or what is installed.
+# The program that tests/python/python.sh has built, or the installed one.
 SIMULATOR = os.environ.get("TPMSIM_SIMULATOR") or shutil.which("tpmsim-simulator")
 NEEDS_SIMULATOR = unittest.skipUnless(SIMULATOR, "there is no tpmsim-simulator")
 
 
 def folder_of_compiled():
-    """Where what a program in Python compiles is: where it is kept already, or a folder of our own."""
+    """Where a Python program puts compiled modules: where they are kept already, or a new folder."""
     kept = os.environ.get("PYTHONPYCACHEPREFIX")
     if kept:
         return kept
@@ -29,7 +29,9 @@ COMPILES = {"PYTHONDONTWRITEBYTECODE": "", "PYTHONPYCACHEPREFIX": folder_of_comp
 
 @contextlib.contextmanager
 def running(*words, ready):
-    """A program, as soon as it is ready; it is ended by SIGTERM, and that it ends well is checked."""
+    """Runs a program, and yields as soon as it is ready; ends it by SIGTERM, and checks that it
+    ends well.
+    """
     given = {"env": {**os.environ, **COMPILES}, "stdout": subprocess.PIPE, "text": True}
     with subprocess.Popen(words, **given) as process:
         try:

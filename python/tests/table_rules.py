@@ -17,14 +17,16 @@ LIST_OF_CHECKS = re.compile(r"\[the checks of [^\]]*\]\(([^)]*)\)")
 
 
 def plain(text):
-    """Without the targets of links, on one line; items of a list within have a semicolon each."""
+    """A text on one line, without the targets of links; items of a list in it end with a semicolon
+    each.
+    """
     text = LINK.sub(r"\1", text).replace("`", "")
-    text = re.sub(r"\n +- ", "; ", text).replace(":; ", ": ")
-    return " ".join(text.split()).replace(".; ", ": ")
+    text = re.sub(r"\n *- ", "; ", text).replace(":; ", ": ")
+    return " ".join(text.split()).replace(".; ", ": ").replace(": - ", ": ").replace(";; ", "; ")
 
 
 def anchor_of(title):
-    """The anchor that a heading has."""
+    """The anchor of a heading."""
     return re.sub(r"[^\w\- ]", "", title.lower()).replace(" ", "-")
 
 
@@ -41,7 +43,7 @@ def section_at(link):
 
 
 def paragraphs(text):
-    """Those of a text, but for the one that leads to a definition and its code."""
+    """The paragraphs of a text, except the one that leads to a definition and its code."""
     found = filter(str.strip, re.split(r"\n\n+", text))
     return [it for it in found if not it.startswith("Definition: ")]
 
@@ -57,21 +59,21 @@ def table_rows(text):
 
 
 def items(text):
-    """The items of the lists in a text, each with the lines that it goes on in."""
+    """The items of the lists in a text, each with the lines on which it continues."""
     return re.findall(r"^(?:- |\d\. ).*(?:\n(?: +\S.*))*", text, flags=re.MULTILINE)
 
 
-# Sentences that explain what several checks stand on: the section, how they begin, and how many.
+# Sentences that several checks share: the section, how they begin, and their number.
 OTHERS = (
     ("integrity", "objects.md#integrity", "TPM2_Load refuses", 1),
     ("tries", "lockout.md#failed-tries", "While failedTries", 1),
     ("lockoutAuth", "lockout.md#lockoutauth", "A wrong try at", 2),
     ("guesses", "lockout.md#guesses-that-are-not-tries", "Only comparisons count", 2),
-    ("entry", "sessions.md#an-entry-in-a-command", "Where the key is empty", 2),
-    ("nonces", "sessions.md#a-refusal", "Once a buffer", 1),
-    ("encryption", "parameter_encryption.md#parameter-encryption", "authValue is that of", 1),
-    ("zeros", "sessions.md#sessions-and-entries", "An authorization value counts", 1),
-    ("name of an index", "nv.md#the-name", "WRITTEN and the locks", 2),
+    ("entry", "sessions.md#an-entry-in-a-command", "If the key is empty", 2),
+    ("nonces", "sessions.md#a-refusal", "After the device has accepted", 2),
+    ("encryption", "parameter_encryption.md#parameter-encryption", "authValue is that of", 2),
+    ("zeros", "sessions.md#sessions-and-entries", "Trailing zeros of", 1),
+    ("name of an index", "nv.md#the-name", "The public area contains", 3),
     ("random bytes", "README.md#events", "An event is", 1),
 )
 SENTENCE = re.compile(r"(?<=[.:])\s+(?=[A-Z|])")
@@ -90,7 +92,7 @@ class Rules:
         self.found[key] = text + end, f"docs/table/{link}"
 
     def general(self):
-        """G1 to G11, and M."""
+        """The rules of G1 to G11, and of M."""
         for title, link, text in sections_of("order_of_refusals.md"):
             check = title.partition(":")[0]
             if not re.fullmatch(r"G\d+|M", check):
@@ -166,7 +168,7 @@ def rules():
 
 
 def text_of(found):
-    """JSON, a rule a line."""
+    """The rules as JSON, one per line."""
     said = [f" {json.dumps(it, ensure_ascii=False)}: " for it in found]
     told = [json.dumps(list(it), ensure_ascii=False) for it in found.values()]
     return "{\n" + ",\n".join(map("".join, zip(said, told))) + "\n}\n"

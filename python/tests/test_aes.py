@@ -1,4 +1,4 @@
-"""Both ciphers, by the examples of FIPS 197 and SP 800-38A, and beside other programs."""
+"""Both ciphers, by the examples of FIPS 197 and SP 800-38A, and compared with other programs."""
 
 import hashlib
 import importlib.util
@@ -63,7 +63,7 @@ def by_openssl(key, iv, text, direction):
 
 
 class OtherPrograms(unittest.TestCase):
-    """It agrees with other programs, where they are there."""
+    """The ciphers agree with other programs, if these are installed."""
 
     @unittest.skipUnless(shutil.which("openssl"), "there is no openssl")
     def test_openssl(self):

@@ -1,4 +1,4 @@
-"""The completing layer in Python beside the library's, and how a completed command is explained."""
+"""The completing layer in Python next to the library's, and how a completed command is explained."""
 
 import pathlib
 import random
@@ -18,7 +18,7 @@ from tpmsim.standard import lines
 
 SEEDS, COMMANDS = 12, 500
 
-# What the layer does, but for numbers.
+# What the layer does, with N for each number.
 DEEDS = {
     "context N of object N, which stays in its place",
     "context N of session N, which stays in its place",
@@ -34,6 +34,13 @@ DEEDS = {
     "the device was not told: the object was flushed already, and waits in its place",
     "N, which waited longest, was given up, and the command executed again",
     "the bytes are not used",
+    "no algorithm is left to be tested",
+    "all tests succeeded",
+    "the digest, and its ticket",
+    "the device takes these parameters",
+    "the parameters are refused",
+    "an empty list with the layer",
+    "the properties of PCRs with the layer",
     "the algorithms with the layer",
     "the commands with the layer",
     "the handles with the layer",
@@ -47,22 +54,22 @@ def deed(words):
 
 
 def recorded(seed, count):
-    """The journal of commands at random, and what was answered to those in it."""
+    """The journal of random commands, and what the commands in it were answered."""
     with tempfile.TemporaryDirectory() as folder:
         with KeptDevice(folder, forces=False, completes=True) as device:
-            answered = completed_scripts.play(device, random.Random(seed), count)
+            answered = completed_scripts.play(device, random.Random(seed), count, changes=True)
         return pathlib.Path(folder, "journal").read_bytes(), answered
 
 
 def wrong(event, response):
-    """Whether an event is explained as something else than what was answered."""
+    """Whether the explanation of an event differs from what was answered."""
     is_refused = any(response[6:10])
     is_said = bool(event.refused), event.reason is not None
     return event.response != response or event.differences or is_said != (is_refused,) * 2
 
 
 def trace_of(event):
-    """As `tpmsim replay` prints it."""
+    """The trace of an event as `tpmsim replay` prints it."""
     scene = event.scene
     if event.completes:
         return COMPLETED
@@ -72,7 +79,9 @@ def trace_of(event):
 @unittest.skipUnless(library.is_there(), "there is no library")
 class Completed(unittest.TestCase):
     def test_commands_at_random(self):
-        """Each is answered as by the library, and a refusal where that refuses, and nowhere else."""
+        """Each command is answered as by the library, and is explained as refused only if that
+        refuses it.
+        """
         seen = set()
         for seed in range(SEEDS):
             journal, answered = recorded(seed, COMMANDS)
@@ -85,7 +94,7 @@ class Completed(unittest.TestCase):
         self.assertEqual(seen - {""}, DEEDS)
 
     def test_an_audit(self):
-        """What the layer answers is counted alone, and what it makes of the device is in the history."""
+        """The layer's answers are counted apart, and what it makes of the device is in the history."""
         for seed in range(2):
             journal, answered = recorded(seed, COMMANDS)
             auditor = Auditor(start.of_log(journal, None), NoLog())
@@ -102,7 +111,7 @@ class Completed(unittest.TestCase):
             self.assertIn(words, "\n".join(report(auditor)))
 
     def test_words(self):
-        """What the layer answered is told, and what the device itself said."""
+        """What the layer answered is reported, and what the device itself said."""
         save, stir = "8001 0000000e 00000162 80000000", "8001 0000000e 00000146 0002 0102"
         with tempfile.TemporaryDirectory() as folder:
             with KeptDevice(folder, forces=False, completes=True) as device:

@@ -1,4 +1,4 @@
-"""Why a device refused a command, wherever it is: of what it was told, and what it answered."""
+"""Why a device refused a command, wherever it is, from what it was sent and what it answered."""
 
 import os
 import pathlib
@@ -20,7 +20,7 @@ SERVE = "serve --socket socket --image image --entropy /dev/urandom --locality 0
 
 
 def use(device):
-    """An index whose value a session proves, and then a wrong password is given for it."""
+    """A session proves an index's value, and then a wrong password is given for it."""
     tpm = Caller(device)
     tpm.start_up()
     index = tpm.define(area(attributes=BY_VALUE), auth=b"right")
@@ -54,7 +54,7 @@ class Reasons(unittest.TestCase):
 
     @unittest.skipUnless(library.is_there(), "there is no library")
     def test_kept(self):
-        """Also after a power cycle, and with the completing layer."""
+        """Explained also after a power cycle, and with the completing layer."""
         self.assert_explained(KeptDevice(self.folder / "kept"))
         with KeptDevice(self.folder / "other", completes=True) as device:
             Caller(device).start_up()
@@ -87,13 +87,13 @@ class Reasons(unittest.TestCase):
             self.assertIn(f"The password of the entry is not the authValue of {index:08x}", why)
 
     def served(self):
-        """A device on a socket, of which nobody tells the random bytes."""
+        """A device on a socket, whose random bytes nobody reports."""
         process = subprocess.Popen([program_found(), *SERVE.split()], cwd=self.folder)
         self.addCleanup(process.wait)
         self.addCleanup(process.kill)
         here = os.getcwd()
         self.addCleanup(os.chdir, here)
-        os.chdir(self.folder)  # a socket's path is short
+        os.chdir(self.folder)  # a socket's path must be short
         while not os.path.exists("socket"):
             time.sleep(0.01)
         return ServedDevice("socket")
@@ -108,7 +108,7 @@ class Reasons(unittest.TestCase):
 
     @unittest.skipUnless(shutil.which("swtpm"), "there is no swtpm")
     def test_of_another_maker(self):
-        """As long as another TPM answers as this one does."""
+        """Another maker's TPM is explained as long as it answers as this one does."""
         with StartedSwtpm() as device:
             tpm = Caller(device)
             tpm.start_up()
@@ -119,7 +119,7 @@ class Reasons(unittest.TestCase):
             self.assertIn("The password of the entry is not", why_refused(log_of(device)))
 
     def test_what_was_there_before(self):
-        """A device that had something before it was told anything is not explained wrongly."""
+        """A device that had something before its first event is not explained wrongly."""
         with ChildDevice(image=self.folder / "image") as device:
             index = use(device)
         with self.served() as device:

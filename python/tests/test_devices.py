@@ -1,4 +1,4 @@
-"""The same twenty tests over each kind of device, and what is of one kind alone."""
+"""The same twenty tests over each kind of device, and tests of one kind alone."""
 
 import contextlib
 import doctest
@@ -39,7 +39,7 @@ NEEDS_LIBRARY = unittest.skipUnless(tpmsim.device.library.is_there(), "there is 
 
 
 class Told(TwentyTests):
-    """Devices of which everything is told."""
+    """Devices that receive their locality, time and random bytes."""
 
     def test_trace_is_a_script(self):
         self.tpm.device.locality = 3
@@ -68,7 +68,7 @@ class Told(TwentyTests):
 
 
 class Shipped(unittest.TestCase):
-    """What a clone of the repository ships is found by the machine."""
+    """The files that a clone of the repository ships are found by the machine."""
 
     def test_machines(self):
         for machine, folder in (("x86_64", "dist"), ("aarch64", "aarch64")):
@@ -132,13 +132,13 @@ class OverSimulator(TwentyTests, unittest.TestCase):
 
 
 def differs(test):
-    """A test that is to fail on another TPM, as that answers otherwise."""
+    """A test that must fail on another TPM, which answers otherwise."""
     return unittest.expectedFailure(lambda self: test(self))
 
 
 @unittest.skipUnless(shutil.which("swtpm"), "there is no swtpm")
 class OverSwtpm(TwentyTests, unittest.TestCase):
-    """docs/OTHER_TPMS.md tells the differences; that each is still there is a test of its own."""
+    """docs/OTHER_TPMS.md has the differences; a test for each one shows that it is still there."""
 
     lacks = {"test_lockout": HOSTS_TIME}
     device = StartedSwtpm
@@ -147,10 +147,11 @@ class OverSwtpm(TwentyTests, unittest.TestCase):
     test_end_of_a_session = differs(TwentyTests.test_end_of_a_session)
     test_wrong_hmac_of_a_response = differs(TwentyTests.test_wrong_hmac_of_a_response)
 
-    # TPM2_PCR_Event answers digests of all banks there, also of those without PCRs.
+    # TPM2_PCR_Event there answers digests of all banks, even of those without PCRs.
     test_fields = differs(TwentyTests.test_fields)
 
-    # A session whose binding a command undoes is answered there as if it were bound.
+    # If a command undoes a session's binding, it is answered there as if the session were still
+    # bound.
     test_indices = differs(TwentyTests.test_indices)
     test_wrong_hmac = differs(TwentyTests.test_wrong_hmac)
 
@@ -160,7 +161,7 @@ class Devices(unittest.TestCase):
         self.folder = pathlib.Path(self.enterContext(tempfile.TemporaryDirectory()))
 
     def test_wrong_words(self):
-        """Those of a caller, whichever device it has."""
+        """Wrong words from a caller, whichever device it has."""
         tpm = Caller(ModelDevice())
         with self.assertRaisesRegex(KeyError, "Quote is not a command that the device serves"):
             tpm.call("Quote")
@@ -196,7 +197,8 @@ class Devices(unittest.TestCase):
             before = but_clock(image(model))
 
     def test_image_of_one_device(self):
-        """A file is one device's at a time, and what is no image stays as it is."""
+        """A file belongs to one device at a time, and bytes that are not an image stay as they are.
+        """
         path = self.folder / "image"
         with Device(path), self.assertRaises((FileExistsError, DeviceEnded)):
             Device(path).execute(b"")
@@ -207,7 +209,9 @@ class Devices(unittest.TestCase):
         self.assertEqual(path.read_bytes(), b"TPMI")
 
     def test_kept_state(self):
-        """Two hold a device at once; what is no journal, or is damaged, is told so and stays."""
+        """Two hold a device at once; a journal that is damaged or is not one is reported as such,
+        and stays.
+        """
         with KeptDevice(self.folder) as device, KeptDevice(self.folder) as other:
             tpm = Caller(device)
             tpm.start_up()
@@ -251,7 +255,7 @@ class Devices(unittest.TestCase):
         self.assertRaisesRegex(DeviceEnded, words, device.execute, bytes(40_000))
 
     def test_readme(self):
-        """Its examples run, and print what they say."""
+        """The examples of README.md run, and print what they say."""
         printed, codes = io.StringIO(), (PACKAGE / "README.md").read_text("utf-8").split("```")
         with contextlib.redirect_stdout(printed):
             for code in (codes[1], codes[3]):

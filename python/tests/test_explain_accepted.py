@@ -1,4 +1,4 @@
-"""Slips that a device accepts, and what an explanation tells of them."""
+"""Slips that a device accepts, and what an explanation says of them."""
 
 import random
 import unittest
@@ -41,7 +41,7 @@ class Accepted(unittest.TestCase):
         self.assertEqual(self.slips(), ["not encrypted"])
 
     def test_misread_structure(self):
-        """An inSensitive that was encrypted without the parent's value is no structure any more."""
+        """If inSensitive was encrypted without the parent's value, it is no longer a structure."""
         parent = self.tpm.create_primary(storage_key(), user_auth=b"\xf1parent")
         named = 0
         for at in range(8):

@@ -1,4 +1,4 @@
-"""The page of a log: that the log and what is told of it are there, and that nothing of a log is markup.
+"""The page of a log: it has the log and what is reported of it, and nothing of a log is markup.
 tests/web/page_browser.sh opens it in a browser.
 """
 
@@ -12,7 +12,7 @@ from tpmsim.explain import page
 from tpmsim.explain.play import Play
 from tpmsim.explain.text import Counts
 
-# A log may hold anything: in its name, in comments, in words and in bytes that are a text.
+# A log may hold anything: in its name, in comments, in words, and in bytes that are a text.
 HOSTILE = "</script><script>alert(1)</script><!--<img src=x onerror=alert(2)>&amp;@FACTS@"
 LOG = f"""# {HOSTILE}
 do Startup 0
@@ -27,7 +27,9 @@ def page_of(name, log, answers=None, image=None):
 
 
 class Elements(html.parser.HTMLParser):
-    """The elements of a page with their attributes, and the text of each, by its id or else its tag."""
+    """The elements of a page with their attributes, and the text of each, by its id or else its
+    tag.
+    """
 
     def __init__(self, text):
         super().__init__()
@@ -47,7 +49,7 @@ class Elements(html.parser.HTMLParser):
 
 
 def log_of(text):
-    """The log that a page has."""
+    """The log in a page."""
     return json.loads(Elements(text).texts["log"])
 
 
@@ -86,7 +88,7 @@ class Page(unittest.TestCase):
         self.assertEqual(image, "")
 
     def test_random_bytes_of_another_log(self):
-        """A log of another TPM has no entropy lines: the page is told what the answers show."""
+        """A log of another TPM has no entropy lines: the page gets what the answers show."""
         log = b"cmd 80010000000c000001440000\ncmd 80010000000c0000017b0004\n# 80010000001000000000000401020304\n"
         value = log_of(page_of("", log))
         self.assertTrue(value["events"]["2"]["random"].startswith("01020304"))

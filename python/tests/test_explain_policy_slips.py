@@ -1,5 +1,5 @@
-"""Each usual slip in a policy digest, which is made elsewhere with one thing turned: it is named alone,
-two are named as two, and nothing is named where no slip explains.
+"""Each usual slip in a policy digest, which is made elsewhere with one change: one slip is named
+alone, two are named as two, and nothing is named if no slip explains the digest.
 """
 
 import hashlib
@@ -24,7 +24,7 @@ def sized(data):
 
 
 class Case:
-    """A policy session that was told four assertions, after a PCR was extended."""
+    """A policy session with four assertions, after a PCR was extended."""
 
     PCR = 16
 
@@ -50,7 +50,7 @@ class Case:
         return hashlib.new(HASHES[algorithm or self.algorithm], data).digest()
 
     def told(self):
-        """The session, which is told what is right by the device."""
+        """The session, in which the device makes the right assertions."""
         session = self.tpm.session(kind=SE_POLICY, algorithm=self.algorithm)
         self.tpm.send(self.tpm.pcrs(session, [(SHA256, [self.PCR])]))
         secret = self.tpm.secret(session, of=RH_ENDORSEMENT, policy_ref=self.reference)
@@ -93,7 +93,7 @@ class Case:
         return made
 
     def refused(self, auth_policy, tried=()):
-        """Why TPM2_Unseal is refused of what has this policy."""
+        """Why TPM2_Unseal refuses an object with this policy."""
         session = self.told()
         template = sealed(self.algorithm, HERE | Attribute.NO_DA, auth_policy=auth_policy)
         handle = self.tpm.create_primary(template, data=b"x", user_auth=b"pin")
@@ -107,7 +107,7 @@ class Case:
 
 
 def link(place, make):
-    """One link is made otherwise; it has the case and the digest before it."""
+    """Makes one link in another way, from the case and the digest before it."""
 
     def of_link(case, links):
         links[place] = lambda old: make(case, old)
@@ -137,7 +137,7 @@ def other(algorithm):
 
 
 SECRET = number(RH_ENDORSEMENT, 4)
-SIGN = 0x15D  # which is not served
+SIGN = 0x15D  # a command that is not served
 AUTH, PASSWORD = number(CC.PolicyAuthValue, 4), number(CC.PolicyPassword, 4)
 
 ROWS = (
@@ -233,7 +233,9 @@ NONE = (
 
 
 def pairs_of(rows, most=60):
-    """Some pairs of rows: first those that are made otherwise, and then what is arranged otherwise."""
+    """Some pairs of rows: first those that are made in another way, then those that are arranged
+    so.
+    """
     pairs = list(itertools.combinations(rows, 2))
     for first, second in random.Random("pairs").sample(pairs, most):
         places = [getattr(it[1], "place", None) for it in (first, second)]
@@ -257,7 +259,7 @@ class PolicySlips(unittest.TestCase):
                     self.assertEqual(found.slips, [name])
 
     def test_two(self):
-        """Any two in different places, of which neither undoes the other."""
+        """Any two in different places, neither of which undoes the other."""
         named = 0
         for at, (first, second) in enumerate(pairs_of(ROWS)):
             case = Case(f"two {at} {first[0]}, {second[0]}")
@@ -282,7 +284,7 @@ class PolicySlips(unittest.TestCase):
             )
 
     def test_so_much_is_tried(self):
-        """Few links of a policy that was told much."""
+        """Few links are tried for a policy with many assertions."""
         tpm = Caller(ModelDevice(seed=b"much"))
         tpm.start_up()
         session = tpm.session(kind=SE_POLICY)
@@ -347,7 +349,7 @@ class PolicySlips(unittest.TestCase):
 
 
 class ByATrial(unittest.TestCase):
-    """The wanted digest is that of a trial session in the log."""
+    """The expected digest is that of a trial session in the log."""
 
     def setUp(self):
         self.device = ModelDevice(seed=b"trials")

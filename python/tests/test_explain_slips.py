@@ -1,5 +1,5 @@
-"""Each usual slip of a caller, made in random sessions: the explanation names it, and no slip where
-an HMAC is random.
+"""Each usual slip of a caller, made in random sessions: the explanation names it, and names no slip
+if an HMAC is random.
 """
 
 import random
@@ -13,7 +13,7 @@ from tpmsim.standard import RH_OWNER, sessions, SHA1, SHA256, sized, XOR
 from tpmsim.standard.objects import Attribute
 from explained_logs import explained, sessions_of, without_value
 
-# How many random sessions each slip is tried in.
+# The number of random sessions in which each slip is tried.
 ROUNDS = 10
 
 
@@ -22,7 +22,9 @@ def other_hash(algorithm):
 
 
 class Case:
-    """A random session on a device, and a command that it may authorize. `pick` draws all chance."""
+    """A random session on a device, and a command that it may authorize. `pick` makes all random
+    choices.
+    """
 
     def __init__(self, seed, bound=None, entity=None, cipher=None):
         self.pick = random.Random(seed)
@@ -43,7 +45,7 @@ class Case:
         )
 
     def fresh_value(self):
-        """No value that ends in zeros, is empty, or is a text."""
+        """A value that does not end in zeros, is not empty, and is not a text."""
         return self.pick.randbytes(self.pick.randrange(3, 16)) + b"\xfe"
 
     def with_owner(self):
@@ -57,7 +59,7 @@ class Case:
         return self.tpm.create_primary(hmac_key(), data=b"key", user_auth=self.value)
 
     def use(self, *more, attributes=CONTINUE_SESSION):
-        """A command that the entity authorizes, right in everything."""
+        """A command that the entity authorizes, without any mistake."""
         means = Use(self.session, attributes), *more
         if self.entity == "owner":
             return self.tpm.change_auth(RH_OWNER, self.pick.randbytes(8), *means)
@@ -75,12 +77,12 @@ class Case:
         return self.tpm.unsealing(handle, use)
 
     def go_on(self, times):
-        """The session is used so many times, so that its nonce is another one each time."""
+        """Uses the session this number of times, so that its nonce changes each time."""
         for _ in range(times):
             self.tpm.call("GetRandom", uses=[self.session], bytesRequested=1)
 
     def parts(self, prepared):
-        """What goes into the HMAC of the first entry, by the names of sessions.entry_hmac."""
+        """The ingredients of the first entry's HMAC, by the names of sessions.entry_hmac."""
         means, tpm, handle = prepared.uses[0], self.tpm, prepared.authorized(1)
         algorithm = means.session.algorithm
         return {
@@ -94,7 +96,7 @@ class Case:
         }
 
     def bent(self, prepared, hashed=None, **changes):
-        """The command with an HMAC of other parts; `hashed` is what is otherwise in its cpHash."""
+        """The command with an HMAC of other parts; `hashed` is what differs in its cpHash."""
         if hashed is not None:
             changes["parameters"] = self.cp_hash(prepared, **hashed)
         return prepared.but_entry(1, hmac=sessions.entry_hmac(**(self.parts(prepared) | changes)))
@@ -106,8 +108,8 @@ class Case:
         return sessions.digest(algorithm or self.session.algorithm, text)
 
 
-# What a caller may do in every command: the seed and the choices of its sessions, the slip that this
-# is, and the parts that are others in the HMAC.
+# What a caller may do in every command: the seed and the choices of its sessions, the slip that
+# this is, and the parts that differ in the HMAC.
 ALWAYS = (
     ("left out", {"bound": False}, "authValue left out", lambda it: {"key": b""}),
     ("put in", {"bound": True}, "authValue put in", lambda it: {"key": it.session.key + it.value}),
@@ -124,18 +126,18 @@ def hashed(names, front=b""):
 
 class Slips(unittest.TestCase):
     def slips_of(self, case, prepared):
-        """Those that are named for a command, which must be refused."""
+        """The slips that are named for a command, which must be refused."""
         with self.assertRaises(Refused) as caught:
             case.tpm.send(prepared)
         self.assertIn(caught.exception.name, ("BAD_AUTH", "AUTH_FAIL"))
         return explained(case.device).reason.slips
 
     def refused(self, case, prepared, *wanted):
-        """A command that is refused, for which just these slips are named."""
+        """Checks that a command is refused, with exactly these slips."""
         self.assertEqual(self.slips_of(case, prepared), list(wanted), "\n".join(case.device.trace))
 
     def bends(self, case, wanted, prepared=None, **changes):
-        """A command that is right in all but these parts of its HMAC."""
+        """Checks a command that is right except in these parts of its HMAC."""
         self.refused(case, case.bent(prepared or case.use(), **changes), wanted)
 
     def cases(self, name, **choices):
@@ -183,7 +185,7 @@ class Slips(unittest.TestCase):
             self.bends(case, "authValue put in", case.tpm.random(4, case.session), key=key)
 
     def test_auth_value_in_a_policy(self):
-        """Put in without PolicyAuthValue, and left out after it."""
+        """The value is put in without PolicyAuthValue, and left out after it."""
         for words, in_key, wanted in (
             ("PolicyCommandCode Unseal\n", b"pin", "authValue put in"),
             ("PolicyAuthValue\n", b"", "authValue left out"),
@@ -216,7 +218,7 @@ class Slips(unittest.TestCase):
             self.bends(case, "old Name", hashed={"names": [old, old]})
 
     def test_old_name_and_lapsed_binding(self):
-        """What a caller does that has not heard of the first write."""
+        """What a caller does that does not know of the first write."""
         for case in self.cases("both", bound=True, entity="index"):
             old = case.tpm.name(case.handle)
             case.tpm.send(case.use())
@@ -246,7 +248,7 @@ class Slips(unittest.TestCase):
             self.bends(case, "parameters hashed plain", prepared, hashed=hashed)
 
     def test_zeros(self):
-        """A value that is padded counts where the key is longer than a block, and in front."""
+        """A padded value counts if the key is longer than a block, and if the zeros are in front."""
         for case in self.cases("zeros", bound=False):
             prepared = case.use()
             for padded in (

@@ -1,5 +1,5 @@
-"""Each usual slip in an HMAC, by a caller that turns one ingredient: it is named alone, two are named
-as two, and nothing is named where no slip explains.
+"""Each usual slip in an HMAC, by a caller that changes one ingredient: one slip is named alone, two
+are named as two, and nothing is named if no slip explains the HMAC.
 """
 
 import base64
@@ -15,7 +15,7 @@ from tpmsim.explain import slips
 from tpmsim.standard import AES, ALG_NULL, CC, number, RH_ENDORSEMENT, RH_OWNER, RS_PW, SE_HMAC
 from tpmsim.standard import SHA1, SHA256, XOR
 
-# How many random sessions each slip is tried in.
+# The number of random sessions in which each slip is tried.
 ROUNDS = 3
 
 BOUND = {"bind": ("own", "other")}
@@ -27,7 +27,7 @@ INDEX, OBJECT = {"entity": "index"}, {"entity": "object"}
 
 
 def setting(**parts):
-    """Parts of an HMAC that are made of the right ones."""
+    """Sets parts of an HMAC, which are made from the right ones."""
 
     def turn(case, it):
         vars(it).update({name: made(it) for name, made in parts.items()})
@@ -40,7 +40,7 @@ def valued(turn):
 
 
 def keyed(**changes):
-    """A session key of which parts are made of the case."""
+    """Sets a session key, some of whose parts are made from the case."""
 
     def turn(case, it):
         it.session_key = case.kdf(**{name: made(case) for name, made in changes.items()})
@@ -49,7 +49,7 @@ def keyed(**changes):
 
 
 def renamed(turn):
-    """Another Name of what authorizes, wherever it stands."""
+    """Changes the Name of what authorizes, wherever it is."""
 
     def change(case, it):
         own = case.tpm.name(case.handle)
@@ -289,7 +289,7 @@ OTHERS = (
 
 ROWS = (*VALUES, *KEYS, *NAMES, *HASHED, *REST, *OTHERS)
 
-# Ingredients that no slip turns so.
+# Ingredients that no slip changes in this way.
 NONE = (
     ({}, valued(lambda it: it[::-1] + b"?")),
     ({}, setting(newer=lambda it: it.newer[1:])),
@@ -300,11 +300,11 @@ NONE = (
     ({}, setting(parameters=lambda it: it.parameters[1:])),
 )
 
-# In the order in which one goes into the next.
+# The order in which one goes into the next.
 IN_ORDER = VALUES, KEYS, NAMES, HASHED, OTHERS, REST
 PLACES = {id(row): place for place, rows in enumerate(IN_ORDER) for row in rows}
 
-# Two that make together what another one or two make too, which are told in their place.
+# Two slips that together make what one or two others make, which are reported instead.
 TOLD_OTHERWISE = {
     frozenset(("nonceCaller left out", "nonceTPM left out")),
     frozenset(("nonceCaller with its size", "nonceTPM with its size")),
@@ -318,7 +318,7 @@ TOLD_OTHERWISE = {
 
 
 def together(first, second):
-    """The choices of both, if they go together."""
+    """The choices of both, if they are compatible."""
     if len({first.get("more"), second.get("more")} - {None}) > 1:
         return None
     choices = first | second
@@ -331,7 +331,7 @@ def together(first, second):
 
 
 def pairs_of(count):
-    """Random pairs of rows of different places, or of two of the last, with what both choose."""
+    """Random pairs of rows in different places, or both in the last one, with the choices of both."""
     pairs = list(itertools.combinations(ROWS, 2))
     for pair in random.Random("pairs").sample(pairs, count):
         first, second = sorted(pair, key=lambda it: PLACES[id(it)])
@@ -360,7 +360,7 @@ PASSWORDS = (
 
 class Turned(unittest.TestCase):
     def slips_of(self, case, *turns):
-        """Those that are named of a command, which is refused; the right one is accepted then."""
+        """The slips that are named for a refused command; the right command is accepted afterwards."""
         with self.assertRaises(Refused) as caught:
             case.tpm.send(case.turned(*turns))
         self.assertIn(caught.exception.name, ("BAD_AUTH", "AUTH_FAIL"), case.seed)
@@ -377,7 +377,9 @@ class Turned(unittest.TestCase):
                     self.assertEqual(self.slips_of(case, turn).slips, [name])
 
     def test_two(self):
-        """Random pairs, of which neither undoes the other; two forms of one value have a test of theirs."""
+        """Random pairs, neither of which undoes the other; two forms of one value have their own
+        test.
+        """
         named = 0
         for at, (first, second, choices) in enumerate(pairs_of(70)):
             name = f"two {at} {first[0]}, {second[0]}"
@@ -404,7 +406,7 @@ class Turned(unittest.TestCase):
         return parts.hmac()
 
     def test_two_forms_of_a_value(self):
-        """As `echo PIN | sha256sum` makes them."""
+        """Two forms of a value, as `echo PIN | sha256sum` makes them."""
         for at, (turn, *wanted) in enumerate(
             (
                 (lambda it: hashed(SHA256, it + b"\n"), "with a line break", "as SHA-256"),
@@ -430,7 +432,7 @@ class Turned(unittest.TestCase):
                 self.assertRegex(found.facts[-1].value, words)
 
     def test_so_much_is_tried(self):
-        """Few HMACs, and few pairs, where there is much that they may be of."""
+        """Few HMACs and few pairs are tried, even if there are many candidates."""
         case = Drawn("much", kind=SE_HMAC, entity="owner", bind="own")
         for at in range(60):
             case.tpm.define(area(FIRST + at, attributes=BY_VALUE), auth=case.pick.randbytes(9))
@@ -446,7 +448,7 @@ class Turned(unittest.TestCase):
     # Passwords.
 
     def refused_password(self, case, password):
-        """Sent instead of the right HMAC, it is refused."""
+        """Sends a password instead of the right HMAC, which is refused."""
         entry = case.prepared.entries[0]
         entry = type(entry)(RS_PW, b"", 1, password)
         prepared = case.tpm.prepare(case.prepared.code, case.prepared.handles, b"", b"")
@@ -473,10 +475,10 @@ class Turned(unittest.TestCase):
             self.assertEqual(found.slips, [])
             self.assertRegex(found.facts[-1].value, r"none of [\d,]+ that were tried: other forms")
 
-    # Values that the user wants tried.
+    # Values that the user tries.
 
     def test_tried(self):
-        """Each is named by --try, and not without it."""
+        """Each value is named with --try, and not without it."""
         for at, (choices, turn, *forms) in enumerate(TRIED):
             with self.subTest(at):
                 case = Drawn(f"tried {at}", **choices)

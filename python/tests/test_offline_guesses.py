@@ -1,5 +1,5 @@
-"""Guesses that need no try: what the explanation and the audit tell where a value encrypts of which an
-entry needed no knowledge, and that ordinary encryption is no alarm.
+"""Guesses that need no try: what the explanation and the audit say if a value encrypts that an
+entry did not have to know. Ordinary encryption is no alarm.
 """
 
 import pathlib
@@ -21,7 +21,7 @@ BOUND = "is bound to LOCKOUT, and encrypts an answer to a command that needs no 
 
 
 def guessed(script):
-    """The slips that are told of guesses, by their lines."""
+    """The slips that are reported about guesses, with their lines."""
     events = Play().events(script)
     return [
         (it.line, note.slips[0]) for it in events for note in it.notes if note.rule == "guesses"
@@ -29,7 +29,7 @@ def guessed(script):
 
 
 def encrypting(script):
-    """How many entries of a script encrypt, of sessions that are bound to a value that is not empty."""
+    """The number of encrypting entries in a script whose session is bound to a nonempty value."""
     play, many = Play(), 0
     for event in play.events(script):
         for _, entry, _ in event.scene.known.places if event.scene.known else []:

@@ -1,4 +1,6 @@
-"""What was recorded is read as it was: heads with images, cut ends, answers before and after their commands."""
+"""Records are read as they were made: heads with images, cut ends, and answers before and after
+their commands.
+"""
 
 import contextlib
 import io
@@ -24,7 +26,7 @@ RIGHT = "do NV_Read 01000001 01000001 pw:736563726574 8 0"
 
 
 def journal_with_index():
-    """A journal whose image has an index, and in which a wrong value is given for it."""
+    """A journal whose image has an index, for which a wrong value is then given."""
     journal = Journal().play(START, DEFINE, WRITE)
     journal.begin()
     return journal.play(START, WRONG, RIGHT)
@@ -68,7 +70,9 @@ class Heads(unittest.TestCase):
         self.assertFalse(any(it.differences for it in events))
 
     def test_one_log_after_another(self):
-        """One of the same device goes on, and knows what came before; another one is another device."""
+        """A log of the same device continues, and knows what came before; another log is of another
+        device.
+        """
         for begin in Journal.begin, Journal.cycle:
             first = Journal().play(START, DEFINE)
             before = first.text
@@ -100,7 +104,7 @@ class Heads(unittest.TestCase):
         self.assertEqual(played(bent)[0].damages, [words])
 
     def test_a_word_in_hex(self):
-        """A comment with one begins no log; what may be an image or a state text does."""
+        """A hex word in a comment begins no log, unless it may be an image or a state text."""
         for words in "# state bad", "# state deed", "# image ", "# image of the device":
             play, events = played("\n".join((words, START, words, RIGHT)).encode())
             self.assertEqual((codes(events), play.fault), (["", "18b"], ""), words)
@@ -117,7 +121,7 @@ def records_of(line):
 
 class Ends(unittest.TestCase):
     def test_a_cut_end(self):
-        """A journal that ends anywhere, with zeros after it or without, has its whole records."""
+        """A journal that ends anywhere, with or without zeros after it, has its whole records."""
         journal = journal_with_index()
         for size in range(journal.head_bytes, len(journal.text)):
             whole = sum(it <= size for it in journal.ends) - 1
@@ -145,7 +149,7 @@ class Ends(unittest.TestCase):
             self.assertEqual((codes(events)[-2:], play.fault), (["98e", ""], ""))
 
     def test_lines_after_a_journal(self):
-        """Whoever goes on with a journal by hand is followed."""
+        """Lines that somebody adds to a journal by hand are played."""
         journal = journal_with_index()
         play, events = played(journal.text + f"{WRONG}\n# by hand".encode())
         self.assertEqual((codes(events), play.cuts), (["", "98e", "", "98e"], []))
@@ -160,7 +164,9 @@ class Answers(unittest.TestCase):
         self.assertEqual([len(it.differences) for it in bent], [0, 1])
 
     def test_the_sum_of_an_answer(self):
-        """Another answer is told first, by its line; so are a mark and lines that were bent."""
+        """A different answer is reported first, by its line; so are a mark and lines that were
+        bent.
+        """
         journal = journal_with_index()
         at = journal.ends[1] + 2
         mark = journal.text[at : at + 52]
@@ -178,7 +184,7 @@ class Answers(unittest.TestCase):
             self.assertTrue(output.startswith("line 12: NV_Read: the record is damaged"), output)
 
     def test_another_image(self):
-        """The image of --image is that of the log, or a difference."""
+        """The image of --image is that of the log; otherwise this is a difference."""
         journal = journal_with_index()
         text, own = journal.text, bytes.fromhex(journal.text.split(b"\n")[1][2:].decode())
         output, error, status = told(text, own)
@@ -242,7 +248,9 @@ class Audits(unittest.TestCase):
 
 
 def audited(text, start=None):
-    """The status of an audit without an output, what it prints, and what it says on standard error."""
+    """The status of an audit without an output, what it prints, and what it writes to standard
+    error.
+    """
     output, error = io.StringIO(), io.StringIO()
     with tempfile.TemporaryDirectory() as folder:
         log, image = pathlib.Path(folder, "log"), pathlib.Path(folder, "start")
@@ -261,7 +269,7 @@ HANDLES, OTHER_HANDLES = b"0100000101000001", b"0100000201000001"
 
 
 def told(text, start=None, form=None):
-    """What the command line prints of a log, what it says on standard error, and its status."""
+    """What the command line prints of a log, what it writes to standard error, and its status."""
     output, error = io.TextIOWrapper(io.BytesIO()), io.StringIO()
     with tempfile.TemporaryDirectory() as folder:
         log = pathlib.Path(folder, "log")

@@ -1,4 +1,4 @@
-"""Layered scripts: what they come to, what is wrong with them, and devices that are served."""
+"""Layered scripts: their plain scripts, their faults, and served devices."""
 
 import dataclasses
 import os
@@ -38,13 +38,13 @@ def commands(lines):
 
 
 def outcomes(script, device=None):
-    """The codes of all responses, by the traces."""
+    """The codes of all responses, from the traces."""
     lines = played(script, device, traces=True)
     return [it.split()[-1] for it in lines if it.startswith("# ") and " L0 +" in it]
 
 
 def traced_by_the_model(lines):
-    """What a model prints of plain lines, without the responses."""
+    """The traces that a model prints for plain lines."""
     player, printed = Player(), []
     for line in lines:
         printed += player.play(line.encode())
@@ -243,7 +243,7 @@ class Faults(unittest.TestCase):
 
 
 class Served(unittest.TestCase):
-    """A device at a socket: nonces are random, and what is not told there is refused."""
+    """A device at a socket: nonces are random, and what it cannot be given is refused."""
 
     def test_a_served_device(self):
         program = os.environ.get("TPMSIM") or shipped("tpmsim")

@@ -14,7 +14,7 @@ from tpmsim.caller import Caller
 from tpmsim.device import SimulatorDevice
 from tpmsim.standard import number
 
-# PCR 17 behind a launch of abc, by sha1sum and sha256sum: of zeros and of the digest of abc.
+# PCR 17 after a launch of abc, by sha1sum and sha256sum of zeros and the digest of abc.
 LAUNCHED = [
     "ccd5bd41458de644ac34a2478b58ff819bef5acf",
     "589f9ffed4c477966bfb8d41f37895b08c69047df8f911d6f3b57fbe08faee8d",
@@ -24,8 +24,8 @@ SEND_COMMAND, STOP = number(8, 4), number(21, 4)
 STARTUP = bytes.fromhex("80010000000c000001440000")
 GET_RANDOM = bytes.fromhex("80010000000c0000017b0010")
 
-# The bytes that a host takes for a client that never reads, few, so that they are full soon; and for
-# how many seconds nothing more is taken once the server waits for that client.
+# The bytes that a host takes for a client that never reads, few so that they are soon full; and the
+# number of seconds in which nothing more is taken, once the server waits for that client.
 LEAST_BUFFER, STUCK = 4096, 0.2
 
 
@@ -44,7 +44,7 @@ class Simulator(unittest.TestCase):
         return self.enterContext(SimulatorDevice(*self.address))
 
     def started(self):
-        """A client, behind TPM2_Startup."""
+        """A client, after TPM2_Startup."""
         device = self.client()
         Caller(device).start_up()
         return device
@@ -58,7 +58,7 @@ class Simulator(unittest.TestCase):
         self.assertEqual(stream.recv(len(answer), socket.MSG_WAITALL), answer)
 
     def test_faults_are_of_one_client(self):
-        """One vanishes within a request, one never reads, one is slow, one says what is none."""
+        """One client vanishes within a request, one never reads, one is slow, one sends nonsense."""
         device = self.started()
         vanishing = self.connection()
         vanishing.sendall(request(GET_RANDOM)[:7])
@@ -117,7 +117,7 @@ class Simulator(unittest.TestCase):
         self.assertEqual([it.hex() for it in values], LAUNCHED)
 
     def test_image(self):
-        """What is written is in the file before it is answered, and is there for the next server."""
+        """What is written is in the file before the answer, and is there for the next server."""
         self.started()
         before = (self.folder / "image").read_bytes()
         stop = self.connection(1)

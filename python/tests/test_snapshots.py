@@ -1,4 +1,4 @@
-"""Snapshots, which are state texts: of one device the same from the library and from the model."""
+"""Snapshots, which are state texts: for one device the library's and the model's are the same."""
 
 import errno
 import functools
@@ -40,8 +40,8 @@ def in_library():
 
 
 class Pair(Transport):
-    """The library's device and the model's, which are told alike, and have to answer alike. Behind each
-    command each goes on from the other's state text.
+    """The library's device and the model's, which get the same events and must answer alike. After
+    each command, each continues from the other's state text.
     """
 
     def __init__(self):
@@ -93,7 +93,7 @@ class OverPair(TwentyTests, unittest.TestCase):
 
 
 class Snapshots:
-    """What holds of each device that has its state text."""
+    """What holds for each device that has its state text."""
 
     def device(self):
         raise NotImplementedError
@@ -109,7 +109,7 @@ class Snapshots:
         return self.tpm.device.snapshot()
 
     def test_bytes(self):
-        """It may be kept as bytes alone; equal devices have equal ones."""
+        """A snapshot may be kept as bytes alone, and equal devices have equal ones."""
         taken, device = self.worked(), self.tpm.device
         self.assertIsInstance(taken, bytes)
         self.assertEqual(state_text.state_text(*state_text.open_state(taken)), taken)
@@ -120,7 +120,7 @@ class Snapshots:
             self.assertEqual(device.snapshot(), taken)
 
     def test_other_devices(self):
-        """Any other device goes on from it."""
+        """Any other device continues from it."""
         taken = self.worked()
         with ModelDevice(seed=SEED) as other:
             other.restore(bytes(taken))
@@ -130,7 +130,7 @@ class Snapshots:
             self.assertEqual(self.tpm.device.snapshot(), other.snapshot())
 
     def test_no_state_text(self):
-        """Nothing is changed then."""
+        """Bytes that are not a state text change nothing."""
         taken, device = self.worked(), self.tpm.device
         before = list(device.events)
         bent = bytes([taken[300] ^ 1])
@@ -155,10 +155,12 @@ def device_image():
 
 
 class Told(Snapshots):
-    """Of devices of which everything is told."""
+    """Tests of devices that receive their locality, time and random bytes."""
 
     def test_what_was_told(self):
-        """That is there again from a snapshot; a text alone has none of it, and begins the trace."""
+        """A snapshot brings back what the device was given; a text alone has none of it, and begins
+        the trace.
+        """
         device = self.tpm.device
         device.locality = 3
         device.wait(70_000)
@@ -173,7 +175,7 @@ class Told(Snapshots):
         self.assertEqual((device.trace, device.locality), ([f"# state {taken.hex()}"], 0))
 
     def test_after_power(self):
-        """The power goes, and comes back in another device, which is the one of the snapshot."""
+        """The device is power-cycled, and comes back as another device, that of the snapshot."""
         taken, device = self.worked(), self.tpm.device
         device.power_cycle()
         off = device.snapshot()
@@ -193,7 +195,7 @@ class OverChild(Told, unittest.TestCase):
     device = functools.partial(ChildDevice, seed=SEED)
 
     def test_at_once(self):
-        """Before the process has begun."""
+        """A device is restored before its process has begun."""
         with self.device() as first, self.device() as other:
             taken = first.snapshot()
             other.restore(taken)
@@ -224,7 +226,7 @@ class InProcess(Told, unittest.TestCase):
             self.assertEqual(device.save(), kept)
 
     def test_closed(self):
-        """It stays closed."""
+        """A closed device stays closed."""
         device = self.enterContext(in_library())
         taken = device.snapshot()
         device.close()
@@ -235,7 +237,7 @@ class InProcess(Told, unittest.TestCase):
             self.assertRaisesRegex(ValueError, "^the device is closed$", act)
 
     def test_an_image_that_is_not_written(self):
-        """The command was executed and not answered, so that no other one is until `restore`."""
+        """The command was executed and not answered, so no other one is executed until `restore`."""
         file = pathlib.Path(self.enterContext(tempfile.TemporaryDirectory()), "image")
         tpm = Caller(self.enterContext(LibraryDevice(image=file)))
         tpm.start_up()
@@ -249,7 +251,9 @@ class InProcess(Told, unittest.TestCase):
         tpm.define(area())
 
     def test_no_memory(self):
-        """If there is none for another device, this one is as it was; if it is missing later, it is not."""
+        """If there is no memory for another device, this one is unchanged; if memory is missing
+        later, it is not.
+        """
         taken, device = self.worked(), self.tpm.device
         with mock.patch.object(device, "library") as calls:
             calls.tpmsim_restore.return_value = library.NO_MEMORY
@@ -269,7 +273,7 @@ class OverKeptState(Snapshots, unittest.TestCase):
         return KeptDevice(self.folder, forces=False)
 
     def test_other_holders(self):
-        """Each goes on from the snapshot, and whoever opens the folder does."""
+        """Each holder continues from the snapshot, and so does whoever opens the folder."""
         taken = self.worked()
         with KeptDevice(self.folder) as other:
             self.tpm.call("PCR_Reset", 16)
@@ -286,7 +290,7 @@ class OverKeptState(Snapshots, unittest.TestCase):
 
 
 class CompletedDevice(LibraryDevice):
-    """A device of which everything is told, with the completing layer above it."""
+    """A device that receives its time and random bytes, with the completing layer above it."""
 
     completes = True
 
@@ -298,7 +302,7 @@ class CompletedDevice(LibraryDevice):
 
 @NEEDS_LIBRARY
 class Completed(unittest.TestCase):
-    """Commands at random with the completing layer, which is in the text."""
+    """Random commands with the completing layer, which is in the text."""
 
     def test_commands_at_random(self):
         for seed in range(SEEDS):
@@ -317,7 +321,7 @@ class Completed(unittest.TestCase):
         self.assertEqual(state_text.state_text(model, numbers), taken)
 
     def test_going_on(self):
-        """Another device, which is restored, answers what this one does, and is the same after it."""
+        """A restored device answers what this one does, and is the same after it."""
         for seed in range(SEEDS):
             with self.subTest(seed=seed), CompletedDevice(seed=SEED) as device:
                 completed_scripts.play(device, random.Random(seed), COMMANDS)
@@ -332,7 +336,7 @@ class Completed(unittest.TestCase):
 
     @staticmethod
     def executed(device, seed):
-        """What a device answers to what it is told at random from here on."""
+        """What a device answers to random commands from here on."""
         first = len(device.events)
         completed_scripts.play(device, random.Random(seed), COMMANDS)
         return [it.response for it in device.events[first:] if not isinstance(it, str)]
@@ -342,7 +346,7 @@ class Explained(unittest.TestCase):
     """A log that begins with a state text is explained as any other."""
 
     def test_wrong_password(self):
-        """The index, which is there from before, and its authValue are in the text."""
+        """The earlier index and its authValue are in the text."""
         with ModelDevice() as device:
             tpm = Caller(device)
             tpm.start_up()
@@ -370,7 +374,9 @@ class Stored(unittest.TestCase):
 
     @NEEDS_LIBRARY
     def test_between_kinds(self):
-        """What was told to a device of a folder begins no script of another one, nor the other way."""
+        """The script of a device does not begin with the events of a device in a folder, nor the
+        other way round.
+        """
         folder = self.enterContext(tempfile.TemporaryDirectory())
         with KeptDevice(folder) as kept, Device() as device:
             Caller(kept).start_up()

@@ -1,5 +1,5 @@
-"""Logs that begin with a whole state: sessions, objects, PCRs and policies go on from it, for whoever
-explains, judges or compares them.
+"""Logs that begin with a whole state: sessions, objects, PCRs and policies continue from it when a
+log is explained, judged or compared.
 """
 
 import random
@@ -39,7 +39,7 @@ EXTEND = "do PCR_Event 00000010 pw:- 01"
 
 
 def before():
-    """A journal of a device that has an index with a policy, and a session that was told of a PCR."""
+    """A journal of a device that has an index with a policy, and a session that asserted a PCR."""
     return Journal().play(START, DEFINE, WRITE, *SESSION, PCR)
 
 
@@ -57,7 +57,7 @@ def judged(text, *policies):
 
 
 def loaded_twice():
-    """A log in which an object is loaded, used by its policy and flushed, and loaded again."""
+    """A log in which an object is loaded, used by its policy, flushed, and loaded again."""
     device = ModelDevice(seed=b"reloads")
     tpm = Caller(device, random.Random(1).randbytes)
     tpm.start_up()
@@ -90,7 +90,7 @@ class Explained(unittest.TestCase):
         self.assertIn("began before the log", events[-1].reason.words)
 
     def test_one_head_after_another(self):
-        """The state is that of the log before, which goes on with all that is known of it."""
+        """The state is that of the log before, which continues with all that is known of it."""
         first = before()
         text = first.text
         first.go_on()
@@ -99,7 +99,7 @@ class Explained(unittest.TestCase):
         self.assertIn("told by", " ".join(map(str, events[-1].reason.facts)))
 
     def test_another_device(self):
-        """Nothing is known of it but its state, and its power is on."""
+        """Nothing is known of another device but its state, and its power is on."""
         text = Journal().play(START).text + gone_on(CODE, READ).text
         play = Play()
         events = list(play.events(text))
@@ -107,7 +107,7 @@ class Explained(unittest.TestCase):
         self.assertEqual((play.fault, play.damages), ("", []))
 
     def test_the_completing_layer(self):
-        """It knows the contexts of a state that has it."""
+        """The layer knows the contexts of a state that has it."""
         journal = Journal().play(START, *SESSION)
         layer = Layer(start=7, count=1)
         layer.sessions[0] = 1
@@ -135,7 +135,7 @@ class Explained(unittest.TestCase):
 
 class Judged(unittest.TestCase):
     def test_a_policy(self):
-        """What was asserted before the log is what the digest in the state is of."""
+        """The digest in the state is that of what was asserted before the log."""
         auditor, told = judged(gone_on(CODE, READ).text, POLICY)
         self.assertEqual(auditor.policies.faults(), [])
         words = "policy line 1, PolicyPCR: a line before the log asserts it, and the PCRs have these values"
@@ -149,7 +149,7 @@ class Judged(unittest.TestCase):
         self.assertTrue(any(it.endswith(words) for it in told))
 
     def test_another_device(self):
-        """A later head is that of the device before it, or the audit ends there."""
+        """A later head is that of the device before it; otherwise the audit ends there."""
         with self.assertRaises(Disagreement):
             judged(Journal().play(START).text + gone_on(CODE).text)
         first = before()
@@ -159,7 +159,7 @@ class Judged(unittest.TestCase):
         self.assertEqual((auditor.counts.power_cycles, auditor.policies.faults()), (0, []))
 
     def test_an_index_after_power_cycles(self):
-        """Each use is judged, of each journal."""
+        """Each use in each journal is judged."""
         journal = before().play(CODE, READ)
         text = journal.text
         journal.begin()
@@ -177,8 +177,8 @@ class Judged(unittest.TestCase):
 
 
 class AtRandom(unittest.TestCase):
-    """Scripts whose journals begin anew with the whole state, again and again: each of these is a log of
-    its own, and all of them one after another are one.
+    """Scripts whose journals begin again and again with the whole state. Each of these is a log of
+    its own, and all of them in sequence are one log.
     """
 
     SCRIPTS = "lost_grounds", "lockout_sessions", "startup_state"

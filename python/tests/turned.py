@@ -1,5 +1,6 @@
-"""A caller that computes an HMAC with one ingredient turned, in random sessions: bound or not, by both
-hashes, of both kinds, with parameters that are encrypted or not. It has nothing of the explanation.
+"""A caller that computes an HMAC with one ingredient changed, in random sessions: bound or not, by
+both hashes, of both kinds, with encrypted parameters or without. It uses nothing of the
+explanation.
 """
 
 import hashlib
@@ -29,7 +30,9 @@ def sized(data):
 
 
 class Parts:
-    """What goes into an HMAC. What is set here of a key, a cpHash, a text or an HMAC is taken as it is."""
+    """The ingredients of an HMAC. A key, a cpHash, a text or an HMAC that is set here is used as it
+    is.
+    """
 
     key = cp_hash = text = made = None
 
@@ -64,7 +67,7 @@ class Parts:
 
 class Drawn:
     """A random session on a device, and a command that it authorizes. A choice that is not given is
-    drawn: `kind` is that of the session; `bind` is none, own or other.
+    drawn: `kind` is that of the session, and `bind` is one of none, own and other.
     """
 
     def __init__(self, seed, **choices):
@@ -85,7 +88,7 @@ class Drawn:
         self.prepared = self.command()
 
     def drawn(self, name, among):
-        """A choice is one value, or several among which one is drawn."""
+        """A choice is one value, or several of which one is drawn."""
         given = self.choices.get(name, among)
         return (
             self.pick.choice([it for it in given if it in among])
@@ -142,7 +145,7 @@ class Drawn:
         return Use(self.session, attributes, demand=demand)
 
     def command(self):
-        """One that the entity authorizes; others follow where they are chosen."""
+        """A command that the entity authorizes, with other entries if they are chosen."""
         tpm, data = self.tpm, self.pick.randbytes(8)
         more = [make(self) for make in self.choices.get("more", ())]
         if self.entity == "owner":
@@ -172,7 +175,7 @@ class Drawn:
         )
 
     def kdf(self, **changes):
-        """The session key of parts that are others."""
+        """The session key of other parts."""
         parts = {
             "algorithm": self.algorithm,
             "key": self.bind_value,
@@ -187,14 +190,14 @@ class Drawn:
         return mac(algorithm, key, b"".join(text))
 
     def with_value(self, parts, turn):
-        """The value in another form, wherever it is."""
+        """Puts the value in another form, wherever it is."""
         if self.in_key:
             parts.value = turn(self.value)
         if not self.in_key or self.bind == "own" and self.pick.random() < 0.5:
             parts.session_key = self.kdf(key=turn(self.value))
 
     def turned(self, *turns):
-        """The command with an HMAC of turned ingredients."""
+        """The command with an HMAC of changed ingredients."""
         parts = self.parts()
         assert parts.hmac() == self.prepared.entries[0].hmac
         for turn in turns:

@@ -1,8 +1,10 @@
-"""TPM 2.0 for tests: what a caller computes, where commands go, and the device once more.
+"""TPM 2.0 for tests: callers that compute sessions and HMACs, devices that execute commands, and a
+second implementation of the device, in Python.
 
-`tpmsim.caller` makes commands and reads responses, `tpmsim.device` has devices that execute them,
-`tpmsim.model` is a device in plain Python, and `tpmsim.audit` judges the log of one. They stand on
-`tpmsim.standard`, which has the numbers, the structures and the computations of the standard.
+`tpmsim.caller` makes commands and reads responses, `tpmsim.device` contains devices that execute
+them, `tpmsim.model` is a device in plain Python, and `tpmsim.audit` audits the log of a device.
+They use `tpmsim.standard`, which contains the numbers, the structures and the computations of the
+standard.
 """
 
 __version__ = "0.1.0"

@@ -1,7 +1,8 @@
-"""Fixtures for pytest: `tpm`, a caller of a fresh device, `tpm_saved`, one whose device is kept in an
-image, and `tpm_of`, which makes one of any device. Each is started up. What a failed test told its
-device is in the report, as a script, and so is why the last command was refused that was. With
-`--tpmsim-html FOLDER` each failed test leaves the page of its log there.
+"""Fixtures for pytest: `tpm`, a caller of a fresh device; `tpm_saved`, a caller of a device that is
+kept in an image; and `tpm_of`, which makes a caller of any device. Each device is started up. If a
+test fails, its report contains the commands that the device received, as a script, and why the last
+refused command was refused. With `--tpmsim-html FOLDER`, each failed test writes the page of its
+log to FOLDER.
 """
 
 import re
@@ -34,21 +35,21 @@ def caller_of(request: pytest.FixtureRequest, device: Transport) -> Caller:
 
 @pytest.fixture
 def tpm(request: pytest.FixtureRequest) -> Iterator[Caller]:
-    """A caller of a fresh device."""
+    """Yields a caller of a fresh device."""
     with Device() as device:
         yield caller_of(request, device)
 
 
 @pytest.fixture
 def tpm_saved(request: pytest.FixtureRequest, tmp_path: Path) -> Iterator[Caller]:
-    """A caller of a new device, whose image is tpm.image in the folder of the test."""
+    """Yields a caller of a new device, whose image is tpm.image in the folder of the test."""
     with Device(image=tmp_path / "tpm.image") as device:
         yield caller_of(request, device)
 
 
 @pytest.fixture
 def tpm_of(request: pytest.FixtureRequest) -> Iterator[Callable[[Transport], Caller]]:
-    """Makes a caller of a device of yours, wherever it is, which is closed after the test."""
+    """Makes a caller of any device that you pass, and closes the device after the test."""
     devices = list[Transport]()
 
     def made(device: Transport) -> Caller:
@@ -61,7 +62,7 @@ def tpm_of(request: pytest.FixtureRequest) -> Iterator[Callable[[Transport], Cal
 
 
 def page_left(folder: str, name: str, log: bytes) -> str:
-    """Writes the page of a test's log, and says where."""
+    """Writes the page of a test's log, and returns its path."""
     path = Path(folder, f"{NO_NAME.sub('_', name)}.html")
     path.parent.mkdir(parents=True, exist_ok=True)
     path.write_text(page.of_log(name, Play(is_whole=True), log, text.Counts()), "utf-8")

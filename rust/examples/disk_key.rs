@@ -1,5 +1,5 @@
-//! A disk's key is sealed to PCRs 7 and 11 and a PIN. It is refused after PCR 11 moved on, and recovered by
-//! a second branch of its policy, which asks for the owner's passphrase.
+//! A disk's key is sealed to PCRs 7 and 11 and a PIN. It is refused after PCR 11 has changed, and recovered
+//! with a second branch of its policy, which requires the owner's passphrase.
 
 mod commands;
 
@@ -13,7 +13,7 @@ const DISK_KEY: &[u8] = b"the key of a disk, of 32 bytes..";
 const PIN: &[u8] = b"7391";
 const PASSPHRASE: &[u8] = b"kept in a drawer";
 
-/// The first branch: the PCRs as they are now, and the PIN.
+/// The first branch: the current values of the PCRs, and the PIN.
 fn by_pin(tpm: &mut Device, session: u32) -> Result<(), Refusal> {
     let pcrs = [vec![0, 0], selection(&[7, 11])].concat();
     send(tpm, 0x17f, &[session], None, &pcrs)?;
@@ -31,7 +31,7 @@ fn either(tpm: &mut Device, session: u32, branches: &[Vec<u8>; 2]) -> Result<(),
     send(tpm, 0x171, &[session], None, &digests).map(|_| ())
 }
 
-/// The digests of the branches, for the PCRs as they are now, and that of the policy.
+/// The digests of the branches, for the current values of the PCRs, and the digest of the policy.
 fn policy(tpm: &mut Device) -> Result<([Vec<u8>; 2], Vec<u8>), Refusal> {
     let trial = start_session(tpm, TRIAL)?;
     by_pin(tpm, trial)?;
@@ -44,7 +44,7 @@ fn policy(tpm: &mut Device) -> Result<([Vec<u8>; 2], Vec<u8>), Refusal> {
     Ok((branches, digest_of(tpm, trial)?))
 }
 
-/// The disk's key by the first branch that holds, or why there is none.
+/// Returns the disk's key, with the first branch that holds, or the reason for the refusal.
 fn opened(
     tpm: &mut Device,
     disk: u32,

@@ -1,5 +1,5 @@
-//! A secret crosses the way to the TPM encrypted, by a session that is bound to the owner, whose value is not
-//! sent either. Who listens learns neither, and cannot send again what was heard.
+//! A secret is sent to the TPM encrypted, in a session that is bound to the owner, whose authorization value
+//! is not sent either. An eavesdropper learns neither of them, and cannot replay the commands.
 
 mod commands;
 mod session;
@@ -21,12 +21,12 @@ fn area(attributes: u32) -> Vec<u8> {
         .concat()
 }
 
-/// What cpHash has of the owner and of the index.
+/// What cpHash contains for the owner and for the index.
 fn names(attributes: u32) -> Vec<u8> {
     [&number(OWNER)[..], &[0, 0x0b], &sha256(&area(attributes))].concat()
 }
 
-/// A TPM, and somebody who listens on the way to it.
+/// A TPM, and an eavesdropper between it and its caller.
 struct Way {
     tpm: Device,
     heard: Vec<u8>,
@@ -34,7 +34,7 @@ struct Way {
 }
 
 impl Way {
-    /// Sends a command that the owner authorizes; the parameters of its response in plain.
+    /// Sends a command that the owner authorizes; returns the decrypted parameters of its response.
     fn send(
         &mut self,
         session: &mut Session,
@@ -51,7 +51,7 @@ impl Way {
         Ok(session.answered(code, &answer_of(code, true, response.accepted()?)))
     }
 
-    /// Reads the secret, which the response has encrypted.
+    /// Reads the secret, which is encrypted in the response.
     fn read(&mut self, session: &mut Session) -> Result<String, Refusal> {
         let given = (&names(BY_OWNER | WRITTEN)[..], &[0, SECRET.len() as u8, 0, 0][..]);
         let data = self.send(session, 0x14e, &[OWNER, INDEX], given, ENCRYPT)?;

@@ -1,6 +1,6 @@
-//! A measured boot: each piece of software is measured into a PCR before it runs, and its digest goes to a
-//! log. Who has the log and the PCRs replays the log on another TPM, and believes it if the same values
-//! come of it.
+//! A measured boot: each piece of software is measured into a PCR before it runs, and its digest is logged. A
+//! verifier with the log and the PCRs replays the log on another TPM, and trusts it if this leads to the same
+//! values.
 
 mod commands;
 
@@ -31,7 +31,7 @@ fn values(tpm: &mut Device) -> Result<Vec<Vec<u8>>, Refusal> {
     Ok(values.chunks_exact(2 + 32).map(|it| it[2..].to_vec()).collect())
 }
 
-/// The values that the PCRs have after the measurements of a log.
+/// Returns the values of the PCRs after the measurements in a log.
 fn replayed(log: &Log) -> tpmsim::Result<Vec<Vec<u8>>> {
     let tpm = &mut Device::new()?;
     tpm.start_up()?;
@@ -42,7 +42,7 @@ fn replayed(log: &Log) -> tpmsim::Result<Vec<Vec<u8>>> {
     Ok(values(tpm)?)
 }
 
-/// What who replays a log says of it.
+/// Returns a verifier's judgement of a log.
 fn verdict(log: &Log, values: &[Vec<u8>]) -> tpmsim::Result<String> {
     let replayed = replayed(log)?;
     let pairs = PCRS.iter().zip(replayed.iter().zip(values));

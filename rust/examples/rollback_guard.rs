@@ -1,5 +1,5 @@
-//! A counter holds the lowest version that may be started. A key that is sealed for a version is given out
-//! while the counter is not above it; and the counter never goes back, whatever becomes of its index.
+//! A counter contains the lowest version that may be started. A key that is sealed for a version is released
+//! while the counter is not above that version. The counter never decreases, whatever happens to its index.
 
 mod commands;
 
@@ -9,7 +9,7 @@ use commands::{
 };
 use tpmsim::{Device, Refusal};
 
-/// A counter that its value and the owner write and read.
+/// A counter that is written and read with its own authorization value or with the owner's.
 const COUNTER: u32 = 0x0006_0016;
 
 const KEY: &[u8] = b"the key of this version.";
@@ -30,7 +30,7 @@ fn at_most(tpm: &mut Device, session: u32, version: u64) -> Result<(), Refusal> 
     send(tpm, 0x149, &[INDEX, INDEX, session], Some(By::Password(b"")), &parameters).map(|_| ())
 }
 
-/// The key of a version, or why there is none.
+/// Returns the key of a version, or the reason for the refusal.
 fn key_of(tpm: &mut Device, version: u64) -> Result<String, Refusal> {
     let trial = start_session(tpm, TRIAL)?;
     at_most(tpm, trial, version)?;

@@ -3,7 +3,7 @@
 use crate::names::{name_of, CODES};
 use std::fmt;
 
-/// What a response code is about.
+/// The handle, parameter or entry that a response code is about.
 #[derive(Clone, Copy, Debug, PartialEq, Eq, Hash)]
 pub enum Place {
     /// A handle, by its number from 1.
@@ -44,12 +44,12 @@ impl ResponseCode {
     /// The code of a success.
     pub const SUCCESS: ResponseCode = ResponseCode(0);
 
-    /// The code without its place, of one that may have a place.
+    /// The code without the number of a handle, parameter or session, if it is a format-one code.
     fn with_a_place(self) -> Option<u32> {
         (self.0 & 0x080 != 0 && self.0 >> 8 != 0).then_some(self.0 & 0x0bf)
     }
 
-    /// The name without its place, as `AUTH_FAIL`; none of a code that this device does not answer.
+    /// The name without its place, such as `AUTH_FAIL`; none for a code that this device never returns.
     pub fn name(self) -> Option<&'static str> {
         match self {
             ResponseCode::SUCCESS => Some("SUCCESS"),
@@ -57,7 +57,7 @@ impl ResponseCode {
         }
     }
 
-    /// What it is about.
+    /// The handle, parameter or entry that it is about.
     pub fn place(self) -> Option<Place> {
         self.with_a_place()?;
         let number = (self.0 >> 8 & 0x0f) as u8;
@@ -84,7 +84,7 @@ impl fmt::Display for ResponseCode {
     }
 }
 
-/// The check that refused a command, by its name in a trace and in the table of the device.
+/// The check that refused a command, by its name in traces and in docs/table.
 ///
 /// ```
 /// # fn main() -> tpmsim::Result<()> {
@@ -95,18 +95,18 @@ impl fmt::Display for ResponseCode {
 /// ```
 #[derive(Clone, Copy, Debug, PartialEq, Eq, Hash)]
 pub enum Check {
-    /// None refused.
+    /// No check refused.
     Passed,
-    /// A check that all commands have, G1 to G11.
+    /// A check for all commands, G1 to G11.
     General(u8),
-    /// A check of the command's own, A1 and on.
+    /// One of the command's own checks, A1 and up.
     Own(u8),
-    /// There was no memory.
+    /// Out of memory.
     Memory,
 }
 
 impl Check {
-    /// The check of a number of the library's.
+    /// The check for a number that the library returns.
     pub(crate) fn of(number: u8) -> Check {
         match number {
             0 => Check::Passed,

@@ -18,10 +18,10 @@ const LAST_LOCALITY: u8 = 4;
 /// TPM2_Startup(CLEAR).
 const STARTUP: [u8; 12] = [0x80, 1, 0, 0, 0, 12, 0, 0, 1, 0x44, 0, 0];
 
-/// A TPM in this process, which has 82 KB, shares nothing, and is freed where it is dropped.
+/// A TPM in this process. It takes 82 KB of memory, shares nothing, and is freed when it is dropped.
 ///
-/// It may move between threads, and no two of them use it at once: it is [`Send`], and no [`Sync`]. A call
-/// takes 96 KB of stack.
+/// It may move between threads, but only one of them uses it at a time: it is [`Send`], but not [`Sync`]. A
+/// call takes 96 KB of stack.
 ///
 /// ```compile_fail
 /// fn shared<T: Sync>(_: T) {}
@@ -36,8 +36,8 @@ pub struct Device {
 }
 
 impl Device {
-    /// A new device, with secrets and random bytes of the system's. Its power is just on: it awaits
-    /// TPM2_Startup.
+    /// Makes a new device, with secrets and random bytes from the system. It has just been powered on, and
+    /// expects TPM2_Startup.
     ///
     /// # Errors
     ///
@@ -46,8 +46,8 @@ impl Device {
         Device::manufactured(None, Source::system().map_err(Error::Random)?)
     }
 
-    /// A new device whose secrets and random bytes follow from a seed, so that each run has the same.
-    /// A device in Python or Go that has the same seed is the same device.
+    /// Makes a new device whose secrets and random bytes are derived from a seed, and are the same in each run.
+    /// A device in Python or Go with the same seed is the same device.
     ///
     /// # Errors
     ///
@@ -64,11 +64,11 @@ impl Device {
         Device::manufactured(Some(seed), Source::of_seed(seed))
     }
 
-    /// The device of an image, after a power cycle.
+    /// Opens the device of an image, in the state after a power cycle.
     ///
     /// # Errors
     ///
-    /// [`Error::Image`] of other bytes, [`Error::Memory`], [`Error::Random`].
+    /// [`Error::Image`] for other bytes, [`Error::Memory`], [`Error::Random`].
     ///
     /// ```
     /// use tpmsim::{Device, Error, Fault};
@@ -89,11 +89,11 @@ impl Device {
         }
     }
 
-    /// Executes a command, whichever bytes it has.
+    /// Executes a command, whatever its bytes are.
     ///
     /// # Panics
     ///
-    /// If the system has no more random bytes: then the next command would draw the same again.
+    /// If the system provides no more random bytes: the next command would draw the same bytes again.
     ///
     /// ```
     /// # fn main() -> tpmsim::Result<()> {
@@ -133,13 +133,13 @@ impl Device {
     ///
     /// # Errors
     ///
-    /// [`Error::Refused`] if the device is started already.
+    /// [`Error::Refused`] if the device is already started.
     pub fn start_up(&mut self) -> Result<()> {
         self.execute(&STARTUP).accepted()?;
         Ok(())
     }
 
-    /// The locality of the next commands, at first 0.
+    /// The locality of the next commands, initially 0.
     pub fn locality(&self) -> u8 {
         self.locality
     }
@@ -148,7 +148,7 @@ impl Device {
     ///
     /// # Errors
     ///
-    /// [`Error::Locality`] of a higher number.
+    /// [`Error::Locality`] for a higher number.
     pub fn set_locality(&mut self, locality: u8) -> Result<()> {
         if locality > LAST_LOCALITY {
             return Err(Error::Locality(locality));
@@ -158,8 +158,8 @@ impl Device {
         Ok(())
     }
 
-    /// Has time pass before the next command, in whole milliseconds. The caller sets the time of a device, and
-    /// no call waits.
+    /// Lets time pass before the next command, in whole milliseconds. It returns at once, since the caller sets
+    /// the time of a device.
     ///
     /// # Errors
     ///
@@ -171,28 +171,28 @@ impl Device {
         Ok(())
     }
 
-    /// Takes the power away and gives it back: the device awaits TPM2_Startup.
+    /// Power-cycles the device, which then expects TPM2_Startup.
     pub fn power_cycle(&mut self) {
         self.native.power_cycle();
         self.logged(|| "power".into());
     }
 
-    /// The image: what the device keeps without power, and [`Device::open`] opens.
+    /// Returns the image, which is what the device keeps without power; [`Device::open`] opens it.
     pub fn save(&self) -> Vec<u8> {
         self.native.image()
     }
 
-    /// The state text: all that the device is, with its sessions, objects, PCRs and times. It has all
-    /// secrets in the clear. It has no locality, and no time that no command followed yet.
+    /// Returns the state text: the whole state, with sessions, objects, PCRs and times. It contains all
+    /// secrets in the clear. It does not contain the locality, or elapsed time that no command has followed yet.
     pub fn snapshot(&self) -> Vec<u8> {
         self.native.state_text()
     }
 
-    /// Makes the device what a state text says, of any device in any process. A log begins again.
+    /// Sets the device to a state text, which may be of any device in any process. The log restarts.
     ///
     /// # Errors
     ///
-    /// [`Error::State`] of other bytes and [`Error::Memory`]: the device is as it was.
+    /// [`Error::State`] for other bytes, and [`Error::Memory`]: the device is then unchanged.
     ///
     /// ```
     /// # fn main() -> tpmsim::Result<()> {
@@ -218,7 +218,7 @@ impl Device {
         }
     }
 
-    /// Begins a log with the device as it is. Until then no log is kept.
+    /// Starts a log from the current state of the device. Before that, no log is kept.
     pub fn begin_log(&mut self) {
         let mut log = Log::of_state(&self.native.state_text());
         if self.locality > 0 {
@@ -230,18 +230,18 @@ impl Device {
         self.log = Some(log);
     }
 
-    /// The log, a script with the responses as comments: `tpmsim-explain FILE` reports why each command
-    /// of it was refused. Nothing without [`Device::begin_log`]. It has all secrets.
+    /// Returns the log, a script with the responses as comments. `tpmsim-explain FILE` reports why each command
+    /// in it was refused. It is empty without [`Device::begin_log`]. It contains all secrets.
     pub fn log(&self) -> &str {
         self.log.as_ref().map_or("", Log::text)
     }
 
-    /// What holds no device yet.
+    /// Returns a value that holds no device yet.
     fn holding_none(source: Source) -> Device {
         Device { native: Native::empty(), source, locality: 0, elapsed: 0, log: None }
     }
 
-    /// A new device.
+    /// Makes a new device.
     fn manufactured(seed: Option<&[u8]>, source: Source) -> Result<Device> {
         let random = random::of_new_device(seed).map_err(Error::Random)?;
         let mut device = Device::holding_none(source);
@@ -251,7 +251,7 @@ impl Device {
         }
     }
 
-    /// Executes a command, and renews what it drew.
+    /// Executes a command, and replaces the random bytes that it drew.
     fn executed(&mut self, by: Executor, buffer: &[u8]) -> Response {
         let random = self.source.next();
         let told = Circumstances { locality: self.locality, elapsed: self.elapsed, random };

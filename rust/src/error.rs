@@ -1,23 +1,23 @@
-//! What can fail, in words.
+//! The errors, with their messages.
 
 use crate::response::Refusal;
 use std::fmt;
 use std::io;
 
-/// Why bytes are no image, or no state text, in the order of the checks.
+/// Why bytes are not an image or a state text, in the order of the checks.
 #[derive(Clone, Copy, Debug, PartialEq, Eq, Hash)]
 pub enum Fault {
     /// There are fewer than 42 bytes.
     Short,
-    /// They do not begin as an image or a state text does.
+    /// They do not start like an image or a state text.
     Magic,
-    /// They are of a version that is not known.
+    /// Their version is unknown.
     Version,
-    /// There are not as many bytes as they say.
+    /// Their length field is not the number of bytes.
     Length,
-    /// The last 32 are not the SHA-256 of those before.
+    /// The last 32 bytes are not the SHA-256 of the bytes before them.
     Digest,
-    /// What is between encodes no state.
+    /// The body does not encode a state.
     Body,
 }
 
@@ -38,32 +38,32 @@ impl fmt::Display for Fault {
     }
 }
 
-/// What a call of this package cannot do.
+/// Why a call of this package failed.
 #[derive(Debug)]
 #[non_exhaustive]
 pub enum Error {
-    /// The system has no random bytes.
+    /// The system provides no random bytes.
     Random(io::Error),
-    /// There is no memory for a device.
+    /// Memory for a device could not be allocated.
     Memory,
-    /// The bytes are no image.
+    /// The bytes are not an image.
     Image(Fault),
-    /// The bytes are no state text.
+    /// The bytes are not a state text.
     State(Fault),
-    /// A locality is 0 to 4, and this is another number.
+    /// The locality is not 0 to 4.
     Locality(u8),
-    /// At most 4,294,967,295 milliseconds pass before a command.
+    /// More than 4,294,967,295 milliseconds would pass before a command.
     Wait,
     /// The device refuses the command.
     Refused(Refusal),
 }
 
-/// A value, or why there is none.
+/// A value, or the error.
 pub type Result<T> = std::result::Result<T, Error>;
 
 impl Error {
-    /// What a call of the library answers that is not done, with the first number of the faults that it
-    /// looks for.
+    /// Converts the result of a library call that failed, given the number of the first fault that the call
+    /// checks.
     pub(crate) fn of(told: u8, first: u8, kind: fn(Fault) -> Error) -> Error {
         match told.checked_sub(first).and_then(|at| FAULTS.get(usize::from(at))) {
             Some(fault) => kind(*fault),

@@ -12,12 +12,12 @@
 //! # }
 //! ```
 //!
-//! A [`Device`] is made by libtpmsim, which is linked statically and proved to answer what its
-//! definitions say. Each test has a device of its own: devices share no file, lock or variable, so that
-//! tests run in parallel. [`Transport`] and [`DeviceFile`] have the shapes that TPM libraries take.
+//! A [`Device`] is made by libtpmsim, which is linked statically and proved to respond as its specification
+//! says. Each test has its own device: devices share no file, lock or variable, so tests can run in
+//! parallel. [`Transport`] and [`DeviceFile`] are the interfaces that TPM libraries expect.
 //!
-//! A refused command is said in words. [`Device::log`] is what `tpmsim-explain` reads, which says the
-//! whole reason:
+//! The error for a refused command says in words what was refused. `tpmsim-explain` reads [`Device::log`],
+//! and explains the whole reason:
 //!
 //! ```
 //! # fn main() -> tpmsim::Result<()> {
@@ -31,7 +31,7 @@
 //! # }
 //! ```
 //!
-//! The library is that of the folder `TPMSIM_LIB_DIR`, else the one in this package, which is for Linux
+//! The library is the one in the folder `TPMSIM_LIB_DIR`, or else the one in this package, which is for Linux
 //! on x86-64 and on ARM64.
 #![deny(missing_docs, unsafe_op_in_unsafe_fn, unsafe_code)]
 
@@ -52,7 +52,7 @@ pub use error::{Error, Fault, Result};
 pub use response::{Refusal, Response};
 pub use transport::{DeviceFile, Transport};
 
-/// The version of the linked library, as `0.1.0`.
+/// The version of the linked library, such as `0.1.0`.
 ///
 /// ```
 /// assert_eq!(tpmsim::version(), env!("CARGO_PKG_VERSION"));

@@ -8,7 +8,7 @@ pub(crate) struct Log {
 }
 
 impl Log {
-    /// The log that begins with a device's state text.
+    /// Starts a log with a device's state text.
     pub(crate) fn of_state(state_text: &[u8]) -> Log {
         let mut log = Log { text: String::new() };
         log.bytes("# state ", state_text);
@@ -26,7 +26,7 @@ impl Log {
         self.text.push('\n');
     }
 
-    /// Adds a command, what it drew, and its response.
+    /// Adds a command, the random bytes that it drew, and its response.
     pub(crate) fn command(&mut self, buffer: &[u8], drawn: &[u8], response: &[u8]) {
         if !drawn.is_empty() {
             self.bytes("entropy ", drawn);

@@ -1,6 +1,6 @@
 //! The names of response codes and of commands.
 
-/// The response codes without their places (TPM 2.0 Library, Part 2, section 6.6.3), by their numbers.
+/// The response codes without their places (TPM 2.0 Library, Part 2, section 6.6.3), by number.
 pub(crate) const CODES: &[(u32, &str)] = &[
     (0x01e, "BAD_TAG"),
     (0x082, "ATTRIBUTES"),
@@ -53,7 +53,7 @@ pub(crate) const CODES: &[(u32, &str)] = &[
     (0x921, "LOCKOUT"),
 ];
 
-/// The commands that are served (Part 2, section 6.5.2), by their numbers.
+/// The implemented commands (Part 2, section 6.5.2), by number.
 pub(crate) const COMMANDS: &[(u32, &str)] = &[
     (0x120, "EvictControl"),
     (0x122, "NV_UndefineSpace"),
@@ -104,7 +104,7 @@ pub(crate) const COMMANDS: &[(u32, &str)] = &[
     (0x18f, "PolicyNvWritten"),
 ];
 
-/// The name of a number in a table.
+/// Returns the name of a number in a table.
 pub(crate) fn name_of(table: &[(u32, &'static str)], number: u32) -> Option<&'static str> {
     table.iter().find(|(of, _)| *of == number).map(|(_, name)| *name)
 }

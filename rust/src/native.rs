@@ -1,28 +1,27 @@
-//! The calls of libtpmsim, which is all that is unsafe here, and `getrandom`.
+//! The calls of libtpmsim and of `getrandom`. This is the only unsafe code of the package.
 //!
-//! What a caller owes to the library holds by these types. A [`Native`] is the only one that has its
-//! holder, which moves with it and is never copied. Every call but one on `&self` takes `&mut self`,
-//! and a `Native` is no `Sync`, so that one call at a time works on a holder. Each buffer has as many
-//! bytes as its call reads or writes.
+//! These types ensure the library's preconditions. A [`Native`] is the only owner of its handle, which moves
+//! with it and is never copied. Every call except one on `&self` takes `&mut self`, and a `Native` is not
+//! `Sync`, so only one call at a time uses a handle. Each buffer has the size that its call reads or writes.
 #![allow(unsafe_code)]
 
 use std::io;
 use std::os::raw::{c_uint, c_void};
 use std::ptr::null_mut;
 
-/// What a call answers that is done.
+/// The result of a call that succeeded.
 pub(crate) const DONE: u8 = 0;
 
-/// How many random bytes a call takes.
+/// The number of random bytes that a call takes.
 pub(crate) const RANDOM_BYTES: usize = 256;
 
 /// The size of the longest response.
 const RESPONSE_BYTES: usize = 4096;
 
-/// Enough for each image and each state text.
+/// A buffer size that is enough for every image and every state text.
 const TEXT_BYTES: usize = 36_323;
 
-/// `tpmsim` of the header. No `Sync`, as a pointer is not.
+/// `tpmsim` of the header. It is not `Sync`, since a pointer is not.
 #[repr(C)]
 struct Holder(*mut c_void);
 
@@ -83,7 +82,7 @@ extern "C" {
     fn getrandom(buffer: *mut c_void, size: usize, flags: c_uint) -> isize;
 }
 
-/// Who executes a command: the device alone, or with the completing layer above it.
+/// What executes a command: only the device, or the completing layer above it.
 #[derive(Clone, Copy)]
 pub(crate) enum Executor {
     Device,
@@ -97,7 +96,7 @@ pub(crate) struct Circumstances<'a> {
     pub random: &'a [u8; RANDOM_BYTES],
 }
 
-/// What came of a command.
+/// The result of a command.
 pub(crate) struct Outcome {
     pub response: Vec<u8>,
     pub drawn: usize,
@@ -105,26 +104,26 @@ pub(crate) struct Outcome {
     pub check: u8,
 }
 
-/// A holder of the library's, with or without a device.
+/// A handle of the library, with or without a device.
 pub(crate) struct Native(Holder);
 
-// SAFETY: the library has no variable and no lock of a thread's, and a device is reached by its holder
-// alone, which moves with the `Native`.
+// SAFETY: the library has no variables and no thread-local locks, and a device is reached only through its
+// handle, which moves with the `Native`.
 unsafe impl Send for Native {}
 
 impl Native {
-    /// A holder with no device.
+    /// A handle without a device.
     pub(crate) fn empty() -> Native {
         Native(Holder(null_mut()))
     }
 
-    /// Makes a new device here, and says whether that is done.
+    /// Makes a new device here; returns whether this succeeded.
     pub(crate) fn manufacture(&mut self, random: &[u8; RANDOM_BYTES]) -> u8 {
-        // SAFETY: the holder is one of the library's, and 256 bytes are at `random`.
+        // SAFETY: the handle is one of the library, and `random` points to 256 bytes.
         unsafe { tpmsim_manufacture(&mut self.0, random.as_ptr()) }
     }
 
-    /// Executes a command. A holder without a device, and a locality above 4, answer nothing.
+    /// Executes a command. Returns nothing for a handle without a device, or a locality above 4.
     pub(crate) fn execute(
         &mut self,
         by: Executor,
@@ -137,8 +136,8 @@ impl Native {
         };
         let mut room = [0; RESPONSE_BYTES];
         let mut answered = Answered::default();
-        // SAFETY: the holder is one of the library's; `buffer` has its size, `random` 256 bytes, `room`
-        // 4,096; and all of these are other memory than each other.
+        // SAFETY: the handle is one of the library; `buffer` has its size, `random` 256 bytes and `room`
+        // 4,096; and none of these overlap.
         let done = unsafe {
             call(
                 &mut self.0,
@@ -159,9 +158,9 @@ impl Native {
         })
     }
 
-    /// Takes the power away and gives it back.
+    /// Power-cycles the device.
     pub(crate) fn power_cycle(&mut self) {
-        // SAFETY: the holder is one of the library's.
+        // SAFETY: the handle is one of the library.
         unsafe { tpmsim_power_cycle(&mut self.0) };
     }
 
@@ -175,48 +174,48 @@ impl Native {
         self.written(tpmsim_snapshot)
     }
 
-    /// Opens a device from an image, and says whether that is done, or why not.
+    /// Opens the device of an image; returns the library's result.
     pub(crate) fn open(&mut self, image: &[u8]) -> u8 {
         self.read(tpmsim_open, image)
     }
 
-    /// Restores a device from a state text, and says whether that is done, or why not.
+    /// Restores a device from a state text; returns the library's result.
     pub(crate) fn restore(&mut self, text: &[u8]) -> u8 {
         self.read(tpmsim_restore, text)
     }
 
-    /// The text that a call writes, which leaves the device as it is.
+    /// Returns the text that a call writes; the call does not change the device.
     fn written(&self, call: Write) -> Vec<u8> {
         let mut room = vec![0; TEXT_BYTES];
         let holder = std::ptr::addr_of!(self.0) as *mut Holder;
-        // SAFETY: the holder is one of the library's, the two calls of this type do not write to it,
-        // and no other thread has it, as a `Native` is no `Sync`; `room` has its size.
+        // SAFETY: the handle is one of the library, the two calls of this type do not write to it, and no
+        // other thread uses it, since a `Native` is not `Sync`; `room` has its size.
         let size = unsafe { call(holder, room.as_mut_ptr(), room.len()) };
         room.truncate(size);
         room
     }
 
-    /// What a call answers that reads a text.
+    /// Returns the result of a call that reads a text.
     fn read(&mut self, call: Read, text: &[u8]) -> u8 {
-        // SAFETY: the holder is one of the library's, and `text` has its size.
+        // SAFETY: the handle is one of the library, and `text` has its size.
         unsafe { call(&mut self.0, text.as_ptr(), text.len()) }
     }
 }
 
 impl Drop for Native {
     fn drop(&mut self) {
-        // SAFETY: the holder is one of the library's, and this is its last call.
+        // SAFETY: the handle is one of the library, and this is its last call.
         unsafe { tpmsim_free(&mut self.0) }
     }
 }
 
-/// The version of the library that is linked: its three numbers, a byte each.
+/// The version of the linked library: its three numbers, one byte each.
 pub(crate) fn version() -> u32 {
     // SAFETY: the call takes nothing, and reads no memory.
     unsafe { tpmsim_version() }
 }
 
-/// Fills a buffer with random bytes of the system's.
+/// Fills a buffer with random bytes of the system.
 pub(crate) fn draw(mut buffer: &mut [u8]) -> io::Result<()> {
     while !buffer.is_empty() {
         // SAFETY: `buffer` has its size.

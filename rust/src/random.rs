@@ -1,4 +1,4 @@
-//! Where the random bytes of a device come from.
+//! The source of a device's random bytes.
 
 use crate::native::{self, RANDOM_BYTES};
 use crate::shake::shake256;
@@ -6,21 +6,21 @@ use std::io;
 
 /// The random bytes that a command may draw.
 pub(crate) enum Source {
-    /// The system's. The bytes that no command drew are as good as new.
+    /// Bytes of the system. Those that no command has drawn are used again.
     System([u8; RANDOM_BYTES]),
-    /// Those that follow from a seed: the bytes, the seed, and how many commands had theirs.
+    /// Bytes derived from a seed: the bytes, the seed, and how many commands have received theirs.
     Seed([u8; RANDOM_BYTES], Vec<u8>, u64),
 }
 
 impl Source {
-    /// The system's.
+    /// Makes a source of system bytes.
     pub(crate) fn system() -> io::Result<Source> {
         let mut bytes = [0; RANDOM_BYTES];
         native::draw(&mut bytes)?;
         Ok(Source::System(bytes))
     }
 
-    /// Those of a seed.
+    /// Makes a source of bytes from a seed.
     pub(crate) fn of_seed(seed: &[u8]) -> Source {
         Source::Seed([0; RANDOM_BYTES], seed.to_vec(), 0)
     }
@@ -34,14 +34,14 @@ impl Source {
         self.bytes()
     }
 
-    /// The bytes that the last command might draw, of which some may be renewed since.
+    /// The bytes that the last command could draw, some of which may have been replaced since.
     pub(crate) fn bytes(&self) -> &[u8; RANDOM_BYTES] {
         match self {
             Source::System(bytes) | Source::Seed(bytes, ..) => bytes,
         }
     }
 
-    /// Replaces what a command drew.
+    /// Replaces the bytes that a command drew.
     pub(crate) fn renew(&mut self, drawn: usize) -> io::Result<()> {
         match self {
             Source::System(bytes) => native::draw(&mut bytes[..drawn]),
@@ -50,7 +50,7 @@ impl Source {
     }
 }
 
-/// The random bytes of which a new device is made: its seeds and its proofs.
+/// The random bytes from which a new device is made: its seeds and its proofs.
 pub(crate) fn of_new_device(seed: Option<&[u8]>) -> io::Result<[u8; RANDOM_BYTES]> {
     let mut bytes = [0; RANDOM_BYTES];
     match seed {

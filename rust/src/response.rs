@@ -1,4 +1,4 @@
-//! What a device answers.
+//! The responses of a device.
 
 use crate::code::{Check, ResponseCode};
 use crate::names::{name_of, COMMANDS};
@@ -8,7 +8,7 @@ use std::fmt;
 /// The size of the header of a response: tag, size and code.
 const HEADER_BYTES: usize = 10;
 
-/// A response, and which check refused its command.
+/// A response, and the check that refused its command.
 #[derive(Clone, Debug, PartialEq, Eq, Hash)]
 pub struct Response {
     bytes: Vec<u8>,
@@ -17,7 +17,7 @@ pub struct Response {
 }
 
 impl Response {
-    /// What came of a command.
+    /// Makes a response from the result of a command.
     pub(crate) fn of(outcome: Outcome) -> Response {
         let Outcome { response: bytes, code: command, check, .. } = outcome;
         Response { bytes, command, check: Check::of(check) }
@@ -44,11 +44,11 @@ impl Response {
         self.check
     }
 
-    /// What follows the header.
+    /// The bytes after the header.
     ///
     /// # Errors
     ///
-    /// The refusal, of a command that was refused.
+    /// The refusal, if the command was refused.
     pub fn accepted(&self) -> Result<&[u8], Refusal> {
         match self.code() {
             ResponseCode::SUCCESS => Ok(&self.bytes[HEADER_BYTES..]),
@@ -63,7 +63,7 @@ impl AsRef<[u8]> for Response {
     }
 }
 
-/// That a device refused a command, and why.
+/// The refusal of a command by a device, with the reason.
 ///
 /// ```
 /// # fn main() -> tpmsim::Result<()> {

@@ -1,4 +1,4 @@
-//! SHAKE256 (FIPS 202), by which the random bytes of a seeded device follow from its seed.
+//! SHAKE256 (FIPS 202), which derives the random bytes of a seeded device from its seed.
 
 const ROUND_CONSTANTS: [u64; 24] = [
     0x0000000000000001,
@@ -27,7 +27,7 @@ const ROUND_CONSTANTS: [u64; 24] = [
     0x8000000080008008,
 ];
 
-/// The steps rho and pi, from lane to lane: where a lane goes, and by how many bits it is rotated.
+/// The steps rho and pi, lane by lane: the target of each lane, and the number of bits of its rotation.
 const MOVES: [(usize, u32); 24] = [
     (10, 1),
     (7, 3),
@@ -55,7 +55,7 @@ const MOVES: [(usize, u32); 24] = [
     (1, 44),
 ];
 
-/// The number of bytes that go in and come out between two permutations.
+/// The number of bytes absorbed or squeezed between two permutations.
 const RATE: usize = 136;
 
 /// The step theta.
@@ -94,7 +94,7 @@ fn permute(lanes: &mut [u64; 25]) {
     }
 }
 
-/// Adds a byte to the state at a place.
+/// Adds a byte to the state at an offset.
 fn add(lanes: &mut [u64; 25], at: usize, byte: u8) {
     lanes[at / 8] ^= u64::from(byte) << (at % 8 * 8);
 }
@@ -142,6 +142,6 @@ mod tests {
         assert_eq!(ends, ENDS);
     }
 
-    /// What Python's hashlib has.
+    /// The results of Python's hashlib.
     const ENDS: [u8; 3] = [145, 73, 22];
 }

@@ -1,20 +1,20 @@
-//! A device as the way to a TPM that libraries take.
+//! A device with the TPM interfaces that libraries expect.
 
 use crate::device::Device;
 use std::io::{self, Read, Write};
 
-/// The way to a TPM: a command goes there, and its response comes back.
+/// A transport to a TPM: sends a command and returns its response.
 ///
-/// A library that is generic over a trait of its own implements that trait by this one.
+/// If a library is generic over its own trait, implement that trait with this one.
 pub trait Transport {
-    /// What can fail on the way.
+    /// The error of a transmission.
     type Error;
 
-    /// The response to a command.
+    /// Sends a command and returns its response.
     ///
     /// # Errors
     ///
-    /// What failed on the way. A command that the TPM refuses has a response.
+    /// The transmission failed. A command that the TPM refuses has a response.
     fn transmit(&mut self, command: &[u8]) -> Result<Vec<u8>, Self::Error>;
 }
 
@@ -26,7 +26,7 @@ impl Transport for Device {
     }
 }
 
-/// A device as the file of one, `/dev/tpm0`: each write is a command, and the reads after it have its
+/// A device that behaves like the file `/dev/tpm0`: each write is a command, and the reads after it return its
 /// response.
 ///
 /// ```
@@ -47,7 +47,7 @@ pub struct DeviceFile {
 }
 
 impl DeviceFile {
-    /// The file of a device.
+    /// Makes the file of a device.
     pub fn new(device: Device) -> DeviceFile {
         DeviceFile { device, response: Vec::new(), taken: 0 }
     }

@@ -1,4 +1,4 @@
-//! A thousand tests, each with a device of its own, in all threads of the machine.
+//! A thousand tests, each with its own device, on all threads of the machine.
 
 use std::sync::atomic::{AtomicUsize, Ordering};
 use std::thread;
@@ -20,7 +20,7 @@ fn test(number: usize) -> Vec<u8> {
     device.execute(&read).accepted().expect("PCR 7 may be read")[4..].to_vec()
 }
 
-/// How long all devices take, in all threads of the machine.
+/// How long all devices take, on all threads of the machine.
 fn a_round() -> Duration {
     let began = Instant::now();
     let next = AtomicUsize::new(0);
@@ -45,7 +45,7 @@ fn a_round() -> Duration {
     took
 }
 
-/// What else the machine does may slow a round, so the quickest of ten counts.
+/// Other work on the machine may slow down a round, so the fastest of ten counts.
 #[test]
 fn a_thousand_devices_take_less_than_half_a_second() {
     let is_quick = (0..10).any(|_| a_round() < Duration::from_millis(500));

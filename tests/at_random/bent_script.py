@@ -1,5 +1,5 @@
-"""Bent scripts: a script with some of its commands' bytes changed at random, some of its lines lost
-or turned, and at times a byte of its text changed. And bent images.
+"""Bent scripts: a script in which some commands have random bytes changed, some lines are lost or
+swapped, and now and then a byte of the text is changed. And bent images.
 """
 
 from tpmsim.model.image import BODY_AT, DIGEST_AT_END, HEAD_BYTES
@@ -7,10 +7,10 @@ from tpmsim.standard import CC, digest, frames
 from tests.common.expected import buffer_of
 from tests.common.script import line
 
-# Where the length of an image stands in it, and what is behind the seeds and proofs.
+# The place of its length in an image, and the place after the seeds and proofs.
 LENGTH_AT, BEHIND_SEEDS = 6, BODY_AT + 4 * 66
 
-# How often a line is bent, and how often a byte of the text.
+# How often a line is bent, and how often a byte of the text is.
 SELDOM, OFTEN = 0.06, 0.3
 
 SIZES = 0, 1, 2, 8, 9, 16, 20, 32, 33, 64, 128, 1024, 1025, 4096, 0xFFFF
@@ -22,7 +22,7 @@ HANDLES = (
 
 
 def put(buffer, at, data):
-    """With these bytes in place of as many from a place on."""
+    """The buffer with these bytes instead of those from a place on."""
     return buffer[:at] + data + buffer[at + len(data) :]
 
 
@@ -59,12 +59,12 @@ def more(random, buffer):
 
 
 def doubled(random, buffer):
-    """A piece of it twice, as an entry or a handle may be."""
+    """A buffer with a piece of it repeated, as an entry or a handle may be."""
     at, size = random.randrange(len(buffer)), random.choice((4, 9, 9, 20))
     return buffer[: at + size] + buffer[at:]
 
 
-# And the same where they are a command's.
+# The same for the bytes of a command.
 
 
 def handle_within(random, buffer):
@@ -104,8 +104,8 @@ def bent_buffer(random, buffer):
 
 
 def bent_image(random, text):
-    """An image that is bent at one or two places, mostly behind its seeds and with the length and
-    digest of what it is then.
+    """An image that is bent at one or two places, mostly after its seeds, and mostly with its new
+    length and digest.
     """
     for _ in range(random.choice((1, 1, 2))):
         first = 0 if random.random() < 0.2 else BEHIND_SEEDS
@@ -117,7 +117,7 @@ def bent_image(random, text):
 
 
 def bent_lines(random, lines):
-    """The lines, of which some are bent, lost, doubled, or behind the next one."""
+    """The lines, some of them bent, lost, doubled, or swapped with the next one."""
     lines, bent = list(lines), 0
     for at, text in enumerate(lines):
         if random.random() >= SELDOM:
@@ -134,7 +134,7 @@ def bent_lines(random, lines):
 
 
 def bent_script(random, lines):
-    """The text of such a script, and how many lines were bent."""
+    """The text of a bent script, and how many of its lines are bent."""
     lines, bent = bent_lines(random, lines)
     text = bytearray("\n".join(lines).encode("ascii") + b"\n")
     if random.random() < OFTEN:

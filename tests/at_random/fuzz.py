@@ -1,11 +1,11 @@
-"""Compares a program with the device in Python, by what comes at random (tools/soak/fuzz.sh):
+"""Compares a program with the Python device on random input (tools/soak/fuzz.sh):
 
     fuzz.py PROGRAM SECONDS [SEED]     rounds of the seeds from SEED on, until the time is over
     fuzz.py PROGRAM --rounds N SEED    N rounds
-    fuzz.py PROGRAM --replay FILE      a script or a stream that was left
+    fuzz.py PROGRAM --replay FILE      a script or a stream that an earlier run left
 
-A round has a random script, a bent one, and a stream, which is connections to a served device, in
-runs one after another, some of them on a bent image. It hangs on its seed alone.
+A round has a random script, a bent one, and a stream. A stream is connections to a served device in
+consecutive runs, some of them on a bent image. A round depends on its seed alone.
 """
 
 import contextlib
@@ -41,7 +41,7 @@ def bytes_text(lines):
 
 
 def script_difference(program, lines):
-    """The number of the script's line, what is wanted, and what is given; or None."""
+    """The number of the script's line, the expected output, and the actual one; or None."""
     printed, error = player.played(bytes_text(lines))
     with tempfile.NamedTemporaryFile() as script:
         script.write(bytes_text(lines))
@@ -65,9 +65,9 @@ def bytes_lines(text):
     return text.removesuffix(b"\n").split(b"\n")
 
 
-# What is compared. A difference in the device in Python is one too: it must not fail.
+# What is compared. A failure of the Python device is a difference too.
 
-# What a device in Python raises that has a defect.
+# What a Python device with a defect raises.
 DEFECTS = (
     *(ArithmeticError, AssertionError, AttributeError, LookupError, TypeError, ValueError),
     *(Refusal, Short),
@@ -76,8 +76,8 @@ DEFECTS = (
 
 @dataclass
 class Kind:
-    """Scripts, bent ones or streams: the file's ending, how a file's text is cut into lines and put
-    together, what differs, and how many of them were tried, and what was in them.
+    """Scripts, bent ones or streams: the file's suffix, how a file's text is cut into lines and put
+    together, how a difference is found, how many were tried, and what was in them.
     """
 
     name: str
@@ -99,7 +99,7 @@ class Kind:
 
 
 def shrunken(lines, differs):
-    """The lines without those that the difference does not need."""
+    """The lines that are needed for the difference."""
     until = time.monotonic() + SHRINKING_SECONDS
     size, before = len(lines), len(lines)
     while size and time.monotonic() < until:
@@ -117,7 +117,7 @@ def shrunken(lines, differs):
 
 
 def shown(wanted, given):
-    """Two texts, each from shortly before the place at which they differ, if they are long."""
+    """Two texts; long ones begin shortly before the place at which they differ."""
     same = next((at for at, (a, b) in enumerate(zip(wanted, given)) if a != b), 0)
     first = max(0, same - SHOWN // 4) if max(len(wanted), len(given)) > SHOWN else 0
     for text in (wanted, given):
@@ -126,7 +126,7 @@ def shown(wanted, given):
 
 
 class Fuzz:
-    """Rounds, and what came of them."""
+    """Rounds, and their results."""
 
     def __init__(self, program):
         self.program, self.folder = program, None
@@ -177,7 +177,7 @@ class Fuzz:
             self.leave(f"{name}.shrunken.{kind.ending}", lines, found)
 
     def leave(self, name, lines, found):
-        """Leaves a file, and says where it differs."""
+        """Writes a file, and says at which line it differs."""
         self.folder = self.folder or pathlib.Path(tempfile.mkdtemp(prefix="fuzz."))
         path = self.folder / name
         path.write_bytes(bytes_text(lines))
@@ -192,7 +192,7 @@ def show(path, number, wanted, given):
 
 
 def replay(program, name):
-    """Whether what was left still differs."""
+    """Whether the file of an earlier run still differs."""
     path = pathlib.Path(name)
     lines = bytes_lines(path.read_bytes())
     found = (stream_difference if path.suffix == ".stream" else script_difference)(program, lines)

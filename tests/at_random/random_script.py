@@ -1,10 +1,10 @@
-"""A random script, and what the model answers to it:
+"""A random script, and the answers of the Python device:
 
     random_script.py SEED COUNT FOLDER
 
-writes FOLDER/SEED.tpm, with so many commands, and FOLDER/SEED.out. Most commands are such that they
-may succeed; in some a field is wrong, and in some the bytes. tools/soak/random_scripts.sh compares the
-program's answers with them.
+writes FOLDER/SEED.tpm, with COUNT commands, and FOLDER/SEED.out. Most commands may succeed; some
+have a wrong field, and some have wrong bytes. tools/soak/random_scripts.sh compares the program's
+answers with these.
 """
 
 import contextlib
@@ -31,7 +31,7 @@ KINDS = frames.SE_HMAC, frames.SE_HMAC, frames.SE_POLICY, frames.SE_POLICY, fram
 OPEN = Attribute.FIXED_TPM | Attribute.FIXED_PARENT | Attribute.USER_WITH_AUTH
 STORES = OPEN | Attribute.RESTRICTED | Attribute.DECRYPT | Attribute.SENSITIVE_DATA_ORIGIN
 USES = CC.Unseal, CC.HMAC, CC.Create, CC.Load, CC.PolicySecret
-# What an index can authorize, mostly the command that a policy alone can.
+# What an index can authorize; the command that only a policy can authorize is the most frequent.
 NV_USES = (
     *(it for it in CC if it.handles and it.handles[0].kind == HandleKind.NV_AUTH),
     *(CC.NV_ChangeAuth,) * 6,
@@ -51,7 +51,7 @@ def size_of(algorithm):
 
 
 class Writer(random.Random):
-    """Random commands for a device, which it knows from within."""
+    """Random commands for a device whose state the writer can see."""
 
     def __init__(self, seed):
         super().__init__(seed)
@@ -68,12 +68,12 @@ class Writer(random.Random):
         return self.randbytes(self.choice((0, 1, most // 2, most, most)) + self.happens(0.01))
 
     def bent(self, data):
-        """With one bit changed."""
+        """The data with one bit changed."""
         at = self.randrange(len(data))
         return data[:at] + bytes([data[at] ^ 1 << self.randrange(8)]) + data[at + 1 :]
 
     def fitting(self, digest, algorithm):
-        """A digest, if it is one by this hash; else mostly none."""
+        """The digest, if it has the size of this hash; else mostly an empty one."""
         return digest if len(digest) in (0, size_of(algorithm)) or self.happens(0.1) else b""
 
     def hash(self):
@@ -83,14 +83,14 @@ class Writer(random.Random):
         return self.choice(handle_kinds.PRIMARY_HIERARCHIES)
 
     def object(self, test=lambda it: True):
-        """The handle of a loaded object, if any; seldom of one that is not there."""
+        """The handle of a loaded object, if any; rarely of one that does not exist."""
         fitting = [it for it in self.device.objects if test(self.device.objects[it])]
         if self.happens(0.02) or not fitting:
             return self.choice((0x80000000 + self.randrange(9), 0x81000000, RH_NULL))
         return self.choice(fitting)
 
     def session(self, *kinds):
-        """The handle of a session of one of these kinds, seldom of none or another."""
+        """The handle of a session of one of these kinds; rarely of none or of another."""
         held = self.device.sessions
         fitting = [it for it in held if held[it].kind in kinds or self.happens(0.02)]
         return self.choice(fitting) if fitting else 0x03000000 + self.randrange(17)
@@ -100,7 +100,7 @@ class Writer(random.Random):
         return self.choice((*HIERARCHIES, *held))
 
     def index(self, test=lambda it: True):
-        """The handle of an index that is defined, if any; seldom of one that is not."""
+        """The handle of a defined index, if any; rarely of one that is not defined."""
         indices = self.device.indices
         fitting = [it for it in indices if test(indices[it].public) or self.happens()]
         if self.happens(0.02) or not indices:
@@ -145,7 +145,7 @@ class Writer(random.Random):
     # NV indices.
 
     def nv_attributes(self, hierarchy):
-        """Who may write and read, what may be locked, and the type."""
+        """Attributes: who may write and read, what may be locked, and the type."""
         some = self.getrandbits(32) & self.getrandbits(32) & nv.NAMED & ~nv_commands.NOT_DEFINED
         attributes = some & ~nv.of_type(nv.TYPE_MASK) | self.choice((0, 0x000E_000E, 0x0006_0006))
         attributes &= ~nv.Attribute.PLATFORMCREATE
@@ -165,7 +165,7 @@ class Writer(random.Random):
         return size_of(algorithm) if kind == nv.Type.EXTEND else nv.NUMBER_BYTES
 
     def nv_policy(self, algorithm):
-        """A digest that a session has now, one that a session will have, or one of before."""
+        """A digest that a session has now, one that a session will have, or an earlier one."""
         held = self.device.sessions.values()
         told = [it.policy for it in held if it.algorithm == algorithm and not it.is_trial]
         digests = [it.digest for it in told if it.code == CC.NV_ChangeAuth or self.happens()]
@@ -195,7 +195,7 @@ class Writer(random.Random):
         return [frames.RH_PLATFORM if by_platform else self.choice(ASKERS), handle]
 
     def asked(self, kind=None, reads=False):
-        """An index, mostly of a type, and who asks for it, who mostly may."""
+        """An index, mostly of a type, and the handle that authorizes, which mostly may."""
         handle = self.index(lambda it: kind in (None, it.kind))
         held = self.device.indices.get(handle)
         if held is None or self.happens(0.1):
@@ -223,7 +223,7 @@ class Writer(random.Random):
         return handles, frames.nv_read(self.choice((size, max(0, size - offset), 1)), offset)
 
     def nv_change_auth(self):
-        """Mostly of an index that a session's policy can authorize now."""
+        """Mostly for an index that a session's policy can authorize now."""
         told = [it.policy for it in self.device.sessions.values()]
         digests = [it.digest for it in told if it.code == CC.NV_ChangeAuth]
         handle = self.index(lambda it: it.auth_policy in digests)
@@ -269,7 +269,7 @@ class Writer(random.Random):
         return [self.entity(), handle], parameters
 
     def policy_cp_hash(self):
-        """Mostly that of a command without parameters, which may come yet, or what is recorded."""
+        """Mostly the cpHash of a possible command without parameters, or a recorded one."""
         (handle,), _ = self.told()
         held = self.device.sessions.get(handle)
         algorithm = held.algorithm if held else SHA256
@@ -300,7 +300,7 @@ class Writer(random.Random):
         return [handle], frames.sized_list(*branches)
 
     def load(self):
-        """What was created before, mostly under the parent that is loaded again."""
+        """A previously created object, mostly under its parent, which is loaded again."""
         parent = self.object(lambda it: it.public.is_parent)
         name = self.device.name(parent)
         fitting = [it for it in self.made if it[0] == name or self.happens(0.02)]
@@ -315,7 +315,7 @@ class Writer(random.Random):
         return [self.keyed(signs=True)], sized(data) + number(algorithm, 2)
 
     def keyed(self, signs):
-        """A key of HMACs, or sealed data; seldom the other, or a storage key."""
+        """An HMAC key, or sealed data; rarely the other of the two, or a storage key."""
         wanted = KEYEDHASH, signs
         is_one = lambda public: (public.kind, public.has(Attribute.SIGN)) == wanted
         return self.object(lambda it: is_one(it.public) or self.happens())
@@ -327,12 +327,12 @@ class Writer(random.Random):
     # What a device keeps.
 
     def parameters(self):
-        """Of dictionary attack protection."""
+        """The parameters of dictionary attack protection."""
         numbers = (self.choice(it) for it in (MOST_TRIES, RECOVERIES, RECOVERIES))
         return [frames.RH_LOCKOUT], frames.attack_parameters(*numbers)
 
     def capability(self):
-        """Mostly of what is there, from the first or from a handle on."""
+        """Mostly of existing entities, from the first or from a handle on."""
         kinds = 0, 0x40, 1, 2, 2, 3, 0x80, 0x81, 4
         held = [*self.device.objects, *self.device.sessions, *self.device.indices]
         wanted = self.choice((self.choice(kinds) << 24, self.choice(held or [0])))
@@ -428,8 +428,8 @@ class Writer(random.Random):
     # Entries.
 
     def entries(self, code, handles):
-        """With what a command is authorized: a session or the password for the handle that needs
-        it, and seldom sessions that only encrypt.
+        """The authorization of a command: a session or the password for a handle that needs it, and
+        rarely sessions that only encrypt.
         """
         found = []
         if code.authorized and not self.happens(0.01):
@@ -463,7 +463,7 @@ class Writer(random.Random):
             entry.attributes |= ENCRYPT
 
     def authenticated(self, command):
-        """The same command with its first parameter encrypted and its hmacs written."""
+        """The same command with its first parameter encrypted and its HMACs computed."""
         device, found = self.device, command.with_attribute(DECRYPT)
         if found and found[1].handle in device.sessions:
             _, entry, handle = found
@@ -497,11 +497,11 @@ class Writer(random.Random):
 
     @property
     def lines(self):
-        """Those of the script so far, of which the buffers' are found here."""
+        """The script's lines so far; those of the buffers are found here."""
         return [line(it) if isinstance(it, bytes) else it for it in self.events]
 
     def code(self):
-        """Of a command that is served. Where it is locked, mostly soon of one that unlocks."""
+        """The code of a served command. For a locked device mostly soon one that unlocks it."""
         if self.device.lockout.is_locked() and self.happens(0.1):
             return self.choice((CC.DictionaryAttackLockReset, CC.DictionaryAttackParameters))
         codes = list(self.COMMANDS)
@@ -520,7 +520,7 @@ class Writer(random.Random):
         return self.damaged(frames.buffer_of(code, handles, entries, command.parameters))
 
     def damaged(self, buffer):
-        """Seldom with a bit changed, or cut, commandSize being right then."""
+        """The buffer; rarely with a bit changed, or cut with the right commandSize."""
         if self.happens(0.02):
             return self.bent(buffer)
         if self.happens(0.01):
@@ -529,7 +529,7 @@ class Writer(random.Random):
         return buffer
 
     def startup(self):
-        """What was saved is mostly restored."""
+        """A start, which mostly restores what was saved."""
         is_saved = self.device.saved == state.Saved.STATE
         kind = state.STATE if is_saved and self.happens(0.7) else state.CLEAR
         return frames.command(CC.Startup, number(kind, 2))
@@ -557,7 +557,7 @@ class Writer(random.Random):
         self.note(buffer, outcome.response, outcome.refused)
 
     def note(self, buffer, response, refused):
-        """Keeps what TPM2_Create answered in plain, and the digests that policies have."""
+        """Keeps the decrypted response of TPM2_Create, and the digests that policies have."""
         if not refused and buffer[:2] == number(frames.SESSIONS, 2):
             if int.from_bytes(buffer[6:10], "big") == CC.Create:
                 fields = reading.Fields(response[14:])
@@ -569,7 +569,7 @@ class Writer(random.Random):
 
 
 def written(seed, count):
-    """The writer behind so many commands."""
+    """The writer after this many commands."""
     writer = Writer(seed)
     for _ in range(count):
         writer.step()

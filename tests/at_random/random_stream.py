@@ -1,4 +1,4 @@
-"""Random connections to a served device, in runs one after another: the lines of streams.py."""
+"""Random connections to a served device in consecutive runs: the lines of streams.py."""
 
 from tpmsim.model import state
 from tpmsim.model.image import Fault, image, open_image, VERSION_1
@@ -7,8 +7,8 @@ from tests.at_random.bent_script import bent_image
 from tests.at_random.random_script import MOST_TRIES, Writer
 from tests.common import streams
 
-# No time passes that counts for dictionary attack protection: none of these is over before the
-# runs are, or never is.
+# No time passes that matters for dictionary attack protection: each of these times ends after the
+# runs, or never.
 RECOVERIES = 1000, 2**32 - 1, 0
 LEAST_RECOVERY = 500
 
@@ -17,13 +17,13 @@ MOST_CONNECTIONS, MOST_COMMANDS = 6, 24
 
 
 def parameters(writer):
-    """Of dictionary attack protection."""
+    """The parameters of dictionary attack protection."""
     numbers = (writer.choice(it) for it in (MOST_TRIES, RECOVERIES, RECOVERIES))
     return [frames.RH_LOCKOUT], frames.attack_parameters(*numbers)
 
 
 def is_quick(text):
-    """Whether dictionary attack protection of an image's device may forgive while a run goes on."""
+    """Whether the device of an image may forgive a failed try while a run goes on."""
     try:
         lockout = open_image(text).lockout
     except Fault:
@@ -33,7 +33,7 @@ def is_quick(text):
 
 
 class StreamWriter(Writer):
-    """Connections, with what a device answers to them, which the writer knows from within."""
+    """Connections, and the answers of a device whose state the writer can see."""
 
     COMMANDS = {**Writer.COMMANDS, CC.DictionaryAttackParameters: (2, parameters)}
 
@@ -74,8 +74,8 @@ class StreamWriter(Writer):
             self.send(buffer[: self.randrange(len(buffer) or 1)])
 
     def give_image(self):
-        """A run on an image of either version, which is mostly bent; where it is none, the one that
-        was there stands there again behind it.
+        """A run on an image of either version, which is mostly bent. If it is not an image, the one
+        that was there before is put back after the run.
         """
         self.served.end()
         before = given = self.served.image
@@ -103,7 +103,7 @@ class StreamWriter(Writer):
 
 
 def random_stream(seed, runs):
-    """The lines of so many runs on an image, which is seldom taken away."""
+    """The lines of this many runs on an image, which is rarely removed."""
     writer = StreamWriter(seed)
     for at in range(runs):
         if at == 0 or writer.happens(0.1):

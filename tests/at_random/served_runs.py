@@ -1,4 +1,5 @@
-"""`tpmsim serve`, as the lines of streams.py say: what the program answers, and what is wanted."""
+"""Runs of `tpmsim serve` by the lines of streams.py: the program's answers, and the expected ones.
+"""
 
 import pathlib
 import select
@@ -14,7 +15,7 @@ SECONDS = 60
 
 
 def exchanged(client, connection):
-    """What comes back, while the bytes are sent in their pieces."""
+    """What the program sends, while the connection's bytes are sent in their pieces."""
     left, answered, is_sending = connection.sent, b"", True
     while True:
         writers = [client] if is_sending else []
@@ -35,12 +36,12 @@ def exchanged(client, connection):
         except BrokenPipeError:
             is_sending = False
         except ConnectionResetError:
-            # The program closed it before it had read all of it.
+            # The program closed the connection before it had read all of it.
             return answered
 
 
 class Folder:
-    """Where the program finds its files; it is there for all runs of one device after another."""
+    """The folder of the program's files, for all consecutive runs of one device."""
 
     def __init__(self, program, path):
         self.program, self.path = program, pathlib.Path(path)
@@ -65,7 +66,7 @@ class Folder:
         )
 
     def serve(self, run):
-        """What comes of each connection, what is said at the end, and the image."""
+        """What each connection is answered, what the run says at its end, and the image."""
         process, answers = self.began(run), []
         try:
             for connection in run.connections:
@@ -85,7 +86,7 @@ class Folder:
 
 
 def compared(run, answers, error, image):
-    """Pairs of what is wanted and given in a run, each with the number of its line."""
+    """Pairs of expected and actual results of a run, each with the number of its line."""
     for connection, given in zip(run.connections, answers):
         number = run.number
         for answered, response in zip_longest(connection.answered, given):
@@ -98,7 +99,7 @@ def compared(run, answers, error, image):
 
 
 def first_difference(program, lines):
-    """The number of the line, what is wanted, and what is given; or None."""
+    """The number of the line, the expected result, and the actual one; or None."""
     runs = streams.played(lines)
     with tempfile.TemporaryDirectory() as path:
         folder = Folder(program, path)

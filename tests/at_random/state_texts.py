@@ -1,13 +1,13 @@
-"""Plays at random on three devices that are told alike: one of the library that is never taken apart, a
-second one that goes on in another device from the first one's state text, and the device in Python, which
-goes on from it too:
+"""Plays the same random events on three devices: one of the library that always goes on; a second
+one that goes on in another device from the first one's state text; and the Python device, which
+also goes on from it:
 
     state_texts.py EVENTS [SEED]
 
-TPMSIM_LIBRARY names the shared object. Each answer and the state text behind each event have to be the
-same, byte for byte. An event is a command, refused ones too, or a power cycle; a new device is begun every
-thousand events, with the next seed. It prints how many events were compared and how often a text was
-restored; the first difference ends it, with status 1.
+TPMSIM_LIBRARY names the shared object. Each answer, and the state text after each event, has to be
+the same, byte for byte. An event is a command, perhaps a refused one, or a power cycle. A new
+device begins every thousand events, with the next seed. It prints how many events were compared,
+and how often a text was restored. The first difference ends it, with status 1.
 """
 
 import sys
@@ -21,16 +21,16 @@ from tests.common.outputs import repeated
 
 EVENTS_OF_ONE = 1000
 
-# A text is restored so often: behind each event, or seldom, so that what is wrong can grow.
+# How often a text is restored: after each event, or rarely, so that an error can grow.
 CHANCES = 1, 0.2, 0.01
 
 
 class Differs(Exception):
-    """The devices do, in words."""
+    """The devices differ, as these words say."""
 
 
 class Devices:
-    """The three of one seed."""
+    """The three devices of one seed."""
 
     def __init__(self, seed):
         self.writer, self.chance = Writer(seed), CHANCES[seed % len(CHANCES)]
@@ -53,7 +53,7 @@ class Devices:
             self.go_on()
 
     def tell(self, event, answers):
-        """An event of the writer's, by which the device in Python has gone already."""
+        """Plays an event of the writer, which the Python device has executed already."""
         if isinstance(event, bytes):
             self.execute(event, next(answers).outcome.response)
         elif event == "power":
@@ -85,7 +85,7 @@ class Devices:
             raise Differs("the state texts differ")
 
     def go_on(self):
-        """In other devices, from the text of the one that is never taken apart."""
+        """Goes on in other devices, from the text of the device that always goes on."""
         text = self.whole.state()
         self.restored.close()
         self.restored = LibraryDevice()
@@ -99,7 +99,7 @@ class Devices:
 
 
 def play(events, seed):
-    """Plays so many events of one seed; how often a text was restored, and the difference, if any."""
+    """Plays this many events of one seed; how often a text was restored, and any difference."""
     devices = Devices(seed)
     try:
         for number in range(1, events + 1):

@@ -1,5 +1,5 @@
-/* Asks a device by the words of the module: `ask WORDS ACT..`. An act is a command in hex, whose
- * response is printed; `power`, a power cycle; or `locality N`. A fault is printed, and ends it. */
+/* Opens a device by the words of the module and uses it: `ask WORDS ACT..`. An act is a command in hex,
+ * whose response is printed; `power`, a power cycle; or `locality N`. A fault is printed, and ends it. */
 #include "common.h"
 #include "words.h"
 

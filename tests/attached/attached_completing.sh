@@ -1,6 +1,6 @@
-# The completing layer of a kept device: a context that one process saved is loaded by another one,
-# until the power is cycled; and who does not ask for the layer has the device alone. attached/ask.c
-# is the caller.
+# The completing layer of a kept device: another process loads a context that one process saved, until
+# the power is cycled. A process that switches the layer off has only the device. attached/ask.c is the
+# caller.
 tests=$(cd "$(dirname "$0")/.." && pwd -P)
 . "$tests/common/cases.sh"
 . "$tests/common/library.sh"
@@ -15,7 +15,7 @@ session=80010000002b0000017640000007400000070010$(printf '%032d' 0)0000000010000
 save=80010000000e0000016202000000
 command_count=8001000000160000017a000000060000012900000001
 
-# ask LABEL WORDS ACT..: asks a device, and prints what came of it.
+# ask LABEL WORDS ACT..: uses a device, and prints the result.
 ask() {
     label=$1
     shift
@@ -25,19 +25,19 @@ ask() {
     sed 's/^/    /' "$room/asked"
 }
 
-ask 'random bytes, with the layer' state=state,complete "$startup" "$stir"
-ask 'and without it' state=state "$stir"
-ask 'a session' state=state,complete "$session" >"$room/session"
+ask 'random bytes, with the layer' state=state "$startup" "$stir"
+ask 'and without it' state=state,device "$stir"
+ask 'a session' state=state "$session" >"$room/session"
 sed 's/^\(    .\{28\}\).*/\1../' "$room/session"
-"$room/ask" state=state,complete "$save" >"$room/saved"
+"$room/ask" state=state "$save" >"$room/saved"
 context=$(cut -c 21- "$room/saved")
 load=$(printf '8001%08x00000161%s' "$((10 + ${#context} / 2))" "$context")
-ask 'the context of the session, loaded without the layer' state=state "$load"
-ask 'loaded' state=state,complete "$load"
-ask 'loaded twice' state=state,complete "$load"
-"$room/ask" state=state,complete "$save" >"$room/saved"
+ask 'the context of the session, loaded without the layer' state=state,device "$load"
+ask 'loaded' state=state "$load"
+ask 'loaded twice' state=state "$load"
+"$room/ask" state=state "$save" >"$room/saved"
 context=$(cut -c 21- "$room/saved")
 load=$(printf '8001%08x00000161%s' "$((10 + ${#context} / 2))" "$context")
-ask 'behind a power cycle' state=state,complete power "$startup" "$load"
-ask 'the number of commands' state=state,complete "$command_count"
-ask 'and without it' state=state "$command_count"
+ask 'behind a power cycle' state=state power "$startup" "$load"
+ask 'the number of commands' state=state "$command_count"
+ask 'and without it' state=state,device "$command_count"

@@ -1,4 +1,4 @@
-# What is cut off a journal, and what is told of it: attached/cut.c is the caller.
+# What is cut off a journal, and what is reported of it: attached/cut.c is the caller.
 tests=$(cd "$(dirname "$0")/.." && pwd -P)
 . "$tests/common/cases.sh"
 . "$tests/common/library.sh"

@@ -1,4 +1,4 @@
-# Journals whose bytes are turned and cut, and whose records are left out, doubled and swapped:
+# Journals whose bytes are changed or cut, and whose records are missing, doubled or swapped:
 # attached/damage.c is the caller.
 tests=$(cd "$(dirname "$0")/.." && pwd -P)
 . "$tests/common/cases.sh"

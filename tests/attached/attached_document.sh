@@ -22,7 +22,7 @@ while read -r word; do
     grep -qF "${word%%=*}" "$kept/words.h" || echo "the module has no word $word"
 done <words
 echo "$(grep -c . sentences) sentences, $(grep -c . words) words"
-# Two sentences tell what cannot be, and are not on the page.
+# Two sentences report what cannot happen, and are not on the page.
 grep -oh '"\(is\|was\|has\|cannot\|holds\|needs\|wants\) [^"]*"' "$kept"/*.c | tr -d '"' |
     LC_ALL=C sort -u | while read -r sentence; do
         case $sentence in

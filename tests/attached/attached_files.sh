@@ -1,12 +1,12 @@
-# What `hosts/build.sh tcti` makes: the same bytes each time, with two names that are seen, and a line
-# where something is missing.
+# What `hosts/build.sh tcti` makes: the same bytes each time, with two visible names; and its message if
+# something is missing.
 tests=$(cd "$(dirname "$0")/.." && pwd -P)
 . "$tests/common/cases.sh"
 . "$tests/common/library.sh"
 needs cc nm objdump tss2/tss2_tcti.h
 . "$tests/common/attached.sh"
 
-# make TOP FOLDER: makes all of it in a folder, of the sources in another one.
+# make TOP FOLDER: makes everything in FOLDER, from the sources in TOP.
 make() {
     TPMSIM_ARCHIVE=$archive "$1/hosts/build.sh" tcti "$2" 2>&1 |
         sed -e "s,^[^:]*build.sh: ,," -e "s,$room,ROOM,g"

@@ -1,4 +1,4 @@
-# Processes that hold a kept device, killed 300 times at random moments: attached/kills.c is the
+# Processes that hold a kept device are killed 300 times at random moments: attached/kills.c is the
 # caller.
 tests=$(cd "$(dirname "$0")/.." && pwd -P)
 . "$tests/common/cases.sh"

@@ -1,4 +1,4 @@
-# Which names are on the disk before a command is answered, where other processes were killed before
+# Which names are on the disk before a command is answered, after other processes were killed before
 # they forced them: attached/names.c is the caller.
 tests=$(cd "$(dirname "$0")/.." && pwd -P)
 . "$tests/common/cases.sh"

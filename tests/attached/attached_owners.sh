@@ -1,5 +1,5 @@
-# What belongs to another user, at each path of a kept device: it is refused, and nothing of it is
-# changed. Only root can give files to another user. attached/ask.c is the caller.
+# Files of another user at each path of a kept device: they are refused, and stay unchanged. Only root
+# can give files to another user. attached/ask.c is the caller.
 tests=$(cd "$(dirname "$0")/.." && pwd -P)
 . "$tests/common/cases.sh"
 . "$tests/common/library.sh"
@@ -13,7 +13,7 @@ startup=80010000000c000001440000
 get_random=80010000000c0000017b0000
 other=65534
 
-# ask LABEL WORDS ACT..: asks a device, and prints what came of it.
+# ask LABEL WORDS ACT..: uses a device, and prints the result.
 ask() {
     label=$1
     shift
@@ -22,13 +22,13 @@ ask() {
     echo "$label: status $status, $(tail -n 1 "$room/asked")"
 }
 
-# listed: what the folder has, with owners, modes, sizes and sums.
+# listed: the contents of the folder, with owners, modes, sizes and digests.
 listed() {
     find . -printf '%P %u %m\n' | LC_ALL=C sort
     find . -type f -exec sha256sum {} + | LC_ALL=C sort
 }
 
-# refused PATH WORDS ACT..: gives a path to another user, asks, and says whether all is as it was.
+# refused PATH WORDS ACT..: gives a path to another user, uses the device, and says whether all stays.
 refused() {
     path=$1
     shift

@@ -1,5 +1,5 @@
-# What may stand at the paths of a kept device, and what is refused: links, pipes, folders and
-# sockets. Nothing of it is changed. attached/ask.c is the caller.
+# What can be at the paths of a kept device and is refused: links, pipes, folders and sockets. They stay
+# unchanged. attached/ask.c is the caller.
 tests=$(cd "$(dirname "$0")/.." && pwd -P)
 . "$tests/common/cases.sh"
 . "$tests/common/library.sh"
@@ -12,7 +12,7 @@ attach ask ask $sanitizers
 startup=80010000000c000001440000
 get_random=80010000000c0000017b0000
 
-# ask LABEL WORDS ACT..: asks a device, within ten seconds, and prints what came of it.
+# ask LABEL WORDS ACT..: uses a device, within ten seconds, and prints the result.
 ask() {
     label=$1
     shift
@@ -21,13 +21,13 @@ ask() {
     echo "$label: status $status, $(tail -n 1 "$room/asked")"
 }
 
-# Makes a kept device in the folder `state`, whose device is started.
+# Makes a kept device in the folder `state`, and starts it.
 renew() {
     rm -rf state
     timeout 10 "$room/ask" state=state "$startup" >"$room/asked" || echo 'there is no state'
 }
 
-# listed: prints what the folder has, each with its kind, its mode and, of a link, where it leads.
+# listed: prints the contents of the folder, each with its kind, its mode and, for a link, its target.
 listed() {
     find . -printf '%P %y %m %l\n' | LC_ALL=C sort >"$1"
 }
@@ -44,7 +44,7 @@ put() {
     esac
 }
 
-# refused KIND PATH WORDS ACT..: puts something at a path, asks, and says whether all is as it was.
+# refused KIND PATH WORDS ACT..: puts something at a path, uses the device, and says whether all stays.
 refused() {
     kind=$1
     path=$2

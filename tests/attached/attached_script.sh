@@ -1,5 +1,5 @@
-# `tpmsim replay` answers by the journal of a kept device what the device answered. attached/ask.c is
-# the caller.
+# `tpmsim replay` gives from the journal of a kept device the same answers as the device. attached/ask.c
+# is the caller.
 tests=$(cd "$(dirname "$0")/.." && pwd -P)
 . "$tests/common/cases.sh"
 . "$tests/common/library.sh"

@@ -10,7 +10,7 @@ attach client client -ldl
 # shellcheck disable=SC2086 # they are words
 attach sanitized_client client $sanitizers -ldl
 # shellcheck disable=SC2086 # they are words
-attach sanitized_module tcti $sanitizers -shared -fPIC
+attach sanitized_module tcti "$hosts/tcti/loaded.c" $sanitizers -shared -fPIC
 
 mkdir plain sanitized
 (cd plain && "$room/client" "$room/made/libtss2-tcti-tpmsim.so.0") 2>&1

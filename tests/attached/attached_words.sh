@@ -1,5 +1,4 @@
-# The words by which a device is attached, each right one and wrong ones: attached/ask.c is the
-# caller.
+# The words by which a device is attached, right and wrong ones: attached/ask.c is the caller.
 tests=$(cd "$(dirname "$0")/.." && pwd -P)
 . "$tests/common/cases.sh"
 . "$tests/common/library.sh"
@@ -11,9 +10,10 @@ attach ask ask $sanitizers
 short=
 startup=80010000000c000001440000
 get_random=80010000000c0000017b0010
+stir=80010000000e0000014600020102
 extend=80020000004100000182000000140000000940000009000000000000000001000b$(printf '%064d' 0)
 
-# ask LABEL WORDS ACT..: asks a device, and prints what came of it.
+# ask LABEL WORDS ACT..: uses a device, and prints the result.
 ask() {
     label=$1
     shift
@@ -36,7 +36,10 @@ ask 'the device that is kept' random=01,state=kept,force=always "$get_random"
 ask 'a locality that may extend PCR 20, and one that may not' random=5a,locality=2 "$startup" \
     "$extend" locality 0 "$extend"
 ask 'a locality that there is not' random=5a "$startup" locality 5 "$startup"
-ask 'every word' complete,cut,keep=2,locality=4,state=kept,image=none,random=00,force=power "$get_random"
+ask 'a command that the completing layer answers' random=5a "$startup" "$stir"
+ask 'and with complete' complete,random=5a "$startup" "$stir"
+ask 'and of the device alone' device,random=5a "$startup" "$stir"
+ask 'every word but device' complete,rm,cut,keep=2,locality=4,state=kept,image=none,random=00,force=power "$get_random"
 echo 'wrong words'
 ask 'a word that is none' colour=blue
 short='s/ is none of the words .* or force=always$/ is none of them/'
@@ -44,7 +47,8 @@ for words in state stat=x state= image= complete=1 completes locality= locality=
     locality=-1 locality=00 locality=a random= random=0 random=0g "random=${many}00" force \
     force= force=sometimes force=neverr force=never cut cuts state=a,cut=1 state=a,cut,cut keep keep= keep=1 state=a,keep=100 \
     state=a,keep=-1 state=a,keep=1x ',' 'complete,' ,complete state=a,,complete \
-    complete,complete state=a,state=b ' complete' State=a; do
+    complete,complete complete,device device,complete device=1 devices device,device rm rm=1 \
+    state=a,rm,rm state=a,state=b ' complete' State=a; do
     ask "'$(echo "$words" | cut -c 1-40)'" "$words"
 done
 ls

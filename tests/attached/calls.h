@@ -1,4 +1,4 @@
-/* Stands between the parts of a kept device and the C library, linked with --wrap: the call of one
+/* A layer between the parts of a kept device and the C library, linked with --wrap: the call of one
  * number fails, or moves half of its bytes, or the process is killed before it. */
 #ifndef CALLS_H
 #define CALLS_H
@@ -12,9 +12,8 @@
 #include <sys/stat.h>
 #include <time.h>
 
-/* What happens to the call of the number: it fails with EIO, or with EINTR; it moves half of its
- * bytes; or it is a request for memory, and there is none; or it is not made, as the process is
- * killed. */
+/* What happens to the call of the number. It fails with EIO, or with EINTR; it moves half of its bytes;
+ * it is a request for memory, and there is none; or the process is killed before it. */
 enum fault { NO_FAULT, FAILS, IS_INTERRUPTED, MOVES_HALF, HAS_NO_MEMORY, IS_KILLED };
 
 static enum fault fault;
@@ -24,13 +23,13 @@ static const char *name_of_it;
 /* How often files and folders were forced to the disk, whole or without their times. */
 static unsigned forced, forced_data;
 
-/* Is told a file or folder that was forced; NULL: nobody is. */
+/* A function that gets each file or folder that is forced, or NULL. */
 static void (*when_forced)(int file);
 
-/* How many pages were mapped, and are so still. */
+/* How many pages are mapped at present. */
 static int mapped;
 
-/* Whether this call is one of a kind that is counted, and the one of the number. */
+/* Whether this call is of a counted kind, and has the number. */
 static bool is_the_one(const char *name, bool is_counted) {
     if (fault == NO_FAULT || !is_counted || ++counted != number) return false;
     name_of_it = name;
@@ -149,7 +148,7 @@ int __wrap_fdatasync(int file) {
     return 0;
 }
 
-/* The user is another one than whose the files are. */
+/* The user is not the owner of the files. */
 uid_t __real_geteuid(void);
 uid_t __wrap_geteuid(void);
 uid_t __wrap_geteuid(void) { return __real_geteuid() + (fails("geteuid", false) ? 1 : 0); }

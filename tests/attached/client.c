@@ -1,5 +1,5 @@
 /* A client of the module for libtss2, which it loads as libtss2 does: by its file and the name
- * Tss2_Tcti_Info. The argument is the module. Each line says what a call answered. */
+ * Tss2_Tcti_Info. The argument is the module. Each line says what a call returned. */
 #include "common.h"
 #include <dlfcn.h>
 #include <tss2/tss2_tcti.h>
@@ -109,7 +109,7 @@ static void try_receive(TSS2_TCTI_CONTEXT *context) {
     told("receive once more", Tss2_Tcti_Receive(context, &size, response, -1));
 }
 
-/* Extends PCR 20, which localities 2 to 4 may, from each locality. */
+/* Extends PCR 20, which localities 2 to 4 may do, from each locality. */
 static void try_localities(TSS2_TCTI_CONTEXT *context) {
     uint8_t command[sizeof EXTEND], response[RESPONSE_BYTES];
     memcpy(command, EXTEND, sizeof EXTEND);
@@ -126,7 +126,7 @@ static void try_localities(TSS2_TCTI_CONTEXT *context) {
     printf("    an extend of PCR 20: %02x%02x\n", response[8], response[9]);
 }
 
-/* Commands that are none have responses too: COMMAND_SIZE. */
+/* Buffers that are not commands have responses too: COMMAND_SIZE. */
 static void try_sizes(TSS2_TCTI_CONTEXT *context) {
     static const size_t sizes[] = {0, 1, 9, 4096, 4097, 60000};
     static uint8_t command[60000];
@@ -149,7 +149,7 @@ static void try_the_rest(TSS2_TCTI_CONTEXT *context) {
     told("make_sticky without a handle", Tss2_Tcti_MakeSticky(context, NULL, 1));
 }
 
-/* Each call on something that is no context of the module. */
+/* Each call on something that is not a context of the module. */
 static void try_no_context(TSS2_TCTI_CONTEXT *context) {
     uint8_t response[RESPONSE_BYTES];
     size_t size = sizeof response, count = 0;
@@ -174,7 +174,7 @@ static void try_null(TSS2_TCTI_CONTEXT *context) {
     TSS2_TCTI_FINALIZE(context)(NULL);
 }
 
-/* Two contexts hold one device, and a response that was not received is lost with its context. */
+/* Two contexts hold one device. A response that was not received is lost with its context. */
 static void try_two(void) {
     uint8_t response[RESPONSE_BYTES];
     TSS2_TCTI_CONTEXT *one = begun("state=state,force=never,random=5a");
@@ -190,8 +190,8 @@ static void try_two(void) {
     ended(two);
 }
 
-/* A journal behind which stands the front of a record, and one whose last record is damaged: the
- * module says what it cuts off. */
+/* A journal that ends with a part of a record, and one whose last record is damaged: the module says
+ * what it cuts off. */
 static void try_cut(void) {
     static const char JOURNAL[] = "state/journal";
     uint8_t response[RESPONSE_BYTES];

@@ -1,5 +1,5 @@
-/* A host whose clock goes on, stands, goes back and jumps, by a clock_gettime of its own: what
- * TPM2_ReadClock answers. The time of a device is the milliseconds since its power came on. */
+/* A host whose clock goes on, stops, goes back and jumps, by its own clock_gettime: what TPM2_ReadClock
+ * answers. The time of a device is the milliseconds since its power came on. */
 #include "common.h"
 #include <time.h>
 
@@ -25,7 +25,7 @@ static unsigned long long time_of(struct kept *kept) {
     return time;
 }
 
-/* Moves the host's clock, and says what the device's shows then. */
+/* Moves the host's clock, and prints what the device's clock shows then. */
 static void moved(struct kept *kept, const char *label, int64_t milliseconds) {
     host_ms += milliseconds;
     printf("%s: %llu\n", label, time_of(kept));

@@ -1,4 +1,4 @@
-/* What the callers of the kept device share. */
+/* The common part of the callers of the kept device. */
 #ifndef COMMON_H
 #define COMMON_H
 #define _GNU_SOURCE
@@ -16,7 +16,7 @@ static const uint8_t STARTUP[] = {0x80, 0x01, 0, 0, 0, 12, 0, 0, 0x01, 0x44, 0, 
 static const uint8_t GET_RANDOM[] = {0x80, 0x01, 0, 0, 0, 12, 0, 0, 0x01, 0x7b, 0, 16};
 static const uint8_t READ_CLOCK[] = {0x80, 0x01, 0, 0, 0, 10, 0, 0, 0x01, 0x81};
 
-/* TPM2_PCR_Extend of PCR 10 by a digest of SHA-256, 32 bytes 5a; TPM2_PCR_Read of it. */
+/* TPM2_PCR_Extend of PCR 10 by a SHA-256 digest of 32 bytes 5a; TPM2_PCR_Read of it. */
 static const uint8_t EXTEND[] = {
     0x80, 0x02, 0,    0,    0,    65,   0,    0,    0x01, 0x82, 0,    0,    0,    10,   0,    0, 0,
     9,    0x40, 0,    0,    9,    0,    0,    0,    0,    0,    0,    0,    0,    1,    0,    11,
@@ -26,7 +26,7 @@ static const uint8_t EXTEND[] = {
 static const uint8_t PCR_READ[] = {0x80, 0x01, 0, 0, 0, 20, 0, 0, 0x01, 0x7e,
                                    0,    0,    0, 1, 0, 11, 3, 0, 4,    0};
 
-/* Ends the program with a line, where this does not hold. */
+/* Ends the program with a line unless this holds. */
 static inline void must(bool holds, const char *what) {
     if (holds) return;
     fflush(stdout);
@@ -43,7 +43,7 @@ static inline struct kept *opened(const char *folder) {
     return kept;
 }
 
-/* Executes a command that has to be answered, and tells how many bytes the response has. */
+/* Executes a command that must be answered, and returns the size of its response. */
 static inline size_t answered_by(struct kept *kept, const uint8_t *buffer, size_t size,
                                  uint8_t response[RESPONSE_BYTES]) {
     tpmsim_answered answered;
@@ -71,7 +71,7 @@ static inline void extend(struct kept *kept) {
     accepted(kept, EXTEND, sizeof EXTEND, response);
 }
 
-/* The values of the PCR after 0, 1, 2 extends and so on, from a file that was computed outside. */
+/* The values of the PCR after 0, 1, 2 extends and so on, from a file that another program computed. */
 struct values {
     uint8_t *bytes;
     size_t count;
@@ -95,7 +95,7 @@ static inline struct values values_of(const char *path) {
     return values;
 }
 
-/* How often the PCR was extended, by its value; -1 where that is none of those. */
+/* How often the PCR was extended, by its value; -1 for any other value. */
 static inline long extends_of(struct kept *kept, const struct values *values) {
     uint8_t response[RESPONSE_BYTES];
     size_t size = accepted(kept, PCR_READ, sizeof PCR_READ, response);
@@ -112,7 +112,7 @@ static inline const char *path_in(const char *folder, const char *name, char roo
     return room;
 }
 
-/* Gives a file these bytes and no others, in place. */
+/* Makes a file have exactly these bytes, in place. */
 static inline void put_bytes(const char *path, const uint8_t *bytes, size_t size) {
     int file = open(path, O_WRONLY | O_CREAT, 0600);
     must(file >= 0 && pwrite(file, bytes, size, 0) == (ssize_t)size &&

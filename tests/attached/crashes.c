@@ -1,16 +1,15 @@
 /* Processes that hold a device are killed, and the host crashes. With force=always nothing that was
- * answered is lost; with force=power the device is one of those that there were since power came
- * on. `crashes VALUES` kills a process before each call of the system in turn, lets another one go
- * on or not, and crashes. `crashes VALUES SECONDS SEED` does so at random, with calls that fail and
- * children that are forked, and prints the counts to standard error. VALUES is the file of the
- * values of the PCR. */
+ * answered is lost; with force=power the device is one of those since power came on. `crashes VALUES`
+ * kills a process before each call of the system in turn, lets another one go on or not, and crashes.
+ * `crashes VALUES SECONDS SEED` does so at random, with calls that fail and children that are forked, and
+ * prints the counts to standard error. VALUES is the file of the values of the PCR. */
 #include "disk.h"
 #include <stdatomic.h>
 #include <sys/prctl.h>
 #include <sys/wait.h>
 
-/* What the device has answered, as far as its holders were told, since power came on; and what they
- * asked for and were not answered. */
+/* What the device has answered since power came on, as far as its holders know; and their commands that
+ * were not answered. */
 static struct {
     atomic_long extends, asked;
     atomic_bool is_started, is_starting, is_cycling;
@@ -19,14 +18,14 @@ static struct {
     ino_t journal;
 } *told;
 
-/* What came of all. */
+/* The results of all trials. */
 static struct {
     long runs, kills, faults, crashes;
 } counts;
 
 enum { AWAITS_STARTUP = -2 };
 
-/* By which word the disk is forced, and whether the host has crashed since the last check. */
+/* The word of force, and whether the host has crashed since the last check. */
 static enum kept_force force = KEPT_FORCE_ALWAYS;
 static bool has_crashed;
 
@@ -43,7 +42,7 @@ static void note_answer(void) {
     told->answers++;
 }
 
-/* Whether a command was answered; where it was not, the holder has heard of a fault. */
+/* Whether a command was answered; if not, the holder got a fault. */
 static bool is_answered(struct kept *kept, const uint8_t *buffer, size_t size) {
     uint8_t response[RESPONSE_BYTES];
     tpmsim_answered answered;
@@ -81,7 +80,7 @@ static bool cycle_telling(struct kept *kept) {
     return true;
 }
 
-/* How often the device there was extended. */
+/* How often the present device was extended. */
 static long extends_there(struct kept *kept, const struct values *values) {
     uint8_t response[RESPONSE_BYTES];
     size_t size = answered_by(kept, PCR_READ, sizeof PCR_READ, response);
@@ -97,7 +96,7 @@ static bool is_right(long there) {
     return there >= told->extends && there <= told->extends + told->asked;
 }
 
-/* Opens the device, which has to have what was answered. */
+/* Opens the device, which must have everything that was answered. */
 static void check(const struct values *values, const char *label) {
     struct kept *kept = opened_so();
     must(kept != NULL, "the device does not open");
@@ -130,7 +129,7 @@ static void crash_and_check(const struct values *values) {
     check(values, "crashed");
 }
 
-/* Runs a process, which may be killed, until it and its children have ended. Whether it was
+/* Runs a process, which may be killed, until it and its children have ended. Returns whether it was
  * killed. */
 static bool is_killed(void (*run)(void), enum fault kind, unsigned at) {
     int status, first = 0;
@@ -160,7 +159,7 @@ static void run_once(void) {
     kept_close(kept);
 }
 
-/* Goes on with the device that is there. */
+/* Goes on with the present device. */
 static void go_on(const struct values *values) {
     check(values, "killed");
     struct kept *kept = opened_so();
@@ -185,7 +184,7 @@ static void kill_at_each(const struct values *values) {
     }
 }
 
-/* Executes commands at random, until one is not answered. A child that is forked does so too. */
+/* Executes random commands, until one is not answered. A forked child does so too. */
 static void run_at_random(void) {
     struct kept *kept = opened_so();
     if (!kept || (!told->is_started && !start_telling(kept))) return;

@@ -1,6 +1,6 @@
-/* The front of a record at the end of a journal is cut off by the next record, or by a power cycle.
- * Damage is dropped by the next call, if that is asked for: the journal begins anew. A sentence tells
- * either. The argument is the file of the values of the PCR. */
+/* The next record, or a power cycle, cuts off a part of a record at the end of a journal. If asked to, the
+ * next call drops damage: the journal begins again. A sentence reports either. The argument is the file
+ * of the values of the PCR. */
 #include "old_journal.h"
 #include <inttypes.h>
 
@@ -8,13 +8,13 @@ enum { EXTENDS = 3, MANY = 3000 };
 
 static const char FOLDER[] = "state", JOURNAL[] = "state/journal";
 
-/* A journal, and where its head and each of its records end. The first one is of the startup. */
+/* A journal, with the ends of its head and of each of its records. The first record is the startup. */
 static struct {
     uint8_t *bytes;
     size_t size, ends[MANY + 2], records;
 } whole;
 
-/* The last sentence that was told. */
+/* The last reported sentence. */
 static char sentence[512];
 
 static void hear(const char *told) {
@@ -62,7 +62,7 @@ static struct kept *cutting(void) {
     return kept;
 }
 
-/* Writes a journal of so many extends. */
+/* Writes a journal of this many extends. */
 static void write_whole(size_t extends) {
     struct kept *kept = opened(FOLDER);
     must(kept_power(kept, &(struct reason){0}), "the power cycle failed");
@@ -80,7 +80,7 @@ static void write_whole(size_t extends) {
     must(whole.ends[whole.records - 1] == whole.size, "the sizes are wrong");
 }
 
-/* The number of the record that has a byte: 0 for the head. */
+/* The number of the record that has a byte; 0 for the head. */
 static size_t record_at(size_t place) {
     size_t record = 0;
     while (whole.ends[record] <= place) record++;
@@ -94,8 +94,8 @@ static void must_be_refused(bool cuts) {
     must_be_told("");
 }
 
-/* With a byte of a record turned: the device is that of the records before, and its journal begins
- * anew as it is opened. */
+/* With a changed byte in a record, the device is that of the records before; its journal begins again
+ * when it is opened. */
 static void cut_at(size_t place, const struct values *values) {
     size_t record = record_at(place), size = whole.ends[record - 1];
     uint8_t response[RESPONSE_BYTES];
@@ -113,7 +113,7 @@ static void cut_at(size_t place, const struct values *values) {
     kept_close(kept);
 }
 
-/* Turns each byte behind the head, and bytes of the head, which is not cut. */
+/* Changes each byte after the head, and bytes of the head, which is not cut. */
 static void turn(const struct values *values) {
     size_t tried = 0;
     for (size_t place = 0; place < whole.size; place++, tried++) {
@@ -129,7 +129,7 @@ static void turn(const struct values *values) {
     puts("each byte of the head turned: refused");
 }
 
-/* Writes the front of a record, and has it cut by a record and by a power cycle. */
+/* Writes a part of a record, which the next record or a power cycle cuts off. */
 static void cut_fronts(const struct values *values) {
     size_t last = whole.ends[whole.records - 2];
     for (size_t size = last + 1; size < whole.size; size++) {
@@ -149,8 +149,8 @@ static void cut_fronts(const struct values *values) {
     puts("the front of a record: cut off");
 }
 
-/* Writes a journal of so many extends, as a library wrote it whose journals begin anew at a power
- * cycle alone. */
+/* Writes a journal of this many extends, as an older library wrote it, whose journals begin again only at
+ * a power cycle. */
 static void write_old(size_t extends) {
     struct old_journal old = old_journal_of(extends);
     free(whole.bytes);
@@ -161,7 +161,7 @@ static void write_old(size_t extends) {
     free(old.ends);
 }
 
-/* Damage in a journal that is read in several parts, and in one that was open before. */
+/* Damage in a journal that is read in several parts, and in one that was already open. */
 static void cut_long(const struct values *values) {
     write_old(MANY);
     must(whole.size > 520 * 1024, "the journal has less than three parts");

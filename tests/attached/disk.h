@@ -1,5 +1,5 @@
-/* What a disk has of a kept device: what was forced to it, and nothing else. A crash of the host
- * puts that in place of the folder. The processes of a test share it. */
+/* What the disk has of a kept device: what was forced to it, and nothing else. A crash of the host
+ * replaces the folder with that. The processes of a test share it. */
 #ifndef DISK_H
 #define DISK_H
 #include "calls.h"
@@ -10,7 +10,7 @@ enum { FILES = 2, FILE_MOST = 1 << 20 };
 
 struct disk {
     bool has_folder;
-    /* The journal that the folder has on the disk, 0 where it has none. */
+    /* The journal of the folder on the disk; 0 if there is none. */
     ino_t journal;
     struct disk_file {
         ino_t inode;
@@ -21,7 +21,7 @@ struct disk {
 
 static struct disk *disk;
 
-/* Memory of zeros that forked processes share. */
+/* Zeroed memory that forked processes share. */
 static inline void *shared(size_t size) {
     void *made =
         __real_mmap(NULL, size, PROT_READ | PROT_WRITE, MAP_SHARED | MAP_ANONYMOUS, -1, 0);
@@ -37,7 +37,7 @@ static inline void remove_state(void) {
     must(access(FOLDER, F_OK) != 0, "there is more in the folder than a state");
 }
 
-/* What the disk has of a file; a place for it where it has nothing, which is not the journal's. */
+/* What the disk has of a file; a free place, not the journal's, if it has nothing of it. */
 static inline struct disk_file *disk_file_of(ino_t inode) {
     struct disk_file *free_one = NULL;
     for (int i = 0; i < FILES; i++) {
@@ -76,15 +76,15 @@ static void put_on_disk(int file) {
     fault = before;
 }
 
-/* Adds zeros that the disk has in place of bytes that did not come there. */
+/* Adds zeros by chance, which the disk has instead of bytes that did not get there. */
 static inline void add_zeros_by_chance(struct disk_file *there) {
     size_t more = rand() % 2 ? (size_t)rand() % (FILE_MOST - there->size) : 0;
     memset(there->bytes + there->size, 0, more);
     there->size += more;
 }
 
-/* Adds bytes that the file has beyond those on the disk, as many as chance says, and perhaps zeros:
- * they may have come there without being forced. */
+/* Adds by chance some bytes that the file has beyond those on the disk, and perhaps zeros: bytes may get
+ * there without being forced. */
 static inline void add_by_chance(struct disk_file *there) {
     size_t size;
     struct stat status;
@@ -99,7 +99,7 @@ static inline void add_by_chance(struct disk_file *there) {
     free(bytes);
 }
 
-/* Puts what the disk has in place of the folder, as a crash of the host does. */
+/* Replaces the folder with what the disk has, as a crash of the host does. */
 static inline void crash(void) {
     struct stat status;
     struct disk_file *there = disk->journal ? disk_file_of(disk->journal) : NULL;

@@ -22,7 +22,7 @@ static size_t drawn(tpmsim_kept_device *kept, const uint8_t *buffer, size_t size
     return answered.drawn;
 }
 
-/* Tells how a command is reported that the device refuses. */
+/* Prints how a command is reported that the device refuses. */
 static void tell_refused(tpmsim_kept_device *kept) {
     uint8_t response[RESPONSE_BYTES];
     tpmsim_answered answered;
@@ -56,7 +56,7 @@ static void use(tpmsim_kept_device *kept) {
     done(tpmsim_kept_power(kept, reason));
 }
 
-/* Cuts the last record, which the next command tells once. */
+/* Cuts the last record, which the next command reports once. */
 static void tear(tpmsim_kept_device *kept) {
     char notice[TPMSIM_KEPT_REASON_SIZE];
     size_t size;

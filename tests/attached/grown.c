@@ -1,5 +1,5 @@
-/* A journal that has grown begins anew, whoever holds the device; journals of the past stay if that is
- * asked for; and a long journal of an earlier version opens. The argument is the file of the values of the
+/* A journal that has grown begins again, whoever holds the device. Journals of the past stay if that is
+ * asked for, and a long journal of an earlier version opens. The argument is the file of the values of the
  * PCR. */
 #include "old_journal.h"
 #include <sys/stat.h>
@@ -26,7 +26,7 @@ static size_t size_of(const char *path) {
     return (size_t)status.st_size;
 }
 
-/* Extends in processes of their own, which all hold the device. */
+/* Several processes, which all hold the device, extend at once. */
 static void extend_at_once(unsigned keep) {
     for (int i = 0; i < PROCESSES; i++) {
         pid_t child = fork();
@@ -45,7 +45,7 @@ static void extend_at_once(unsigned keep) {
         must(wait(&status) > 0 && status == 0, "a process ended with a fault");
 }
 
-/* Opens a copy of a journal, and tells how often its device was extended. */
+/* Opens a copy of a journal, and returns how often its device was extended. */
 static long extends_in(const char *path, const struct values *values) {
     char name[512];
     size_t size;
@@ -60,7 +60,7 @@ static long extends_in(const char *path, const struct values *values) {
     return count;
 }
 
-/* What stays of the past: each journal ends where the next one began. */
+/* The journals of the past: each ends where the next one began. */
 static void look_at_past(const struct values *values) {
     long before = PROCESSES * EXTENDS;
     char path[512];
@@ -80,8 +80,8 @@ static ino_t inode_of(const char *path) {
     return status.st_ino;
 }
 
-/* A process that is killed after it moved journals on has lost the last number alone: the next one fills
- * what is free, and loses none. */
+/* A process that is killed after it moved the journals has lost only the last number. The next process
+ * fills the gap, and loses no journal. */
 static void move_on_after_a_kill(struct kept *kept) {
     must(rename("state/journal.2", "state/journal.3") == 0, "there is no journal.2");
     must(rename("state/journal.1", "state/journal.2") == 0, "there is no journal.1");

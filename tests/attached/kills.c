@@ -1,13 +1,13 @@
-/* Processes that are killed at random moments while they extend a PCR: no extend that was answered
- * is lost, and at most the one that was being executed is there beside those. The arguments are the
- * file of the values of the PCR, and how often a process is killed. */
+/* Processes are killed at random moments while they extend a PCR. No answered extend is lost, and at most
+ * the one that was being executed is there in addition. The arguments are the file of the values of the
+ * PCR, and how often a process is killed. */
 #include "common.h"
 #include <signal.h>
 #include <sys/wait.h>
 
 static const char FOLDER[] = "state";
 
-/* So many extends a process asks for at most, since its killer may have to wait for a processor. */
+/* A process asks for at most this many extends, since its killer may have to wait for a processor. */
 enum { MOST_EXTENDS = 2000 };
 
 /* Extends, writes a byte for each answer, and waits to be killed. */
@@ -20,7 +20,7 @@ static void extend_on(int told) {
     for (;;) pause();
 }
 
-/* Cycles the power without an end, and writes a byte for each cycle. */
+/* Cycles the power for ever, and writes a byte for each cycle. */
 static void cycle_on(int told) {
     struct kept *kept = opened(FOLDER);
     struct reason reason;
@@ -32,7 +32,7 @@ static void cycle_on(int told) {
     }
 }
 
-/* How many bytes a pipe has, until its writer has ended. */
+/* The number of bytes in a pipe, after its writer has ended. */
 static long drain(int file) {
     char room[4096];
     long all = 0;
@@ -40,8 +40,8 @@ static long drain(int file) {
     return all;
 }
 
-/* Kills a process some microseconds after it began, or after it told something for the first time,
- * and tells how often it did. */
+/* Kills a process some microseconds after it began, or after its first report. Returns how many reports it
+ * made. */
 static long killed_after(void (*run)(int told), unsigned microseconds, bool answers) {
     int ends[2], status;
     char first;
@@ -62,15 +62,15 @@ static long killed_after(void (*run)(int told), unsigned microseconds, bool answ
     return answered;
 }
 
-/* Begins the PCR anew, so that its value is one of those that were computed. */
+/* Resets the PCR, so that its value is one of those that were computed. */
 static void begin_anew(struct kept *kept) {
     struct reason reason;
     must(kept_power(kept, &reason), "the power cycle failed");
     start(kept);
 }
 
-/* Kills processes that cycle the power: there is a whole journal behind each, whose device awaits
- * its startup, or was started and extended no more than once. */
+/* Kills processes that cycle the power. Each leaves a whole journal, whose device awaits its startup, or
+ * was started and extended at most once. */
 static void kill_cycles(struct kept *kept, const struct values *values, int rounds) {
     uint8_t response[RESPONSE_BYTES];
     for (int i = 0; i < rounds; i++) {

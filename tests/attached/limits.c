@@ -1,4 +1,4 @@
-/* A disk that is full, by the limit of a file's size, and a process that has no descriptors left.
+/* A full disk, simulated by the limit of a file's size, and a process without free descriptors.
  * The argument is the file of the values of the PCR. */
 #include "common.h"
 #include <signal.h>
@@ -20,7 +20,7 @@ static size_t size_now(void) {
     return (size_t)status.st_size;
 }
 
-/* Executes an extend that has to fail, and says by which sentence. */
+/* Executes an extend that must fail, and returns the sentence. */
 static const char *failing_extend(struct kept *kept) {
     static struct reason reason;
     uint8_t response[RESPONSE_BYTES];
@@ -30,8 +30,8 @@ static const char *failing_extend(struct kept *kept) {
     return reason.text;
 }
 
-/* Lets the disk be full within a record, at each of its bytes: the file stays as it was, and the
- * device goes on from there, this one and another. */
+/* The disk gets full within a record, at each of its bytes: the file stays as it was. This device goes on
+ * from there, and so does another one. */
 static void fill(struct kept *kept, const struct values *values) {
     size_t before = size_now(), record;
     extend(kept);
@@ -55,7 +55,7 @@ static void fill(struct kept *kept, const struct values *values) {
     printf("with room again: %ld extends\n", extends_of(kept, values));
 }
 
-/* Lets the disk be full while a new journal is written. */
+/* The disk gets full while a new journal is written. */
 static void fill_heads(struct kept *kept, const struct values *values) {
     struct reason reason;
     size_t head;
@@ -82,7 +82,7 @@ static void fill_heads(struct kept *kept, const struct values *values) {
     kept_close(kept);
 }
 
-/* Leaves no descriptor, or a few, to a process that opens a device. */
+/* A process has no descriptor left, or a few, when it opens a device. */
 static void run_out_of_files(struct kept *kept, const struct values *values) {
     struct kept_options options = {.folder = FOLDER};
     struct reason reason;

@@ -1,6 +1,6 @@
-/* Which names are on the disk before a command is answered: those of the journal, which its
- * folder has, and of the folder, which the one above has. Other processes are killed behind
- * mkdir, and between rename and the forcing of the folder. */
+/* Which names are on the disk before a command is answered: the journal's, which is in its folder, and
+ * the folder's, which is in the one above. Other processes are killed after mkdir, and between rename
+ * and the forcing of the folder. */
 #include "common.h"
 #include <errno.h>
 #include <signal.h>
@@ -12,7 +12,7 @@ static const char FOLDER[] = "state";
 /* Where this process is killed. */
 static enum { NOWHERE, BEHIND_MKDIR, BEHIND_RENAME } killed_at;
 
-/* What was forced, and how often all of a file system was; whether the folder above can be. */
+/* What was forced, how often a whole file system was, and whether the folder above can be. */
 static unsigned folders, above, others, systems;
 static bool above_is_forced = true;
 
@@ -81,7 +81,7 @@ static struct kept *opened_with(enum kept_force force) {
     return kept;
 }
 
-/* Opens the device in another process, which is killed there, or as it cycles the power. */
+/* Another process opens the device, and is killed there or as it cycles the power. */
 static void kill_another(enum kept_force force, int where) {
     int status;
     pid_t child = fork();
@@ -97,7 +97,7 @@ static void kill_another(enum kept_force force, int where) {
     must(waitpid(child, &status, 0) == child && WIFSIGNALED(status), "a process was not killed");
 }
 
-/* Says what was forced since it was said last. */
+/* Prints what was forced since the last print. */
 static void tell(const char *label) {
     printf("    %s: folder %u, above %u", label, folders, above);
     if (systems) printf(", file system %u", systems);
@@ -105,7 +105,7 @@ static void tell(const char *label) {
     folders = above = others = systems = 0;
 }
 
-/* Executes a command, before whose response things were forced, and another one. */
+/* Executes a command, with forcing before its response, and then another one. */
 static void answer(struct kept *kept, const char *label) {
     uint8_t response[RESPONSE_BYTES];
     answered_by(kept, READ_CLOCK, sizeof READ_CLOCK, response);

@@ -1,10 +1,10 @@
-/* A journal that the library writes in memory. It begins with an image, and does not begin anew however
- * long it is, as those of earlier versions. */
+/* A journal that the library writes in memory. Like those of earlier versions it begins with an image, and
+ * never begins again, however long it is. */
 #ifndef OLD_JOURNAL_H
 #define OLD_JOURNAL_H
 #include "common.h"
 
-/* Its bytes, and where its head and each of its records end. */
+/* Its bytes, with the ends of its head and of each of its records. */
 struct old_journal {
     uint8_t *bytes;
     size_t size, *ends;
@@ -24,7 +24,7 @@ static inline size_t add_to_old(struct old_journal *journal, tpmsim *device, con
     return journal->size;
 }
 
-/* A new device that was started and extended so often. */
+/* The journal of a new device that was started, and extended this often. */
 static inline struct old_journal old_journal_of(size_t extends) {
     enum { HEAD_MOST = 64 * 1024, RECORD_MOST = 1024 };
     static const uint8_t random[256] = {2};

@@ -1,6 +1,6 @@
-/* A process that has the number 1, and its forked child in a namespace of its own that has the
- * number 1 too, use one device at once. This is played with the page that a fork wipes, and on a
- * kernel that has none. The argument is the file of the values of the PCR. */
+/* A process with the number 1 uses one device together with its forked child, which also has the number 1
+ * in another namespace. This is tried with the page that a fork wipes, and on a kernel without such
+ * pages. The argument is the file of the values of the PCR. */
 #include "common.h"
 #include <errno.h>
 #include <poll.h>
@@ -8,7 +8,7 @@
 #include <sys/mman.h>
 #include <sys/wait.h>
 
-/* So long the parent stays within a command, for its child to come into another one. */
+/* The parent stays within a command this long, so that its child can begin another one. */
 enum { EXTENDS = 500, RANDOM_BYTES = 64, WITHIN_MS = 100 };
 
 static const char FOLDER[] = "state";
@@ -16,11 +16,11 @@ static const char FOLDER[] = "state";
 /* TPM2_GetRandom of more bytes than the one before it drew. */
 static const uint8_t GET_MORE[] = {0x80, 0x01, 0, 0, 0, 12, 0, 0, 0x01, 0x7b, 0, RANDOM_BYTES};
 
-/* Whether the kernel wipes a page at a fork, as far as the device hears. */
+/* Whether the kernel wipes a page at a fork, as the device sees it. */
 static bool wipes;
 
-/* The pipes by which a parent and its child tell each other that they go on; and whether the
- * parent's next record waits for the child. */
+/* The pipes by which a parent and its child wait for each other; and whether the parent's next record
+ * waits for the child. */
 static int go[2], told[2];
 static bool is_to_wait;
 
@@ -32,7 +32,7 @@ int __wrap_madvise(void *page, size_t size, int advice) {
     return -1;
 }
 
-/* Lets the child execute a command, and waits until it has, or has had the time. */
+/* Lets the child execute a command, and waits until it has, or has had enough time. */
 ssize_t __real_pwrite(int file, const void *bytes, size_t size, off_t place);
 ssize_t __wrap_pwrite(int file, const void *bytes, size_t size, off_t place);
 ssize_t __wrap_pwrite(int file, const void *bytes, size_t size, off_t place) {
@@ -66,15 +66,15 @@ static void draw(struct kept *kept, uint8_t room[RANDOM_BYTES]) {
     memcpy(room, response + 12, RANDOM_BYTES);
 }
 
-/* Starts a device, which draws random bytes: those behind them are ready for the next commands. */
+/* Starts a device, which draws random bytes: more of them are ready for the next commands. */
 static void start_and_draw(struct kept *kept) {
     uint8_t response[RESPONSE_BYTES];
     start(kept);
     accepted(kept, GET_RANDOM, sizeof GET_RANDOM, response);
 }
 
-/* What the child does: draws by the device in memory; and, once the parent is within a command,
- * by the other one, which it extends then. */
+/* The child's work: it draws from the device in memory. Once the parent is within a command, it draws from
+ * the other device, and extends it. */
 static void use(struct kept *memory, struct kept *kept) {
     uint8_t own[RANDOM_BYTES];
     char byte;
@@ -87,7 +87,7 @@ static void use(struct kept *memory, struct kept *kept) {
     _exit(0);
 }
 
-/* Draws, and says whether the child has drawn the same bytes. */
+/* Draws, and prints whether the child has drawn the same bytes. */
 static void compare_draws(struct kept *kept, const char *label) {
     uint8_t own[RANDOM_BYTES], others[RANDOM_BYTES];
     size_t half = RANDOM_BYTES / 2;
@@ -98,7 +98,7 @@ static void compare_draws(struct kept *kept, const char *label) {
     fflush(stdout);
 }
 
-/* The first process 1: opens the devices, forks the second one, and does as that does. */
+/* The first process 1: opens the devices, forks the second one, and then does the same. */
 static void open_and_fork(const struct values *values) {
     struct kept_options in_memory = {.folder = NULL};
     struct kept *memory = kept_open(&in_memory, &(struct reason){0}), *kept = opened(FOLDER);

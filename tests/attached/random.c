@@ -1,5 +1,5 @@
-/* The random bytes of commands: no two are alike, and the system is asked for as many as were
- * drawn, by a getrandom that counts. */
+/* The random bytes of commands: no two are alike, and the system is asked for exactly as many as were
+ * drawn; a getrandom counts them. */
 #include "common.h"
 #include <sys/random.h>
 

@@ -1,4 +1,4 @@
-"""What tpmsim-simulator keeps, records and repeats, its devices, and clients that are no good:
+"""What tpmsim-simulator keeps, records and repeats; several devices; and hostile clients:
 
     tools/python.sh tests/attached/simulator.py SIMULATOR
 """
@@ -50,7 +50,7 @@ class Served:
         return socket.create_connection((host, first + port), SECONDS)
 
     def asks(self, port: int, *requests: bytes) -> bytes:
-        """What requests of a new connection are answered, until a last one ends it."""
+        """The answers to requests on a new connection, until a last request ends it."""
         with self.stream(port) as stream:
             stream.sendall(b"".join(requests) + number(20, 4))
             return b"".join(iter(lambda: stream.recv(4096), b""))
@@ -77,7 +77,7 @@ def has_index(tpm: Caller) -> bool:
 
 
 def keeps(*words: object) -> None:
-    """An index that is defined in one run is there in the next, after SIGTERM, SIGKILL and STOP."""
+    """An index that one run defines is there in the next, after SIGTERM, SIGKILL and STOP."""
     with Served(*words) as served:
         served.client().define(area(index=INDEX))
         print("ends with", served.end())
@@ -89,7 +89,7 @@ def keeps(*words: object) -> None:
 
 
 def refused(*words: str) -> str:
-    """The status and the line of a simulator that does not serve."""
+    """The status and the output of a simulator that does not serve."""
     done = subprocess.run([PROGRAM, "--port", "0", *words], capture_output=True, text=True)
     return f"{done.returncode} {done.stderr.strip()}"
 
@@ -105,7 +105,7 @@ def kept_in_an_image() -> None:
 
 
 def kept_in_a_folder() -> None:
-    """Which another process uses at the same time."""
+    """A device in a folder, which another process uses at the same time."""
     print("a folder:")
     keeps("--state", "folder", "--force", "always", "--keep", "1")
     print("the journal before the power cycle stays:", pathlib.Path("folder/journal.1").exists())
@@ -117,7 +117,7 @@ def kept_in_a_folder() -> None:
 
 
 def recorded() -> None:
-    """Each time of power is a journal, which agrees with itself."""
+    """Each time with power is a journal, which agrees with itself."""
     pathlib.Path("records").mkdir()
     with Served("--record", "records", "--seed", "0b") as served:
         served.client().define(area(index=INDEX))
@@ -131,7 +131,7 @@ def recorded() -> None:
 
 
 def repeated() -> None:
-    """Of a seed runs repeat, and nonces do not; without one both are new."""
+    """With a seed runs repeat, and nonces do not; without one both are new."""
     for words in (["--seed", "00ff", "--clock", "commands"], []):
         draws = []
         for _ in range(2):
@@ -172,7 +172,7 @@ def launched() -> None:
 
 
 def hostile() -> None:
-    """Clients that send anything, in pieces or half, change nothing for one that does not."""
+    """Clients that send anything, in pieces or cut off, change nothing for another client."""
     draw = random.Random(7)
     with Served() as served, contextlib.ExitStack() as held:
         tpm = served.client()
@@ -185,7 +185,7 @@ def hostile() -> None:
             if draw.randrange(2):
                 stream.close()
         print("still answers:", len(drawn(tpm)))
-        # One that was turned off by chance is turned on.
+        # A device that chance turned off is turned on again.
         print("serves on:", served.asks(1, number(POWER_ON, 4)).hex(), served.process.poll())
 
 

@@ -1,9 +1,10 @@
-"""More clients of tpmsim-simulator than it has descriptors for:
+"""More clients of tpmsim-simulator than it has file descriptors for:
 
     tools/python.sh tests/attached/simulator_clients.py SIMULATOR
 
-The server may open few files. Clients that say nothing take all of them; then those that were there are
-served, a change is in the image, the ones too many are refused, and new ones are served once others end.
+The server may open few files. Clients that send nothing take all of them. Earlier clients are still
+served, a change reaches the image, the extra clients are refused, and new ones are served after
+others end.
 """
 
 import pathlib
@@ -35,7 +36,7 @@ def served():
 
 
 def refused(idle):
-    """How many the server has closed, on which it says nothing; at least so many have to be."""
+    """How many clients the server has closed without a word; it must close those beyond FILES."""
     until, closed = time.monotonic() + SECONDS, []
     while len(closed) < len(idle) - FILES and time.monotonic() < until:
         closed = select.select(idle, (), (), 0.05)[0]
@@ -50,7 +51,7 @@ def changes(tpm, index):
 
 
 def said(act):
-    """What comes of an act, in words."""
+    """The result of an act, in words."""
     try:
         return act()
     except (DeviceEnded, OSError) as fault:
@@ -58,7 +59,7 @@ def said(act):
 
 
 def connected(address):
-    """A new client's command, as soon as the server takes one."""
+    """A new client's command, as soon as the server accepts one."""
     until = time.monotonic() + SECONDS
     while True:
         try:

@@ -1,7 +1,6 @@
-/* Zeros behind the whole records of a journal, which a crash of the host can leave, with and
- * without the front of a record before them: they are cut off by the next record, and a sentence
- * tells it. With another byte among them they are damage. The argument is the file of the values
- * of the PCR. */
+/* Zeros after the whole records of a journal, which a crash of the host can leave, with and without a part
+ * of a record before them. The next record cuts them off, and a sentence reports that. With another byte
+ * among them they are damage. The argument is the file of the values of the PCR. */
 #include "common.h"
 
 enum { EXTENDS = 2, PART = 256 * 1024 };
@@ -11,7 +10,7 @@ static const char FOLDER[] = "state", JOURNAL[] = "state/journal";
 static uint8_t *whole;
 static size_t whole_size, last;
 
-/* The file, with room for the longest tail. */
+/* The file, with space for the longest tail. */
 static uint8_t *text;
 static const size_t SIZES[] = {1,        2,        100,      TPMSIM_RECORD_ROOM, PART - 1, PART,
                                PART + 1, 2 * PART, 3 * PART + 7};
@@ -36,8 +35,7 @@ static struct kept *opened_to(bool cuts, struct reason *reason) {
     return kept_open(&options, reason);
 }
 
-/* Extends a device whose journal has so many bytes, and looks at the file. `begins`: the journal began
- * anew. */
+/* Extends a device whose journal has this size, and checks the file. `begins`: the journal began again. */
 static void extend_and_look(struct kept *kept, size_t size, const char *behind, bool begins,
                             const struct values *values) {
     extend(kept);
@@ -54,7 +52,7 @@ static void extend_and_look(struct kept *kept, size_t size, const char *behind, 
     free(journal);
 }
 
-/* Zeros behind so many bytes of the last record: opened, and found by a device that was open. */
+/* Zeros after this much of the last record: opened, and found by a device that was open. */
 static void try_zeros(size_t front, size_t zeros, const struct values *values) {
     size_t size = last + front + zeros;
     struct reason reason;
@@ -79,7 +77,7 @@ static void try_zeros(size_t front, size_t zeros, const struct values *values) {
     kept_close(kept);
 }
 
-/* The same with a byte among the zeros that is none. */
+/* The same with a nonzero byte among the zeros. */
 static void try_damage(size_t front, size_t zeros, size_t place, const struct values *values) {
     size_t size = last + front + zeros, there;
     struct reason reason;

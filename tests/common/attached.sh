@@ -1,5 +1,5 @@
-# What the tests of the kept device share. Each is given the archive, and reads this file behind
-# cases.sh and library.sh.
+# Shared by the tests of the kept device. Each is given the archive, and reads this file after cases.sh
+# and library.sh.
 # shellcheck shell=sh disable=SC2154 # library.sh has `archive` and `sanitizers`
 hosts=$tests/../hosts
 callers=$tests/attached
@@ -7,13 +7,13 @@ needs cc nm
 nm --defined-only "$archive" 2>/dev/null | grep -q ' tpmsim_fault_text$' ||
     skip 'the archive has no keeper of a device'
 
-# in_c WORDS..: compiles with each warning an error.
+# in_c WORDS..: compiles; each warning is an error.
 in_c() {
     cc -std=c11 -O1 -Wall -Wextra -Werror -Wconversion -I"$dist" -I"$hosts/kept" "$@" || exit 1
 }
 
 # parts WORDS..: the folder with all parts of the kept device, compiled with those of these words that
-# say how; once for all tests that tools/scripts.sh runs, which names the folder TPMSIM_BUILT.
+# are options; once for all tests that tools/scripts.sh runs, which names the folder TPMSIM_BUILT.
 parts() {
     how=$(printf '%s\n' "$@" | grep '^-[fg]')
     built=${TPMSIM_BUILT:-$room/built}/attached-$(echo "$how" | cksum | tr ' ' -)
@@ -40,7 +40,7 @@ attach() {
     in_c -O0 -o "$caller" "$source" "$built"/*.o "$@" "$archive"
 }
 
-# attach_both SOURCE WORDS..: compiles a caller twice: by its name, and with sanitizers as
+# attach_both SOURCE WORDS..: compiles a caller twice: as its name, and with sanitizers as
 # sanitized_NAME.
 attach_both() {
     attach "$1" "$@"
@@ -48,8 +48,8 @@ attach_both() {
     attach "sanitized_$1" "$@" $sanitizers
 }
 
-# both NAME WORDS..: runs a caller of attach_both each way, prints what the first prints, and says
-# whether the second prints the same. Each has a folder of its own.
+# both NAME WORDS..: runs both programs of attach_both, each in a folder of its own; prints the output of
+# the first, and says whether that of the second is the same.
 both() {
     name=$1
     shift
@@ -66,8 +66,8 @@ both() {
     fi
 }
 
-# extended COUNT: writes the values of a PCR of SHA-256 after 0 to COUNT extends by a digest of 32
-# bytes 5a, to the file of the standard output.
+# extended COUNT: prints the values of a PCR of SHA-256 after 0 to COUNT extends by a digest of 32 bytes
+# 5a.
 extended() {
     python3 -c '
 import hashlib, sys
@@ -78,7 +78,7 @@ for count in range(int(sys.argv[1]) + 1):
 ' "$1"
 }
 
-# The words for the linker by which tests/attached/calls.h stands before these calls.
+# The words for the linker that put tests/attached/calls.h in front of these calls.
 # shellcheck disable=SC2034 # tests use them
 wrapped_calls=$(printf -- '-Wl,--wrap=%s ' mkdir fchmod fchmodat fstat fstatat flock ftruncate fsync \
     fdatasync unlinkat renameat clock_gettime mmap munmap madvise pread pwrite getrandom malloc calloc \

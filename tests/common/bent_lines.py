@@ -1,11 +1,12 @@
-"""Lines of commands, bent token by token, against lines.py of the device in Python:
+"""Bends lines of commands token by token, and compares `tpmsim` with lines.py of the Python device:
 
     tools/python.sh tests/common/bent_lines.py PROGRAM
 
-Of each command the line of assemble.lines is taken, which begins with one of each. For each way to
-bend a token, which is done to every third of them, there is a line: how many bent lines there are,
-how many buffers and faults come of them, and how many differ from what the program says. Each difference has a line too, which begins with DIFFERS.
-Then some of them stand in scripts, and lines of scripts have bytes of other kinds at each place.
+It takes the first line of each command from assemble.lines. Each way to bend a token is tried at
+every third token. A line of output for each way says how many lines were bent, how many buffers and
+faults they make, and how many differ from what the program says. Each difference has a line too,
+which begins with DIFFERS. Then some bent lines are played in scripts, and other bytes are put at
+each place of a script's line.
 """
 
 import collections
@@ -23,13 +24,13 @@ from tests.common.shims import Ending, ran, Shim, Turns
 TESTS = pathlib.Path(__file__).resolve().parent.parent
 STARTUP, STARTED = b"do Startup 0\n", b"80010000000a00000000\n"
 
-# Each way bends one in so many tokens, beginning at the next one each time.
+# Each way bends every third token, and begins one token later than the way before it.
 EACH = 3
 
-# One in so many bent lines that are none stands in a script of its own, between two commands.
+# Every fifth bad line is also played in a script of its own, between two commands.
 SAMPLED = 5
 
-# What a token is replaced by, each behind what it is called.
+# The replacements for a token, each after its name.
 REPLACEMENTS = {
     "a word": b"word",
     "a number": b"7",
@@ -65,7 +66,8 @@ REPLACEMENTS = {
 }
 
 
-# A script's lines, and what is put at each of their places, and in place of each of their bytes.
+# Lines of scripts, and the bytes that are put at each of their places and replace each of their
+# bytes.
 SCRIPT_LINES = (
     *(b"cmd 80010000000c0000017b0004", b"do GetRandom 4", b"loc 3", b"wait 1500"),
     *(b"entropy 5Ac3", b"power", b"# words", b""),
@@ -85,7 +87,7 @@ BYTES = {
 }
 
 
-# Ways to bend a line at one of its tokens: what it is in pieces, before the token, it, and behind.
+# Ways to bend a line at one token. Each takes the tokens before it, the token, and those after it.
 
 
 def replaced(word, before, token, behind):
@@ -123,13 +125,13 @@ BENDS |= {
 
 
 def first_lines():
-    """Of each command the first line of assemble.lines, where each has one."""
+    """The first line of each command in assemble.lines, for commands that have one."""
     lines_of = (TESTS / "lines/assemble.lines").read_bytes().split(b"\n# ")[0].splitlines()[1:]
     return sorted(line for line in lines_of if line)
 
 
 def bent(first, bend, begin=0, step=1):
-    """The lines, bent at one in so many of all their tokens, from a place on."""
+    """The lines, bent at every `step`-th of all their tokens, from the token `begin` on."""
     places = (
         (tokens, at) for tokens in (it.split(b" ") for it in first) for at in range(len(tokens))
     )
@@ -141,7 +143,7 @@ def bent(first, bend, begin=0, step=1):
 
 
 def is_usage(line):
-    """A word of the command line that is not UTF-8, or an option that there is none of."""
+    """Whether a line is a usage fault: it is not UTF-8, or an option that does not exist."""
     try:
         line.decode("utf-8")
     except UnicodeDecodeError:
@@ -150,7 +152,7 @@ def is_usage(line):
 
 
 def wanted(line):
-    """What a line is called, and how `tpmsim asm` ends with it."""
+    """The name of a line's outcome, and how `tpmsim asm` must end with the line."""
     if is_usage(line):
         return "usage", Ending(2, error=b"tpmsim: usage\n")
     return fault_of(line).partition(" ")[0] or "buffers", assembled(line)
@@ -161,7 +163,7 @@ def shown(line):
 
 
 def compared(cases):
-    """How many of the cases differ: a label, what is wanted, and what is given, of each."""
+    """How many cases differ. A case is a label, the expected outcome, and the one found."""
     differ = 0
     for label, want, give in cases:
         if want != give:
@@ -175,7 +177,7 @@ def counted(outcomes):
 
 
 def try_bend(asm, name, bent_lines):
-    """The lines that are bent in one way, by `tpmsim asm`."""
+    """Passes `tpmsim asm` the lines that one way bends."""
     want = [wanted(line) for line in bent_lines]
     give = [asm.run(word=line) for line in bent_lines]
     differ = compared(
@@ -189,7 +191,7 @@ def try_bend(asm, name, bent_lines):
 
 
 def try_faults(scripts, what, bad):
-    """Scripts of three lines, of which the second is bad, and is told."""
+    """Plays scripts of three lines; the program must report the second one, which is bad."""
     want = Ending(2, STARTED, b"tpmsim: script line 2\n")
     give = [scripts.run(stdin=STARTUP + b"do " + it + b"\n" + STARTUP) for it in bad]
     differ = compared((shown(b"do " + it), want, given) for it, given in zip(bad, give))
@@ -197,7 +199,7 @@ def try_faults(scripts, what, bad):
 
 
 def try_answers(program, good):
-    """One script of all that are lines, as the device in Python answers it."""
+    """Plays one script of all good lines; the answers must be those of the Python device."""
     device, random = Model(), bytes(256)
     want = [device.execute(lines.assemble(line), 0, random).response.hex() for line in good]
     with tempfile.NamedTemporaryFile() as script:
@@ -211,7 +213,7 @@ def try_answers(program, good):
 
 
 def try_bytes(traces, what, put):
-    """Scripts of which the second line has these bytes at one of its places."""
+    """Plays scripts whose second line has other bytes at one of its places."""
     bent_lines = [
         line[:at] + put + line[at + taken :]
         for line in SCRIPT_LINES
@@ -239,7 +241,7 @@ def main(program):
     with Turns(shim, ["run", "-"]) as scripts:
         bad = [it for it in once if fault_of(it)]
         try_faults(scripts, "bent lines that are none", bad[::SAMPLED])
-        # A NUL cannot stand in a word of a command line.
+        # A word of a command line cannot contain a NUL.
         nul = list(bent(first, functools.partial(replaced, b"\0")))
         try_faults(scripts, "lines with a NUL in place of a token", nul)
     try_answers(program, [it for it in once if not fault_of(it)])

@@ -1,19 +1,19 @@
-# What the shell tests share: each runs the program in a folder of its own, once a case, and says in
-# a line what came of it. A test is given the program's path, and reads this file first.
+# Shared by the shell tests: each runs the program once for each case, in a folder of its own, and prints
+# a line with the result. A test gets the program's path, and reads this file first.
 LC_ALL=C
 # shellcheck disable=SC2154 # a test names its folder before it reads this file
 PYTHONPATH=${tests%/*}/python:${tests%/*}
 export LC_ALL PYTHONPATH
-# What Python compiles, tools/scripts.sh has in a folder for all tests, whatever the environment says
-# of that; else it is not kept.
+# tools/scripts.sh has the bytecode of Python in one folder for all tests, whatever the environment says
+# of it; otherwise no bytecode is kept.
 if [ -n "${PYTHONPYCACHEPREFIX:-}" ]; then
     unset PYTHONDONTWRITEBYTECODE
 else
     export PYTHONDONTWRITEBYTECODE=1
 fi
 
-# Python as it is: it starts sooner where it does not look for what others installed beside it, of which
-# the tests need nothing.
+# Python by itself: it starts sooner if it does not look for other installed packages, which the tests do
+# not need.
 python3() {
     command python3 -S "$@"
 }
@@ -22,7 +22,7 @@ python3() {
 room=$(mktemp -d) || exit 1
 trap 'keep_journals; rm -rf "$room"' EXIT
 
-# keep_journals: with KEPT_JOURNALS, a folder, copies what a test leaves of journals and logs there.
+# keep_journals: copies the journals and logs of a test to the folder KEPT_JOURNALS, if that is set.
 keep_journals() {
     [ -n "${KEPT_JOURNALS:-}" ] || return 0
     grep -rlaE '^# (tpmsim journal [12]|image|state) [0-9a-f]{40}' "$room" 2>/dev/null | while read -r journal; do
@@ -30,7 +30,7 @@ keep_journals() {
     done
 }
 
-# A help says by what name the program was called, and that is tpmsim whatever its file is called.
+# A help has the name by which the program was called. That name is tpmsim here, whatever the file is.
 program=$room/tpmsim
 ln -s "$(cd "$(dirname "$1")" && pwd -P)/$(basename "$1")" "$program" || exit 1
 mkdir "$room/folder" && cd "$room/folder" || exit 1
@@ -51,13 +51,14 @@ script() {
     echo "$1"
 }
 
-# TPM2_Startup(CLEAR), which is answered SUCCESS (80010000000a00000000), and INITIALIZE
-# (80010000000a00000100) the second time. `cmd` alone is COMMAND_SIZE (80010000000a00000142).
+# TPM2_Startup(CLEAR), whose response is SUCCESS (80010000000a00000000), and INITIALIZE
+# (80010000000a00000100) the second time. The response to `cmd` alone is COMMAND_SIZE
+# (80010000000a00000142).
 # shellcheck disable=SC2034 # the tests use it
 startup='cmd 80010000000c000001440000'
 
-# told FILE: what a file holds, line by line, each with the number of times that it stands in a row.
-# The shell reads a file of few lines itself, as that starts no other program.
+# told FILE: prints the lines of a file, each with the number of times that it is repeated in a row.
+# The shell reads a file of few lines itself, which starts no other program.
 told() {
     [ -s "$1" ] || { printf 'empty'; return; }
     text='' before='' times=0 lines=0
@@ -75,7 +76,7 @@ told() {
     [ -z "$line" ] || printf ' without a line break'
 }
 
-# add_line: adds `line` to those that are told.
+# add_line: adds `line` to the lines that are printed.
 add_line() {
     if [ "$times" -gt 0 ] && [ "$line" = "$before" ]; then
         times=$((times + 1))
@@ -86,7 +87,7 @@ add_line() {
     times=1
 }
 
-# end_line: tells the line before, with its number.
+# end_line: prints the previous line, with its number.
 end_line() {
     case $times in
     0) ;;
@@ -111,7 +112,7 @@ told_at_length() {
     [ -z "$(tail -c 1 "$1")" ] || printf ' without a line break'
 }
 
-# report LABEL STATUS: a case's line, from what the program wrote, as far as that was kept.
+# report LABEL STATUS: prints a case's line, from the program's output, as far as that was kept.
 report() {
     printf '%s: status %s' "$1" "$2"
     for stream in output error; do

@@ -1,10 +1,10 @@
-"""Bent lines of commands, checked as one script, against lines.py of the device in Python:
+"""Checks bent lines of commands as one script, and compares with lines.py of the Python device:
 
     tools/python.sh tests/common/checked_lines.py PROGRAM
 
-The script has each line of bent_lines.py once. For each fault there is a line of output: how many
-bad lines have it, and how many of these differ from what `tpmsim check` says. The last one has the
-lines that are good. Each difference has a line too, which begins with DIFFERS.
+The script has each line of bent_lines.py once. A line of output for each fault says how many bad
+lines have it, and how many of these differ from what `tpmsim check` says. The last one counts the
+good lines. Each difference has a line too, which begins with DIFFERS.
 """
 
 import collections
@@ -18,7 +18,7 @@ from tests.common import bent_lines
 from tests.common.expected import fault_of
 from tests.common.shims import ran
 
-# How many entries a line may have.
+# The number of entries that a line may have.
 MOST_ENTRIES = 3
 
 WANTED_NAME, WANTED_ENTRY, WANTED_END = "command", "entry", "end of line"
@@ -26,7 +26,7 @@ WANTED_LENGTH = "at most 4096 bytes"
 
 
 def place_of(tokens: list[bytes], fault: str) -> int:
-    """The place of the token at fault among the tokens: of one that is missing, behind the last."""
+    """The place of the token at fault; after the last token, if a token is missing."""
     if fault == lines.MISSING:
         return len(tokens)
     column = int(fault.split(" ")[1])
@@ -35,7 +35,7 @@ def place_of(tokens: list[bytes], fault: str) -> int:
 
 
 def words_wanted(code: CC, tokens: list[bytes]) -> list[str]:
-    """What is wanted in the places of a command's tokens, by its form and by its entries."""
+    """What a command's form and its entries require in the places of its tokens."""
     name, *words = lines.form_of(code).replace("@", "").split(" ")
     handles = len(code.handles)
     front = tokens[1 + handles : 1 + handles + MOST_ENTRIES]
@@ -62,7 +62,7 @@ def all_lines() -> list[bytes]:
 
 
 def checked(program: str, script: bytes) -> dict[int, str]:
-    """What the program says of the lines of a script, by their numbers."""
+    """What the program says of a script's lines, by line number."""
     with tempfile.NamedTemporaryFile() as file:
         file.write(script)
         file.flush()

@@ -2,8 +2,8 @@
 
     python3 client.py SOCKET SIZE HEX..
 
-It waits until the socket is there, sends the bytes in pieces of SIZE bytes, closes its sending side,
-and prints what comes back, each response on a line of its own.
+It waits for the socket, sends the bytes in pieces of SIZE bytes, closes its sending side, and
+prints the responses, each on a line of its own.
 """
 
 import socket
@@ -15,7 +15,7 @@ SECONDS = 60
 
 
 def connected(path, process=None):
-    """A connection to the socket, within a minute; nothing where its process has ended."""
+    """A connection to the socket, within a minute; None if the process has ended."""
     until = time.monotonic() + SECONDS
     while time.monotonic() < until:
         client = socket.socket(socket.AF_UNIX, socket.SOCK_STREAM)
@@ -36,7 +36,7 @@ def received(client):
 
 
 def responses(text):
-    """The responses in a stream, each as long as its header says."""
+    """The responses in a stream, each of the size that its header has."""
     at = 0
     while at < len(text):
         size = max(int.from_bytes(text[at + 2 : at + 6], "big"), 1)
@@ -45,7 +45,7 @@ def responses(text):
 
 
 def answer(client):
-    """A whole response, or nothing where the stream ends before."""
+    """A whole response; None if the stream ends before."""
     header = client.recv(HEADER_BYTES, socket.MSG_WAITALL)
     size = max(int.from_bytes(header[2:6], "big"), HEADER_BYTES)
     text = header + client.recv(size - HEADER_BYTES, socket.MSG_WAITALL)
@@ -53,7 +53,7 @@ def answer(client):
 
 
 def tell(client, *label):
-    """Closes the sending side, and prints what comes back, each response behind a label."""
+    """Closes the sending side, and prints each response after a label."""
     client.shutdown(socket.SHUT_WR)
     for response in responses(received(client)):
         print(*label, response.hex())

@@ -1,25 +1,26 @@
-"""Clients of `tpmsim serve` that end in another way than client.py, and clients beside each other:
+"""Clients of `tpmsim serve` that end otherwise than client.py, and clients at the same time:
 
     python3 clients.py KIND SOCKET HEX..
 
-A client, or two, send these commands. By KIND:
+One or two clients send these commands. By KIND:
 
     close      closes at once
-    read       goes without reading the response that is there, so that the device's next read fails
-    write      sends TPM2_GetRandom behind them until nothing more is taken, since the device waits
-               with a response that nobody reads; and goes, so that this write fails
-    turns      two clients, whose bytes take turns. Prints what is answered to each
-    idle       stands beside a client that sends nothing. Says whether it is answered before that one
-               has closed, and prints what is answered
-    unread     the same, beside one that sends TPM2_GetRandom until nothing more is taken
-    removed    two clients, whose socket's path is removed before they send
-    folder     the same, with a folder put in its place
+    read       ends without reading its response, so that the device's next read fails
+    write      sends TPM2_GetRandom after them, until the device reads no more because nobody reads
+               its response; then it ends, so that this write fails
+    turns      two clients, whose bytes alternate; prints the responses to each
+    idle       waits next to a client that sends nothing; prints its responses, and whether they
+               came before that client closed
+    unread     the same next to a client that sends TPM2_GetRandom until no more is read
+    removed    two clients; the path of their socket is removed before they send
+    folder     the same, but a folder replaces the socket
     clock      starts the device, and asks for its time for a second, fifty commands at once. The last
-               answer has to be the whole milliseconds since the start, as far as the host can tell
+               answer has to be the whole milliseconds since the start, as far as the host knows
 
-`clients.py during SOCKET HEX LINE` does the shell's LINE once the first command is answered, before
-it closes. `clients.py long SOCKET MILLIONS WRITE` sends this TPM2_NV_Write, and TPM2_GetRandom, in
-turn until there were so many million bytes, while it reads the responses, and says what they were.
+`clients.py during SOCKET HEX LINE` runs the shell's LINE after the first command is answered,
+before it closes. `clients.py long SOCKET MILLIONS WRITE` sends this TPM2_NV_Write and
+TPM2_GetRandom by turns until that many million bytes are sent. It reads the responses meanwhile,
+and says what they were.
 """
 
 import collections
@@ -41,14 +42,14 @@ A_WHILE = 0.5
 
 
 def fill(client):
-    """Sends commands until nothing more is taken."""
+    """Sends commands until no more is taken."""
     client.setblocking(False)
     while select.select([], [client], [], A_WHILE)[1]:
         client.send(GET_RANDOM)
 
 
 def leave(path, text, before):
-    """A client that goes at once, or behind something."""
+    """A client that ends at once, or after `before`."""
     client = connected(path)
     client.sendall(text)
     before(client)
@@ -65,7 +66,7 @@ def take_turns(path, text):
 
 
 def beside(path, text, occupy):
-    """A client that occupies the device, and one that waits for it."""
+    """A client that occupies the device, and another one that waits for it."""
     first = connected(path)
     occupy(first)
     second = connected(path)
@@ -77,7 +78,7 @@ def beside(path, text, occupy):
 
 
 def replaced(path, text, replace):
-    """Two clients, and their socket is removed, and its path may be taken."""
+    """Two clients. The path of their socket is removed, and `replace` may take it."""
     clients = [connected(path), connected(path)]
     os.unlink(path)
     replace(pathlib.Path(path))
@@ -87,7 +88,7 @@ def replaced(path, text, replace):
 
 
 def asked(client, commands, size):
-    """What is answered, and the milliseconds of the host's clock before and after that."""
+    """What is answered, and the host's time in milliseconds before and after."""
     before = time.monotonic() * 1000
     client.sendall(commands)
     text = client.recv(size, socket.MSG_WAITALL)

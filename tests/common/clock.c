@@ -1,4 +1,4 @@
-/* Stands before the C library's clock_gettime. Each clock stands where the file CLOCK says: its
+/* Replaces the C library's clock_gettime. Each clock always shows the time in the file CLOCK: its
  * seconds, and its nanoseconds within them. CLOCK is a variable of the environment. */
 #include <stdio.h>
 #include <stdlib.h>

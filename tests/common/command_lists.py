@@ -2,8 +2,9 @@
 
     tools/python.sh tests/common/command_lists.py
 
-A line for each list says how many entries it has; each one that is missing, or too many, has a line
-that begins with DIFFERS. Then documents are changed in one place each, and that has to be found.
+A line for each list says how many entries it has; a missing or extra entry has a line that begins
+with DIFFERS. Then one place of a document is changed at a time, and the comparison has to find
+that.
 """
 
 import re
@@ -33,14 +34,14 @@ def documents() -> Documents:
 
 
 def between(text: str, before: str, behind: str) -> str:
-    """What stands between two places, or nothing."""
+    """The text between two others; empty, if it is not there."""
     _, found, rest = text.partition(before)
     return rest.partition(behind)[0] if found else ""
 
 
 @dataclass(frozen=True)
 class List:
-    """A list of a document: what it has to have, and what it has; with `in_order` in this order."""
+    """A list of a document: what it needs and what it has; `in_order` compares their order."""
 
     wanted: list
     found: list
@@ -62,7 +63,7 @@ Check = Callable[[Documents], List]
 
 
 def the_list(texts: Documents) -> List:
-    """Each with its section's page and place and its code, by name."""
+    """Each command by name, with its section's page and anchor and with its code."""
     pages = pages_of(texts)
     wanted = [
         (it.name, pages.get(it.name), f"tpm2_{it.name}-{int(it):x}".lower(), f"{int(it):X}")
@@ -72,7 +73,7 @@ def the_list(texts: Documents) -> List:
 
 
 def pages_of(texts: Documents) -> dict[str, str]:
-    """On which page the section of each command is."""
+    """The page that has the section of each command."""
     return {
         name: path.removeprefix(f"{TABLE}/")
         for path, text in texts.items()
@@ -94,13 +95,13 @@ def groups(texts: Documents) -> List:
 
 
 def not_served(texts: Documents) -> List:
-    """Those that are named as not served are none of these."""
+    """No command that is named as not served is served."""
     text = between(texts[REFUSALS], "## Commands that are not served", "\n## ")
     return List([], [it for it in NAME.findall(text) if it in CC.__members__])
 
 
 def named(document: str, before: str, behind: str, is_wanted: Callable[[CC], bool]) -> Check:
-    """The check that a document names these commands between two places."""
+    """The check that a document names exactly these commands between two texts."""
 
     def check(texts: Documents) -> List:
         wanted = [it.name for it in CC if is_wanted(it)]
@@ -109,11 +110,11 @@ def named(document: str, before: str, behind: str, is_wanted: Callable[[CC], boo
     return check
 
 
-# Counts of commands: the document, what stands before the count, what stands behind it, and how
-# the count is written.
+# Counts of commands: the document, the text before the count, the text after it, and the format of
+# the count.
 COUNTS = (
     (README, "It serves ", " commands", str),
-    (CAPABILITIES, "| how many commands are served, ", " |", "{:X}".format),
+    (CAPABILITIES, "| the number of served commands, ", " |", "{:X}".format),
 )
 
 
@@ -127,7 +128,7 @@ def counts(texts: Documents) -> List:
 
 
 def nv_access(texts: Documents) -> List:
-    """Which commands ask an index that authorizes them for which attributes."""
+    """Which attributes each command requires of an index that authorizes it."""
     able = [it for it in CC if it.authorized and it.handles[0].kind in NV_KINDS]
     wanted = [(it.name, nv_access_of(it)) for it in able]
     section = between(texts[NV_ACCESS], "## By what an index is authorized", "\n## ")
@@ -140,11 +141,11 @@ def nv_access_of(code: CC) -> str:
     """When the authorization value of an index authorizes a command."""
     if code.has(Fact.ADMIN):
         return "never"
-    return "where it has AUTHREAD" if code.has(Fact.READS_NV) else "where it has AUTHWRITE"
+    return "if it has AUTHREAD" if code.has(Fact.READS_NV) else "if it has AUTHWRITE"
 
 
 UNSESSIONED = "entries (tag 8002), passwords too, on"
-KEEPING = "but for those of these commands"
+KEEPING = "except those of these commands"
 CHECKS: dict[str, Check] = {
     "docs/table/README.md, the list of commands": the_list,
     "docs/table, the sections and their lines": sections,
@@ -159,7 +160,7 @@ CHECKS: dict[str, Check] = {
         REFUSALS, UNSESSIONED, "|", lambda it: it.has(Fact.NO_SESSIONS)
     ),
     "order_of_refusals.md, commands that are not served": not_served,
-    # TPM2_Shutdown stands in the sentence behind.
+    # TPM2_Shutdown is in the next sentence.
     "state.md, commands that keep what was saved": named(
         STATE, KEEPING, ". ", lambda it: it.has(Fact.KEEPS_SAVED) and it != CC.Shutdown
     ),
@@ -167,7 +168,7 @@ CHECKS: dict[str, Check] = {
     "counts of commands": counts,
 }
 
-# A document, a text in it, and what is put in its place once.
+# A document, a text in it, and the text that replaces it once.
 WRONG = (
     (LIST, "| [TPM2_Clear](", "| [TPM2_Clean]("),
     (LIST, "| [TPM2_Create](", "| TPM2_Create ("),
@@ -183,7 +184,7 @@ WRONG = (
     (STATE, "TPM2_HMAC, ", "TPM2_HMAC, TPM2_Load, "),
     (NV_ACCESS, "| TPM2_NV_Read, ", "| "),
     (README, "It serves 47 commands", "It serves 46 commands"),
-    (CAPABILITIES, "how many commands are served, 2F", "how many commands are served, 30"),
+    (CAPABILITIES, "the number of served commands, 2F", "the number of served commands, 30"),
 )
 
 

@@ -1,9 +1,9 @@
-"""Reads which names a crate makes public, by a small tolerant reader of crates/CRATE/src/*.rt.
+"""Finds the public names of a crate, by a small tolerant reader of crates/CRATE/src/*.rt.
 
 A name is that of an item, as `authorize` or `Machine`, or of a member of a type or trait, as
-`Machine::execute` or `Keep::fixed`; modules may stand before it. An item counts where its module is
-public or where `pub use` passes it on, also from another crate. The reader relies on the layout that
-`rt fmt` makes: items begin in the first column, members in the fifth.
+`Machine::execute` or `Keep::fixed`; modules may precede it. An item counts if its module is public,
+or if `pub use` re-exports it, also from another crate. The reader relies on the layout that `rt
+fmt` makes: items begin in the first column, members in the fifth.
 """
 
 import pathlib
@@ -33,7 +33,7 @@ PAIRS = {"(": ")", "{": "}", "[": "]", "<": ">"}
 
 @dataclass(frozen=True)
 class Call:
-    """What a call is passed and returns, types alone, and the clauses that it requires."""
+    """The types that a call takes and returns, and the clauses that it requires."""
 
     shape: str
     premises: tuple[str, ...]
@@ -52,7 +52,7 @@ class Item:
 
 @dataclass(frozen=True)
 class Found:
-    """A name that was found: the call that it is, if it is one, and the cases of an enum."""
+    """A name that was found: its call, if it is one, and its cases, if it is an enum."""
 
     call: Call | None
     cases: tuple[str, ...]
@@ -78,7 +78,7 @@ def plain(text: str) -> str:
 
 
 def parts_of(text: str) -> Iterator[str]:
-    """What stands between the commas of a list, those within brackets apart."""
+    """The items of a list with commas; commas within brackets do not separate."""
     start = place = 0
     while place < len(text):
         if text[place] in PAIRS:
@@ -99,7 +99,7 @@ def type_of(parameter: str) -> str:
 
 
 def premises_of(text: str, start: int) -> Iterator[str]:
-    """The clauses from `start` on that a call requires."""
+    """The clauses that a call requires, from `start` on."""
     while clause := CLAUSE.match(text, start):
         start = closing(text, clause.end())
         if clause[1] == "requires":
@@ -120,7 +120,7 @@ def call_at(text: str, start: int) -> Call:
 
 
 def owner_of(kind: str, head: str) -> str:
-    """The type or trait to which the members of a block belong, or nothing for a trait's impl."""
+    """The type or trait that a block's members belong to; empty for an impl of a trait."""
     head = head.strip()
     if kind == "impl" and head.startswith("<"):
         head = head[closing(head, 0) :].strip()
@@ -129,7 +129,7 @@ def owner_of(kind: str, head: str) -> str:
 
 
 def uses_of(text: str, before: str = "") -> Iterator[str]:
-    """The paths that a `pub use` passes on, one by one."""
+    """The paths that a `pub use` re-exports, one by one."""
     text = text.strip()
     if "{" not in text:
         yield before + text
@@ -140,20 +140,20 @@ def uses_of(text: str, before: str = "") -> Iterator[str]:
 
 
 class Crates:
-    """The crates of a repository, each read once, where it is asked for."""
+    """The crates of a repository. Each is read once, when it is first used."""
 
     def __init__(self, top: pathlib.Path) -> None:
         self.folder = top / "crates"
         self.read: dict[str, Crate] = {}
 
     def crate(self, name: str) -> "Crate":
-        """A crate by its name; one that is not there has no names."""
+        """The crate of a name; one that does not exist has no names."""
         if name not in self.read:
             self.read[name] = Crate(name, self.folder / name / "src")
         return self.read[name]
 
     def find(self, path: str) -> Found | None:
-        """What stands under a path, as `tpm_machine::Machine::run`, if that is public."""
+        """The public item of a path, as `tpm_machine::Machine::run`; None if there is none."""
         name, *words = path.split("::")
         crate = self.crate(name)
         modules = []
@@ -169,7 +169,7 @@ class Crates:
         return None
 
     def find_in(self, crate: "Crate", module: str, name: str, members: list[str]) -> Found | None:
-        """What a module has or passes on under a name, whether the module itself is public or not."""
+        """What a module has or re-exports by a name, even if the module itself is not public."""
         for item in crate.items:
             if (item.module, item.name) == (module, name):
                 return member_of(item, members)
@@ -183,7 +183,7 @@ class Crates:
 
 
 class Crate:
-    """The items of a crate, its public modules, and what it passes on."""
+    """The items of a crate, its public modules, and its re-exports."""
 
     def __init__(self, name: str, source: pathlib.Path) -> None:
         self.name = name
@@ -216,7 +216,7 @@ class Crate:
                     item.cases = CASE.findall(found["body"])
 
     def add_uses(self, text: str, module: str) -> None:
-        """Adds the public modules of a file, and the names that it passes on, with their paths."""
+        """Adds the public modules of a file, and its re-exported names with their paths."""
         inside = f"{module}::" if module else ""
         self.modules.update(inside + found for found in MODULE.findall(text))
         passed = self.uses.setdefault(module, {})
@@ -226,7 +226,7 @@ class Crate:
             passed[name] = self.whole_path(path, inside)
 
     def whole_path(self, path: str, inside: str) -> str:
-        """A path with its crate, as a file whose names have `inside` before them writes it."""
+        """A path with its crate, for a path in a file whose names are prefixed by `inside`."""
         first, _, rest = path.partition("::")
         if first == "crate":
             return f"{self.name}::{rest}"
@@ -248,7 +248,7 @@ class Crate:
 
 
 def member_of(item: Item, members: list[str]) -> Found | None:
-    """The item itself, or the member or case of it that is named."""
+    """The item itself; or its member or case, if one is named."""
     if not members:
         return Found(item.call, tuple(item.cases))
     name = members[0]

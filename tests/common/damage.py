@@ -5,7 +5,7 @@ import sys
 
 
 def with_digest(text):
-    """The text, with the digest of what it has before its last 32 bytes."""
+    """The text, with the digest of the bytes before its last 32 at its end."""
     return text[:-32] + hashlib.sha256(text[:-32]).digest()
 
 

@@ -1,13 +1,13 @@
-"""Has a program open damaged images, and compares its answers with those of the device in Python:
+"""Opens damaged images with a program, and compares its answers with those of the Python device:
 
-    damaged_images.py PROGRAM                      of a device that saved its state, in either
-                                                   version, and of bodies with one thing wrong
-    damaged_images.py PROGRAM full [SEED [COUNT]]  the largest, and so many bodies of a full device
-                                                   that are bent
+    damaged_images.py PROGRAM                      images of a device that saved its state, in both
+                                                   versions, and bodies with one thing wrong
+    damaged_images.py PROGRAM full [SEED [COUNT]]  the largest image, and COUNT bent bodies of
+                                                   a full device
 
-A line says of each kind how many texts there were, and what they are; each difference is a line of
-its own. The last line is `N agree, M differ`. It works in the folder where it is begun, and there
-it leaves the first texts that differ, as the files that these lines name.
+A line for each kind says how many texts there were, and what they are. Each difference has a line
+of its own. The last line is `N agree, M differ`. It works in the current folder, and leaves there
+the first texts that differ, in the files that these lines name.
 """
 
 import collections
@@ -35,17 +35,17 @@ SEED, BENT = 1, 300
 DEFAULTS = [1, 10_000]
 MOST_LEFT = 100
 
-# Of the long series the program is given the first texts, and then one in so many, which divides no
-# number of ways to change a byte. The library is given all of them.
+# The program is given the first texts of a long series, and then one of every `step`, which divides
+# no number of ways to change a byte. The library is given all of them.
 FIRST, STEP = 100, 11
 
-# The clock of the device whose image is damaged: the milliseconds that really passed are not told.
+# The clock of the device whose image is damaged; the time that really passed is left out.
 CLOCK = 0x0102_0304
 
 
 class Program:
-    """A program that serves a device, each time for the one image that it is given: `opening` has
-    its runs without a connection, and `saving` those with one.
+    """A program that serves a device, each time for one image. `opening` has its runs without a
+    connection, and `saving` those with one.
     """
 
     def __init__(self, opening, saving):
@@ -54,13 +54,13 @@ class Program:
 
     @staticmethod
     def place(text):
-        """Puts an image in its place, as a new file: one that is shortened may be written out."""
+        """Writes the image as a new file: the old one may be written out if it is shortened."""
         path = pathlib.Path("image")
         path.unlink(missing_ok=True)
         path.write_bytes(text)
 
     def end(self, runs):
-        """The fault of the image, or nothing where the run ended well."""
+        """The fault of the image; None if the run ended well."""
         given = runs.ended()
         fault = given.error.decode("ascii", "replace").removeprefix(FAULT).removesuffix("\n")
         if given == Ending(STATUS_OF_FAULT, error=f"{FAULT}{fault}\n".encode()):
@@ -68,13 +68,13 @@ class Program:
         return None if given == WELL else f"{given}"
 
     def fault_of(self, text):
-        """What the program answers to an image; where it opens it, it saves nothing."""
+        """The program's fault for an image. If it opens the image, it saves nothing."""
         self.place(text)
         self.opening.begin()
         return self.end(self.opening)
 
     def saved(self, commands):
-        """What the program saves behind a connection with these commands."""
+        """What the program saves after a connection with these commands."""
         self.saving.begin()
         connection = client.connected("socket")
         connection.sendall(commands)
@@ -90,7 +90,7 @@ class Program:
 
 
 class Comparison:
-    """Of a long series it takes the first texts, and of the others one in each `step`."""
+    """It takes the first texts of a long series, and one of every `step` of the others."""
 
     def __init__(self, program, step):
         self.program, self.step, self.agree, self.differ = program, step, 0, 0
@@ -108,14 +108,14 @@ class Comparison:
             print(f"    {name}", flush=True)
 
     def fault_of(self, words, text):
-        """The fault of the device in Python, which the program's has to be."""
+        """The fault of the Python device, which the program must have too."""
         wanted, given = image.fault_of(text), self.program.fault_of(text)
         words = f"{words}: {wanted or 'opened'} is wanted, {given or 'opened'} is given"
         self.count(given == wanted, words, text)
         return wanted or "opened"
 
     def kind(self, name, texts):
-        """A line on texts of a kind, each with words for it."""
+        """Prints a line on texts of a kind, each with words for it."""
         faults = collections.Counter(self.fault_of(f"{name}, {words}", it) for words, it in texts)
         told = ", ".join(f"{count:,} {fault}" for fault, count in sorted(faults.items()))
         print(f"{name}: {sum(faults.values()):,} texts: {told}", flush=True)
@@ -124,8 +124,8 @@ class Comparison:
         self.kind(name, (it for at, it in enumerate(texts) if at < FIRST or at % self.step == 0))
 
     def is_saved_again(self, words, text):
-        """Whether what is opened from an image has that image, or the same one of version 2; each
-        is asked for once. One that the program does not open was told before.
+        """Whether the device of an image saves that image again, or the same one in version 2. Each
+        text is tried once. One that the program does not open is already counted.
         """
         if text in self.saved or self.program.fault_of(text) is not None:
             return
@@ -134,7 +134,7 @@ class Comparison:
         self.count(again == wanted, f"{words}: another image is saved", text)
 
     def case(self, case):
-        """One that is told in words; a good one is opened, and saved again as it was."""
+        """A case in words; a good image is opened, and saved again unchanged."""
         wanted = "opened" if case.is_good else "Body"
         given = self.fault_of(case.words, case.text)
         self.count(given == wanted, f"{case.words}: by the device in Python {given}", case.text)
@@ -151,7 +151,7 @@ def prefixes(text):
 
 
 def changed(text, places, changes):
-    """Each of these bytes, changed in each of these ways."""
+    """The text with each of these bytes changed in each of these ways."""
     for at in places:
         for change in changes:
             value = change(text[at])
@@ -160,7 +160,8 @@ def changed(text, places, changes):
 
 ALL_WAYS = [lambda byte, added=added: byte + added & 0xFF for added in range(1, 256)]
 
-# The lowest bit, the highest one, and by one in the direction that is not the lowest bit's.
+# Changes of the lowest bit, of the highest one, and by one in the direction that is not the lowest
+# bit's.
 THREE_WAYS = (
     *(lambda byte: byte ^ 0x01, lambda byte: byte ^ 0x80),
     lambda byte: byte + (1 if byte & 1 else -1) & 0xFF,
@@ -185,7 +186,7 @@ def damage(comparison, text):
 
 
 def device_that_saved(program):
-    """The device in Python behind the lines, made sure that the program saves its image, too."""
+    """The Python device after the lines; the program must save the same image."""
     device = Model()
     commands = [lines.assemble(line.encode("ascii")) for line in LINES]
     for buffer in commands:
@@ -211,7 +212,7 @@ def in_the_gate(comparison):
     told = []
     for case in image_bodies.cases():
         told.append(comparison.case(case))
-        # Behind what is wrong stands the image next to it.
+        # The good image that is next to the bad ones comes after them.
         if case.is_good:
             print("; ".join(told))
             told = []

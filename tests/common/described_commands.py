@@ -2,9 +2,9 @@
 
     tools/python.sh tests/common/described_commands.py PROGRAM
 
-Each fact of each command is asked of the program. A line for each kind of fact says how often the
+It asks the program about each fact of each command. A line for each kind of fact says how often the
 program was asked; each difference has a line that begins with DIFFERS. Then one fact of a command
-is described wrongly, a kind of fact after the other, and the program must tell that.
+is described wrongly, one kind of fact after the other, and the comparison must find it.
 """
 
 import concurrent.futures
@@ -29,8 +29,8 @@ from tests.common.shims import Ending, fail, ran
 TESTS = pathlib.Path(__file__).resolve().parent.parent
 AT_ONCE = 4
 
-# What the device has that is asked: its index and its object have the policy of a session that was
-# told nothing, and two more indices can be authorized for reading and for writing alone.
+# The device that is asked: its index and its object have the policy digest of a session without
+# assertions, and of two more indices one can be authorized for reading only, one for writing only.
 PCR, AES_SESSION, POLICY_SESSION = 16, 0x0200_0000, 0x0300_0001
 OBJECT, PERSISTENT = 0x8000_0000, 0x8100_0000
 INDEX, READ_INDEX, WRITE_INDEX = range(0x0100_0000, 0x0100_0003)
@@ -42,7 +42,7 @@ NO_HANDLES = RS_PW, 24, 0x0400_0000, 0xFFFF_FFFF
 
 NONCE, NO_POLICY, UNTOLD = "00" * 16, b"", bytes(32)
 
-# A token for each kind of parameter, and those at which one kind begins to differ from another.
+# Tokens of each kind of parameter, and those at which two kinds begin to differ.
 TOKENS = (
     *("7", "00", "00+01", "-", "255", "256", "65535", "65536", "0xffffffff", "0x100000000"),
     *("18446744073709551615", "18446744073709551616", "sha256:0", "sha1:" + "00" * 20, "sha256"),
@@ -55,7 +55,7 @@ class Program:
     path: str
 
     def run(self, script: Iterable[str], *options: str) -> list[str]:
-        """What it prints of a script."""
+        """What the program prints for a script."""
         text = "".join(f"{it}\n" for it in script).encode("ascii")
         done = ran(self.path, "run", *options, "-", stdin=text)
         if done.status:
@@ -104,7 +104,7 @@ def setup() -> list[str]:
 
 @dataclass(frozen=True)
 class Answer:
-    """By which check a command was refused, or `ok`, and its response code."""
+    """The check that refused a command, or `ok`, and the response code."""
 
     check: str
     code: int
@@ -113,7 +113,7 @@ class Answer:
         return (self.check, self.code) == (check, frames.code_of(name))
 
     def is_behind(self, check: str, refusal: str) -> bool | str:
-        """Whether it came through a check, which refuses it by this code alone."""
+        """Whether the command passed a check, which refuses it by this code alone."""
         if self.is_refusal(check, refusal):
             return False
         order = [*(f"G{it}" for it in range(1, 12)), *(f"A{it}" for it in range(1, 8)), "ok"]
@@ -121,7 +121,7 @@ class Answer:
 
 
 def answers_of(program: Program, code: CC, buffers: list[bytes]) -> list[Answer]:
-    """What buffers of a command come to, of which only TPM2_Startup comes first."""
+    """The outcomes of buffers of a command, with only TPM2_Startup before each."""
     before = [] if code == CC.Startup else setup()
     printed = program.run([*before, *(f"cmd {it.hex()}" for it in buffers)], "--trace")[::2]
     answers = [Answer(it.split(" ")[3], int(it.split(" ")[4], 16)) for it in printed]
@@ -134,22 +134,22 @@ def takes(handle: Handle, number: int) -> bool:
 
 
 def right_handles(code: CC) -> list[int]:
-    """Handles that are there, of the kinds that the command wants."""
+    """Handles of entities that exist, of the kinds that the command expects."""
     return [next(it for it in THERE if takes(wanted, it)) for wanted in code.handles]
 
 
 def buffer_of(code: CC, handles: list[int], *entries: bytes) -> bytes:
-    """A command whose parameters are one byte, so that hardly one of them succeeds."""
+    """A command with one byte of parameters, so that hardly any succeeds."""
     if entries:
         return frames.on_handles(code, handles, b"\0", list(entries))
     return frames.buffer_of(code, handles, [], b"\0")
 
 
-# Facts. Each function yields what was asked about some of the commands.
+# Facts. Each function yields what the program was asked about some of the commands.
 
 
 def attributes(program: Program, codes: list[CC]) -> Iterator[Asked]:
-    """Numbers, the counts of handles, and whether one is answered, by TPM2_GetCapability."""
+    """Numbers, counts of handles, and whether a handle is returned, by TPM2_GetCapability."""
     asking = [f"do GetCapability {COMMANDS} {it:#x} 1" for it in codes]
     total = f"do GetCapability 6 {TOTAL_COMMANDS:#x} 1"
     printed = program.run(["do Startup 0", *asking, total])[1:]
@@ -159,7 +159,7 @@ def attributes(program: Program, codes: list[CC]) -> Iterator[Asked]:
 
 
 def served(program: Program, codes: list[CC]) -> Iterator[Asked]:
-    """Which numbers are served, and which a policy can name."""
+    """Which command codes are served, and which a policy can name."""
     numbers = range(0x100, 0x200) if len(codes) == len(CC) else [int(it) for it in codes]
     for wanted, refusal, buffer in (
         ("served", "COMMAND_CODE", lambda it: frames.command(it, b"\0")),
@@ -188,14 +188,14 @@ def told(program: Program, word: str, said: list[str], wanted: Callable) -> Iter
 
 
 def parameters(program: Program, codes: list[CC]) -> Iterator[Asked]:
-    """Names of commands, and the number and kinds of parameters, by `tpmsim asm`."""
+    """Names of commands, and the number and kinds of their parameters, by `tpmsim asm`."""
     said = [line for code in codes for line in parameter_lines(code)]
     return told(program, "asm", said, lambda it: assembled(it.encode()))
 
 
 def parameter_lines(code: CC) -> Iterator[str]:
-    """Lines of a command with each token in the place of each parameter, one that is cut before
-    each word, and one with a word too many.
+    """Lines of a command: with each token as each parameter, cut before each word, and with a word
+    too many.
     """
     words = [code.name, *("01000000" for _ in code.handles), *map(sample, code.parameters)]
     front = len(words) - len(code.parameters)
@@ -208,7 +208,7 @@ def parameter_lines(code: CC) -> Iterator[str]:
 
 
 def sample(parameter) -> str:
-    """A token that its kind takes."""
+    """A token that this kind accepts."""
     for token in TOKENS:
         try:
             lines.WORDS[parameter.kind].spelled(token.encode())
@@ -219,14 +219,14 @@ def sample(parameter) -> str:
 
 
 def words(program: Program, codes: list[CC]) -> Iterator[Asked]:
-    """How parameters are shown, in hex or not, by `tpmsim line`."""
+    """Which parameters `tpmsim line` shows in hex."""
     ended = [assembled(line.encode()) for code in codes for line in parameter_lines(code)]
     buffers = list(dict.fromkeys(it.output.decode().strip() for it in ended if not it.status))
     return told(program, "line", buffers, lambda it: line_told(bytes.fromhex(it)))
 
 
 def kinds_of_handles(program: Program, codes: list[CC]) -> Iterator[Asked]:
-    """Which handles a command takes, of all that are there and of some that are none."""
+    """Which handles a command accepts, among all that exist and some that do not."""
     for code in codes:
         right, wanted, buffers = right_handles(code), [], []
         for place, handle in enumerate(code.handles, 1):
@@ -239,8 +239,8 @@ def kinds_of_handles(program: Program, codes: list[CC]) -> Iterator[Asked]:
 
 
 def authorizations(program: Program, codes: list[CC]) -> Iterator[Asked]:
-    """Which handles need authorization, and whether there may be entries: a password that
-    authorizes nothing is refused in its place.
+    """Which handles need authorization, and whether a command may have entries: a password that
+    authorizes nothing is refused at its own check.
     """
     for code in codes:
         handles = right_handles(code)
@@ -256,7 +256,7 @@ def authorizations(program: Program, codes: list[CC]) -> Iterator[Asked]:
 
 
 def encryption(program: Program, codes: list[CC]) -> Iterator[Asked]:
-    """Which first parameters are sized buffers: a session may decrypt or encrypt them."""
+    """Which first parameters are sized buffers, so that a session may decrypt or encrypt them."""
     for code in codes:
         if code.has(Fact.NO_SESSIONS):
             continue
@@ -274,8 +274,8 @@ def encryption(program: Program, codes: list[CC]) -> Iterator[Asked]:
 
 
 def roles(program: Program, codes: list[CC]) -> Iterator[Asked]:
-    """The ADMIN role, where an object or an index can authorize: it wants a policy that names the
-    command, and the user's role does not.
+    """The ADMIN role, if an object or an index can authorize: it needs a policy that names the
+    command; the USER role does not.
     """
     untold = frames.entry(POLICY_SESSION, bytes(16))
     for code in codes:
@@ -289,8 +289,8 @@ def roles(program: Program, codes: list[CC]) -> Iterator[Asked]:
 
 
 def nv_attributes(program: Program, codes: list[CC]) -> Iterator[Asked]:
-    """Whether an index that authorizes is asked for the attributes of reading or of writing. By
-    its value it authorizes nothing in the ADMIN role.
+    """Whether the command checks the attributes for reading or those for writing of an index that
+    authorizes it. In the ADMIN role the value of an index authorizes nothing.
     """
     for code in codes:
         if not code.authorized or not takes(code.handles[0], READ_INDEX):
@@ -304,11 +304,12 @@ def nv_attributes(program: Program, codes: list[CC]) -> Iterator[Asked]:
             yield Asked(f"{code.name} is authorized by {it:08x}", wanted, is_able)
 
 
-# What tests/general/saved_state.tpm shows, in which each command succeeds between a shutdown and a start.
+# The results of tests/general/saved_state.tpm: each command succeeds between a shutdown and a
+# start.
 
 
 def saved_state(program: Program) -> list[tuple[CC, str, str]]:
-    """Its events: the command, or None for a power cycle; its check; and the response."""
+    """Its events: the command, or None for a power cycle; the check; and the response."""
     script = (TESTS / "general/saved_state.tpm").read_text("ascii").splitlines()
     printed = iter(program.run(script, "--trace"))
     events = []
@@ -323,7 +324,7 @@ def saved_state(program: Program) -> list[tuple[CC, str, str]]:
 
 
 def keeping(program: Program, codes: list[CC]) -> Iterator[Asked]:
-    """Which commands leave what a shutdown saved: the next start can take it up, or cannot."""
+    """Which commands keep a saved state valid, so that the next start can resume it."""
     events = saved_state(program)
     kept = {CC.Startup: is_kept_by(program, ["power", "do Startup 1"])}
     kept[CC.Shutdown] = is_kept_by(program, ["do Shutdown 1"])
@@ -341,7 +342,7 @@ def is_kept_by(program: Program, between: list[str]) -> bool:
 
 
 def answers(program: Program, codes: list[CC]) -> Iterator[Asked]:
-    """The handles and parameters of responses: read by the description, nothing is left of them."""
+    """The handles and parameters of responses: the description reads them to the end."""
     responses = {
         code: bytes.fromhex(answer)
         for code, check, answer in saved_state(program)
@@ -370,7 +371,7 @@ def read_answer(code: CC, response: bytes | None) -> str:
 
 
 def read_capability(fields: Fields) -> None:
-    """Reads moreData, a capability and its list; ValueError where more is there."""
+    """Reads moreData, a capability and its list; ValueError if bytes are left."""
     _, kind = fields.take(1), fields.number(4)
     if kind == PCRS:
         lines.WORDS[Kind.SELECTION].word(fields)
@@ -395,7 +396,7 @@ CHECKS = {
 }
 
 
-# Wrong descriptions of one command each.
+# Wrong descriptions, of one command each.
 
 
 def with_handle(code: CC, **changes) -> dict:
@@ -416,7 +417,7 @@ def with_fact(code: CC, fact: Fact) -> dict:
 
 @dataclass(frozen=True)
 class Wrong:
-    """What is described wrongly of a command, by which check that has to be found, and how."""
+    """A wrong description of a command's fact, the check that has to find it, and the change."""
 
     what: str
     check: str
@@ -459,7 +460,7 @@ WRONG = (
 
 
 def is_missing_one_found(program: Program) -> bool:
-    """Whether a command that is not described is found among those that are served."""
+    """Whether the comparison finds a command that is served and not described."""
     with mock.patch.dict(NUMBERED):
         del NUMBERED[READ]
         return any(it.described != it.found for it in served(program, [READ]))

@@ -1,13 +1,13 @@
-"""Writes the expected output NAME.out beside scripts NAME.tpm, without running the simulator; and
-NAME.trace, which `--trace` prints, where there is such a file already, be it an empty one.
+"""Writes the expected output NAME.out next to scripts NAME.tpm, without running the simulator; and
+NAME.trace, which `--trace` prints, if there is such a file already, even an empty one.
 
     tools/python.sh tests/common/expected.py                    for every script in tests/
     tools/python.sh tests/common/expected.py tests/general/startup.tpm  for these
 
-The comment above a command, or above a few of them, names what must come: `: SUCCESS`, or a
-response code with its number, as in `: VALUE/p1 (1C4)`. It holds up to the next comment or empty
-line. What is answered is computed by the model; where the comment names another outcome, that is a
-fault, and nothing is written.
+The comment above one or more commands names their outcome: `: SUCCESS`, or a response code with its
+number, as in `: VALUE/p1 (1C4)`. It applies up to the next comment or empty line. The Python device
+computes the answers. If one has another outcome than its comment names, that is a fault, and
+nothing is written.
 """
 
 import pathlib
@@ -27,7 +27,7 @@ OUTCOMES = {"SUCCESS", *frames.CODES}
 
 
 def wanted_of(comment):
-    """What a comment says must come: None for a success, else the name of a response code."""
+    """The outcome that a comment names: None for a success, else the name of a response code."""
     named = [it for it in WANTED.findall(comment) if it[0].partition("/")[0] in OUTCOMES]
     if len(named) != 1:
         raise ValueError(f"the comment names {len(named)} outcomes:{comment}")
@@ -41,7 +41,7 @@ def wanted_of(comment):
 
 
 def buffer_of(line):
-    """The buffer of a script's line, or None where it has none."""
+    """The buffer of a script's line; None if it has none."""
     word, _, argument = line.partition(" ")
     if word == "do":
         return lines.assemble(argument.encode("ascii"))
@@ -50,8 +50,8 @@ def buffer_of(line):
 
 @dataclass(frozen=True)
 class Command:
-    """A command of a script, from a locality, with random bytes, so many milliseconds after the one
-    before; and the comment that says what must come.
+    """A command of a script with its locality, its random bytes, the milliseconds since the one
+    before; and the comment that names its outcome.
     """
 
     buffer: bytes
@@ -62,7 +62,7 @@ class Command:
 
 
 def events_of(script):
-    """The commands of a script, and None for a power cycle, up to its end or to a bad line."""
+    """The commands of a script, and None for each power cycle, up to its end or a bad line."""
     locality, random = 0, bytes(RANDOM_BYTES)
     comment, in_comment, elapsed = "", False, 0
     for line in script.splitlines():
@@ -92,7 +92,7 @@ def events_of(script):
 
 
 def played_by(script, device):
-    """What comes of a script's events, which has to be what its comments say."""
+    """The outcomes of a script's events, which have to be those that its comments name."""
     for it in events_of(script):
         if it is None:
             device.power_cycle()
@@ -114,11 +114,11 @@ def device_behind(script):
     return device
 
 
-# What must come of `tpmsim`.
+# The expected results of `tpmsim`.
 
 
 def fault_of(line):
-    """The fault of a line, with its column; nothing where it is good."""
+    """The fault of a line, with its column; empty if the line is good."""
     try:
         lines.assemble(line)
         return ""
@@ -143,7 +143,7 @@ def line_told(buffer):
 
 
 def traced(script):
-    """How `tpmsim run --trace` ends with a script, whose lines may be anything."""
+    """How `tpmsim run --trace` ends with a script, whose lines may be arbitrary bytes."""
     printed, error = player.played(script)
     status = {"": 0, "tpmsim: file": 3}.get(error, 2)
     output = "".join(f"{line}\n" for _, line in printed).encode("ascii")

@@ -2,9 +2,9 @@
 
     python3 forced_names.py PROGRAM
 
-The process that put the journal in its place may have been killed before it forced the folder, and so
-may the one that made the folder. So the folder and the one above it are forced before a response is
-printed, once in a run. The calls are those that the shim tear.c notes.
+The process that renamed the journal into place may have been killed before it forced the folder. So
+may the process that made the folder. So each run forces the folder and its parent once, before it
+prints a response. The shim tear.c notes the calls.
 """
 
 import pathlib
@@ -17,7 +17,7 @@ ABOVE = pathlib.Path("above")
 
 
 def order(program, label, words, stdin=b""):
-    """Prints in which order a run forces, renames and answers."""
+    """Prints the order in which a run forces, renames and answers."""
     ending = ended(program.begun(words), stdin)
     calls = [call for call in program.noted() if call.startswith(FORCING)]
     print(f"{label}: status {ending.status}, {', '.join(calls) or 'nothing'}")

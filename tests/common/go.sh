@@ -1,5 +1,5 @@
-# What the tests of the Go module share, which read this file behind cases.sh and library.sh: a copy of the
-# module, over the archive that is tested, and the folders where go works.
+# Shared by the tests of the Go module, which read this file after cases.sh and library.sh: a copy of the
+# module, over the archive under test, and the folders in which go works.
 # shellcheck shell=sh disable=SC2154 # cases.sh has `room` and `tests`, library.sh `dist`
 export CGO_ENABLED=1 GOFLAGS=-buildvcs=false GOPROXY=off GOSUMDB=off
 export GOCACHE="${TPMSIM_BUILT:-$room}/go" GOPATH="$room/path" CGO_LDFLAGS="-L$dist"
@@ -9,7 +9,7 @@ copy_module() {
     cp -rL "$tests/../go" module && rm -rf module/native && cp "$dist/tpmsim.h" module/
 }
 
-# play WORDS..: what go does in the copy; what it says if that fails.
+# play WORDS..: runs go in the copy, and prints its output if it fails.
 play() {
     (cd module && go "$@") >said 2>&1 && return
     echo "go $*: status $?"

@@ -1,7 +1,7 @@
-/* Stands before the C library's clock_gettime and getrandom. The file HOST, a variable of the environment, has
- * the time of each clock, seconds and nanoseconds as two numbers of 64 bits, and 256 bytes. Those are the
- * random bytes, and as often as a clock is read, they are put again where the first ones were put: so each
- * command of libtpms.so.0 may draw just these. */
+/* Replaces the C library's clock_gettime and getrandom. The file HOST, a variable of the environment, has
+ * the time of each clock, seconds and nanoseconds as two numbers of 64 bits, and 256 random bytes. Each time
+ * a clock is read, the random bytes are written again to where the first ones were put. So each command of
+ * libtpms.so.0 can draw exactly these. */
 #include <fcntl.h>
 #include <stdint.h>
 #include <stdlib.h>

@@ -1,4 +1,4 @@
-# What the tests of the package for JavaScript share. Each reads this file behind cases.sh.
+# Shared by the tests of the package for JavaScript. Each reads this file after cases.sh.
 # shellcheck shell=sh disable=SC2034,SC2154 # cases.sh has `tests`
 needs node
 top=${tests%/*}
@@ -10,7 +10,7 @@ node -e 'process.exit(process.getBuiltinModule ? 0 : 1)' ||
     is_proved 'web module' "$(checksum <dist/tpmsim.wasm)") ||
     skip 'dist/tpmsim.wasm was proved of other sources than these'
 
-# all_pass FOLDER: runs the tests of a package by node's runner, and shows what it says if one fails.
+# all_pass FOLDER: runs the tests of a package by node's runner, and prints its output if one fails.
 all_pass() {
     if TPMSIM_REPOSITORY=$top TPMSIM_MODULE=$top/dist/tpmsim.wasm node --test "$1/tests/" >"$room/said" 2>&1; then
         echo 'all tests pass'

@@ -1,6 +1,6 @@
-# The hosts of a kept device, and the shims that make their calls fail and log what they do. A test is given
-# the archive, and reads this file after cases.sh and library.sh. tests/keeping/hosts.py says where it finds the
-# hosts.
+# The hosts of a kept device, and the shims that make their calls fail and log them. A test is given the
+# archive, and reads this file after cases.sh and library.sh. tests/keeping/hosts.py says where it looks for
+# the hosts.
 # shellcheck shell=sh disable=SC2154 # library.sh has `archive` and `dist`
 needs cc nm strip python3 tss2/tss2_tcti.h
 top=$tests/..
@@ -28,7 +28,7 @@ if [ ! -d "$built" ]; then
     mv -T "$room/new" "$built" 2>"$room/moved" || rm -r "$room/new"
 fi
 
-# against SHIM NAME WORDS..: plays a program of this folder with a shim.
+# against SHIM NAME WORDS..: runs a program of this folder with a shim.
 against() {
     shim=$built/$1.so
     played=$tests/keeping/$2.py

@@ -1,4 +1,4 @@
-"""The image that a run of the program keeps, beside the device in Python that it has to be of."""
+"""The image that a run of the program keeps, and the Python device whose image it has to be."""
 
 import pathlib
 
@@ -13,7 +13,7 @@ def opened():
 
 
 def identity():
-    """What is another after each save, or nothing where there is no image."""
+    """What differs after each save; None if there is no image."""
     try:
         told = IMAGE.stat()
     except FileNotFoundError:
@@ -22,7 +22,7 @@ def identity():
 
 
 def check_image(label, device, compared=bytes):
-    """Makes sure that the image is a device's, by what is compared of both."""
+    """Checks that the image is the device's, by what `compared` makes of both."""
     if not IMAGE.exists():
         fail(f"{label}: there is no image")
     if compared(IMAGE.read_bytes()) != compared(image(device)):
@@ -32,7 +32,7 @@ def check_image(label, device, compared=bytes):
 
 
 def check_save(label, device, changes, old, compared=bytes):
-    """The same behind a change; else makes sure that the image is still the one of an identity."""
+    """The same after a change; without one, checks that the image still has its old identity."""
     if changes:
         check_image(label, device, compared)
     elif identity() != old:

@@ -2,7 +2,7 @@
 
     python3 kept_scripts.py PROGRAM
 
-The device in Python plays the same lines, and says after each which image has to be in the file.
+The Python device plays the same lines, and says after each one which image the file has to contain.
 """
 
 import pathlib
@@ -19,7 +19,7 @@ from tests.common.shims import FILE, begun, end, ended, fail
 PROGRAM = sys.argv[1]
 RUN = [PROGRAM, "run", "--trace", "--image", IMAGE]
 
-# Scripts whose devices change in all that is kept.
+# Scripts whose devices change in everything that is kept.
 SCRIPTS = [
     *sorted(places.EXAMPLES.glob("*.tpm")),
     *map(
@@ -47,7 +47,7 @@ class Run:
         self.process.stdin.flush()
 
     def read(self, line):
-        """Reads what comes of a line."""
+        """Reads what a line makes the run print."""
         wanted = self.player.play(line)
         given = [self.process.stdout.readline().decode().rstrip("\n") for _ in wanted]
         if given != wanted:
@@ -55,7 +55,7 @@ class Run:
         return wanted
 
     def tell(self, *lines):
-        """Tells lines, and looks at the image behind each."""
+        """Sends lines, and checks the image after each."""
         before = without_clock(self.player.device)
         for line in lines:
             old = identity()
@@ -69,21 +69,21 @@ class Run:
                 self.is_saved, before = True, kept
 
     def end(self, stays=False):
-        """Ends the script. The clock of its last command is saved too, in an image that may stay."""
+        """Ends the script. The clock of its last command is saved too, unless the image `stays`."""
         end(self.process)
         check_image("the end", self.player.device)
         if not stays:
             IMAGE.unlink()
 
     def kill(self):
-        """Kills the program, and gives the device that has to be in the image."""
+        """Kills the program, and returns the device that the image must have."""
         self.process.kill()
         ended(self.process)
         return open_image(image(self.player.device))
 
 
 def watch(script):
-    """A script line by line, and once more on the image that it left."""
+    """Plays a script line by line, and again on the image that it left."""
     for again in ("", ", on its image"):
         run = Run(opened() if again else None)
         run.tell(*script.read_bytes().splitlines())
@@ -92,7 +92,7 @@ def watch(script):
 
 
 def check_powers():
-    """A power cycle saves the clock too, which no command did that changed nothing else."""
+    """A power cycle also saves the clock, if no command did because nothing else changed."""
     run = Run()
     run.tell(b"do Startup 0", b"wait 5000", b"do ReadClock", b"power", b"do ReadClock")
     device = opened()
@@ -103,7 +103,7 @@ def check_powers():
 
 
 def check_kills():
-    """The program is killed behind each response in turn."""
+    """Kills the program after each response in turn."""
     lines = [b"do Startup 0", DEFINE, INCREMENT, INCREMENT, EXTEND, b"do Shutdown 1", INCREMENT]
     for count in range(1, len(lines) + 1):
         run = Run()
@@ -117,7 +117,7 @@ def check_kills():
 
 
 def check_entropy():
-    """A new device is made of the first random bytes. One that is opened needs none."""
+    """A new device is made from the first random bytes. A device that is opened needs none."""
     random = bytes(range(255, -1, -1))
     pathlib.Path("entropy").write_bytes(random + b"left over")
     run = Run(None, "--entropy", "entropy")
@@ -132,7 +132,7 @@ def check_entropy():
 
 
 def check_unsaved():
-    """A response goes out behind the save of what it tells, and not where that fails."""
+    """A response is sent after its change is saved, and not if the save fails."""
     BESIDE.mkdir()
     run = Run()
     (BESIDE / "file").touch()
@@ -158,7 +158,7 @@ def check_unsaved():
 
 
 def check_pieces():
-    """Responses that are still held are saved before they go out, with many commands at once."""
+    """With many commands at once, responses that are held back are saved before they are sent."""
     run = Run()
     lines = [b"do Startup 0", DEFINE, *[INCREMENT] * 400, b"do NV_Read OWNER 01000002 pw:- 8 0"]
     run.write(*lines)

@@ -1,16 +1,16 @@
-"""Kills a served device at random moments, and looks at its image behind each:
+"""Kills a served device at random moments, and checks its image after each kill:
 
-    python3 kills.py PROGRAM COUNT SEED          says that all went as it must, or what did not
-    python3 kills.py PROGRAM COUNT SEED counts   says in a second line where the kills fell
+    python3 kills.py PROGRAM COUNT SEED          says that all was right, or what was not
+    python3 kills.py PROGRAM COUNT SEED counts   says in a second line when the kills happened
 
-It works in the folder that it is run in. The device has a counter and an index of 8 bytes. A
-connection reads both, increments the counter, and writes the number that the counter then has to the
-other index; so the two numbers, which are always the same, tell how many connections the device has
-behind it. A client that has read all responses closes its sending side, and reads to the end of the
-stream. The device is saved only behind that, so that a client knows for sure that a connection has
-ended, with the device saved, when a later connection is answered, or when the program has ended by
-itself. An image has to be the device after the last connection of which that is known; or, where the
-client had closed the next one before the kill, after that one.
+It works in the current folder. The device has a counter and an index of 8 bytes. A connection reads
+both, increments the counter, and writes the counter's new number to the other index. So the two
+numbers, which are always the same, count the connections that the device has had. After a client
+has read all responses, it closes its sending side, and reads to the end of the stream. The device
+is saved only after that. So a client knows that a connection has ended, with the device saved, only
+when a later connection is answered, or when the program has ended by itself. An image has to be the
+device after the last connection that is known to have ended. If the client had closed the next one
+before the kill, the image may also be the device after that one.
 """
 
 import collections
@@ -35,18 +35,18 @@ COUNTER, NUMBER = 0x0100_0002, 0x0100_0003
 
 
 class Wrong(Exception):
-    """What must not be."""
+    """A result that must not happen."""
 
 
 class Client(Caller):
     """A caller in a connection of its own."""
 
     def answers(self):
-        """Starts the device, unless it is started; DeviceEnded where the stream ends before."""
+        """Starts the device, unless it is started; DeviceEnded if the stream ends before."""
         self.device.execute(self.starting(CLEAR).buffer())
 
     def number(self):
-        """How many connections the device has behind it, by both of its indices."""
+        """The number of connections that the device has had, by both of its indices."""
         counter, number = (
             int.from_bytes(self.send(self.reading(it, 8, by=RH_OWNER))["data"], "big")
             for it in (COUNTER, NUMBER)
@@ -69,7 +69,7 @@ class Client(Caller):
 
 
 def connected(process):
-    """A client, as soon as the socket is there; nothing where the program has ended."""
+    """A client, as soon as the socket is there; None if the program has ended."""
     while process.poll() is None:
         try:
             return Client(ServedDevice("socket"))
@@ -97,13 +97,13 @@ def manufacture(program):
 
 
 def serve(process, known):
-    """Serves connections as long as the process is there: after each step of one the last number that
-    is known to have been saved, and whether one more may have been.
+    """Serves connections as long as the program runs. Yields after each step the last number that
+    is known to be saved, and whether one more may be.
     """
     may_be_saved = False
     while client := connected(process):
         client.answers()
-        # The connection is answered: the one before it has ended.
+        # The connection is answered, so the one before it has ended.
         known, may_be_saved = known + may_be_saved, False
         yield known, may_be_saved
         number = client.number()
@@ -116,7 +116,7 @@ def serve(process, known):
 
 
 def until_killed(program, known, life):
-    """Serves until the program is killed: the same at last, and whether a connection was answered."""
+    """Serves until the program is killed: the last of these, and whether one was answered."""
     process = begun([program, *SERVE, "4294967295"])
     killed = threading.Event()
 
@@ -140,7 +140,7 @@ def until_killed(program, known, life):
 
 
 def looked_at(program):
-    """The number in the image that a killed run left, once it is whole and opens."""
+    """The number in the image that a killed run left, after checking that it is whole and opens."""
     image = pathlib.Path("image").read_bytes()
     if hashlib.sha256(image[:-DIGEST_SIZE]).digest() != image[-DIGEST_SIZE:]:
         raise Wrong("the image is not whole")
@@ -155,8 +155,8 @@ def looked_at(program):
 
 
 def tidy():
-    """Removes the folders that killed runs left, of which there may be a hundred, and says whether
-    one was there."""
+    """Removes the folders that killed runs left, at most a hundred, and returns whether there were
+    any."""
     left = list(pathlib.Path().glob(".[0-9]*"))
     for folder in left:
         shutil.rmtree(folder)

@@ -1,5 +1,5 @@
-# What the tests of the library share. Each is given the archive, beside which stand the shared
-# object and the header, and reads this file behind cases.sh.
+# Shared by the tests of the library. Each is given the archive, which has the shared object and the header
+# next to it, and reads this file after cases.sh.
 # shellcheck shell=sh disable=SC2034,SC2154 # cases.sh has `program` and `room`
 dist=$(dirname "$(readlink -f "$program")")
 archive=$dist/libtpmsim.a
@@ -7,7 +7,7 @@ shared=$dist/libtpmsim.so.0
 sources=$tests/library
 sanitizers='-g -fsanitize=address,undefined -fno-sanitize-recover=all'
 
-# compile CALLER SOURCE WORDS..: compiles a caller in C, for which each warning is an error.
+# compile CALLER SOURCE WORDS..: compiles a caller in C; each warning is an error.
 compile() {
     caller=$room/$1
     source=$sources/$2.c

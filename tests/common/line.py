@@ -1,13 +1,13 @@
-"""Checks the lines of all scripts, and finds the lines of their buffers by `tpmsim line`:
+"""Checks the lines of all scripts, and has `tpmsim line` find the lines of their buffers:
 
     python3 line.py PROGRAM
 
-The buffer of each `do` line of tests/ and examples/, taken apart as the device takes it apart and
-put together again by frames.py, must be the same, and the line that the device in Python finds for
-it must assemble to it. In a script that a program wrote, a `cmd` line must be one that no words say,
-unless the script says that its commands stand as bytes. The program must find the same lines. It is
-asked for the first ones of each command, and of the others for one in ten; and as the commands of
-bent scripts are many, for each twentieth `cmd` line.
+Two checks apply to the buffer of each `do` line of tests/ and examples/. Taken apart as the device
+does and put together by frames.py, it must be the same; and the line that the Python device finds
+for it must assemble to it. In a script that a program wrote, no words may encode a `cmd` line,
+unless the script says that its commands are bytes. The program must find the same lines. It is
+asked for the first buffers of each command and for a tenth of the others; for a twentieth of the
+`cmd` lines, as bent scripts have many.
 """
 
 import collections
@@ -22,16 +22,16 @@ from tests.common.shims import Shim, Turns
 
 EACH = 20
 FIRST, STEP = 25, 10
-AS_BYTES = "All commands stand as bytes"
+AS_BYTES = "All commands are in bytes"
 
 
-# Many lines stand in more than one script.
+# Many scripts have the same lines.
 line_of = functools.cache(lines.line_of)
 
 
 @functools.cache
 def assembled(line):
-    """The buffer of a line, or nothing of one that is none."""
+    """The buffer of a line; None for a bad line."""
     try:
         return lines.assemble(line)
     except lines.Fault:
@@ -39,7 +39,7 @@ def assembled(line):
 
 
 def put_together(buffer):
-    """A buffer once more, from its parts as the device reads them."""
+    """A buffer that is put together again from its parts, as the device reads them."""
     fields = Fields(buffer)
     tag, code = general.read_header(fields, len(buffer))
     handles = [fields.number(4) for _ in code.handles]
@@ -57,8 +57,8 @@ def is_right(line):
 
 
 def faults(text):
-    """The numbers of the lines at which a script is not as it should be."""
-    is_written = "Written by" in text.replace("\n# ", " ") and AS_BYTES not in text
+    """The numbers of the lines at which a script is wrong."""
+    is_written = "next to it, wrote this." in text.replace("\n# ", " ") and AS_BYTES not in text
     for number, line in enumerate(text.splitlines(), 1):
         word, _, argument = line.partition(" ")
         if word == "do" and not is_right(argument.encode("ascii")):
@@ -68,7 +68,7 @@ def faults(text):
 
 
 def arguments(word):
-    """What stands behind this word in the scripts, each once."""
+    """What follows this word in the scripts, each once."""
     told = (
         line.partition(b" ") for it in places.scripts() for line in it.read_bytes().splitlines()
     )
@@ -76,7 +76,7 @@ def arguments(word):
 
 
 def check(turns, buffer):
-    """Whether the line is right; of another one it is said which it should be."""
+    """Whether the program finds the right line; if not, prints which it should be."""
     told, wanted = turns.run(word=buffer.hex().encode("ascii")), line_told(buffer)
     if told != wanted:
         print(f"FAILED: {buffer.hex()}: {told}, and not {wanted}")
@@ -84,7 +84,7 @@ def check(turns, buffer):
 
 
 def some(buffers):
-    """The first ones of each command, and of the others one in so many."""
+    """The first buffers of each command, and one of every few others."""
     seen = collections.Counter()
     for buffer in buffers:
         code = buffer[6:10]
@@ -93,7 +93,7 @@ def some(buffers):
         seen[code] += 1
 
 
-# One that does not end well may have a line that is none.
+# A line that does not assemble may be a bad one.
 ending_well = [it for it in places.scripts() if not it.with_suffix(".status").exists()]
 wrong = [f"{it}:{at}" for it in ending_well for at in faults(it.read_text("ascii"))]
 print("\n".join(f"FAILED: {it}" for it in wrong) or "each do line comes back as a line")

@@ -2,10 +2,10 @@
 
     python3 tests/common/links.py [--count] FOLDER DOCUMENT..
 
-Each link to a file of FOLDER must lead to a file or folder that is there, and each #anchor to a
-heading of the document, by the anchors that GitHub makes of headings. A link that leads nowhere has
-a line. Links to other sites are not followed. With --count the last line has the exact numbers,
-else only that there are some. The status is 1 where a link leads nowhere.
+Each link to a file of FOLDER must lead to an existing file or folder, and each #anchor to a heading
+of the document, by the anchors that GitHub makes of headings. A link that leads nowhere has a line.
+Links to other sites are not followed. With --count the last line has the exact numbers, else only
+that there are some. The status is 1 if a link leads nowhere.
 """
 
 import pathlib
@@ -21,18 +21,18 @@ SITE = re.compile(r"^[a-z]+:")
 
 
 def blank(found: re.Match[str]) -> str:
-    """As many line breaks as there were, so that numbers of lines stay."""
+    """The line breaks of a match, so that line numbers stay."""
     return "\n" * found[0].count("\n")
 
 
 def anchor_of(heading: str) -> str:
-    """The anchor that GitHub makes of a heading, but for the number of a second one."""
+    """The anchor that GitHub makes of a heading, without the number of a repeated one."""
     words = re.sub(r"\[([^]]*)\]\([^)]*\)", r"\1", heading)
     return re.sub(r"[^\w\- ]", "", words.lower()).replace(" ", "-")
 
 
 def anchors_of(text: str) -> set[str]:
-    """All anchors of a document: the second heading of one name has -1 behind it."""
+    """All anchors of a document; the second heading of a name ends with -1."""
     times: dict[str, int] = {}
     anchors = set()
     for heading in HEADING.findall(FENCE.sub(blank, text)):
@@ -51,7 +51,7 @@ def links_of(text: str) -> Iterator[tuple[int, str]]:
 
 
 def fault_of(document: pathlib.Path, target: str) -> str:
-    """Why a link leads nowhere, or nothing where it leads somewhere."""
+    """Why a link leads nowhere; empty if it leads somewhere."""
     name, _, anchor = target.partition("#")
     path = document.parent / name if name else document
     if not path.exists():
@@ -62,7 +62,7 @@ def fault_of(document: pathlib.Path, target: str) -> str:
 
 
 def main(words: list[str]) -> int:
-    """Tells the links that lead nowhere, and gives the status."""
+    """Prints the links that lead nowhere, and returns the status."""
     counts = words[:1] == ["--count"]
     folder, *names = words[1:] if counts else words
     links, broken = 0, 0

@@ -1,11 +1,11 @@
-"""Refuses memory to a device in lists:
+"""Refuses memory to a device that keeps its state in lists:
 
     python3 lists_starved.py TPMSIM_LISTS
 
-Each allocation is refused in turn, alone and with all that follow. An image is then opened, and a
-line executed, or the run ends with status 3 and `tpmsim_lists: memory`. A script that has begun
-goes on: a command that needed the memory is answered MEMORY, and all answers have to be those of the
-device in Python, to which the same commands are starved.
+Each allocation is refused in turn, alone and with all that follow. Either the image is opened and
+the line executed, or the run ends with status 3 and `tpmsim_lists: memory`. A script that has begun
+goes on: a command that needed the memory is answered MEMORY. All answers have to be those of the
+Python device, to which the same commands are starved.
 """
 
 import collections
@@ -22,23 +22,23 @@ MEMORY = Ending(3, error=b"tpmsim_lists: memory\n")
 STARVED, SUCCESS = machine.STARVED.hex(), bytes(4).hex()
 CODE = slice(12, 20)
 
-# The commands that may be answered MEMORY, and the script that has each of them at each size at
-# which a list grows, and all other commands.
+# The commands that may be answered MEMORY, and the script. It has all commands, and each of these
+# at each size at which a list grows.
 GROWING = {CC.StartAuthSession, CC.CreatePrimary, CC.Load, CC.NV_DefineSpace, CC.EvictControl}
 SCRIPT = (HERE / "growing.tpm").read_bytes()
 LINES = SCRIPT.splitlines()
 
 
 def printed(starved=()):
-    """What the script prints, by the device in Python, where these commands are starved."""
+    """What the script prints, by the Python device, if these commands get no memory."""
     player = Player(starved=starved)
     told = [player.play(line) for line in LINES]
     return [it[-1] for it in told if it and it[-1] != "power"]
 
 
 class Script:
-    """The script, its commands, and how often each was answered MEMORY where one allocation alone
-    was refused.
+    """The script, its commands, and how often each was answered MEMORY when a single allocation was
+    refused.
     """
 
     def __init__(self, program):
@@ -66,14 +66,14 @@ class Script:
         return ending.output.decode("ascii").splitlines()
 
     def check_all_succeed(self):
-        """Each command of the device stands in the script, and succeeds there."""
+        """Checks that the script has each command of the device, and that each succeeds once."""
         answered = zip(self.codes, self.whole)
         succeeded = {code for code, answer in answered if answer[CODE] == SUCCESS}
         if succeeded != set(machine.ROWS):
             fail("the script does not have every command")
 
     def check_run(self, turn, ending):
-        """Gives which commands were starved: they may be, and all answers are those of Python."""
+        """Returns which commands got no memory: they may; all answers must be those of Python."""
         if ending == MEMORY:
             return []
         answers = self.answers(ending)
@@ -86,7 +86,7 @@ class Script:
         return starved
 
     def check_alone(self, turn, ending):
-        """A refusal alone starves one command at most, which succeeds the next time."""
+        """A single refused allocation starves at most one command, which succeeds the next time."""
         starved = self.check_run(turn, ending)
         if len(starved) > 1:
             fail(f"allocation {turn} refused, the commands {starved} starved")
@@ -108,7 +108,7 @@ class Script:
 
 
 def full_image():
-    """The image of the device when the script has filled it up."""
+    """The image of the device when the script has filled it."""
     player = Player()
     for line in LINES:
         if line.startswith(b"do Clear "):
@@ -118,9 +118,9 @@ def full_image():
 
 
 def check_image(program, label, text):
-    """Opens an image, and two that are none. One is refused by its digest, before memory is needed
-    for a device; the other has a byte too many, behind all that the device needs memory for. That
-    it is no image is told whatever memory there is, once the file has been read.
+    """Opens an image and two bad ones. One is refused by its digest, before the device needs
+    memory. The other has an extra byte after everything that the device needs memory for. Once the
+    file has been read, the run reports it as no image, whatever memory there is.
     """
     path, words = pathlib.Path("image"), ["open", "image"]
     path.write_bytes(text)

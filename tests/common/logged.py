@@ -3,9 +3,9 @@
     python3 logged.py PROGRAM COUNT
     python3 logged.py PROGRAM --full FOLDER
 
-What a caller was answered is compared with what `tpmsim run` answers on the image of the start and
-the log, and with what the log is explained as: over sessions, indices, a lockout and starts anew, where the log is cut, and behind this
-many kills; or where the log is in a folder on a disk that gets full.
+What a caller was answered is compared with what `tpmsim run` answers to the image of the start and
+the log, and with how the log is explained: over sessions, indices, a lockout and restarts, with a
+log that is cut, and after COUNT kills; or with the log in a folder on a disk that gets full.
 """
 
 import contextlib
@@ -33,7 +33,7 @@ INDEX, COUNTER = 0x0100_0001, 0x0100_0002
 
 
 class Run:
-    """A run of the program on the image that is there, with a log of its own."""
+    """A run of the program on the image that is there, with its own log."""
 
     def __init__(self, program, name, connections, *options, folder=""):
         self.program, self.log = program, pathlib.Path(folder, f"{name}.log")
@@ -101,7 +101,7 @@ def draw(tpm):
 
 
 def count_on(tpm, *others):
-    """Starts, and increments, behind other uses each time, until the device has ended."""
+    """Starts, and increments after the other uses each time, until the device has ended."""
     with contextlib.suppress(DeviceEnded):
         tpm.start_up()
         while True:
@@ -111,7 +111,7 @@ def count_on(tpm, *others):
 
 
 def answered(*parts):
-    """What was answered over as many connections, one after another."""
+    """What was answered over several connections, one after another."""
     responses = []
     for part in parts:
         connected("socket").close()
@@ -122,7 +122,7 @@ def answered(*parts):
 
 
 def check_uses(program, *options):
-    """A device that is used over three starts, each with its own log; gives the last run."""
+    """Uses a device over three starts, each with its own log; returns the last run."""
     for use in (use_sessions, use_indices, use_lockout):
         run = Run(program, "_".join([use.__name__, *options]), 4, *options)
         responses = answered(use, draw)
@@ -133,7 +133,7 @@ def check_uses(program, *options):
 
 
 def check_cut(run, responses, chance):
-    """A log that is cut off anywhere is good up to there."""
+    """A log that is cut off at any place is good up to there."""
     text = run.log.read_bytes()
     lines = text.splitlines(keepends=True)
     ends = [
@@ -151,7 +151,7 @@ def check_cut(run, responses, chance):
 
 
 def check_killed(program, number, chance):
-    """Behind a kill each command that was answered is in the log, and at most one more."""
+    """After a kill the log has each command that was answered, and at most one more."""
     run = Run(program, f"killed_{number}", MOST_CONNECTIONS)
     timer = threading.Timer(chance.uniform(*LIVES), run.process.kill)
 
@@ -167,7 +167,7 @@ def check_killed(program, number, chance):
 
 
 def check_full(program, folder, *options):
-    """Where a disk gets full, the log has all that was answered, and the image too."""
+    """If a disk gets full, the log and the image have all that was answered."""
     run = Run(program, "_".join(["full", *options]), 2, *options, folder=folder)
     responses = answered(count_on)
     end(run.process, FILE)
@@ -178,7 +178,7 @@ def check_full(program, folder, *options):
     [*_, number] = answered(lambda tpm: (tpm.start_up(), tpm.send(tpm.reading(COUNTER, 8))))
     end(again.process)
     again.log.unlink()
-    # The start is one of the responses, and five increments were made before.
+    # The start is one of the responses; five increments were made before.
     more = int.from_bytes(number[16:24], "big") - 5 - (len(responses) - 1)
     label = " ".join(options) or "no option"
     print(f"{label}: commands that are in the image and were not answered: {more}")

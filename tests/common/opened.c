@@ -1,5 +1,5 @@
-/* Opens each journal that its arguments name, which executes it again, and says how that ended: a number of
- * tpmsim.h, and whether all of it was executed. */
+/* Opens each journal that its arguments name, which executes it again. Prints how that ended, as a number of
+ * tpmsim.h, and whether the whole journal was executed. */
 #include "tpmsim.h"
 
 #include <stdio.h>

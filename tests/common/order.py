@@ -1,5 +1,5 @@
-"""A teller of the order of refusals: each command has many faults, of which one after the other is
-repaired, and what is answered is the first that is left.
+"""A teller of the order of refusals: each command has many faults, which are repaired one by one.
+The answer is always the first fault that is left.
 """
 
 from collections.abc import Sequence
@@ -22,7 +22,7 @@ class OrderTeller(Teller):
         both: str = "BAD_AUTH/s1",
     ) -> None:
         """The authorization area, the entries, and their hmacs, with parameters that are `cut`. No
-        password can use the index that is `closed`. `both` is what two wrong entries come to.
+        password can use the index `closed`. `both` is the outcome of two wrong entries.
         """
         text, last = b"".join(number(it, 4) for it in handles), len(uses)
         if code.authorized:
@@ -44,8 +44,8 @@ class OrderTeller(Teller):
     def in_order(
         self, code: CC, uses: Sequence[Means], *cases: tuple[str, str, Sequence[int], bytes]
     ) -> None:
-        """What is left, each with its outcome, the handles and the parameters. The value of the
-        first handle authorizes it.
+        """The remaining faults, each with its outcome, handles and parameters. The first handle's
+        authorization value authorizes the command.
         """
         for what, outcome, handles, parameters in cases:
             by_value = self.auth_value(handles[0])

@@ -1,4 +1,4 @@
-"""What a script prints, by the device in Python: NAME.out, and NAME.trace where there is one."""
+"""What a script prints, by the Python device: NAME.out, and NAME.trace if there is one."""
 
 import pathlib
 from dataclasses import dataclass
@@ -11,14 +11,14 @@ RANDOM_BYTES = 256
 
 
 def repeated(random: bytes) -> bytes:
-    """The random bytes of a command, of those that an `entropy` line has."""
+    """The random bytes of a command, which repeat those of an `entropy` line."""
     return (random * RANDOM_BYTES)[:RANDOM_BYTES]
 
 
 @dataclass(frozen=True)
 class Played:
-    """What came of a command, from its locality and so many milliseconds after the one before. A
-    power cycle has no outcome, and nothing is printed of it but what is traced.
+    """The outcome of a command, with its locality and the milliseconds since the one before. A
+    power cycle has no outcome, and prints only its line of the trace.
     """
 
     outcome: Outcome | None = None
@@ -40,7 +40,7 @@ POWER = Played()
 
 
 def write_outputs(path: pathlib.Path, played: Sequence[Played]) -> None:
-    """Writes NAME.out beside a script NAME.tpm, and NAME.trace anew where that is there already."""
+    """Writes NAME.out next to a script NAME.tpm, and NAME.trace again if there is one already."""
     path.with_suffix(".out").write_text("".join(it.response for it in played), "ascii")
     trace = path.with_suffix(".trace")
     if trace.exists():

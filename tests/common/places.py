@@ -1,4 +1,4 @@
-"""Where the scripts lie."""
+"""Finds the scripts."""
 
 import pathlib
 
@@ -8,16 +8,16 @@ EXAMPLES = TOP / "examples"
 
 
 def of_tests() -> list[pathlib.Path]:
-    """The scripts of the folders of tests/ by their names, but for parts of other tests."""
+    """The scripts of the folders of tests/ by name, without parts of other tests."""
     found = (it for it in TESTS.glob("*/*.tpm") if it.parent.name != "common")
     return sorted(found, key=lambda it: it.name)
 
 
 def scripts() -> list[pathlib.Path]:
-    """Those of tests/, and then the examples."""
+    """The scripts of tests/, and then the examples."""
     return [*of_tests(), *sorted(EXAMPLES.glob("*.tpm"))]
 
 
 def script(name: str) -> pathlib.Path:
-    """The one of a name; KeyError where there is none."""
+    """The script of a name; KeyError if there is none."""
     return {it.stem: it for it in scripts()}[name]

@@ -1,5 +1,5 @@
-"""A caller whose device is held against its history: what a policy session has come to is what it was
-told, by the commands that were accepted.
+"""A caller that compares its device with the device's history: the state of a policy session
+follows from the commands that were accepted.
 """
 
 from typing import Any, Callable, Sequence
@@ -25,11 +25,11 @@ class PolicyTeller(Teller):
         self.script.device.tell = self.history.add
 
     def digest_of(self, session: Session) -> bytes:
-        """The digest that the accepted assertions make."""
+        """The digest that the accepted assertions produce."""
         return self.history.sessions.live[session.handle].policy.digest
 
     def digest_is(self, what: str, session: Session, wanted: bytes | None = None) -> None:
-        """It is asked for. Where another one is wanted than its assertions make, there is a fault."""
+        """Asks for the digest. A `wanted` one must be the one that the assertions make."""
         told = self.digest_of(session)
         assert wanted in (None, told), what
         assert not list(self.history.differences(self.script.device)), what
@@ -38,15 +38,15 @@ class PolicyTeller(Teller):
     def makes(
         self, what: str, session: Session, told: Prepared, digest: str = "Its digest"
     ) -> None:
-        """An assertion that must be accepted, and the digest behind it."""
+        """Sends an assertion that must be accepted, and checks the digest after it."""
         self.does(what, told)
         self.digest_is(digest, session)
 
     def texts(self, words: str, code: CC, session: Session, *texts: bytes) -> None:
-        """A command of a policy with each of these parameters, whatever they are."""
+        """Sends a command of a policy with each of these parameters, whatever they are."""
         self.says(words, *(self.told(code, session, it) for it in texts))
 
-    # Commands whose hmacs are made by other rules.
+    # Commands whose HMACs follow other rules.
 
     def with_key(self, key: bytes, prepare: Callable[..., Prepared], *those: Any) -> Prepared:
         with self.breaking(key=lambda *_: key):

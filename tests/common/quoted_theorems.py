@@ -2,10 +2,10 @@
 
     python3 tests/common/quoted_theorems.py DOCUMENT FOLDER
 
-The first line of each block of code names a file of FOLDER, and the lines after it must stand there
-one after another, white space at the beginning of lines apart. Each heading of the third level must
-have such a block. Then each block is changed in one letter, and that has to be found. The status
-is 1 where something differs.
+The first line of each code block names a file of FOLDER. The lines after it must be in that file
+one after another, apart from white space at the beginning of lines. Each heading of the third level
+must have such a block. Then one letter of each block is changed, and the comparison must find it.
+The status is 1 if something differs.
 """
 
 import pathlib
@@ -17,12 +17,12 @@ SECTION = re.compile(r"^### (.+?)\n(.*?)(?=^##|\Z)", re.M | re.S)
 
 
 def bare(text: str) -> str:
-    """A text whose lines have no white space before them or after them."""
+    """A text without the white space before and after its lines."""
     return "\n".join(line.strip() for line in text.splitlines())
 
 
 def stands(quote: str, text: str) -> bool:
-    """Whether a quote, which is not empty, stands in a text as whole lines."""
+    """Whether a quote, which is not empty, is in a text as whole lines."""
     lines = bare(quote).strip("\n")
     return lines != "" and f"\n{lines}\n" in f"\n{bare(text)}\n"
 
@@ -34,7 +34,7 @@ def changed(quote: str) -> str:
 
 
 def main(document: str, folder: str) -> int:
-    """Tells what differs, and gives the status."""
+    """Prints the differences, and returns the status."""
     text = pathlib.Path(document).read_text("utf-8")
     faults, missed, blocks = 0, 0, BLOCK.findall(text)
     for heading, section in SECTION.findall(text):

@@ -1,10 +1,10 @@
-"""Runs of `tpmsim restore` that are killed before each of their calls, or of which each call fails:
+"""Runs of `tpmsim restore` that are killed before each of their calls, or in which each call fails:
 
     python3 restored_folders.py PROGRAM
 
-The folder then has the device that it had, or the one of the state text, and never another one or
-none. After a run that ended well it has that of the text; after one that failed it has that of the
-text only where the call came after the rename. The shim tear.c notes the calls.
+The folder then has either its old device or the one of the state text; never another one, and never
+none. After a run that ended well it has the one of the text. After a run that failed it has that
+one only if the call came after the rename. The shim tear.c notes the calls.
 """
 
 import errno
@@ -31,7 +31,7 @@ def device(program: str, folder: pathlib.Path, script: bytes) -> bytes:
 
 
 def snapshot(program: str, folder: pathlib.Path) -> bytes:
-    """The state text of the device that is in a folder."""
+    """The state text of the device in a folder."""
     told = ran(program, "snapshot", str(folder))
     if told.status != 0:
         fail(f"there is no device: {told}")
@@ -39,19 +39,19 @@ def snapshot(program: str, folder: pathlib.Path) -> bytes:
 
 
 def fresh(there: bool) -> None:
-    """The folder as it was, or none."""
+    """The folder as it was, or no folder."""
     shutil.rmtree(FOLDER, ignore_errors=True)
     if there:
         shutil.copytree(KEPT, FOLDER)
 
 
 def is_renamed(at: int) -> bool:
-    """Whether the new journal had its name before the call of a number."""
+    """Whether the call of this number comes after the new journal was renamed."""
     return any(call.startswith("rename") for call in Tears.noted()[: at - 1])
 
 
 def killed(program: Tears, at: int) -> bool:
-    """Kills a run before the call of a number; false if it makes fewer."""
+    """Kills a run before the call of this number; false if the run makes fewer calls."""
     run = program.begun(WORDS, at=at, WAIT_FOR=NEVER)
     ending = time.monotonic() + AT_MOST_SECONDS
     while run.poll() is None and time.monotonic() < ending:
@@ -65,12 +65,12 @@ def killed(program: Tears, at: int) -> bool:
 
 
 def failed(program: Tears, at: int) -> Ending:
-    """How a run ends of which the call of a number fails."""
+    """How a run ends in which the call of this number fails."""
     return ended(program.begun(WORDS, at=at, error=errno.EIO))
 
 
 def kills(program: Tears, old: bytes, new: bytes) -> None:
-    """Kills a run before each call, over a device and where there is none."""
+    """Kills a run before each call, with and without an old device."""
     for there in (True, False):
         at = 0
         fresh(there)
@@ -90,7 +90,7 @@ def kills(program: Tears, old: bytes, new: bytes) -> None:
 
 
 def failures(program: Tears, old: bytes, new: bytes) -> None:
-    """Makes each call of a run over a device fail."""
+    """Makes each call of a run fail, with an old device."""
     at, told = 0, set()
     while True:
         at += 1
@@ -108,7 +108,7 @@ def failures(program: Tears, old: bytes, new: bytes) -> None:
 
 
 def main() -> None:
-    """Tries all of it in the working folder."""
+    """Tries all of this in the current folder."""
     (path,) = sys.argv[1:]
     program = Tears(path)
     old = device(path, KEPT, b"do Startup 0\ndo GetRandom 4\n")

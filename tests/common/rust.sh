@@ -1,5 +1,5 @@
-# What the tests of the Rust package share, which read this file behind cases.sh and library.sh: a copy of the
-# package, over the archive that is tested, in the folder where cargo works.
+# Shared by the tests of the Rust package, which read this file after cases.sh and library.sh: a copy of the
+# package, over the archive under test, in the folder where cargo works.
 # shellcheck shell=sh disable=SC2154 # cases.sh has `room` and `tests`, library.sh `dist`
 PATH=$PATH:${HOME:-/root}/.cargo/bin
 CARGO_TARGET_DIR=$room/target
@@ -12,7 +12,7 @@ copy_package() {
     cp -rL "$tests/../rust" package && rm -rf package/target package/Cargo.lock package/native
 }
 
-# play WORDS..: what cargo does in the copy; what it says if that fails.
+# play WORDS..: runs cargo in the copy, and prints its output if it fails.
 play() {
     (cd package && cargo "$@") >said 2>&1 && return
     echo "cargo $*: status $?"

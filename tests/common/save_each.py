@@ -2,8 +2,8 @@
 
     python3 save_each.py PROGRAM COUNT
 
-The image is looked at behind each response, and behind this many kills, each straight behind a
-response. The device in Python executes the same commands, and says which image has to be there.
+The image is checked after each response, and after COUNT kills, each immediately after a response.
+The Python device executes the same commands, and says which image has to be there.
 """
 
 import os
@@ -53,11 +53,11 @@ class Run:
         self.client = connected("socket")
 
     def wanted(self, line):
-        """What the command is answered. The time of an answer is the host's."""
+        """The expected answer to the command. The time in an answer is the host's."""
         return self.device.execute(buffer_of(line), 0, RANDOM).response
 
     def tell(self, *lines):
-        """Tells commands, and compares each response."""
+        """Sends commands, and compares each response."""
         for line in lines:
             self.client.sendall(buffer_of(line))
             given, wanted = answer(self.client), self.wanted(line)
@@ -65,7 +65,7 @@ class Run:
                 fail(f"{line}: {given}, and not {wanted}")
 
     def tell_and_look(self, line):
-        """Tells a command, and looks at the image behind it: whether it was saved."""
+        """Sends a command, and checks the image after it; returns whether it was saved."""
         old, saved = identity(), self.saved
         self.tell(line)
         self.saved = device_told(self.device)
@@ -76,7 +76,7 @@ class Run:
         check_image(label, self.device, image_told)
 
     def connect(self):
-        """Closes the connection, and makes another one."""
+        """Closes the connection, and opens another one."""
         self.close()
         self.client = connected("socket")
 
@@ -93,7 +93,7 @@ class Run:
 
 
 def check_each(program):
-    """Over two connections each change is saved before it is answered, and nothing else."""
+    """Over two connections each change is saved before its answer is sent, and nothing else is."""
     run = Run(program, 2)
     first = sum([run.tell_and_look(line) for line in LINES])
     old = identity()
@@ -108,7 +108,7 @@ def check_each(program):
 
 
 def check_kills(program, count):
-    """What was answered is in the image, wherever the program is killed behind a response."""
+    """The image has what was answered, after whichever response the program is killed."""
     for number in range(count):
         run, told = Run(program), LINES[: number % len(LINES) + 1]
         run.tell(*told)
@@ -118,7 +118,7 @@ def check_kills(program, count):
 
 
 def check_pieces(program):
-    """Many commands at once: those that were answered, though not the last, are in the image."""
+    """Of many commands at once, the answered ones are in the image, even if others follow."""
     run = Run(program)
     told = ["Startup 0", *[INCREMENT] * 100]
     run.client.sendall(b"".join(map(buffer_of, told)))
@@ -136,8 +136,8 @@ def check_pieces(program):
 
 
 def check_unsaved(program):
-    """A change that cannot be saved is not answered, and ends the program. What needs no save is
-    answered."""
+    """A change that cannot be saved is not answered, and ends the program. A command that needs no
+    save is answered."""
     run = Run(program)
     run.tell(*LINES[:4])
     BESIDE.mkdir()

@@ -1,4 +1,4 @@
-"""A script that a program writes: NAME.tpm, and NAME.out as the model answers it."""
+"""A script that a program writes: NAME.tpm, and NAME.out with the answers of the Python device."""
 
 import hashlib
 import os
@@ -13,16 +13,16 @@ from tests.common.outputs import Played, POWER, RANDOM_BYTES, repeated, write_ou
 
 COLUMNS = 100
 
-# So many bytes of each command's `entropy` line that no two nonces of a command are the same.
+# The size of each command's `entropy` line, in bytes: no two nonces of a command are then the same.
 SEED_BYTES = 7
 
-# An outcome in words: behind a colon, and before what follows a comma.
+# An outcome in words: after a colon, and before a comma or the end.
 SUCCESS = "SUCCESS"
 OUTCOME = re.compile(r"(?:^|: )([A-Z][A-Z0-9_]+)(/[hps][1-9])?(?=,|$)")
 
 
 def told_outcome(words: str) -> tuple[str, str, str]:
-    """The one outcome that words name, and the words before it and behind it. ValueError where they
+    """The one outcome that words name, with the words before it and after it. ValueError if they
     name none, or more than one.
     """
     named = [it for it in OUTCOME.finditer(words) if it[1] == SUCCESS or it[1] in frames.CODES]
@@ -33,8 +33,8 @@ def told_outcome(words: str) -> tuple[str, str, str]:
 
 
 class Script:
-    """Lines, and a device that executes them as they are written. The script stands beside its
-    program, and has its name where it has no other.
+    """Lines, and a device that executes them as they are written. The script is next to its
+    program, and has the program's name unless it has its own.
     """
 
     def __init__(self, program: str | os.PathLike[str], head: str, name: str = "") -> None:
@@ -44,11 +44,11 @@ class Script:
         self.played: list[Played] = []
         self.device, self.locality, self.random = Model(), 0, bytes(RANDOM_BYTES)
         self.seeds, self.elapsed, self.pause = 0, 0, 0
-        self.write_comment(f"{head} Written by {written_by.stem}.py beside it.")
+        self.write_comment(f"{head} {written_by.stem}.py, next to it, wrote this.")
 
     @property
     def last(self) -> Outcome:
-        """What came of the last command."""
+        """The outcome of the last command."""
         return next(it.outcome for it in reversed(self.played) if it.outcome)
 
     def write_comment(self, text: str) -> None:
@@ -70,7 +70,7 @@ class Script:
         self.lines += ["", "power"]
 
     def wait(self, milliseconds: int) -> None:
-        """They pass before the next command."""
+        """Lets milliseconds pass before the next command."""
         if self.lines[-1].startswith(("cmd", "do ")):
             self.lines.append("")
         self.let_pass(milliseconds)
@@ -84,16 +84,16 @@ class Script:
         self.lines.append(f"entropy {seed.hex()}")
 
     def fresh(self) -> None:
-        """Random bytes that the device had not before."""
+        """Gives the device random bytes that it did not have before."""
         self.seeds += 1
         self.entropy(hashlib.sha256(b"entropy %d" % self.seeds).digest()[:SEED_BYTES])
 
     def command(
         self, words: str, *buffers: bytes, fresh: bool = False, as_bytes: bool = False
     ) -> bytes:
-        """Commands that come to the one outcome which their words name behind a colon, and the last
-        one's response. The words are a comment; where they have the outcome alone, the last comment
-        goes on. ValueError where a command comes to something else.
+        """Adds commands with the one outcome that their words name after a colon; returns the last
+        one's response. The words become a comment; if they are the outcome alone, the last comment
+        goes on. ValueError if a command has another outcome.
         """
         before, outcome, after = told_outcome(words)
         if before:
@@ -117,8 +117,8 @@ class Script:
         return self.command("TPM2_Startup(CLEAR): SUCCESS", startup)
 
     def allow_tries(self) -> None:
-        """For a script of wrong authorization values that is not about dictionary attack
-        protection, which would refuse the right ones, too, after the third.
+        """For scripts with wrong authorization values that are not about dictionary attack
+        protection. Without it the device would refuse right values too, after the third wrong one.
         """
         self.command(
             "TPM2_DictionaryAttackParameters: maxTries and recoveryTime are 1,000, lockoutRecovery "
@@ -131,7 +131,7 @@ class Script:
         )
 
     def wait_each_time(self) -> None:
-        """For wrong tries at lockoutAuth, behind allow_tries."""
+        """For wrong tries at lockoutAuth, after allow_tries."""
         self.chapter(
             "A wrong try at lockoutAuth closes it for lockoutRecovery. So a second passes before "
             "each command from here on."

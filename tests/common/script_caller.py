@@ -1,5 +1,5 @@
-"""A caller whose commands stand in a script: each has words, and what it must come to. It checks
-each response, and stops where one is not what it computes itself.
+"""A caller whose commands become a script: each has words, and an expected outcome. The caller
+checks each response, and stops if it is not the one that it computes itself.
 """
 
 import hashlib
@@ -30,8 +30,8 @@ def is_trial(session: Session) -> bool:
 
 
 class ScriptCaller(PreparedCommands):
-    """Of its commands the words come first. Those that may be refused say to which outcome they
-    come, as in "By another password: BAD_AUTH/s1".
+    """Its commands take their words first. If a command may be refused, the words name its outcome,
+    as in "By another password: BAD_AUTH/s1".
     """
 
     def __init__(self, script: Script) -> None:
@@ -40,14 +40,14 @@ class ScriptCaller(PreparedCommands):
         self.ticket, self.creation_data = (0, b""), b""
 
     def next_nonce(self, size: int = NONCE_BYTES) -> bytes:
-        """The same in each script."""
+        """The next nonce, which is the same in each script."""
         self.nonces += 1
         return hashlib.sha256(b"nonce %d" % self.nonces).digest()[:size]
 
     # Sending.
 
     def refused(self, words: str, *prepared: Prepared) -> None:
-        """Sends commands that must be refused; sessions are then as they were."""
+        """Sends commands that must be refused; sessions then stay as they were."""
         self.script.command(words, *(it.buffer() for it in prepared), fresh=True)
 
     def says(self, words: str, *prepared: Prepared) -> bytes:
@@ -59,27 +59,27 @@ class ScriptCaller(PreparedCommands):
         return any(isinstance(it, Use) for it in prepared.uses)
 
     def fails(self, words: str, *prepared: Prepared) -> None:
-        """Sends commands, with fresh random bytes where a session has an entry."""
+        """Sends commands, with fresh random bytes if a session has an entry."""
         buffers = [it.buffer() for it in prepared]
         self.script.command(words, *buffers, fresh=any(map(self.draws, prepared)))
 
     def accepted(
         self, what: str, prepared: Prepared, fresh: bool = True
     ) -> tuple[int | None, bytes]:
-        """Sends a command that must be accepted, and checks its response: the handle and the
-        parameters that it answers, in plain. With no words the last comment goes on, and what
-        stands behind a `|` in them stands behind the outcome.
+        """Sends a command that must be accepted, checks its response, and returns the handle and
+        the parameters of it, decrypted. Without words the last comment goes on. What follows a `|`
+        in the words comes after the outcome.
         """
         before, bar, after = what.partition("|")
         words = f"{before}: {SUCCESS}{bar and ', '}{after}"
         return self.received(prepared, self.script.command(words, prepared.buffer(), fresh=fresh))
 
     def does(self, what: str, prepared: Prepared) -> bytes:
-        """The same, with fresh random bytes where a session has an entry: the parameters."""
+        """The same, with fresh random bytes if a session has an entry; returns the parameters."""
         return self.accepted(what, prepared, self.draws(prepared))[1]
 
     def response(self, what: str, prepared: Prepared) -> Response:
-        """The same of a command whose answer is read field by field."""
+        """The same for a command whose answer is read field by field."""
         return Response(prepared.code, *self.accepted(what, prepared))
 
     # Sessions.
@@ -95,7 +95,7 @@ class ScriptCaller(PreparedCommands):
         kind: int = SE_HMAC,
         xor: bool = False,
     ) -> Session:
-        """Starts a session, and gives it as this caller knows it."""
+        """Starts a session, and returns it as this caller knows it."""
         nonce, cipher = self.nonce(size), XOR if xor else AES if aes else ALG_NULL
         handles, parameters = frames.start_auth_session(
             *(nonce, bind, algorithm, aes), kind=kind, xor=algorithm if xor else None
@@ -110,7 +110,7 @@ class ScriptCaller(PreparedCommands):
         return self.start(what, kind=SE_TRIAL, **choices)
 
     def each_session(self, **choices: Any) -> Iterator[Session]:
-        """A policy and a trial session of each hash, one after the other, each in a chapter."""
+        """A policy and a trial session of each hash in turn, each in its own chapter."""
         for algorithm, hash_name in HASHES:
             for kind, name in KINDS:
                 self.script.chapter(f"A {name} session of {hash_name}.")
@@ -125,7 +125,7 @@ class ScriptCaller(PreparedCommands):
     # Objects.
 
     def creation_answer(self, response: Response) -> Public:
-        """The public area that is answered. The hash of the creation data is the creation hash."""
+        """The public area of a response. Its creation data must have the creation hash."""
         public, ticket = Public.read(response["outPublic"]), response["creationTicket"]
         self.creation_data = response["creationData"]
         assert response["creationHash"] == digest(public.name_algorithm, self.creation_data)
@@ -136,7 +136,7 @@ class ScriptCaller(PreparedCommands):
     def create_primary(
         self, what: str, hierarchy: int, public: Public, *uses: Means, **more: Any
     ) -> int:
-        """The handle of a primary object."""
+        """Makes a primary object, and returns its handle."""
         response = self.response(what, self.primary(hierarchy, public, *uses, **more))
         assert response["name"] == self.creation_answer(response).name
         assert response.handle
@@ -156,14 +156,14 @@ class ScriptCaller(PreparedCommands):
         return Made(response["outPrivate"], self.creation_answer(response), trimmed(user_auth))
 
     def load(self, what: str, parent: int, made: Made, *uses: Means) -> int:
-        """The handle of an object that is loaded."""
+        """Loads an object, and returns its handle."""
         response = self.response(what, self.loading(parent, made, *uses))
         assert response.handle and response["name"] == made.public.name
         self.auth_values[response.handle] = made.auth_value
         return response.handle
 
     def read_public(self, what: str, handle: int, *uses: Means) -> tuple[Public, bytes]:
-        """The public area and the qualified name, of an object whose Name the caller knows."""
+        """The public area and the qualified name of an object whose Name the caller knows."""
         response = self.response(what, self.public(handle, *uses))
         public = Public.read(response["outPublic"])
         assert response["name"] == public.name == self.names[handle]
@@ -178,7 +178,7 @@ class ScriptCaller(PreparedCommands):
             self.accepted(what if handle == handles[0] else "", self.flush(handle))
 
     def keep(self, what: str, asker: int, handle: int, wanted: int, *uses: Means) -> int:
-        """The handle of a persistent object, which is made of a transient one."""
+        """Makes a persistent object of a transient one, and returns its handle."""
         self.does(what, self.evicting(asker, handle, wanted, *uses))
         return wanted
 
@@ -190,7 +190,7 @@ class ScriptCaller(PreparedCommands):
     def define(
         self, what: str, public: nv.Public, *uses: Means, auth: bytes = b"", by: int = RH_OWNER
     ) -> int:
-        """The handle of an index that is defined."""
+        """Defines an index, and returns its handle."""
         self.does(what, self.defining(public, *uses, auth=auth, by=by))
         return public.index
 
@@ -203,12 +203,12 @@ class ScriptCaller(PreparedCommands):
         offset: int = 0,
         by: int | None = None,
     ) -> None:
-        """Reads as many bytes as the data, which they must be."""
+        """Reads bytes of the index, which must be these data."""
         prepared = self.reading(index, len(data), *uses, offset=offset, by=by)
         assert self.does(what, prepared) == sized(data), what
 
     def read_index_public(self, what: str, index: int, *uses: Means) -> nv.Public:
-        """The public area, which is noted, as a start may have changed it."""
+        """Reads the public area. The caller notes it, because a start may have changed it."""
         fields = Fields(self.does(what, self.index_public(index, *uses)))
         fields.sized()
         public = self.publics[index]
@@ -216,7 +216,7 @@ class ScriptCaller(PreparedCommands):
         return public
 
     def is_now(self, what: str, index: int, *uses: Means, added: int = 0, cleared: int = 0) -> None:
-        """Reads a public area, whose attributes must have changed so, and in nothing else."""
+        """Reads a public area, in which only these attributes must have changed."""
         wanted = self.publics[index].but(added, cleared)
         public = self.read_index_public(what, index, *uses)
         assert public == wanted, f"{what}: {public.attributes:08x}"
@@ -224,7 +224,7 @@ class ScriptCaller(PreparedCommands):
     # What the device keeps.
 
     def start_up(self, what: str, kind: int = CLEAR) -> None:
-        """TPM2_Startup; with CLEAR the platform has no authorization value any more."""
+        """TPM2_Startup; CLEAR removes the platform's authorization value."""
         self.does(what, self.starting(kind))
 
     def set_protection(

@@ -1,9 +1,9 @@
-# What the tests of a served device share: they read it behind cases.sh, which gives `program` and
-# `room`. A client in Python sends the commands, and prints each response on a line.
+# Shared by the tests of a served device, which read it after cases.sh, which sets `program` and `room`. A
+# client in Python sends the commands, and prints each response on a line.
 needs python3
 client=$tests/common/client.py
 
-# bytes_of COUNT OCTAL: so many bytes of this value.
+# bytes_of COUNT OCTAL: prints COUNT bytes of this value.
 bytes_of() {
     head -c "$1" /dev/zero | tr '\0' "\\$2"
 }
@@ -14,8 +14,8 @@ for octal in 001 002 003 004 005 006 007 010 011 012 013 014 015; do
     bytes_of 256 "$octal" >>entropy
 done
 
-# begin CONNECTIONS: serves so many connections in the background, from locality 0 and with `image`
-# where the test says no other, and with the further options that it says.
+# begin CONNECTIONS: serves CONNECTIONS connections in the background, with the test's further options;
+# from locality 0 and with `image`, unless the test sets others.
 begin() {
     rm -f "$room/output" "$room/error"
     # shellcheck disable=SC2086 # the options are words
@@ -29,14 +29,14 @@ there() {
     until [ -S socket ]; do sleep 0.01; done
 }
 
-# talk LABEL SIZE HEX..: a connection that sends these bytes in pieces of a size.
+# talk LABEL SIZE HEX..: a connection that sends these bytes in pieces of SIZE bytes.
 talk() {
     echo "$1:"
     shift
     python3 "$client" socket "$@" | sed 's/^/    /'
 }
 
-# ended LABEL: how the program ended, and whether it left its socket.
+# ended LABEL: prints how the program ended, and whether it left its socket.
 ended() {
     status=0
     wait "$!" || status=$?

@@ -1,5 +1,5 @@
-"""Runs of a program, and those of one behind a shim: a library in C that stands before functions of
-the C library, and makes some of their calls fail.
+"""Runs of a program, and runs with a shim: a library in C that replaces functions of the C library,
+and makes some of their calls fail.
 """
 
 import functools
@@ -18,10 +18,10 @@ AT_MOST = 60
 SHOWN = 2000
 SERVE = "serve --socket socket --image image --entropy entropy --locality 0 --connections".split()
 
-# The files of a run that stay, whatever comes of it.
+# The files of a run that always stay.
 OWN = {"image", "image.lock", "entropy"}
 
-# What gets memory beside the two functions that the shim refuse.c stands before.
+# Other functions that get memory than the two that the shim refuse.c replaces.
 OTHERS = (
     "aligned_alloc calloc memalign mmap mmap64 mremap posix_memalign pvalloc reallocarray"
     " brk sbrk valloc".split()
@@ -30,7 +30,7 @@ OTHERS = (
 FOREVER = 1_000_000_000
 CALLS = pathlib.Path("calls")
 
-# What turns.h reads and writes: the two numbers of a run, and then its status and its mark.
+# What turns.h reads and writes: the two numbers of a run; later its status and its mark.
 TURN, REPORT = struct.Struct("ll"), struct.Struct("ii")
 
 
@@ -49,12 +49,12 @@ ENTROPY = Ending(3, error=b"tpmsim: entropy\n")
 
 
 def fail(words):
-    """Says what is wrong, as far as that is of use to read."""
+    """Says what is wrong, cut off at a readable length."""
     sys.exit(f"WRONG: {words[:SHOWN]}")
 
 
 def begun(words, folder=".", **environment):
-    """A run in a folder, with these variables of its environment too."""
+    """Begins a run in a folder, with these variables added to its environment."""
     told = {name: str(value) for name, value in environment.items()}
     pipes = dict.fromkeys(("stdin", "stdout", "stderr"), subprocess.PIPE)
     return subprocess.Popen(words, cwd=folder, env={**os.environ, **told}, **pipes)
@@ -66,14 +66,14 @@ def ended(process, stdin=b""):
 
 
 def end(process, wanted=WELL, label="a run"):
-    """Makes sure that a run ends so."""
+    """Checks that a run ends like this."""
     given = ended(process)
     if given != wanted:
         fail(f"{label} ended with {given}, and not {wanted}")
 
 
 def ran(*words, stdin=b""):
-    """A run to its end."""
+    """Runs a program to its end."""
     done = subprocess.run(words, input=stdin, capture_output=True, timeout=AT_MOST, check=False)
     return Ending(done.returncode, done.stdout, done.stderr)
 
@@ -85,7 +85,7 @@ class Room:
         self.path = pathlib.Path(name)
 
     def furnish(self, image, entropy):
-        """What is there goes, but the folder stays: runs may have been begun in it."""
+        """Removes what is there, but not the folder: runs may have been begun in it."""
         self.path.mkdir(exist_ok=True)
         for path in self.path.iterdir():
             if path.is_dir():
@@ -103,12 +103,12 @@ class Room:
 
     @property
     def left(self):
-        """What else a run has left."""
+        """The other files that a run has left."""
         return tuple(sorted({path.name for path in self.path.iterdir()} - OWN))
 
 
 class Shim:
-    """A program behind a shim, which is built in a folder."""
+    """A program with a shim, which is built in a folder."""
 
     def __init__(self, program, name, folder="."):
         self.program, self.library = program, pathlib.Path(folder, f"{name}.so").resolve()
@@ -116,7 +116,7 @@ class Shim:
         subprocess.run(words, check=True)
 
     def check_calls(self, others):
-        """Makes sure that a program calls none of the functions that do what those of a shim do."""
+        """Checks that the program calls no other functions that do what those of the shim do."""
         words = ["nm", "-D", "--undefined-only", self.program]
         told = subprocess.run(words, check=True, capture_output=True, text=True).stdout
         called = {line.split()[-1].partition("@")[0] for line in told.splitlines()}
@@ -129,7 +129,7 @@ class Shim:
 
 
 class MemoryFile:
-    """A standard stream of runs, which all of them find at its begin."""
+    """A standard stream of runs; each run begins to read or write it at its beginning."""
 
     def __init__(self, name):
         self.name, self.file = name, open(os.memfd_create(name), "w+b", buffering=0)
@@ -148,8 +148,8 @@ class MemoryFile:
 
 
 class Turns:
-    """Runs in a folder, one after another, of a program behind a shim that has turns.h. They have
-    the same words, but for the last one where a run has its own.
+    """Runs in a folder, one after another, of a program with a shim that has turns.h. They have the
+    same words; only the last word may differ from run to run.
     """
 
     def __init__(self, shim, words, folder="."):
@@ -174,13 +174,13 @@ class Turns:
         self.process.wait()
 
     def begin(self, first=0, second=0, word=None, stdin=b""):
-        """Begins a run, with the two numbers that its shim is told, and perhaps a last word."""
+        """Begins a run, with the two numbers for its shim, and perhaps a last word."""
         for stream, content in zip(self.streams, (stdin, b"", b"")):
             stream.fill(content)
         self.socket.send(TURN.pack(first, second) + (b"" if word is None else word + b"\0"))
 
     def poll(self):
-        """Nothing as long as the run goes on, as that of a process."""
+        """None as long as the run goes on, like a process's `poll`."""
         ready, _, _ = select.select([self.socket], [], [], 0)
         return ready or None
 
@@ -199,26 +199,26 @@ class Turns:
 
 
 class Tears(Shim):
-    """A program whose calls the shim tear.c notes, and of which it makes one fail."""
+    """A program whose calls the shim tear.c notes; the shim makes one of them fail."""
 
     def __init__(self, program):
         super().__init__(program, "tear")
 
     def begun(self, words, folder=".", at=0, error=0, calls=CALLS, **told):
-        """A run of which the call of a number fails with an error, or moves a half where that is 0."""
+        """A run whose call `at` fails with an error, or moves half its bytes if that is 0."""
         calls.unlink(missing_ok=True)
         told |= {"AT": at, "ERROR": error, "CALLS": calls.resolve()}
         return super().begun(words, folder, **told)
 
     @staticmethod
     def noted(calls=CALLS):
-        """The calls so far, each with what it is about."""
+        """The calls so far, each with its file."""
         return [call.strip() for call in calls.read_text("ascii").splitlines()]
 
 
 class Refusals(Shim):
-    """A program that is refused memory, by the shim refuse.c: the allocations of a run from the
-    first number to the second.
+    """A program to which the shim refuse.c refuses memory: a run's allocations from the first
+    number to the second.
     """
 
     def __init__(self, program):
@@ -227,14 +227,14 @@ class Refusals(Shim):
             fail("the program does not get its memory by malloc")
 
     def whole(self, words, stdin=b""):
-        """How it ends with nothing refused."""
+        """How the program ends if nothing is refused."""
         with Turns(self, words) as turns:
             return turns.run(stdin=stdin)
 
     @staticmethod
     def each(turns, run):
         """Refuses each allocation in turn, alone and with all that follow. `run` makes a run of the
-        two numbers. Gives the number of each, with what came of the one run and of the other.
+        two numbers. Yields each allocation's number, with the results of both runs.
         """
         turn = 1
         while True:
@@ -247,9 +247,9 @@ class Refusals(Shim):
             fail("nothing could be refused")
 
     def compare(self, label, turns, run, whole, starved, needed=FOREVER):
-        """Makes sure that a run comes to `starved` where memory is refused to it; or, where one
-        allocation alone is refused, as with nothing refused. After the first `needed` allocations
-        it always comes to the same as with nothing refused. Gives how many allocations there are.
+        """Checks that a run comes to `starved` if memory is refused to it. If a single allocation
+        is refused, it may also come to the same as with nothing refused. After the first `needed`
+        allocations it always comes to that. Returns how many allocations there are.
         """
         for turn, alone, rest in self.each(turns, run):
             if alone not in ((whole, starved) if turn <= needed else (whole,)):
@@ -259,7 +259,7 @@ class Refusals(Shim):
         return turn
 
     def check(self, label, words, whole, memory, stdin=b"", needed=FOREVER):
-        """The same of how a run ends, which has to be so with nothing refused."""
+        """The same for how a run ends, which must be `whole` with nothing refused."""
         with Turns(self, words) as turns:
             run = functools.partial(turns.run, stdin=stdin)
             given = run()

@@ -1,5 +1,5 @@
-/* Stands before the function of the C library by which the program reads a connection: each read gives
- * one byte. */
+/* Replaces the function of the C library by which the program reads a connection: each read returns one
+ * byte. */
 #define _GNU_SOURCE
 #include <dlfcn.h>
 #include <sys/socket.h>

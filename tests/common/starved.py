@@ -2,9 +2,9 @@
 
     python3 starved.py PROGRAM
 
-Each allocation is refused in turn, alone and with all that follow. Where all are refused, the run
-has to end with status 3 and `tpmsim: memory`. Where one alone is refused, it has to end so too, or
-else just as it does with nothing refused: some collections ask again, for less.
+Each allocation is refused in turn, alone and with all that follow. If all are refused, the run has
+to end with status 3 and `tpmsim: memory`. If one alone is refused, it has to end so too, or exactly
+as it does with nothing refused: some collections ask again, for less.
 """
 
 import functools
@@ -39,7 +39,7 @@ def out_of(name):
 
 
 def check_words(program):
-    """Runs that are done by their words alone."""
+    """Runs that need only their words."""
     script, line = str(SCRIPT), "Startup 0"
     pathlib.Path("bad").write_text("do Startup 3 3\n", "ascii")
     pathlib.Path("startup").write_text("do Startup 0\n", "ascii")
@@ -74,7 +74,7 @@ def check_words(program):
 
 @dataclass(frozen=True)
 class Service:
-    """What came of a run that serves: how it ended, what it answered, and what is in its folder."""
+    """The result of a serving run: how it ended, what it answered, and what is in its folder."""
 
     ending: Ending
     answers: bytes
@@ -83,7 +83,7 @@ class Service:
 
 
 def talked(turns):
-    """What a connection is answered, or nothing where the run ends before it."""
+    """What a connection is answered; None if the run ends before it."""
     client = connected(ROOM.path / "socket", turns)
     if not client:
         return b""
@@ -96,9 +96,8 @@ def talked(turns):
 
 
 def check_service(program, label, image, connections):
-    """A run that serves this many connections, with this image or with none. It takes its memory
-    before its socket is there: so it answers nothing where it is starved, and leaves nothing but the
-    lock of its image.
+    """A run that serves this many connections, with or without an image. It gets its memory before
+    it makes its socket. So a starved run answers nothing, and leaves only the lock of its image.
     """
 
     def run(*refused):

@@ -1,4 +1,4 @@
-"""A teller with the steps that many scripts of commands take, and what those go through."""
+"""A teller with the steps that many scripts take, and values that the steps use."""
 
 import contextlib
 import functools
@@ -21,7 +21,7 @@ HIERARCHIES = (
     (RH_NULL, "TPM_RH_NULL"),
 )
 
-# What is authorized by a value that can be changed, and one for each.
+# What a changeable value authorizes, with a value for each.
 AUTHORIZED = (
     (RH_OWNER, "TPM_RH_OWNER", b"owner"),
     (RH_ENDORSEMENT, "TPM_RH_ENDORSEMENT", b"endorsement"),
@@ -29,11 +29,11 @@ AUTHORIZED = (
     (RH_LOCKOUT, "TPM_RH_LOCKOUT", b"lockout"),
 )
 
-# Attributes of an object that is protected from guessing, and of one whose key is generated.
+# The attributes of an object with dictionary attack protection, and of one whose key is generated.
 PROTECTED = HERE | Attribute.USER_WITH_AUTH
 GENERATED = HERE | OPEN | Attribute.SENSITIVE_DATA_ORIGIN
 
-# The digest of a policy that asks for the authorization value, by its hash algorithm.
+# The digest of a policy that demands the authorization value, by its hash algorithm.
 AFTER_AUTH_VALUE = {
     algorithm: policy.after_auth_value(algorithm, bytes(digest_bytes(algorithm)))
     for algorithm in (SHA1, SHA256)
@@ -41,11 +41,11 @@ AFTER_AUTH_VALUE = {
 
 RESTRICTED_KEY = hmac_key(attributes=HERE | OPEN | Attribute.RESTRICTED)
 
-# Handles of what is no object, and what a command comes to that needs one.
+# Handles that are not of objects, and the outcome of a command that needs an object.
 OTHERS = RH_OWNER, RH_NULL, 0, 0x0100_0000, 0x0200_0000, 0x0300_0000
 NO_OBJECT = "No object's handle: TPM_RH_OWNER, TPM_RH_NULL, PCR 0, an NV index, sessions: VALUE/h1"
 
-# How a session is used whose policy asks for the authorization value: in the hmac's key, in plain.
+# Uses of a session whose policy demands the authorization value: in the HMAC's key, or in plain.
 with_value = functools.partial(Use, demand=AUTH_VALUE)
 in_plain = functools.partial(Use, demand=PASSWORD)
 
@@ -53,14 +53,14 @@ in_plain = functools.partial(Use, demand=PASSWORD)
 def aes_key(
     attributes: int = Attribute.SIGN | Attribute.DECRYPT, algorithm: int = SHA256
 ) -> Public:
-    """The template of an AES key that is given, with what else it may."""
+    """The template of an AES key that the caller provides, with its further attributes."""
     return Public(SYMCIPHER, algorithm, HERE | OPEN | attributes)
 
 
 class Steps(Teller):
-    """A step sends commands that come to what its words say, or else to what it is named for."""
+    """A step sends commands. Their outcome is the one in its words, or else the one in its name."""
 
-    # What needs an object.
+    # Commands that need an object.
 
     def refuses_others(
         self,
@@ -69,7 +69,7 @@ class Steps(Teller):
         transient: Sequence[int] = (0x8000_0000, 0x8000_0008, 0x80FF_FFFF),
         persistent: Sequence[int] = (0x8100_0000,),
     ) -> None:
-        """While there is no object: a command on what is none, and on objects by their handles."""
+        """While there is no object: a command on other handles, and on handles of objects."""
         self.says(NO_OBJECT, *map(prepare, (*OTHERS, *more)))
         words = "A transient object, while there is none: REFERENCE_H0"
         self.says(words, *map(prepare, transient))
@@ -79,14 +79,14 @@ class Steps(Teller):
         words = "It has to be authorized: no sessions (tag 8001): AUTH_MISSING"
         self.raw(words, command(code, number(handle, 4) + parameters))
 
-    # Objects, sessions and indices that are there for a while.
+    # Objects, sessions and indices that exist for a while.
 
     def owned(self, what: str, public: Public, *uses: Means, **more: Any) -> int:
-        """The handle of a primary object of the owner's hierarchy."""
+        """Makes a primary object of the owner's hierarchy, and returns its handle."""
         return self.create_primary(what, RH_OWNER, public, *uses, **more)
 
     def below(self, what: str, parent: int, public: Public, *uses: Means, **more: Any) -> int:
-        """The handle of an object that is created below a parent, and loaded."""
+        """Creates an object below a parent, loads it, and returns its handle."""
         return self.load("TPM2_Load", parent, self.create(what, parent, public, *uses, **more))
 
     @contextlib.contextmanager
@@ -99,7 +99,7 @@ class Steps(Teller):
         flushed: str = "It is flushed",
         **more: Any,
     ) -> Iterator[int]:
-        """A primary object, which is flushed in the end."""
+        """A primary object, which is flushed at the end."""
         handle = self.create_primary(what, hierarchy, public, *uses, **more)
         yield handle
         self.flush_objects(flushed, handle)
@@ -108,7 +108,7 @@ class Steps(Teller):
     def loaded(
         self, what: str, parent: int, made: Made, *uses: Means, flushed: str = "It is flushed"
     ) -> Iterator[int]:
-        """An object below its parent, which is flushed in the end."""
+        """An object below its parent, which is flushed at the end."""
         handle = self.load(what, parent, made, *uses)
         yield handle
         self.flush_objects(flushed, handle)
@@ -116,19 +116,19 @@ class Steps(Teller):
     def written(
         self, what: str, public: nv.Public, data: bytes, auth: bytes = b"", by: int | None = None
     ) -> None:
-        """An index that is defined by the owner, and written."""
+        """An index that the owner defines, and that is written."""
         self.define(what, public, auth=auth)
         self.does("It is written", self.writing(public.index, data, by=by))
 
     def flushes(self, what: str, *sessions: Session) -> None:
-        """With the same words for each."""
+        """Flushes sessions, with the same words for each."""
         for session in sessions:
             self.does(what, self.flush(session))
 
-    # Policies that ask for the authorization value.
+    # Policies that demand the authorization value.
 
     def by_value(self, session: Session, attributes: int = CONTINUE_SESSION) -> Use:
-        """TPM2_PolicyAuthValue, and the use of the session that its policy asks for then."""
+        """TPM2_PolicyAuthValue, and the use of the session that its policy then demands."""
         self.does("TPM2_PolicyAuthValue", self.auth_value_told(session))
         return with_value(session, attributes)
 
@@ -138,18 +138,18 @@ class Steps(Teller):
         return in_plain(session, attributes)
 
     def encrypts_nothing(self, prepare: Callable[[], Prepared]) -> None:
-        """A command by a session that could encrypt, where nothing can be encrypted."""
+        """A command by a session that could encrypt, when there is nothing to encrypt."""
         for attribute, words in ((DECRYPT, "decrypted"), (ENCRYPT, "encrypted")):
             bent = prepare().but_entry(1, attributes=CONTINUE_SESSION | attribute)
             self.refused(f"Nothing can be {words}: ATTRIBUTES/s1", bent)
 
-    # What is kept.
+    # What the device keeps.
 
     def saves(self) -> None:
         self.does("TPM2_Shutdown(STATE)", self.shutting_down(STATE))
 
     def resumes(self, what: str = "TPM2_Startup(STATE)") -> None:
-        """By the state that was saved."""
+        """Resumes from the saved state."""
         self.power()
         self.start_up(what, STATE)
 
@@ -158,7 +158,7 @@ class Steps(Teller):
         self.resumes(what)
 
     def resumes_not(self, words: str = "TPM2_Startup(STATE): VALUE/p1") -> None:
-        """No state is saved."""
+        """Checks that no state is saved."""
         self.power()
         self.fails(words, self.starting(STATE))
         self.start_up("TPM2_Startup(CLEAR)")
@@ -172,14 +172,14 @@ class Steps(Teller):
         elements: Sequence[int | tuple[int, int]],
         more: bool = False,
     ) -> None:
-        """TPM2_GetCapability answers these numbers or pairs of them, and whether there are more."""
+        """TPM2_GetCapability returns these numbers or pairs, and whether there are more."""
         numbers = itertools.chain(*(it if isinstance(it, tuple) else (it,) for it in elements))
         listed = number(len(elements), 4) + b"".join(number(it, 4) for it in numbers)
         answer = self.does(what, self.capability(kind, first, count))
         assert answer == number(more, 1) + number(kind, 4) + listed, what
 
     def clock_is(self, what: str, time: int, clock: int, resets: int, restarts: int) -> None:
-        """What TPM2_ReadClock answers."""
+        """TPM2_ReadClock returns these numbers."""
         counts = number(resets, 4) + number(restarts, 4)
         answer = number(time, 8) + number(clock, 8) + counts + b"\1"
         assert self.does(what, self.clock()) == answer, what

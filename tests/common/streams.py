@@ -1,12 +1,12 @@
-"""Devices on a socket: what `tpmsim serve` answers to the bytes of connections, in runs one after
-another on one image. What happens is said in lines:
+"""Devices on a socket: what `tpmsim serve` answers to the bytes of connections, in consecutive runs
+on one image. Lines say what happens:
 
-    new HEX        the image is taken away; the next run makes a device of these random bytes
-    image HEX      these bytes are put in its place
-    run N          a run from locality N, on the image
-    connection N   a connection, which sends its bytes in pieces of N
-    send HEX       some of its bytes
-    dry            for no further command of this run there are random bytes
+    new HEX        removes the image; the next run makes a device of these random bytes
+    image HEX      replaces the image by these bytes
+    run N          begins a run from locality N, on the image
+    connection N   begins a connection, which sends its bytes in pieces of N
+    send HEX       sends some of its bytes
+    dry            from here on, this run has no random bytes for another command
 """
 
 import hashlib
@@ -21,19 +21,19 @@ from tests.common.outputs import RANDOM_BYTES, repeated
 # Where commandSize ends.
 SIZE_END = 6
 
-# TPM2_ReadClock answers the host's time, which is left out of what is compared.
+# TPM2_ReadClock answers the host's time, which the comparison leaves out.
 CLOCK_ANSWER_BYTES, TIMES = 35, slice(10, 26)
 
 
 def random_of(buffer: bytes) -> bytes:
-    """The random bytes of a command: they hang on its bytes alone, so that they stay where other
-    commands are left out.
+    """The random bytes of a command. They depend on its bytes alone, so that they stay the same if
+    other commands are left out.
     """
     return repeated(hashlib.sha256(buffer).digest()[:7])
 
 
 def without_times(buffer: bytes, response: bytes) -> bytes:
-    """A response as it is compared."""
+    """A response without the times that the comparison leaves out."""
     is_clock = buffer[6:10] == frames.number(CC.ReadClock, 4)
     if is_clock and len(response) == CLOCK_ANSWER_BYTES:
         return response[: TIMES.start] + bytes(16) + response[TIMES.stop :]
@@ -41,7 +41,7 @@ def without_times(buffer: bytes, response: bytes) -> bytes:
 
 
 def without_clock(device: Model) -> bytes:
-    """An image as it is compared."""
+    """An image without the clock, which the comparison leaves out."""
     clock, device.clock = device.clock, 0
     text = image(device)
     device.clock = clock
@@ -49,8 +49,8 @@ def without_clock(device: Model) -> bytes:
 
 
 class Connection:
-    """The bytes that are sent, in pieces of a size; those that are left of them; and the commands
-    that are cut from them, each with the number of the line that completes it and its response.
+    """The bytes that a connection sends, in pieces of a size; the bytes left of them; and the
+    commands cut from them, each with the number of the line that completes it and its response.
     """
 
     def __init__(self, piece: int) -> None:
@@ -58,8 +58,8 @@ class Connection:
         self.answered: list[tuple[int, bytes, bytes]] = []
 
     def send(self, data: bytes) -> Iterator[bytes]:
-        """The commands that are whole with these bytes. A size that no command has is one too, of
-        the bytes up to it, and the last one.
+        """The commands that these bytes complete. A size that no command can have also completes
+        one: it has the bytes up to the size, and is the last one.
         """
         self.sent += data
         self.left += data
@@ -74,7 +74,7 @@ class Connection:
 
 
 def image_told(text: bytes | None) -> str:
-    """What a file holds, as it is compared: no image, or one of a version, or what is none."""
+    """What a file contains, for comparison: no image, one of a version, or something else."""
     if text is None:
         return "no image"
     try:
@@ -84,16 +84,15 @@ def image_told(text: bytes | None) -> str:
 
 
 def device_told(device: Model) -> str:
-    """The same of the image of a device."""
+    """The same for the image of a device."""
     return image_told(image(device))
 
 
 @dataclass
 class Run:
-    """A run: the number of its line, its locality, its image, and whether that is given by a line
-    and not by the run before; what is in its file of random bytes, its connections, what is said on
-    standard error, and what is told of the image that it leaves. It is over where random bytes are
-    missing, or the image is none.
+    """A run: the number of its line, its locality, its image, and whether a line gave it instead of
+    the run before; its file of random bytes, its connections, its standard error, and a description
+    of the image that it leaves. It is over if random bytes are missing, or if its image is not one.
     """
 
     number: int
@@ -112,7 +111,7 @@ class Run:
 
 
 class Served:
-    """The device in its runs, as the lines say, and what is in the file of its image. A line in a
+    """The device in its runs, as the lines say, and the contents of its image's file. A line in a
     wrong place does nothing.
     """
 
@@ -123,7 +122,7 @@ class Served:
         self.made_of, self.is_given = bytes(RANDOM_BYTES), False
 
     def play(self, number: int, line: str) -> list[tuple[bytes, Outcome]]:
-        """A line, by its number. Gives the commands that it executes, each with its outcome."""
+        """Plays a line, by its number. Returns the executed commands, with their outcomes."""
         word, _, argument = line.partition(" ")
         if word in ("new", "image"):
             self.end()
@@ -149,7 +148,9 @@ class Served:
             self.image, self.made_of = None, repeated(data)
 
     def begin(self, number: int, locality: int) -> None:
-        """Where there is no image, a device is made. Behind a run it is the same, without power."""
+        """Makes a device if there is no image. After a run the device goes on, without a power
+        cycle.
+        """
         self.run = Run(number, locality, self.image, self.is_given)
         self.runs.append(self.run)
         if self.image is None:
@@ -163,7 +164,7 @@ class Served:
                 self.run.error = f"tpmsim: image {fault}"
 
     def end(self) -> None:
-        """A run saves its device where it had a connection."""
+        """Ends a run, which saves its device if it had a connection."""
         if self.run:
             if self.run.connections:
                 self.image, self.is_given = without_clock(self.device), False
@@ -184,7 +185,7 @@ class Served:
 
 
 def played(script: Iterable[str]) -> list[Run]:
-    """The runs that lines say."""
+    """The runs that lines describe."""
     served = Served()
     for number, line in enumerate(script, 1):
         served.play(number, line)

@@ -1,6 +1,6 @@
-# What the tests of hosts/libtpms share. Each is given the archive of the library, and reads this file
-# behind cases.sh. It builds libtpms.so.0 over that archive, and a caller in swtpm's place, both of them
-# with sanitizers too.
+# Shared by the tests of hosts/libtpms. Each is given the archive of the library, and reads this file after
+# cases.sh. It builds libtpms.so.0 over that archive, and a caller that replaces swtpm, and both again with
+# sanitizers.
 # shellcheck shell=sh disable=SC2154 # cases.sh has `program`, `room` and `tests`
 needs cc nm strip python3 libtpms/tpm_library.h
 TPMSIM_ARCHIVE=$(readlink -f "$program")
@@ -31,7 +31,7 @@ if [ ! -d "$built" ]; then
 fi
 cp -R "$built/." "$room" || exit 1
 
-# spell: the lines of standard input, of which `do WORDS` has a command in words.
+# spell: prints the lines of standard input; a command in words, `do WORDS`, becomes its buffer.
 spell() {
     awk -v assemble="$assemble" '
         $1 == "do" {
@@ -46,9 +46,8 @@ spell() {
     '
 }
 
-# play: plays the lines of standard input with libtpms.so.0, and prints what comes of them. Each is
-# played with sanitizers too, in a folder that was the same before, and what that prints has to be the
-# same.
+# play: plays the lines of standard input with libtpms.so.0, and prints the output. Each is played with
+# sanitizers too, in an equal folder, and has to print the same.
 play() {
     spell >"$room/lines"
     rm -rf "$room/again"
@@ -62,7 +61,7 @@ play() {
     diff "$room/given" "$room/sanitized_given" | sed 's/^/    with sanitizers: /'
 }
 
-# label TEXT: a line above what follows.
+# label TEXT: prints a line above what follows.
 label() {
     echo "$1:"
 }

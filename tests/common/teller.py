@@ -1,10 +1,10 @@
 """The caller of every program that writes a script: it has the script, and says what comes next.
 
-A command follows the words of it, which name its outcome behind a colon where it is no success:
+Each command follows its words, which name its outcome after a colon unless it is a success:
 
     tpm("By another password: AUTH_FAIL/s1").reading(FIRST, 8, b"other")
 
-Words that are long have a line of their own:
+Long words have a line of their own:
 
     said = tpm("By the empty password, and by another one: AUTH_FAIL/s1")
     said.fails(*(tpm.reading(FIRST, 8, it) for it in (b"", b"other")))
@@ -23,7 +23,9 @@ from tests.common.script_caller import ScriptCaller
 
 
 def wrong_in(prepared: Prepared, *places: int) -> Prepared:
-    """With a bit changed in the hmac of each of these entries, or a zero where there is none."""
+    """The command with a bit changed in the HMAC of each of these entries; an empty one gets a
+    zero.
+    """
     for place in places or (1,):
         hmac = prepared.entries[place - 1].hmac
         prepared = prepared.but_entry(place, hmac=flipped(hmac) if hmac else b"\0")
@@ -31,7 +33,7 @@ def wrong_in(prepared: Prepared, *places: int) -> Prepared:
 
 
 def others_in(prepared: Prepared, *places: int) -> Prepared:
-    """With other bytes in place of these hmacs."""
+    """The command with other bytes instead of these HMACs."""
     for place in places:
         prepared = prepared.but_entry(place, hmac=b"wrong")
     return prepared
@@ -39,9 +41,9 @@ def others_in(prepared: Prepared, *places: int) -> Prepared:
 
 class Teller(ScriptCaller):
     """A caller with the script of a program. `name` is that of the program's module, and `told` its
-    first words: the name of the script, a full stop, and what the script says of itself. The script
-    begins with TPM2_Startup(CLEAR), if it `starts` so; where `tries` are allowed no wrong one locks
-    anything. tests/anew.py writes it.
+    first words: the name of the script, a full stop, and what the script says of itself. If it
+    `starts`, the script begins with TPM2_Startup(CLEAR). If `tries` are allowed, no wrong one locks
+    anything. `tests/anew.py` writes the script.
     """
 
     written_by = ".tpm"
@@ -60,8 +62,8 @@ class Teller(ScriptCaller):
         return Said(self, words)
 
     def comes_to(self, words: str, prepared: Prepared) -> bytes:
-        """Sends a command that comes to what the words say: its answer in plain, if any. There are
-        fresh random bytes where a session has an entry.
+        """Sends a command with the outcome that the words name; returns its answer, decrypted, if
+        any. It has fresh random bytes if a session has an entry.
         """
         named = [it[1] for it in OUTCOME.finditer(words) if it[1] in frames.CODES]
         if not named:
@@ -71,7 +73,7 @@ class Teller(ScriptCaller):
         self.fails(words, prepared)
         return b""
 
-    # What many scripts do.
+    # Steps of many scripts.
 
     def restarts(self, session: Session) -> None:
         self.does("TPM2_PolicyRestart", self.restart(session))
@@ -96,7 +98,7 @@ class Teller(ScriptCaller):
         self.script.chapter(text)
 
     def raw(self, words: str, *buffers: bytes, fresh: bool = False) -> bytes:
-        """Buffers that come to the outcome in the words, and the last one's response."""
+        """Sends buffers with the outcome that the words name; returns the last one's response."""
         return self.script.command(words, *buffers, fresh=fresh)
 
     def locality_is(self, locality: int) -> None:
@@ -106,7 +108,7 @@ class Teller(ScriptCaller):
         self.script.power()
 
     def power_cycle(self) -> None:
-        """And TPM2_Startup(CLEAR)."""
+        """A power cycle, and TPM2_Startup(CLEAR)."""
         self.power()
         self.startup()
 
@@ -115,7 +117,7 @@ class Teller(ScriptCaller):
 
 
 class Example(Teller):
-    """The same for a script of examples/, which tells itself when it starts."""
+    """The same for a script of examples/, whose first command is its own."""
 
     written_by = ".py"
 
@@ -126,14 +128,14 @@ class Example(Teller):
         return self.create_primary(what, RH_OWNER, storage_key())
 
     def measure(self, *measurements: tuple[int, str, bytes]) -> None:
-        """Into PCRs, each with its words."""
+        """Extends PCRs with measurements, each with its words."""
         for pcr, what, data in measurements:
             self.accepted(what, self.event(data, b"", pcr=pcr))
 
 
 class Said:
-    """Words, and behind them every method of their caller. One that takes words gets these; what
-    another prepares is sent at once.
+    """Words, followed by any method of their caller. A method that takes words gets these; a
+    command that another one prepares is sent at once.
     """
 
     def __init__(self, tpm: Teller, words: str) -> None:

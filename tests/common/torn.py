@@ -1,12 +1,12 @@
-"""Makes each call of `tpmsim` fail, of those by which it reaches files, its socket and the clock:
+"""Makes calls of `tpmsim` fail, one by one, by which it reaches files, its socket and the clock:
 
     python3 torn.py PROGRAM
 
-A run does in order what the shim tear.c notes. Each of these calls is made to fail in turn, in a
-run of its own; where the call moves bytes, another run has it move half of them. What then has to
-come is in the table ENDINGS. A client sends one command after another, and waits for each answer;
-so it is known which commands were executed. What they are answered, and which device is in the
-image, the device in Python says.
+The shim tear.c notes the calls of a run in order. Each of them is made to fail in turn, in a run of
+its own; if the call moves bytes, another run has it move half of them. The table ENDINGS says what
+has to follow. A client sends one command after another, and waits for each answer; so it is known
+which commands were executed. The Python device says what they are answered, and which device is in
+the image.
 """
 
 import collections
@@ -41,21 +41,21 @@ SCRIPT = TOP / "examples/measured_boot.tpm"
 ROOM = Room("torn")
 HALF = 0
 
-# The calls that reach files, sockets and the clock in other ways than the shim knows.
+# Calls that reach files, sockets and the clock and are unknown to the shim.
 OTHERS = (
     "accept clock_nanosleep creat dup dup2 fopen fstat lseek lstat mmap open64"
     " openat openat64 poll pread64 pwrite64 readv recvfrom recvmsg renameat renameat2"
     " sendfile sendmsg sendto shutdown splice stat sync unlinkat writev"
 ).split()
 
-# What else is so after a call has failed.
+# What else holds after a call has failed.
 NONE, ALONE = "", ", that connection alone ends"
 OLD, NEW = ", the old image stays", ", the new image is there"
 
 
 @dataclass(frozen=True)
 class End:
-    """What comes of a call that fails: how the run ends, what else is left, and more."""
+    """The result of a call that fails: how the run ends, what else is left, and more."""
 
     ending: Ending
     left: tuple = ()
@@ -66,7 +66,7 @@ class End:
         return (self.ending.error.decode().strip() or "the run goes on") + self.more
 
 
-# By the function and what it is about. The folder beside the socket is .0, and the socket in it s.
+# By the function and its file. `.0` is the folder next to the socket, and `s` the socket in it.
 UNSAVED = End(FILE, ("image.new",), OLD)
 ENDINGS = {
     call: end
@@ -85,7 +85,7 @@ ENDINGS = {
     for call in calls.split(", ")
 }
 
-# With what error a call fails, where it is not EIO.
+# The error with which a call fails, if it is not EIO.
 ERRORS = {
     "recv connection": errno.ECONNRESET,
     "send connection": errno.EPIPE,
@@ -93,8 +93,8 @@ ERRORS = {
     "write image.new": errno.ENOSPC,
 }
 
-# What the connections send. A command in words, or bytes that are none: of another tag, with a byte
-# too few, and with a size that ends the connection.
+# What the connections send: commands in words, or bytes that are no command: with another tag, with
+# a byte too few, and with a size that ends the connection.
 BAD_TAG, CUT = "80030000000c000001440000", "80010000000b0000014400"
 BAD_SIZE = "8001000000090000014400"
 CONNECTIONS = [
@@ -142,7 +142,7 @@ def random_of(number):
 
 @dataclass(frozen=True)
 class Service:
-    """How a run ended, what each connection was answered, the image, and what else is left."""
+    """How a run ended, what each connection was answered, its image, and what else is left."""
 
     ending: Ending
     answers: list
@@ -151,7 +151,7 @@ class Service:
 
     @property
     def told(self):
-        """The same with its image as it is compared."""
+        """The same with the image's description, for comparison."""
         return replace(self, image=image_told(self.image))
 
 
@@ -178,7 +178,7 @@ def talked(process, buffers):
 
 
 def served(program, text, at=0, error=0):
-    """A run from an image, or from none, of which a call fails."""
+    """A run with or without an image, in which one call fails."""
     ROOM.furnish(text, b"".join(map(random_of, range(0 if text is None else 1, COMMANDS + 1))))
     process = program.begun([*SERVE, str(len(SENT))], ROOM.path, at, error)
     answers = [talked(process, buffers) for buffers in SENT]
@@ -186,7 +186,7 @@ def served(program, text, at=0, error=0):
 
 
 class Model:
-    """The device in Python, from an image or new: what commands are answered, and its image."""
+    """The Python device, from an image or new: its answers to commands, and its image."""
 
     def __init__(self, text):
         self.device = machine.Model(random_of(0)) if text is None else open_image(text)
@@ -212,8 +212,8 @@ IN_CONNECTION = {"recv connection", "send connection", "read entropy", "clock_ge
 
 @dataclass(frozen=True)
 class Tear:
-    """A call that fails, what comes of it, how many connections were taken before it, and how many
-    responses were sent to the last one of them.
+    """A call that fails, its result, how many connections were accepted before it, and how many
+    responses were sent to the last of them.
     """
 
     call: str
@@ -246,7 +246,7 @@ class Tear:
         return number < self.accepted or self.end.more != OLD
 
     def wanted(self, text):
-        """What has to come of the run from an image, or from none."""
+        """The expected result of the run, with or without an image."""
         model, saved, answers = Model(text), image_told(text), []
         for number, buffers in enumerate(SENT, 1):
             answers.append(self.answers(model, number, buffers))
@@ -256,7 +256,7 @@ class Tear:
 
 
 def check_next(program, label, torn):
-    """The next run goes on from the image that a torn one left, and tidies up what else it left."""
+    """The next run goes on from the image that a torn run left, and removes what else it left."""
     process = program.begun([*SERVE, "1"], ROOM.path)
     talked(process, [])
     ending, left = ended(process), set(ROOM.left) - {".0"}
@@ -266,7 +266,7 @@ def check_next(program, label, torn):
 
 
 def check_torn(program, label, text, calls, at):
-    """A run of which the call of a number fails."""
+    """Compares a run in which the call of this number fails."""
     call = calls[at - 1]
     if call not in ENDINGS:
         fail(f"{label}: {call} is no call that is known")
@@ -280,7 +280,7 @@ def check_torn(program, label, text, calls, at):
 
 
 def check_service(program, label, text):
-    """Tears each call of the runs from an image, or from none."""
+    """Tears each call of the runs with or without an image."""
     model, whole = Model(text), served(program, text).told
     calls = program.noted()
     if whole != Service(WELL, [model.answers(it) for it in SENT], model.image, ()):
@@ -299,8 +299,8 @@ def check_service(program, label, text):
 
 
 def check_words(program, label, words, stdin=b""):
-    """Tears each call of a run that reads and prints: it ends with `tpmsim: file`, and what it has
-    printed is a beginning of what it prints.
+    """Tears each call of a run that reads and prints: it ends with `tpmsim: file`, and prints a
+    beginning of what the whole run prints.
     """
 
     def run(at=0, error=0):

@@ -1,5 +1,5 @@
-"""Two runs of `tpmsim serve` at once, of which each has its own image or its own socket, and which
-share the other: one goes on, wherever the first one is meanwhile.
+"""Two runs of `tpmsim serve` at once. Each has its own image or its own socket, and they share the
+other of the two: one run goes on, at whichever call the first one is meanwhile.
 """
 
 import socket
@@ -10,13 +10,13 @@ from tests.common.shims import AT_MOST, FILE, SERVE, SOCKET, Room, Tears, ended,
 ROOM = Room("torn")
 RANDOM = bytes(512)
 
-# How long a second run is given, which may have to wait for the first one.
+# How long a second run may take, which perhaps has to wait for the first one.
 A_WHILE = 0.3
 
 
 class Rival:
-    """A run that serves many connections, whose call of a number waits for the file `go`. The file of
-    one word, `image` or `socket`, is its own.
+    """A run that serves many connections, and whose call of one number waits for the file `go`.
+    `own` is `image` or `socket`: the file that it does not share.
     """
 
     def __init__(self, program, name, own, at=0):
@@ -34,7 +34,7 @@ class Rival:
         return "accept4" in self.noted
 
     def await_that(self, is_so, seconds=AT_MOST):
-        """Waits until something is so, for this long at most."""
+        """Waits until a condition holds, for this long at most."""
         end = time.monotonic() + seconds
         while not is_so() and time.monotonic() < end:
             time.sleep(0.001)
@@ -56,15 +56,15 @@ def begin_anew():
 
 
 def begin_beside_left():
-    """The same with a socket at which nobody answers."""
+    """The same with a socket on which nobody answers."""
     begin_anew()
     with socket.socket(socket.AF_UNIX, socket.SOCK_STREAM) as left:
         left.bind(str(ROOM.path / "socket"))
 
 
 def check_rivals(program, begin, own, wanted, at_most):
-    """The second run is given this long, in seconds, before the first goes on; one of them ends as
-    wanted. Gives the calls at which the second needed the first.
+    """The second run has this long, in seconds, before the first goes on; one of them ends as
+    expected. Returns the calls at which the second run needed the first.
     """
     begin()
     alone = Rival(program, "first", own)

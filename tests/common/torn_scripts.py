@@ -1,11 +1,11 @@
-"""Makes each call of `tpmsim run --image` fail, of those by which it reaches files:
+"""Makes calls of `tpmsim run --image` fail, one by one, by which it reaches files:
 
     python3 torn_scripts.py PROGRAM
 
-A run does in order what the shim tear.c notes. Each of these calls is made to fail in turn, in a
-run of its own; where the call moves bytes, another run has it move half of them. The client tells one
-line after another, and waits for each response. Whichever call fails: what it was told is in the
-image, by the device in Python, and the run ends with the fault of that call.
+The shim tear.c notes the calls of a run in order. Each of them is made to fail in turn, in a run of
+its own; if the call moves bytes, another run has it move half of them. The client sends one line
+after another, and waits for each response. Whichever call fails, the image has all that was
+answered, by the Python device; and the run ends with the fault of that call.
 """
 
 import errno
@@ -39,8 +39,8 @@ LINES = [
 
 
 class Model:
-    """The device in Python: what each line is answered, and which images may be there behind it.
-    Before the first response that is the one at the start, if any, or that of the device.
+    """The Python device: the answer to each line, and which images may be there after it. Before
+    the first response that is the image of the start, if any, or the device's.
     """
 
     def __init__(self, text):
@@ -54,7 +54,9 @@ class Model:
             self.images[len(self.answers)].append(device_told(self.player.device))
 
     def allows(self, told, saved):
-        """Whether an image has what so many responses tell, be it with what the next line did."""
+        """Whether an image has what this many responses report, perhaps with the next line's
+        effect.
+        """
         return saved in self.images[told] or saved in self.images[min(told + 1, len(self.answers))]
 
 
@@ -67,12 +69,12 @@ class Result:
 
 
 def answers_to(process):
-    """What is answered to the lines, until the run ends."""
+    """The answers to the lines, until the run ends."""
     try:
         for line in LINES:
             process.stdin.write(f"{line}\n".encode())
             if line.startswith("do"):
-                # What is told at once is read at once, so that a run does the same calls each time.
+                # Reads all answers that come at once, so that a run makes the same calls each time.
                 process.stdin.flush()
                 answer = process.stdout.readline()
                 if not answer.endswith(b"\n"):
@@ -83,7 +85,7 @@ def answers_to(process):
 
 
 def ran(program, text, at=0, error=0):
-    """A run on an image, or without one, of which a call fails."""
+    """A run with or without an image, in which one call fails."""
     ROOM.furnish(text, RANDOM)
     process = program.begun(RUN, ROOM.path, at, error)
     answers = list(answers_to(process))
@@ -95,7 +97,7 @@ def fault_of(call):
 
 
 def check(program, label, text):
-    """Tears each call of a run on an image, or without one."""
+    """Tears each call of a run with or without an image."""
     model = Model(text)
     whole = ran(program, text)
     calls = program.noted()

@@ -1,2 +1,2 @@
-/* Stands before a program in many runs, and changes nothing of what it calls. */
+/* A shim for many runs of a program that changes nothing of its calls. */
 #include "turns.h"

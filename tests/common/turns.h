@@ -1,31 +1,31 @@
-/* What shims share that stand before a program in many runs. The process that is begun stays before
- * its `main`. For each turn that it reads from the socket TURNS, a variable of the environment that
- * has its number, it forks: the fork goes on to `main`, and how it ended is written back. That takes
- * half of the time in which a program is loaded anew. */
+/* The common part of shims for many runs of a program. The process stops before its `main`. It reads
+ * turns from the socket TURNS, a variable of the environment that has its number. For each it forks: the
+ * fork goes on to `main`, and the process writes back how it ended. That saves half of the time that
+ * loading the program again would take. */
 #include <stdlib.h>
 #include <sys/mman.h>
 #include <sys/socket.h>
 #include <sys/wait.h>
 #include <unistd.h>
 
-/* After so many seconds a run is ended. */
+/* A run is ended after this many seconds. */
 enum { AT_MOST = 60 };
 
-/* Two numbers, whose meaning a shim says, and the last word of the command line, where the turn is
- * longer than they are. */
+/* Two numbers, whose meaning depends on the shim, and the last word of the command line, if the turn
+ * has more than the numbers. */
 static struct {
     long first, second;
     char word[1 << 16];
 } turn;
 
-/* How a run ended, as waitpid tells it, and whether its shim has marked it. */
+/* How a run ended, as waitpid reports it, and whether its shim has marked it. */
 struct report {
     int status, is_marked;
 };
 
 static struct report *report;
 
-/* Reports a run that was begun, once it has ended. */
+/* Reports a run after it has ended. */
 static void report_end(int turns, pid_t run) {
     if (run < 0 || waitpid(run, &report->status, 0) != run) abort();
     if (send(turns, report, sizeof *report, 0) != sizeof *report) abort();

@@ -1,12 +1,11 @@
-# What the tests share that type the lines of a page: they read it behind cases.sh, which gives
-# `room`.
+# Shared by the tests that type the lines of a page, which read it after cases.sh. That sets `room`.
 # shellcheck shell=sh disable=SC2154 # cases.sh has `room`
 
-# type_lines PAGE: types the lines of a page that are to be typed: each prints what stands below it
-# there. A line begins with `$ `; the lines with `> ` after it belong to it. It says how many there
-# are.
+# type_lines PAGE: types the lines of a page that a reader types: each has to print what the page shows
+# below it. A line begins with `$ `; the lines with `> ` after it belong to it. At the end it prints their
+# number.
 type_lines() {
-    # N.typed is the line number N, and N.wanted what it is to print.
+    # N.typed is the line number N, and `N.wanted` its expected output.
     awk -v room="$room" '
         /^```/ { shown = !shown; typed = ""; next }
         !shown { next }

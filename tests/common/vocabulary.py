@@ -14,7 +14,7 @@ from tpmsim.standard.policy import AUTH_VALUE, PASSWORD
 from tests.common.script_caller import FIRST, FOURTH, HASHES, is_trial, SECOND, THIRD, zeros
 from tests.common.teller import others_in, Teller, wrong_in
 
-# Attributes of the entries of a session that goes on, and of one that ends.
+# Attributes of the entries of a session that continues, and of one that ends.
 DECRYPTS, ENCRYPTS, ENDS = CONTINUE_SESSION | DECRYPT, CONTINUE_SESSION | ENCRYPT, 0
 
 LOCKS = NvAttribute.WRITE_STCLEAR | NvAttribute.READ_STCLEAR

@@ -1,4 +1,4 @@
-// What a user in C++ does with devices. It prints a line for each fact, the same by each standard.
+// What a user in C++ does with devices. It prints a line for each fact, the same in each standard of C++.
 #include "tpmsim.hpp"
 #include <cstdio>
 #include <thread>
@@ -7,7 +7,7 @@ using libtpmsim::Device;
 using libtpmsim::Response;
 using Buffer = std::vector<std::uint8_t>;
 
-// Random bytes that count up, and so are the same in each run.
+// Random bytes that count up, and are therefore the same in each run.
 static libtpmsim::Random counting() {
     return [next = std::uint8_t{0}](std::uint8_t *start, std::size_t size) mutable {
         while (size-- > 0) *start++ = next++;
@@ -25,7 +25,7 @@ static Buffer get_random(std::uint8_t count) {
     return {0x80, 1, 0, 0, 0, 12, 0, 0, 1, 0x7b, 0, count};
 }
 
-// What a call throws.
+// Prints what a call throws.
 template <class Call> static void tell_thrown(const char *what, Call call) {
     try {
         call();
@@ -97,7 +97,7 @@ static void moves() {
 }
 #endif
 
-// The same with nothing thrown.
+// The same with errors returned instead of thrown.
 static int told() {
     libtpmsim::Told told = 99;
     std::optional<Device> tpm = Device::make(told, counting());

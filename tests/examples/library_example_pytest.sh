@@ -8,7 +8,7 @@ PYTHONDONTWRITEBYTECODE=1
 export TPMSIM_LIBRARY PYTHONDONTWRITEBYTECODE
 cp -r "$tests/../examples/pytest" project
 
-# play: what pytest says at last, without the time.
+# play: prints the last line of pytest, without the time.
 play() {
     (cd project && pytest-3 -q -p no:cacheprovider -p tpmsim.pytest_plugin >../said 2>&1) || cat said
     tail -n 1 said | sed 's/ in .*//'

@@ -1,4 +1,4 @@
-# The examples in Rust print what those in Python do.
+# The examples in Rust print what those in Python print.
 tests=$(cd "$(dirname "$0")/.." && pwd -P)
 . "$tests/common/cases.sh"
 . "$tests/common/library.sh"

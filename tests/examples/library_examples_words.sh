@@ -1,5 +1,5 @@
-# The examples in words: tpmsim-script plays each in its own process, and the program plays the plain script with
-# the same traces. A plain script is its own plain script. A fault has its line and column.
+# The examples in words: tpmsim-script plays each in its own process, and the program plays the plain script
+# with the same traces. A plain script is its own plain script. A fault has its line and column.
 tests=$(cd "$(dirname "$0")/.." && pwd -P)
 . "$tests/common/cases.sh"
 . "$tests/common/library.sh"

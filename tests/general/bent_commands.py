@@ -1,5 +1,5 @@
 """Writes bent_commands.tpm, and bent_nv_commands.tpm, bent_object_commands.tpm and
-bent_state_commands.tpm: the commands that cut_commands.py, and the like, have, each bent.
+bent_state_commands.tpm: each command of cut_commands.py, and of the similar programs, bent.
 """
 
 from tests.general import bends, cut_commands, cut_nv_commands, cut_object_commands
@@ -8,9 +8,9 @@ from tpmsim.standard import CC
 from tests.general.looks import LookingScript
 
 HEAD = (
-    "bent: first commandSize is raised and lowered by one, the bytes as they are; then "
-    "a zero byte more stands at the end, with commandSize corrected; then each size and each "
-    "count behind the header is raised and lowered by one, all else as it is. A 0 is lowered to "
+    "bent: first commandSize is raised and lowered by one, the rest unchanged; then "
+    "a zero byte is added at the end, with commandSize corrected; then each size and each "
+    "count after the header is raised and lowered by one, the rest unchanged. 0 is lowered to "
     "the largest number. All that is bent is refused. At last the command comes whole. "
     "Parameters, entries and the items of lists are counted from 1."
 )
@@ -19,12 +19,12 @@ CUT = cut_commands, cut_nv_commands, cut_object_commands, cut_state_commands
 
 
 def commands_of(cut):
-    """The names and the buffers of those that succeed."""
+    """The names and the buffers of the commands that succeed."""
     return [(name, whole) for name, whole, _, outcome in cut.COMMANDS if outcome == "SUCCESS"]
 
 
 def bent(script, whole):
-    """What of a command is refused, by the device in Python."""
+    """The bent buffers of a command that the Python device refuses."""
     for what, buffer in bends.bends(whole):
         refused = script.refusal_of(buffer)
         if not refused:

@@ -1,6 +1,6 @@
-"""Writes clear.tpm. TPM2_Clear, for a new owner: the objects and the NV indices of the old one are
-gone, with the seed of its primary objects, and so are its authorization values and its lockout.
-What is the platform's stays.
+"""Writes clear.tpm. TPM2_Clear, for a new owner, removes the old owner's objects and NV indices,
+the seed of its primary objects, its authorization values and its lockout. The platform's entities
+stay.
 """
 
 from tpmsim.model.capability import HANDLES, PROPERTIES
@@ -26,7 +26,7 @@ def listed(what, wanted, *handles):
 
 
 def lockout_is(what, *values):
-    """TPM_PT_LOCKOUT_COUNTER and the three behind it."""
+    """TPM_PT_LOCKOUT_COUNTER and the three after it."""
     tpm.lists(what, PROPERTIES, 0x20E, 4, list(enumerate(values, 0x20E)))
 
 
@@ -36,7 +36,7 @@ def counter_of(what):
 
 
 def primary_of(what, hierarchy):
-    """The Name and the ticket of a primary object, which does not stay."""
+    """The Name and the ticket of a primary object, which is flushed."""
     with tpm.held(what, storage_key(), hierarchy=hierarchy) as handle:
         return tpm.names[handle], tpm.ticket
 
@@ -48,7 +48,7 @@ case = "Who cannot clear: VALUE/h1"
 says(case, *(on_handle(CC.Clear, it) for it in (RH_OWNER, RH_ENDORSEMENT, RH_NULL, 0, 0x8000_0000)))
 says("Without sessions: AUTH_MISSING", command(CC.Clear, number(RH_LOCKOUT, 4)))
 says("AUTH_MISSING", command(CC.Clear, number(RH_PLATFORM, 4)))
-case = "A byte behind the handle: SIZE"
+case = "A byte after the handle: SIZE"
 says(case, *(on_handle(CC.Clear, it, b"\0") for it in (RH_LOCKOUT, RH_PLATFORM)))
 tpm("A wrong password: BAD_AUTH/s1").clearing(RH_PLATFORM, b"x")
 policy = tpm.policy("A policy session")
@@ -93,12 +93,12 @@ tpm.wait(70)
 tpm("TPM2_Clear").clearing(RH_PLATFORM)
 tpm.wait(7)
 tpm.clock_is("The clock and the counts are 0, the time goes on", 5077, 7, 0, 0)
-assert counter_of("The update counter is one more; PCR 16 is as it was") == before + 1
+assert counter_of("The update counter is one more; PCR 16 is unchanged") == before + 1
 lockout_is("No try, and the parameters as they were", 0, 5, 2000, 3000)
 tpm("lockoutAuth is open, and empty").lock_reset()
 tpm("So is ownerAuth").change_auth(RH_OWNER, b"", b"")
 tpm("And endorsementAuth").change_auth(RH_ENDORSEMENT, b"", b"")
-tpm("platformAuth is as it was: BAD_AUTH/s1").change_auth(RH_PLATFORM, b"", b"")
+tpm("platformAuth is unchanged: BAD_AUTH/s1").change_auth(RH_PLATFORM, b"", b"")
 tpm("TPM2_PolicyPCR: as if a PCR had changed: PCR_CHANGED").pcrs(policy, [(SHA256, [0])])
 tpm("The sessions are there: on PCR 16").reset(session)
 tpm("On TPM_RH_OWNER, whose value is another").change_auth(RH_OWNER, b"", session)
@@ -115,7 +115,7 @@ tpm.chapter("The seed of the owner is new, and the others are not.")
 for hierarchy, name, _ in AUTHORIZED[:3]:
     object_name, ticket = primary_of(f"The same primary object of {name}", hierarchy)
     assert (object_name == names[hierarchy][0]) == (hierarchy != RH_OWNER)
-    # The proofs of both are new, so that old tickets are worth nothing.
+    # The proofs of both are new, so that old tickets are invalid.
     assert (ticket == names[hierarchy][1]) == (hierarchy == RH_PLATFORM)
 parent = tpm.owned("A storage key of the new owner", storage_key())
 tpm("What was created below the old one: INTEGRITY/p1").loading(parent, below)
@@ -136,7 +136,7 @@ tpm("TPM2_Clear by the first").clearing(RH_LOCKOUT, unbound)
 tpm('lockoutAuth is "lockout"').change_auth(RH_LOCKOUT, b"lockout", b"")
 tpm("By the bound one").clearing(RH_LOCKOUT, bound)
 tpm("And by it once more").clearing(RH_LOCKOUT, bound)
-tpm("By the platform, with both behind it").clearing(RH_PLATFORM, b"platform", unbound, bound)
+tpm("By the platform, with both after it").clearing(RH_PLATFORM, b"platform", unbound, bound)
 
 tpm.chapter("Over starts.")
 tpm.saves()

@@ -1,5 +1,5 @@
 """Writes clear_control.tpm. TPM2_ClearControl disables TPM2_Clear (YES, 01), by lockoutAuth or by
-the platform, and enables it again (NO, 00), which only the platform may.
+the platform, and enables it again (NO, 00), which only the platform may do.
 """
 
 import itertools
@@ -36,7 +36,7 @@ says("No parameter: INSUFFICIENT/p1", *(on_handle(CC.ClearControl, it) for it in
 case = "Neither YES nor NO: VALUE/p1"
 tpm.says(case, *(tpm.clear_control(handle, value) for handle in BOTH for value in (2, 0x80, 0xFF)))
 longer = itertools.product(BOTH, (b"\0\0", b"\1\0"))
-case = "A byte behind it, also of NO by lockoutAuth: SIZE"
+case = "A byte after it, also of NO by lockoutAuth: SIZE"
 says(case, *(on_handle(CC.ClearControl, *it) for it in longer))
 policy = tpm.policy("A policy session")
 said = tpm("No policy authorizes it: AUTH_UNAVAILABLE")
@@ -76,15 +76,15 @@ for session, words in (
     tpm("It opens with the time").lock_reset()
     tpm("It is flushed").flush(session)
 
-tpm.chapter("DISABLED is the check of the command itself, behind all others.")
-says("A byte behind the handle: SIZE", *(on_handle(CC.Clear, it, b"\0") for it in BOTH))
+tpm.chapter("DISABLED is the check of the command itself, after all others.")
+says("A byte after the handle: SIZE", *(on_handle(CC.Clear, it, b"\0") for it in BOTH))
 tpm("A wrong password of the platform: BAD_AUTH/s1").clearing(RH_PLATFORM, b"x")
 tpm("One of TPM_RH_LOCKOUT: a try, which is counted: AUTH_FAIL/s1").clearing(RH_LOCKOUT, b"x")
 tpm("The right one: LOCKOUT").clearing(RH_LOCKOUT)
 said = tpm("Of TPM2_ClearControl, too: LOCKOUT")
 said.says(*(tpm.clear_control(RH_LOCKOUT, it) for it in (NO, YES)))
 tpm.wait(1_000_000)
-is_disabled("Behind lockoutRecovery")
+is_disabled("After lockoutRecovery")
 
 tpm.chapter("By sessions that cannot encrypt what is no sized buffer.")
 session = tpm.start("An HMAC session with AES", aes=True)
@@ -96,8 +96,8 @@ tpm("It is flushed").flush(session)
 
 tpm.chapter("It is kept over starts.")
 tpm.power_cycle()
-is_disabled("Behind TPM2_Startup(CLEAR)")
+is_disabled("After TPM2_Startup(CLEAR)")
 tpm.saves_and_resumes()
-is_disabled("Behind it")
+is_disabled("After it")
 tpm("NO by the platform").clear_control(RH_PLATFORM, NO)
 clears("TPM2_Clear")

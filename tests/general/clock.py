@@ -1,6 +1,6 @@
-"""Writes clock.tpm. TPM2_ReadClock: time, the milliseconds since the power cycle; clock, those of
-the device's life; resetCount and restartCount; and that the clock is safe (01), as it never goes
-back. The numbers of eight bytes end far beyond what a script can wait for.
+"""Writes clock.tpm. TPM2_ReadClock answers time, the milliseconds since the power cycle; clock,
+those of the device's life; resetCount and restartCount; and that the clock is safe (01), as it
+never goes back. Numbers of eight bytes end far beyond what a script can wait for.
 """
 
 from tests.common.steps import Steps
@@ -34,7 +34,7 @@ says("Before TPM2_Startup: INITIALIZE", command(CC.ReadClock, b""))
 tpm.startup()
 tpm.wait(5)
 is_now("Five milliseconds later", 5, 5, 1, 0)
-says("A byte behind it: SIZE", command(CC.ReadClock, b"\0"))
+says("A byte after it: SIZE", command(CC.ReadClock, b"\0"))
 case = "With an authorization area, right or wrong: AUTH_CONTEXT"
 areas = frames.area(frames.entry()), number(0, 4), b""
 says(case, *(command(CC.ReadClock, it, frames.SESSIONS) for it in areas))
@@ -50,7 +50,7 @@ tpm("TPM2_GetRandom, after 3: INITIALIZE").random(2)
 tpm.wait(4)
 tpm.startup()
 is_now("Time has passed before TPM2_Startup too; it was a reset", 7, clock + 7, 2, 0)
-tpm.chapter("A wait counts for the next command, also where power is cycled in between.")
+tpm.chapter("A wait counts for the next command, even if power is cycled in between.")
 tpm.wait(10)
 tpm.power()
 tpm.wait(10)

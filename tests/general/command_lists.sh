@@ -1,7 +1,7 @@
 # The lists of commands in README.md, docs and docs/table, and their counts, are compared with the
 # description of the commands, python/tpmsim/standard/commands.py, which described_commands.sh compares with
-# the program. A line says of each list how many entries it has. Then documents are changed in one
-# place each, and that has to be found.
+# the program. A line says how many entries each list has. Then each document is changed in one place, and
+# that change has to be found.
 tests=$(cd "$(dirname "$0")/.." && pwd -P)
 . "$tests/common/cases.sh"
 needs python3

@@ -1,6 +1,6 @@
 """Writes cut_commands.tpm: each command that succeeds, cut to every shorter length.
 
-Those of objects are in tests/general/cut_object_commands.tpm, and those on NV indices in
+The commands of objects are in tests/general/cut_object_commands.tpm, and those on NV indices in
 tests/general/cut_nv_commands.tpm.
 """
 
@@ -17,14 +17,14 @@ MORE = (
     "refused whole too."
 )
 
-# A session that is bound to nothing, and so has neither a key nor an hmac.
+# A session that is bound to nothing, and so has neither a key nor an HMAC.
 SESSION, OTHER, TRIAL = 0x0200_0000, 0x0200_0001, 0x0300_0000
 BY_SESSION = [entry(SESSION, nonce=bytes(16))]
 
 # The same session, which decrypts the first parameter.
 BY_DECRYPTING = [entry(SESSION, bytes(16), frames.CONTINUE_SESSION | frames.DECRYPT)]
 
-# Three entries. The last session ends when they are accepted, and a trial session has its place.
+# Three entries. The last session ends when they are accepted, and a trial session gets its place.
 BY_THREE = [entry(), *BY_SESSION, entry(OTHER, nonce=bytes(16), attributes=0)]
 AES = start(aes=True)
 
@@ -68,7 +68,7 @@ COMMANDS = [
     ),
     cut("TPM2_StartAuthSession", AES),
     cut("TPM2_PCR_Reset by that session", on_handle(CC.PCR_Reset, 16, b"", BY_SESSION)),
-    cut("TPM2_PCR_Event by it, where it decrypts", event(BY_DECRYPTING)),
+    cut("TPM2_PCR_Event by it, and it decrypts", event(BY_DECRYPTING)),
     comes_whole("TPM2_StartAuthSession of another session", AES),
     cut(
         "TPM2_PCR_Reset by the password, with both sessions, the second of which ends",
@@ -91,7 +91,7 @@ COMMANDS = [
     policy("TPM2_PolicyNvWritten of an index that is not written", CC.PolicyNvWritten, b"\0"),
     comes_whole("TPM2_FlushContext of it", command(CC.FlushContext, number(TRIAL, 4))),
     cut("TPM2_StartAuthSession with TPM_ALG_XOR", start(xor=SHA256)),
-    cut("TPM2_PCR_Event by that session, where it decrypts", event(BY_DECRYPTING)),
+    cut("TPM2_PCR_Event by that session, which decrypts", event(BY_DECRYPTING)),
 ]
 
 write_script = partial(cuts.write, __file__, WHICH, LISTED, COMMANDS, MORE)

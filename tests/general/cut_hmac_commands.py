@@ -1,9 +1,9 @@
-"""Writes cut_hmac_commands.tpm. Commands that an hmac authorizes, cut behind their authorization
-area to each shorter length, with commandSize corrected. The hmac is that of the whole parameters,
+"""Writes cut_hmac_commands.tpm. Commands that an HMAC authorizes, cut after their authorization
+area to each shorter length, with the right commandSize. The HMAC is that of the whole parameters,
 so it is wrong; it is compared before the parameters are read. At a protected NV index or object
-that is a try: TPM_PT_LOCKOUT_COUNTER (20E) tells that it counts. TPM2_DictionaryAttackLockReset
-takes it back each time. A refusal leaves the session as it was: so the command comes whole at last,
-with the same hmac.
+that is a try: TPM_PT_LOCKOUT_COUNTER (20E) shows that it counts. TPM2_DictionaryAttackLockReset
+forgives it each time. A refusal leaves the session as it was: so the whole command comes at last,
+with the same HMAC.
 """
 
 from collections.abc import Iterator
@@ -25,20 +25,20 @@ tpm = GroundsCaller(__name__, __doc__)
 
 
 def refused(what: str, outcome: str, tries: int, *buffers: bytes) -> None:
-    """What is refused, and how many tries have failed then."""
+    """Buffers that are refused, and the number of failed tries afterwards."""
     tpm.raw(f"{what}: {outcome}", *buffers)
     tpm.tries_are("Tries", tries)
 
 
 def refused_alone(what: str, outcome: str, tries: int, buffer: bytes) -> None:
-    """The same, where a try that counts is taken back."""
+    """The same for one buffer; a try that counts is forgiven."""
     refused(what, outcome, tries, buffer)
     if tries:
         tpm.unlocks()
 
 
 def cuts_of(prepared: Prepared) -> Iterator[tuple[str, bytes]]:
-    """The command with each shorter length of its parameters, and what is said of that."""
+    """The command with each shorter length of its parameters, with words for it."""
     whole, count = prepared.buffer(), len(prepared.parameters)
     for left in range(count):
         yield f"Cut to {left} of {count} bytes", with_size(whole[: len(whole) - count + left])
@@ -51,7 +51,7 @@ def comes_whole(prepared: Prepared) -> None:
 
 
 def cut(name: str, prepared: Prepared, outcome: str = "AUTH_FAIL/s1", tries: int = TRY) -> None:
-    """A command that is cut, and has a byte too many: so many tries each time; and then whole."""
+    """A command that is cut or has a byte too many, with `tries` each time; then the whole one."""
     tpm.chapter(f"{name}.")
     for what, buffer in cuts_of(prepared):
         refused_alone(what, outcome, tries, buffer)
@@ -71,13 +71,13 @@ def by_each_command(session: Session, told: Session, key: int) -> None:
 
 
 def beside(session: Session, bound: Session) -> None:
-    """A session that is bound to the index, where it does not authorize it."""
+    """A session that is bound to the index, in an entry that does not authorize it."""
     cut("TPM2_PCR_Event of PCR 16, which the bound session authorizes", tpm.event(DATA, bound))
-    case = "TPM2_PCR_Event that a password authorizes, with the bound session behind it"
+    case = "TPM2_PCR_Event that a password authorizes, with the bound session after it"
     cut(case, tpm.event(DATA, b"", bound), "AUTH_FAIL/s2")
     cut("TPM2_GetRandom with the bound session alone", tpm.random(2, bound))
     cut(
-        "TPM2_PCR_Event, with the bound session behind one that is bound to nothing. The hmac of "
+        "TPM2_PCR_Event, with the bound session after one that is bound to nothing. The hmac of "
         "that is left out, as its key is empty; so only the second one's is wrong",
         tpm.event(DATA, session, bound),
         "AUTH_FAIL/s2",
@@ -123,10 +123,10 @@ for words, start, end, outcome in (
 ):
     refused(words, outcome, NO_TRY, *(with_size(whole[:length]) for length in range(start, end)))
 as_it_was = (whole[:length] for length in range(len(whole)))
-refused("With commandSize as it was", "COMMAND_SIZE", NO_TRY, *as_it_was)
+refused("With the old commandSize", "COMMAND_SIZE", NO_TRY, *as_it_was)
 comes_whole(prepared)
 
-# An entry that is right for what is left of the parameters: then they are what is refused.
+# An entry that is right for the rest of the parameters: then the parameters are refused.
 whole = frames.nv_write(DATA, 2)
 in_data = range(len(sized(DATA)))
 for words, use in (
@@ -164,7 +164,7 @@ tpm.restarts(told)
 by_each_command(unbound, told, key)
 beside(unbound, bound)
 
-# The same where nothing protected is tried.
+# The same on entities without protection.
 case = "TPM2_NV_Write of the index with TPMA_NV_NO_DA"
 cut(case, tpm.writing(FOURTH, DATA, unbound), "BAD_AUTH/s1", NO_TRY)
 tpm('ownerAuth is "pin"').change_auth(RH_OWNER, PIN, b"")

@@ -12,7 +12,7 @@ from tpmsim.standard import CC, SHA256, command, entry, frames, number, on_handl
 
 WHICH, LISTED = "The commands of objects, each", frames.TRANSIENT
 
-# A storage key, and what is sealed under it, with random bytes that are zeros.
+# A storage key, and data sealed under it, with random bytes that are zeros.
 PARENT, CHILD = 0x8000_0000, 0x8000_0001
 PCR_0 = [(SHA256, [0])]
 
@@ -22,14 +22,14 @@ def template(public, data=b""):
 
 
 def creation(public, data=b""):
-    """The parameters of its creation."""
+    """The parameters that create it."""
     asked = template(public, data)
     sensitive = frames.sensitive_create(b"abc", data)
     return frames.creation(sensitive, sized(public.text), asked.outside_info, asked.pcrs)
 
 
 def loading(data):
-    """The parameters of TPM2_Load of what was created with the storage key as its parent."""
+    """The parameters of TPM2_Load of an object that was created below the storage key."""
     seed = MANUFACTURED[:SECRET_BYTES]
     parent = object_rules.primary(template(storage_key()), frames.RH_OWNER, seed)
     public, sensitive, _ = object_rules.created(template(sealed(), data), bytes(256))

@@ -1,7 +1,7 @@
 """Scripts of commands that are cut to every shorter length.
 
-A cut buffer whose commandSize is left as it was is refused for that. With commandSize corrected it
-is refused where it is cut: each command says in words and codes up to which length by what.
+A cut buffer with the old commandSize is refused for that. With the right commandSize it is refused
+for the cut: each command says in words and codes what refuses it up to which length.
 """
 
 from tpmsim.standard import CC, command, frames, number
@@ -14,7 +14,7 @@ HEAD = (
 )
 HEADER_BYTES = 10
 
-# Where a handle or a parameter is cut that is not called by its name in Part 3.
+# The words for a cut handle or parameter that is not called by its name in Part 3.
 WORDS = {
     "digests": "within its digests",
     "eventData": "within its data",
@@ -29,7 +29,7 @@ WORDS = {
 
 
 def names(code):
-    """Where a command is cut: in each handle, and then in each parameter."""
+    """The places of a cut: within each handle, and then within each parameter."""
     for it in (*code.handles, *code.parameters):
         if code.authorized and [it] == list(code.handles) and it.name != "nvIndex":
             yield "within its handle"
@@ -38,8 +38,8 @@ def names(code):
 
 
 def cut(name, whole, outcome="SUCCESS"):
-    """A command: its name, its whole buffer, the pieces of it, and what it comes to. One that is
-    refused whole is so wherever it is cut behind the authorization area.
+    """A command: its name, its whole buffer, its pieces, and its outcome. One that is refused whole
+    has the same outcome wherever it is cut after the authorization area.
     """
     found, named = [], names(CC(int.from_bytes(whole[6:10], "big")))
     for place, end in pieces(Walk(whole)):
@@ -48,7 +48,7 @@ def cut(name, whole, outcome="SUCCESS"):
             continue
         found.append((end, "within the authorization area", "AUTHSIZE"))
         if outcome != "SUCCESS":
-            found.append((len(whole), "behind the authorization area", outcome))
+            found.append((len(whole), "after the authorization area", outcome))
             break
     return name, whole, found, outcome
 
@@ -68,16 +68,16 @@ STARTUP = cut("TPM2_Startup(CLEAR)", command(CC.Startup, number(0, 2)))
 
 
 def with_size(buffer):
-    """The buffer with its length as commandSize."""
+    """The buffer with its own length as commandSize."""
     return buffer[:2] + number(len(buffer), 4) + buffer[6:]
 
 
 def cuts(whole, found):
-    """What of a command is refused; where there are no pieces, it comes whole alone."""
+    """The cut buffers of a command; without pieces there are none."""
     if not found:
         return
     as_it_was = [whole[:length] for length in range(len(whole))]
-    yield "Cut, with commandSize as it was", "COMMAND_SIZE", as_it_was
+    yield "Cut, with the old commandSize", "COMMAND_SIZE", as_it_was
     start = HEADER_BYTES
     for end, where, code in found:
         corrected = [with_size(whole[:length]) for length in range(start, end)]
@@ -87,8 +87,8 @@ def cuts(whole, found):
 
 
 def write(program, which, kind, commands, more=""):
-    """A script of commands: each one's name, its whole buffer, the pieces, and what it comes to.
-    Behind each refusal the handles of this kind are looked at.
+    """A script of commands, each with its name, its whole buffer, the pieces, and the outcome.
+    After each refusal it looks at the handles of this kind.
     """
     head = f"{which} {HEAD} {more}".rstrip()
     script = LookingScript(program, head, kind)

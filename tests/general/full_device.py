@@ -1,6 +1,6 @@
 """Writes full_device.tpm. A device that is filled up to each of its limits: sixteen persistent
 objects, eight transient ones, 64 NV indices of 16,384 bytes in all, and sixteen sessions.
-tests/images/images.py prints the image of what it keeps.
+tests/images/images.py prints its image.
 """
 
 from tpmsim.model import nv_commands
@@ -19,7 +19,7 @@ AUTH_VALUES = (
     (RH_LOCKOUT, b"lockout"),
 )
 
-# Objects that stay, of each type, scheme and hash algorithm.
+# Persistent objects of each type, scheme and hash algorithm.
 TEMPLATES = (
     (storage_key(), b"", b""),
     (storage_key(SHA1), b"", b"a"),
@@ -36,7 +36,7 @@ TEMPLATES = (
 SHA1_POLICY = {"algorithm": SHA1, "auth_policy": AFTER_AUTH_VALUE[SHA1]}
 SHA256_POLICY = {"auth_policy": AFTER_AUTH_VALUE[SHA256]}
 
-# Ordinary ones that are large and small, written or not, and the other types.
+# Large and small ordinary indices, written or not, and the other types.
 INDICES = (
     (area(0x0100_0000, BY_OWNER, size=2048), b""),
     (area(0x01FF_FFFF, BY_OWNER, size=2048), b"a"),

@@ -1,6 +1,6 @@
-"""Writes get_capability.tpm. TPM2_GetCapability: handles (1), commands (2), PCRs (5) and properties
-(6). It answers the elements from the one that is asked for on, as many as were asked for, and
-whether there are more behind them.
+"""Writes get_capability.tpm. TPM2_GetCapability lists handles (1), commands (2), PCRs (5) and
+properties (6). It returns the elements from the requested one on, up to the requested number, and
+says whether more of them follow.
 """
 
 from tpmsim.model.capability import command_attributes, COMMANDS, HANDLES, PCRS, PROPERTIES
@@ -10,8 +10,8 @@ from tests.common.vocabulary import selection, SHA1, SHA256, storage_key, wrong
 
 MOST = 2**32 - 1
 
-# TPMA_CC of each command: its code, the number of its handles from bit 25 on, and bit 28 where it
-# answers a handle.
+# TPMA_CC of each command: its code, the number of its handles from bit 25 on, and bit 28 if it
+# returns a handle.
 ATTRIBUTES = [command_attributes(it) for it in sorted(CC)]
 
 tpm = Steps(__name__, __doc__, starts=False)
@@ -19,7 +19,7 @@ says, gives = tpm.raw, tpm.lists
 
 
 def borders(name, capability, wanted, whole):
-    """All that there is from `wanted` on, in parts: with every count that says something else."""
+    """Everything from `wanted` on, in parts: with each count that gives another result."""
     gives(f"{name}, as many as there are", capability, wanted, MOST, whole)
     for count in (64, 65):
         gives("", capability, wanted, count, whole)
@@ -77,11 +77,11 @@ tpm("As it is asked for").capability(PROPERTIES, 0x100, 1)
 for place in (1, 2, 3):
     case = f"Cut within parameter {place}: INSUFFICIENT/p{place}"
     says(case, *(command(CC.GetCapability, asked[: 4 * place - it]) for it in (4, 1)))
-says("A byte behind them: SIZE", command(CC.GetCapability, asked + b"\0"))
+says("A byte after them: SIZE", command(CC.GetCapability, asked + b"\0"))
 case = "Algorithms (0), and others that are not served: VALUE/p1"
 others = (0, 3, 4, 7, 8, 9, 0x100, 0x0100_0001, MOST)
 tpm.says(case, *(tpm.capability(it, 0x100, 1) for it in others))
-case = "Such a one and a byte behind it: the bytes are looked at first: SIZE"
+case = "Such a one and a byte after it: the size is checked first: SIZE"
 says(case, command(CC.GetCapability, bytes(13)))
 case = "Handles that begin with another byte than 00, 01, 02, 03, 40, 80 and 81: HANDLE/p2"
 kinds = (0x04, 0x3F, 0x41, 0x7F, 0x82, 0x90, 0xFF)
@@ -101,16 +101,16 @@ tpm.chapter("Handles of PCRs.")
 borders("From 0", HANDLES, 0, list(range(24)))
 gives("From 12", HANDLES, 12, 5, list(range(12, 17)), more=True)
 borders("From 23", HANDLES, 23, [23])
-borders("From 24, where there is none", HANDLES, 24, [])
+borders("From 24, which does not exist", HANDLES, 24, [])
 gives("From the last one of the kind", HANDLES, 0x00FF_FFFF, 1, [])
 tpm.chapter("Permanent handles.")
 whole = [0x40000001, 0x40000007, 0x40000009, 0x4000000A, 0x4000000B, 0x4000000C]
 borders("From 40000000", HANDLES, 0x4000_0000, whole)
 borders("From the first", HANDLES, whole[0], whole)
-gives("From behind the first", HANDLES, whole[0] + 1, 1, whole[1:2], more=True)
+gives("From the next one on", HANDLES, whole[0] + 1, 1, whole[1:2], more=True)
 gives("From between", HANDLES, 0x4000_0008, 2, whole[2:4], more=True)
 borders("From the last", HANDLES, whole[-1], whole[-1:])
-borders("From behind it", HANDLES, whole[-1] + 1, [])
+borders("From the next one on", HANDLES, whole[-1] + 1, [])
 gives("From the last one of the kind", HANDLES, 0x40FF_FFFF, 1, [])
 
 tpm.chapter("Sessions: those of every type are 02, by their places.")
@@ -148,7 +148,7 @@ there = [handles[0], *handles[2:]]
 borders("From 80000000", HANDLES, 0x8000_0000, there)
 borders("From the second", HANDLES, handles[1], there[1:])
 borders("From the last", HANDLES, handles[3], there[2:])
-borders("From behind it", HANDLES, handles[3] + 1, [])
+borders("From the next one on", HANDLES, handles[3] + 1, [])
 borders("There is no persistent object", HANDLES, 0x8100_0000, [])
 gives("From the last one of the kind", HANDLES, 0x80FF_FFFF, 1, [])
 
@@ -160,7 +160,7 @@ for index in handles:
 handles.sort()
 borders("From 01000000", HANDLES, 0x0100_0000, handles)
 borders("From the second", HANDLES, handles[1], handles[1:])
-borders("From behind it", HANDLES, handles[1] + 1, handles[2:])
+borders("From the next one on", HANDLES, handles[1] + 1, handles[2:])
 borders("From the last", HANDLES, handles[-1], handles[-1:])
 for index in range(0x0100_1000, 0x0100_103B):
     tpm.define("There are 64" if index == 0x0100_1000 else "", area(index, BY_VALUE))
@@ -175,12 +175,12 @@ tpm.chapter("Commands, by their codes; the attributes are answered.")
 borders("From 0", COMMANDS, 0, ATTRIBUTES)
 first, last = ATTRIBUTES[0] & 0xFFFF, ATTRIBUTES[-1] & 0xFFFF
 borders("From the first code", COMMANDS, first, ATTRIBUTES)
-gives("From behind it", COMMANDS, first + 1, 1, ATTRIBUTES[1:2], more=True)
+gives("From the next one on", COMMANDS, first + 1, 1, ATTRIBUTES[1:2], more=True)
 borders("From the last code", COMMANDS, last, ATTRIBUTES[-1:])
-borders("From behind it", COMMANDS, last + 1, [])
+borders("From the next one on", COMMANDS, last + 1, [])
 gives("From FFFFFFFF", COMMANDS, MOST, 1, [])
 gives("Attributes are no code", COMMANDS, ATTRIBUTES[0], 1, [])
-for words, behind in (("From each code", 0), ("From behind each", 1)):
+for words, behind in (("From each code", 0), ("From after each", 1)):
     for at, attributes in enumerate(ATTRIBUTES):
         code, following = (attributes & 0xFFFF) + behind, ATTRIBUTES[at + behind :]
         is_more = len(following) > 1

@@ -1,5 +1,5 @@
 """Writes hierarchy_change_auth.tpm. TPM2_HierarchyChangeAuth gives a hierarchy, or the reset of the
-lockout, another authorization value, and is authorized by the old one.
+lockout, another authorization value. The old one authorizes it.
 """
 
 from tests.common.steps import AUTHORIZED
@@ -11,7 +11,7 @@ change = tpm.change_auth
 
 
 def owners(parameters):
-    """By the owner's value, with these bytes for newAuth."""
+    """By the owner's value, with these bytes as newAuth."""
     return tpm.prepare(CC.HierarchyChangeAuth, [RH_OWNER], parameters, b"owner")
 
 
@@ -44,7 +44,7 @@ said.says(*map(owners, (b"", b"\0", b"\0\x03ab", b"\0\x20" + bytes(31))))
 said = tpm("One of 33 bytes, of letters or of zeros, whole or cut: SIZE/p1")
 long = b"a" * 33, bytes(33), b"owner" + bytes(28)
 said.says(*map(owners, map(sized, long)), owners(b"\0\x21"))
-tpm.says("A byte behind it: SIZE", owners(sized(b"abc") + b"\0"))
+tpm.says("A byte after it: SIZE", owners(sized(b"abc") + b"\0"))
 tpm("None of them changed the value").change_auth(RH_OWNER, b"owner", b"owner")
 
 tpm.chapter("Sizes, and trailing zeros, which do not count.")
@@ -71,7 +71,7 @@ for handle, name, old in AUTHORIZED:
     said.change_auth(handle, b"newer", session)
     said = tpm("Back to the value of the start, and the response's hmac is without it")
     said.change_auth(handle, old, session)
-    said = tpm("The binding holds as at first|also where the value stays the same")
+    said = tpm("The binding holds as at first|even if the value stays the same")
     said.change_auth(handle, old + b"\0", session)
     said = tpm("To no value, in a session that ends|and its response has no value in its key")
     said.change_auth(handle, b"", Use(session, 0))
@@ -98,7 +98,7 @@ tpm("A key that becomes empty gives an hmac all the same").change_auth(RH_OWNER,
 said = tpm('A computed hmac of the empty key, to "owner", is answered by one of the new key')
 said.change_auth(RH_OWNER, b"owner", Use(unbound, shows_empty_key=True))
 
-tpm.chapter("What a power cycle and the TPM Reset behind it leave.")
+tpm.chapter("What a power cycle and the TPM Reset after it leave.")
 tpm.power()
 tpm.auth_values[RH_PLATFORM] = b""
 tpm.startup()

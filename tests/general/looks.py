@@ -1,5 +1,5 @@
-"""Scripts of commands that are refused, and then come whole: behind each refusal some commands look
-at the state of the device, which is as before.
+"""Scripts of commands that are refused, and then succeed whole: after each refusal some commands
+look at the state of the device, which must be unchanged.
 """
 
 import copy
@@ -11,11 +11,11 @@ from tpmsim.standard.nv import Attribute
 from tests.common.script import Script
 
 AS_BYTES = (
-    "All commands stand as bytes, whole ones too, so that others can be held against them; but "
-    "those that look stand in words."
+    "All commands are in bytes, whole ones too, for comparison with the others; only those "
+    "that look are in words."
 )
 
-# The handles that can be listed, and what they are of.
+# The handles that can be listed, and their kinds.
 LISTED = {
     NV: "NV indices",
     HMAC_SESSION: "sessions",
@@ -41,7 +41,7 @@ def at_handles(kind):
 
 
 def at_index(index, owner_auth):
-    """The public area of an index, and its data where the owner reads them."""
+    """The public area of an index, and its data if the owner can read them."""
     public = index.public
     yield command(CC.NV_ReadPublic, number(public.index, 4))
     is_open = public.has(Attribute.WRITTEN) and not public.has(Attribute.READLOCKED)
@@ -55,7 +55,7 @@ def at_index(index, owner_auth):
 
 
 def at_all(device):
-    """All that look at the state of a device."""
+    """All commands that look at the state of a device."""
     yield at_pcrs()
     for kind in LISTED:
         yield at_handles(kind)
@@ -70,25 +70,25 @@ def at_all(device):
 
 
 class LookingScript(Script):
-    """A script that looks behind each refusal at the PCRs and at the handles of a kind, and behind
-    the last one of a command at all that can be seen.
+    """A script that looks at the PCRs and at the handles of a kind after each refusal, and at
+    everything that can be seen after the last one of a command.
     """
 
     def __init__(self, program, head, kind, name=""):
         super().__init__(
             program,
-            f"{head} Behind each refusal, or a row of equal ones, TPM2_PCR_Read of PCRs 10 and 16, "
+            f"{head} After each refusal, or a row of equal ones, TPM2_PCR_Read of PCRs 10 and 16, "
             "which answers the update counter too, and TPM2_GetCapability of the "
-            f"{LISTED[kind]} show that nothing changed. Behind the last one of a command so do "
-            "all that look: at the handles of each kind, at the failed tries, at the clock, at the "
-            "digest of a policy session, and at the NV indices.",
+            f"{LISTED[kind]} show that nothing changed. After the last one of a command all "
+            "that look do so: at the handles of each kind, at the failed tries, at the clock, at "
+            "the digest of a policy session, and at the NV indices.",
             name,
         )
         self.write_comment(AS_BYTES)
         self.kind, self.seen = kind, {}
 
     def look(self, what, looks):
-        """They must answer what they answered before, since the last whole command."""
+        """The answers must be those of before, since the last whole command."""
         outcome = "SUCCESS" if self.device.started else "INITIALIZE"
         number = "" if outcome == "SUCCESS" else f" ({frames.code_of(outcome):03X})"
         self.write_comment(f"{what}: {outcome}{number}.")
@@ -101,11 +101,11 @@ class LookingScript(Script):
         self.look(what, list(at_all(self.device)))
 
     def refusal_of(self, buffer):
-        """The code that refuses a command now, or None."""
+        """The code with which a command is refused now, or None."""
         return copy.deepcopy(self.device).execute(buffer, self.locality, self.random).refused
 
     def refusals(self, name, whole, outcome, refused):
-        """A command: what of it is refused, in rows of a comment, a code and the buffers; and then
+        """A command: its refused buffers, in rows of a comment, a code and the buffers; and then
         the whole one.
         """
         self.seen = {}

@@ -1,7 +1,7 @@
 """Writes saved_state.tpm. A state that TPM2_Shutdown(STATE) saved is good for the next TPM2_Startup
-as long as nothing has happened since. Each command that succeeds cancels it, but those that change
-nothing. Here each command follows a TPM2_Shutdown(STATE); behind a power cycle TPM2_Startup(STATE)
-then says whether the state was there still.
+as long as no command cancels it. Every command that succeeds does, except those that change
+nothing. Here each command follows a TPM2_Shutdown(STATE). TPM2_Startup(STATE) after a power cycle
+then shows whether the state was still there.
 """
 
 from functools import partial
@@ -38,7 +38,7 @@ def extending_pcr(pcr):
     return tpm.prepare(CC.PCR_Extend, [pcr], digests((SHA256, bytes(32))), b"")
 
 
-# For each command one that succeeds, behind what has to be done before TPM2_Shutdown(STATE) for it.
+# A successful use of each command, and before it the commands that prepare it.
 COMMANDS = {
     CC.SelfTest: lambda: tpm.self_test(1),
     CC.GetCapability: lambda: tpm.capability(6, 0x100, 1),
@@ -90,7 +90,7 @@ assert COMMANDS.keys() == set(CC) - {CC.Startup, CC.Shutdown}
 
 
 def start_again(is_kept):
-    """By the state that was saved, where it was kept."""
+    """A start from the saved state, if it was kept."""
     if is_kept:
         tpm.resumes("It was kept: TPM2_Startup(STATE)")
     else:
@@ -118,7 +118,7 @@ tpm("TPM2_Startup: INITIALIZE").starting(CLEAR)
 tpm.refused("A wrong hmac: BAD_AUTH/s1", wrong(tpm.reset(hmac)))
 tpm.raw("The empty buffer: COMMAND_SIZE", b"")
 start_again(is_kept=True)
-tpm.chapter("The use of sessions cancels nothing, where the command does not.")
+tpm.chapter("The use of sessions cancels nothing, unless the command does.")
 hmac = tpm.start("An HMAC session")
 other = tpm.start("Another one")
 tpm.saves()

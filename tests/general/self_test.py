@@ -1,5 +1,5 @@
-"""Writes self_test.tpm. TPM2_SelfTest, of all tests (YES, 01) or of those that were not run yet
-(NO, 00). The device has none that could fail.
+"""Writes self_test.tpm. TPM2_SelfTest runs all tests (YES, 01), or those that were not run yet
+(NO, 00). The device has no test that could fail.
 """
 
 from tests.common.steps import Steps
@@ -14,8 +14,8 @@ tpm.startup()
 says("NO, and YES: SUCCESS", *BOTH)
 says("Without fullTest: INSUFFICIENT/p1", command(CC.SelfTest, b""))
 says("Neither: VALUE/p1", *(command(CC.SelfTest, number(it, 1)) for it in (2, 0x80, 0xFF)))
-says("A byte behind it: SIZE", command(CC.SelfTest, b"\1\0"), command(CC.SelfTest, b"\0\1"))
-says("Neither, and a byte behind it: VALUE/p1", command(CC.SelfTest, b"\2\0"))
+says("A byte after it: SIZE", command(CC.SelfTest, b"\1\0"), command(CC.SelfTest, b"\0\1"))
+says("Neither, and a byte after it: VALUE/p1", command(CC.SelfTest, b"\2\0"))
 case = "A password, as there is nothing to authorize: HANDLE/s1"
 says(case, command(CC.SelfTest, frames.area(frames.entry()) + b"\1", frames.SESSIONS))
 session = tpm.start("An HMAC session with AES", aes=True)

@@ -1,5 +1,5 @@
-"""Writes shutdown.tpm. TPM2_Shutdown says which state is kept for the next TPM2_Startup: none but
-what is kept anyway, CLEAR (0000), or PCR 0 to 15, STATE (0001).
+"""Writes shutdown.tpm. TPM2_Shutdown says which state is kept for the next TPM2_Startup: with CLEAR
+(0000) only what is always kept, with STATE (0001) also PCR 0 to 15.
 """
 
 from tests.common.steps import Steps
@@ -14,7 +14,7 @@ tpm.startup()
 case = "Without a type, and with one byte of it: INSUFFICIENT/p1"
 says(case, *(command(CC.Shutdown, bytes(it)) for it in (0, 1)))
 tpm.says("Of no type that there is: VALUE/p1", *map(tpm.shutting_down, (2, 0x100, 0xFFFF)))
-says("A byte behind it: SIZE", command(CC.Shutdown, bytes(3)))
+says("A byte after it: SIZE", command(CC.Shutdown, bytes(3)))
 case = "A password, as there is nothing to authorize: HANDLE/s1"
 says(case, command(CC.Shutdown, frames.area(frames.entry()) + number(STATE, 2), frames.SESSIONS))
 says("No authorization area: AUTHSIZE", command(CC.Shutdown, number(0, 2), frames.SESSIONS))

@@ -1,6 +1,6 @@
 """Writes startup_state.tpm. TPM2_Startup(STATE) restores PCR 0 to 15 as TPM2_Shutdown(STATE) saved
-them, and keeps what TPM2_Startup(CLEAR) starts over: platformAuth, and the locks of NV indices. The
-objects and the sessions are gone all the same.
+them. It keeps what TPM2_Startup(CLEAR) resets: platformAuth, and the locks of NV indices. Objects
+and sessions are gone even so.
 """
 
 from tests.common.steps import Steps
@@ -16,7 +16,7 @@ tpm = Steps(__name__, __doc__)
 
 
 def extend(what):
-    """Each of the PCRs, with its number."""
+    """Extends each of the PCRs, with its number."""
     for locality, words in ((0, what), (2, "And 17 and 22, from locality 2")):
         tpm.locality_is(locality)
         for pcr in (it for it in PCRS if LOCALITY_OF.get(it, 0) == locality):
@@ -26,7 +26,7 @@ def extend(what):
 
 
 def values(what):
-    """The PCRs' values in both banks, which are read one by one, behind the update counter."""
+    """The PCRs' values in both banks, which are read one by one, after the update counter."""
     return {it: tpm(what if it == PCRS[0] else "").read_pcr(it)[4:] for it in PCRS}
 
 
@@ -97,7 +97,7 @@ tpm.policy("A new policy session has the next place")
 tpm.trial("A new trial session has the next place")
 tpm.power_cycle()
 
-tpm.chapter("A policy that was told before has no session any more.")
+tpm.chapter("The session of an earlier policy is gone.")
 policy = tpm.policy("A policy session")
 tpm("TPM2_PolicyPCR of PCR 3").pcrs(policy, [(SHA256, [3])])
 resume()
@@ -109,7 +109,7 @@ tpm('platformAuth is "platform"').change_auth(RH_PLATFORM, b"platform", b"")
 resume()
 assert null_name("The same primary object") == name
 tpm("The empty password of TPM_RH_PLATFORM: BAD_AUTH/s1").change_auth(RH_PLATFORM, b"x", b"")
-tpm("platformAuth is as it was").change_auth(RH_PLATFORM, b"platform", b"platform")
+tpm("platformAuth is unchanged").change_auth(RH_PLATFORM, b"platform", b"platform")
 restart()
 assert null_name("The same primary object") == name
 tpm("platformAuth is empty").change_auth(RH_PLATFORM, b"platform", b"")

@@ -1,11 +1,11 @@
 """Writes state_vectors.tpm. Commands whose answers were written down by hand, byte by byte, before
-there was a device to ask. Their program stops where an answer is another.
+there was a device to ask. Their program stops if it gets another answer.
 """
 
 from tests.common.vocabulary import area, BY_VALUE, FIRST, frames, ObjectAttribute, RH_NULL, sealed
 from tests.common.vocabulary import storage_key, Teller
 
-# The empty password, and the answer to it where nothing else is answered.
+# The empty password, and the answer to it if the command returns nothing.
 PW = "00000009 40000009 0000 01 0000"
 OK = "8002 00000013 00000000 00000000 0000 01 0000"
 
@@ -18,7 +18,7 @@ tpm = Teller(__name__, __doc__, starts=False)
 
 
 def code(number):
-    """The answer to a command that is refused."""
+    """The answer to a refused command."""
     return f"8001 0000000A {number:08X}"
 
 
@@ -84,7 +84,7 @@ answered("TPM2_Clear by the platform", clear.format("4000000C"), OK)
 after = tpm("It is one more").read_pcr(0)
 assert int.from_bytes(after[:4], "big") == int.from_bytes(before[:4], "big") + 1
 
-tpm.chapter("TPM2_EvictControl: a loaded object stays, and the platform takes it away.")
+tpm.chapter("TPM2_EvictControl: a loaded object stays, and the platform removes it.")
 root = tpm.create_primary("A storage key", frames.RH_OWNER, storage_key())
 made = tpm.create("A sealed object", root, sealed(), data=bytes(range(128)))
 handle = tpm.load("It is loaded as 80000001", root, made)
@@ -93,7 +93,7 @@ answered("It stays as 81000001", f"8002 00000023 00000120 40000001 80000001 {PW}
 tpm.note(0x8100_0001, tpm.names[handle], b"")
 transient = tpm.read_public("TPM2_ReadPublic of 80000001", handle)
 assert tpm.read_public("And of 81000001", 0x8100_0001) == transient
-case = "The platform takes it away"
+case = "The platform removes it"
 answered(case, f"8002 00000023 00000120 4000000C 81000001 {PW} 81000001", OK)
 answered("It is gone", "8001 0000000E 00000173 81000001", code(0x18B), "HANDLE/h1")
 tpm.flush_objects("What was loaded is flushed", handle, root)
@@ -166,7 +166,7 @@ answered(
     f"0020 {extended} 0020 {'00' * 32}",
 )
 answered("The old session", "8001 0000000E 00000189 03000002", code(0x910), "REFERENCE_H0")
-tpm.chapter("With TPM2_PCR_Extend behind TPM2_Shutdown.")
+tpm.chapter("With TPM2_PCR_Extend after TPM2_Shutdown.")
 answered("TPM2_Shutdown(STATE)", SHUTDOWN_STATE, SUCCESS)
 answered("TPM2_PCR_Extend of PCR 3", extend.format(3), OK)
 tpm.power()

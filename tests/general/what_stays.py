@@ -1,5 +1,5 @@
 """Writes what_stays.tpm. What a device still knows of sessions and counters that are gone: nothing
-of a session, and of counters the largest value that any had.
+of a session, and the largest value that any counter had.
 """
 
 from tests.common.vocabulary import CC, counter, FIRST, number, RH_LOCKOUT, SECOND, SHA256, Teller
@@ -26,7 +26,7 @@ again = tpm.policy("A policy session, which has the same handle")
 assert again.handle == session.handle
 tpm.digest_is("TPM2_PolicyGetDigest: zeros", again, zeros(again))
 
-tpm.chapter("TPM2_Clear removes a counter that stands at 3. A new one begins at 4.")
+tpm.chapter("TPM2_Clear removes a counter with the value 3. A new one begins at 4.")
 handle = tpm.define("TPM2_NV_DefineSpace of a counter", counter(FIRST))
 counts_up_to(3, handle, 3)
 tpm("TPM2_Clear").prepare(CC.Clear, [RH_LOCKOUT], b"", b"")

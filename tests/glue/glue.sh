@@ -1,5 +1,5 @@
 # The glue: six functions in C that proved code calls. The kit has them compiled for x86-64, and ours are for
-# other machines. Both do the same by the same calls, here and, by ours, on ARM64.
+# other machines. Both have to do the same for the same calls, here and, with ours, on ARM64.
 tests=$(cd "$(dirname "$0")/.." && pwd -P)
 . "$tests/common/cases.sh"
 needs cc
@@ -8,7 +8,7 @@ kit=${rattle%/bin/*}
 glue=${tests%/*}/glue
 flags='-std=c11 -O2 -Wall -Wextra -Werror -Wconversion'
 
-# play NAME RUNNER COMPILER SOURCES..: compiles the calls with one glue, and keeps what they print. The program's
+# play NAME RUNNER COMPILER SOURCES..: compiles the calls with one glue, and keeps their output. The program's
 # own name, argument 0, is the same with each glue.
 play() {
     name=$1

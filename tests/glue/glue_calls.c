@@ -28,7 +28,7 @@ static void try_sizes(void) {
     }
 }
 
-/* A block that grows, shrinks and cannot grow keeps its front, which is written once. */
+/* A block that grows, shrinks and cannot grow keeps its first bytes, which are written once. */
 static void try_growing(void) {
     static const size_t sizes[] = {1 << 20, 7, 3, 5000, 0, 16};
     size_t kept = 5;

@@ -1,5 +1,5 @@
-# A program that replaces the module by the folder go/ runs: README's example. The device of a seed is that of
-# Python, and the names of codes and of commands are those of Python.
+# A program that replaces the module by the folder go/ runs: README's example. The device of a seed is the
+# same as in Python, and so are the names of codes and of commands.
 tests=$(cd "$(dirname "$0")/.." && pwd -P)
 . "$tests/common/cases.sh"
 . "$tests/common/library.sh"

@@ -1,6 +1,6 @@
-"""Bodies of images that are bent at random, with the head and the digest that they have to have.
+"""Bodies of images that are bent at random, with the head and the digest that they need.
 
-A seed always gives the same: of `random` only that is used which is the same everywhere.
+A seed gives the same bodies everywhere: of `random` only the part that never changes is used.
 """
 
 import pickle
@@ -10,17 +10,17 @@ from tests.images import image_fields
 from tpmsim.model.image import VERSION_2, framed
 from tests.images.image_fields import Counted, Plain, Sized, image_of, text_of
 
-# Pieces that are removed, doubled or put in have at most so many bytes.
+# The greatest size of pieces that are removed, doubled or inserted, in bytes.
 PIECE_BYTES = 40
 
-# What sizes and counts are set to, beside what is near them.
+# The new values of sizes and counts, in addition to near ones.
 SIZES = 0, 1, 16, 17, 32, 33, 34, 35, 128, 129, 2048, 2049
 NUMBERS = *SIZES, 0x8000, 0xFFFF
 BYTES = 0, 1, 2, 3, 0x80, 0x81, 0xFF
 
 
 class Body:
-    """The body of a device, of whose fields there is a new copy each time."""
+    """The body of a device; each use gets a new copy of its fields."""
 
     def __init__(self, device):
         self.pickled = pickle.dumps(image_fields.body_of(device))
@@ -31,7 +31,7 @@ class Body:
 
 
 def within(fields):
-    """All lists of fields, from the outermost."""
+    """All lists of fields, from the outermost on."""
     found = []
     add_lists(found, fields)
     return found
@@ -48,7 +48,7 @@ def add_lists(found, fields):
 
 
 class Bender(random.Random):
-    """It bends a body. Some bends are of its text, the others of its fields."""
+    """Bends a body: some ways bend its text, the others its fields."""
 
     def below(self, count):
         return int(self.random() * count)
@@ -57,7 +57,7 @@ class Bender(random.Random):
         return values[self.below(len(values))]
 
     def bent(self, body, version=VERSION_2):
-        """What was done, and the image; now and then two things are done to the fields."""
+        """What was done, and the image; now and then two fields are bent."""
         fields = body.fields
         text_bends = self.change_byte, self.remove_piece, self.double_piece, self.insert_piece
         field_bends = (
@@ -100,7 +100,7 @@ class Bender(random.Random):
         at, size = self.below(len(text) + 1), 1 + self.below(PIECE_BYTES)
         return text[:at] + bytes(self.below(256) for _ in range(size)) + text[at:]
 
-    # Bends of the fields. What is behind a size or a count is written with the one it then has.
+    # Ways to bend the fields. What follows a size or a count is written with the new one.
 
     def all_of(self, fields, *kinds):
         return [it for inner in within(fields) for it in inner if isinstance(it, kinds)]
@@ -113,13 +113,13 @@ class Bender(random.Random):
         field.text = self.change_byte(field.text)
 
     def copy_field(self, fields):
-        """A field takes what stands in another of its size."""
+        """A field gets the value of another one of its size."""
         field = self.plain(fields)
         same = [it for it in self.all_of(fields, Plain) if len(it.text) == len(field.text)]
         field.text = self.one_of(same).text
 
     def change_number(self, fields):
-        """A size or a count is another than that of what is behind it."""
+        """A size or a count differs from that of what follows it."""
         field = self.one_of(self.all_of(fields, Sized, Counted))
         right = int.from_bytes(field.text[:2], "big")
         near = right + 1 & 0xFFFF, right - 1 & 0xFFFF, right ^ 0x100
@@ -130,7 +130,7 @@ class Bender(random.Random):
             field.count = wrong
 
     def resize(self, fields):
-        """A field has bytes more or fewer, and the sizes around it are right."""
+        """A field gets more or fewer bytes, and the sizes around it are right."""
         field = self.one_of(self.all_of(fields, Plain))
         near = len(field.text) + 1, max(len(field.text) - 1, 0)
         size = self.one_of((*near, *SIZES, self.below(near[0])))
@@ -138,7 +138,7 @@ class Bender(random.Random):
         field.text = field.text[:size].ljust(size, fill)
 
     def groups(self, fields):
-        """Fields beside each other, or groups behind a count."""
+        """Adjacent fields, or the groups after a count."""
         lists = [it for it in within(fields) if it]
         lists += [it.groups for it in self.all_of(fields, Counted) if it.groups]
         return self.one_of(lists)

@@ -1,5 +1,5 @@
-"""Bodies of images with one thing wrong, each beside the nearest good one; and good ones with what
-is not looked at.
+"""Bodies of images with one thing wrong, each with the nearest good one; and good ones with values
+that are not checked.
 """
 
 import copy
@@ -27,16 +27,17 @@ WRITTEN = BY_OWNER | Attribute.WRITTEN
 FIRST = 0x8100_0000
 WITH_VALUES = RH_OWNER, RH_ENDORSEMENT, RH_PLATFORM, RH_LOCKOUT
 
-# Where a new device's image has its three bytes of few values. Behind the last are the two counts.
+# The places of the three bytes with few values in a new device's image. The two counts follow the
+# last.
 DISABLE_CLEAR, CLOSED, SAVED = 16 + 4 * 66 + 2, 16 + 4 * 66 + 19, 361 - DIGEST_AT_END - 5
 SAVED_BANKS = SAVED_PCRS * (20 + 32)
 
-# A full device can be built once alone.
+# A full device is built only once.
 FULL = full_device.build()
 
 
 def largest(version=VERSION_2):
-    """A device of which each field has as many bytes as it can in an image of a version."""
+    """A device each of whose fields is as large as an image of a version can have it."""
     device, value = Model(), b"v" * 32
     device.auth_values = {handle: value for handle in WITH_VALUES}
     device.saved = Saved.STATE
@@ -60,7 +61,7 @@ def one_index(public, data=b"", auth_value=b"a"):
 
 
 def one_object(public=None, handle=FIRST, hierarchy=RH_OWNER, name=b"", **sensitive):
-    """Of a device with one object, in each of whose fields something else can stand."""
+    """The image of a device with one object, in each of whose fields another value can be."""
     public = hmac_key() if public is None else public
     given = dict(kind=public.kind, auth_value=b"", seed_value=b"", data=b"key")
     kept = Object(public, Sensitive(**(given | sensitive)), hierarchy, name)
@@ -95,7 +96,7 @@ def with_saved(value, banks=b""):
 
 
 def of_bytes(of, words, *rows):
-    """A field's bytes that are wrong, and such that are right."""
+    """Wrong bytes of a field, and right ones."""
     for bad, good in rows:
         ends = ", the last a zero" if bad.endswith(b"\0") else ""
         wrong = f"{words} of {plural(len(bad))}{ends}", bad
@@ -134,7 +135,7 @@ def flag_cases():
 
 
 def changed_lists():
-    """Of a full device, whose objects or indices are changed, in words; and what the good one is."""
+    """Changes of a full device's objects or indices, in words; and the good image."""
     for words, find in (("objects", objects_of), ("indices", indices_of)):
         for at in (0, 7, len(find(image_fields.body_of(FULL)).groups) - 2):
             fields = image_fields.body_of(FULL)
@@ -226,7 +227,7 @@ def public_cases():
 
 
 def data_cases():
-    """Indices whose data, or the size of it, is not as their public area says."""
+    """Indices whose data, or their size, differs from what their public area says."""
     written = area(attributes=WRITTEN)
     bad = "8 bytes of data of an index without WRITTEN", area(), bytes(8)
     yield from pairs(one_index, bad, ("with it", written, bytes(8)))
@@ -266,7 +267,7 @@ def index_cases():
 
 
 def size_cases():
-    """Sized buffers that their structure does not fill, and texts with bytes more or fewer."""
+    """Sized buffers that their structure does not fill, and texts with more or fewer bytes."""
     for words, find, at in (
         ("an object's public area", objects_of, 3),
         ("an object's sensitive area", objects_of, 4),
@@ -294,7 +295,7 @@ def size_cases():
 
 
 def not_looked_at():
-    """Images with what no definition and no template would take."""
+    """Images with values that no definition and no template would accept."""
     locked = Attribute.GLOBALLOCK | Attribute.ORDERLY | Attribute.POLICY_DELETE
     device = Model()
     index = nv_commands.Index(counter(attributes=WRITTEN), b"", bytes([255] * 8))
@@ -323,7 +324,7 @@ def not_looked_at():
 
 
 def cases():
-    """Each bad one is followed by the good one next to it."""
+    """Each bad one is followed by the nearest good one."""
     yield from version_cases()
     yield from hierarchy_cases()
     yield from flag_cases()

@@ -1,5 +1,5 @@
-"""What the texts are called that are images or nearly so, each in words; images of devices with NV
-indices alone; and images of both versions, within their limits or beyond them.
+"""The names in words of texts that are images or nearly so; images of devices that have only NV
+indices; and images of both versions, within their limits or beyond them.
 """
 
 from dataclasses import dataclass
@@ -14,7 +14,7 @@ from tpmsim.standard import frames
 
 @dataclass(frozen=True)
 class Case:
-    """What a text is, in words, and whether a device is opened from it."""
+    """What a text is, in words, and whether a device can be opened from it."""
 
     words: str
     text: bytes
@@ -30,19 +30,19 @@ def pair(bad, bad_text, good, good_text):
 
 
 def pairs(of, bad, good):
-    """Of each two, with words for them: what `of` makes of them."""
+    """The image that `of` makes of each bad and each good value, with words for it."""
     return pair(bad[0], of(*bad[1:]), good[0], of(*good[1:]))
 
 
 def with_indices(*indices, version=VERSION_2):
-    """Of a device with these indices."""
+    """The image of a device with these indices."""
     device = Model()
     device.indices = {it.public.index: it for it in indices}
     return image(device, version)
 
 
 def areas(*sizes, version=VERSION_2):
-    """Of a device with an index of each of these sizes."""
+    """The image of a device with an index of each of these sizes."""
     numbered = enumerate(sizes, 0x0100_0000)
     held = (nv_commands.Index(area(index, size=size), b"") for index, size in numbered)
     return with_indices(*held, version=version)
@@ -52,7 +52,7 @@ def areas(*sizes, version=VERSION_2):
 
 
 def with_other_limits():
-    """Of a new device, with each bit of the limits changed."""
+    """The image of a new device, with each bit of the limits changed."""
     body = image(Model())[BODY_AT:-DIGEST_AT_END]
     limits, size = int.from_bytes(VERSION_2.limits, "big"), len(VERSION_2.limits)
     for bit in range(8 * size):
@@ -60,14 +60,14 @@ def with_other_limits():
 
 
 def without_state():
-    """Of version 2, with bytes for the head and the digest and at most 31 more."""
+    """Texts of version 2 that only have bytes for head and digest, and at most 31 more."""
     new = image(Model())
     for size in range(42, 74):
         yield f"of {size} bytes", digested(2, new[HEAD_BYTES : size - DIGEST_AT_END])
 
 
 def version_cases():
-    """What stands between the head and the body, and the limits of version 1."""
+    """Bytes between the head and the body, and the limits of version 1."""
     new = image(Model())
     old, body = image(Model(), VERSION_1), new[BODY_AT:-DIGEST_AT_END]
     for indices, space in ((0, 0), (32, 8192), (63, 16_384), (65, 16_384), (64, 16_383)):

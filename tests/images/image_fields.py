@@ -1,7 +1,7 @@
-"""An image of a device as its fields: what is sized, what is counted, and what is neither.
+"""The image of a device as its fields: sized ones, counted ones, and plain ones.
 
-They can be changed, and are then written again with the sizes and the counts that they have, or
-with others that are set in their place.
+They can be changed, and are then written again with their sizes and counts, or with others that
+replace them.
 """
 
 from dataclasses import dataclass
@@ -10,20 +10,20 @@ from tpmsim.model import image, persistent
 from tpmsim.model.state import Saved
 from tpmsim.standard import RH_LOCKOUT, number
 
-# Of a SYMCIPHER's cipher and of the scheme of a KEYEDHASH, each number has so many bytes.
+# The sizes in bytes of the numbers of a SYMCIPHER's cipher and of a KEYEDHASH's scheme.
 DETAIL_BYTES = 2
 
 
 @dataclass
 class Plain:
-    """Bytes, as many as their field always has."""
+    """Bytes of a field whose size is fixed."""
 
     text: bytes
 
 
 @dataclass
 class Sized:
-    """Fields behind their size."""
+    """Fields after their size."""
 
     fields: list
     size: int = None
@@ -36,7 +36,7 @@ class Sized:
 
 @dataclass
 class Counted:
-    """Groups of fields behind their count."""
+    """Groups of fields after their count."""
 
     groups: list
     count: int = None
@@ -52,7 +52,7 @@ def text_of(fields):
 
 
 def image_of(fields, version=image.VERSION_2):
-    """The fields between a head and a digest that are right."""
+    """The fields with the right head and digest."""
     return image.framed(text_of(fields), version)
 
 

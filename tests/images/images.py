@@ -1,8 +1,8 @@
-"""The image of the device behind a script, as `tpmsim serve --image` would leave it:
+"""The image of the device after a script, as `tpmsim serve --image` would leave it:
 
     tools/python.sh tests/images/images.py SCRIPT [IMAGE]
 
-It is written to the file IMAGE, or else printed as hex.
+It is written to the file IMAGE; without one it is printed as hex.
 """
 
 import pathlib

@@ -1,4 +1,4 @@
-# Damaged images: what the program answers to each is what the device in Python says of it.
+# Damaged images: the program's response to each is what the device in Python says of it.
 tests=$(cd "$(dirname "$0")/.." && pwd -P)
 . "$tests/common/cases.sh"
 needs cc python3

@@ -1,12 +1,13 @@
-# Scripts whose device is kept in a file: `run --image FILE [--entropy FILE]`. What is in the file
-# behind each command, common/kept_scripts.py says by the device in Python.
+# Scripts whose device is kept in a file: `run --image FILE [--entropy FILE]`. common/kept_scripts.py says by
+# the device in Python what the file has after each command.
 tests=$(cd "$(dirname "$0")/.." && pwd -P)
 . "$tests/common/cases.sh"
 needs python3
 
 python3 "$tests/common/kept_scripts.py" "$program"
 
-# look LABEL: the image's device, by its outcome of TPM2_Startup and of what needs the new ownerAuth.
+# look LABEL: prints the image's device, by the outcome of TPM2_Startup and of a command that needs the new
+# ownerAuth.
 look() {
     printf 'do Startup 0\ndo HierarchyChangeAuth OWNER pw:6f776e 6f776e\n' |
         run "$1" run --image image -
@@ -19,7 +20,7 @@ bytes=$(awk 'BEGIN { for (n = 0; n < 256; n++) printf "\\%03o", n }')
 # shellcheck disable=SC2059 # that is what the bytes are written for
 printf "$bytes" >entropy
 
-# Where the options stand, and how their values are given.
+# The places of the options, and the forms of their values.
 run 'a new device' run --image image script
 look 'it is kept'
 rm image
@@ -66,8 +67,8 @@ report 'standard output that is full' "$status"
 look 'it is kept'
 rm image
 
-# Faults, and which comes first: of the image, of the random bytes, and then of the script. Where no
-# device was made, none is saved.
+# Faults, and which comes first: of the image, of the random bytes, and then of the script. If no device was
+# made, none is saved.
 echo none >none
 head -c 255 entropy >short
 mkdir folder
@@ -83,7 +84,7 @@ run 'an image, and random bytes that are not there' run --image image script
 run 'they are wanted all the same' run --image image --entropy missing script
 run 'but none is read' run --image image --entropy short script
 
-# Words that are none.
+# Wrong words.
 run 'no image' run --image
 run 'two images' run --image image --image image script
 run 'two entropies' run --image image --entropy entropy --entropy entropy script

@@ -1,11 +1,11 @@
-# What a device keeps in its image until it is served again: the value of the largest counter, and
-# the PCRs that a shutdown saved. Its sessions are gone.
+# What a device keeps in its image until it is served again: the value of the largest counter, and the PCRs
+# that a shutdown saved. Its sessions are gone.
 tests=$(cd "$(dirname "$0")/.." && pwd -P)
 . "$tests/common/cases.sh"
 . "$tests/common/served.sh"
 
-# before LINE.. and after LINE..: a run of the device, on a new image or on the one that is there,
-# and its answers to these commands.
+# before LINE.. and after LINE..: run the device, on a new image or on the present one, and print its
+# responses to these commands.
 before() {
     rm -f image
     after "$@"

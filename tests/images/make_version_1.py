@@ -1,12 +1,12 @@
-"""Writes images of version 1 that are not there yet, and compares those that are:
+"""Writes the images of version 1 that are missing, and compares those that exist:
 
     tools/python.sh tests/images/make_version_1.py PROGRAM
 
 PROGRAM is one that writes this version. It serves the device of each script NAME.tpm in
-tests/images/version_1: a run up to each `power` line, of the script's random bytes and at its times,
-which tests/common/clock.c tells it; `cc` builds that. The image that it saves at the end, and that of the
-device in Python behind the same commands, have to be the same. Where there is no NAME.hex, they are
-written there; where there is one, they have to be those of it.
+tests/images/version_1: a run up to each `power` line, with the script's random bytes, at the times
+that tests/common/clock.c reports to it; `cc` builds that. The image that it saves at the end must
+be that of the Python device after the same commands. If there is no NAME.hex, the images are
+written there; if there is one, they must be equal to its image.
 """
 
 import os
@@ -39,7 +39,7 @@ def runs_of(script):
 
 
 def played(runs):
-    """The responses of the device in Python, and its image of this version."""
+    """The responses of the Python device, and its image of this version."""
     device, answers = Model(), []
     for number, run in enumerate(runs):
         if number:
@@ -51,22 +51,22 @@ def played(runs):
 
 
 class Served:
-    """A device that a program serves in a folder, at times that stand in a file of it. They are in
-    milliseconds since the first command of a run.
+    """A device that a program serves in a folder. A file there has its times, in milliseconds since
+    the first command of a run.
     """
 
     def __init__(self, program, path):
         self.path, self.program = pathlib.Path(path), Shim(os.path.abspath(program), "clock", path)
 
     def is_now(self, time):
-        """The host's clock stands there until it is told another time."""
+        """Sets the host's clock, which shows this time until it is set again."""
         seconds, milliseconds = divmod(time, 1000)
         told = f"{FIRST_SECOND + seconds} {milliseconds * 1_000_000}\n"
         (self.path / "clock.new").write_text(told, "ascii")
         (self.path / "clock.new").replace(self.path / "clock")
 
     def serve(self, run):
-        """The responses in a run, one connection of it."""
+        """The responses of a run, over one connection."""
         random = b"" if (self.path / "image").exists() else MANUFACTURED
         (self.path / "entropy").write_bytes(random + b"".join(it.random for it in run))
         time = 0

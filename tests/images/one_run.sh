@@ -1,5 +1,5 @@
-# Of the runs on one image one goes on: another one ends with `tpmsim: file`, and touches nothing. And
-# what a run cannot take as its image or as its random bytes is told at once, whatever would wait.
+# Only one of the runs on an image continues: another one ends with `tpmsim: file`, and touches nothing. A
+# run that cannot use its image or its random bytes says so at once, whatever it would wait for.
 tests=$(cd "$(dirname "$0")/.." && pwd -P)
 . "$tests/common/cases.sh"
 . "$tests/common/served.sh"
@@ -10,7 +10,7 @@ echo 'do Startup 0' >script
 printf 'do Startup 0\ndo %s\n' "$change" >asks
 mkfifo lines
 
-# script_begins: a script that is played on the image, which is told a line, and waits for more.
+# script_begins: plays a script on the image, which gets one line, and waits for more.
 script_begins() {
     "$program" run --image image - <lines >"$room/first" 2>&1 &
     exec 3>lines
@@ -18,21 +18,21 @@ script_begins() {
     until [ -s "$room/first" ]; do sleep 0.01; done
 }
 
-# device_begins CONNECTIONS: a device that is served from the image.
+# device_begins CONNECTIONS: serves a device from the image.
 device_begins() {
     "$program" serve --socket socket --image image --entropy entropy --locality 0 \
         --connections "$1" >"$room/first" 2>&1 &
     there
 }
 
-# ends LABEL: how it ended, and what it said.
+# ends LABEL: prints how it ended, and its output.
 ends() {
     status=0
     wait "$!" || status=$?
     echo "$1: status $status, $(told "$room/first")"
 }
 
-# script_ends: tells the script one more line and no more.
+# script_ends: gives the script one more line, and ends it.
 script_ends() {
     echo "do $change" >&3
     exec 3>&-
@@ -45,8 +45,8 @@ serve() {
     [ ! -e own ] || echo '    its socket is there'
 }
 
-# others LABEL: what runs on the image come to, while another one has it. It and what stands at
-# image.new are as before.
+# others LABEL: prints the results of other runs on the image, while one run has it. That run and what is at
+# image.new stay unchanged.
 others() {
     echo left >image.new
     [ ! -e image ] || stat -c '%i %y' image >"$room/before"
@@ -105,7 +105,7 @@ wait
 cat "$room"/many* >"$room/many"
 echo "eight runs at once: $(told "$room/many")"
 
-# The file of the lock is beside the image, and stays. It is its owner's alone, and is empty.
+# The file of the lock is next to the image, and stays. It is its owner's alone, and is empty.
 rm -f image*
 (umask 000 && run 'a new device' run --image image script)
 stat -c '%n %A %s' image*
@@ -124,7 +124,7 @@ run 'a link to nowhere in place of the lock' run --image image script
 [ ! -e nowhere ] || echo 'nowhere is there'
 rm image.lock
 
-# A link to an image is an image of its own: the first save puts a file in its place.
+# A link to an image is an image of its own: the first save replaces it by a file.
 script_begins
 ln -s image link
 run 'a link to the image that a script has' run --image link script
@@ -132,7 +132,7 @@ stat -c '%n %F' link
 script_ends
 rm link link.lock
 
-# What is no file, and no path of one, is no image; and a lock is not made for it.
+# A path that is not that of a file is not an image; and no lock is made for it.
 mkfifo pipe
 mkdir folder
 ln -s /dev/zero device
@@ -145,7 +145,7 @@ done
 # shellcheck disable=SC2012 # the names are known
 echo "all that is there: $(ls -A | tr '\n' ' ')"
 
-# A folder has no random bytes. A pipe has those that are written to it, once somebody does.
+# A folder has no random bytes. A pipe has those that are written to it, as soon as somebody writes.
 run 'a folder of random bytes, a script' run --image image --entropy folder script
 run 'a folder of random bytes, a new device' run --image new --entropy folder script
 run 'a folder of random bytes, a served device' serve --socket own --image image --entropy folder \

@@ -1,4 +1,5 @@
-"""Bodies of state texts with one thing wrong, each beside the nearest good one; and the largest."""
+"""Bodies of state texts with one thing wrong, each with the nearest good one; and the largest one.
+"""
 
 from dataclasses import replace
 
@@ -17,7 +18,7 @@ MOST_TIME = 1000 * 2**32
 
 
 def largest():
-    """A device of which each field has as many bytes as it can, and its completing layer."""
+    """A device each of whose fields is as large as possible, and its completing layer."""
     device = image_bodies.largest()
     told = State(bytes(32), 1, 1, bytes(32), True)
     bound = bytes(34), b"v" * 32, LOCKOUT_AUTH
@@ -33,7 +34,7 @@ def body_of(device, layer=None):
 
 
 def changed(change):
-    """The body of the worked device, with something changed in it."""
+    """The body of the worked device after a change."""
     device = worked_state.device()
     change(device)
     return body_of(device)
@@ -52,8 +53,9 @@ def of_policy(handle=BOUND, **fields):
 
 
 def size_pairs():
-    """Sizes that the hash of a session does not allow: of the bound one that is SHA-256, of the other
-    SHA-1."""
+    """Sizes that the hash of a session does not allow; of the bound session it is SHA-256, of the
+    other one SHA-1.
+    """
     for handle, sizes in ((BOUND, ((15, 16), (33, 32))), (HMAC, ((15, 16), (21, 20)))):
         for size, near in sizes:
             bodies = (of_session(handle, nonce_tpm=bytes(it)) for it in (size, near))
@@ -83,8 +85,8 @@ def of_object(kind=None, **fields):
 
 
 def spelled(bad, good):
-    """The body of the worked device, and the same with other bytes in place of those that stand once
-    in it."""
+    """The body of the worked device, and the same body with other bytes instead of some that occur
+    once in it."""
     body = body_of(worked_state.device())
     assert body.count(good) == 1
     return body.replace(good, bad), body
@@ -109,7 +111,7 @@ def session_pairs():
 
 
 def place_pairs():
-    """Places that are too many or too few: those after them are read as what they are not."""
+    """Missing or extra places: those after them are read as something else."""
     body = body_of(worked_state.device())
     session = state_text.optional_text(
         worked_state.device().sessions[HMAC], state_text.session_text
@@ -122,7 +124,7 @@ def place_pairs():
 
 
 def pairs():
-    """Of each: what is wrong, the body, and the good one."""
+    """Each wrong body with words for its fault, and its good one."""
     yield from session_pairs()
     yield from place_pairs()
     for name in ("forgiving_time", "closed_time"):

@@ -1,10 +1,10 @@
-"""State texts, as the device in Python writes and reads them:
+"""State texts, as the Python device writes and reads them:
 
     state_texts.py TESTS
 
-The scripts in the folders SCRIPTS of TESTS are played over a device that is read again from its text
-after each command: each response has to be the one that stands beside the script. A text with a fault
-has to be refused for it, and what is read has to be written again as it was.
+The scripts in the folders SCRIPTS of TESTS are played on a device that is read again from its text
+after each command. Each response must be the one in the file next to the script. A text with a
+fault must be refused for it. A text that is read must be written again unchanged.
 """
 
 import collections
@@ -20,20 +20,21 @@ from tests.images import state_bodies, worked_state
 
 SCRIPTS = "objects", "policies", "sessions"
 
-# Of so many scripts one is played, and the last bit is turned of one byte in so many of a body.
+# One of this many scripts is played; and one of this many bytes of a body has its last bit changed.
 ONE_IN = 3
 
 
 def goes_on(text):
-    """The device of a text, which is the one that it was written of."""
+    """The device of a text, after checking that the text is written of it again."""
     device, layer = state_text.open_state(text)
     assert layer is None and state_text.state_text(device) == text
     return device
 
 
 def played(script):
-    """How many commands of a script were executed, each on a device that was read from its text, and
-    which responses differ from those that are wanted."""
+    """How many commands of a script were executed, each on a device that was read from its text,
+    and which responses differ from the expected ones.
+    """
     player, responses = Player(), []
     for line in script.read_bytes().splitlines():
         responses += player.play(line)[1:]
@@ -52,11 +53,12 @@ def play_all(tests):
 
 
 def worked():
-    """The text of the device with everything in it, which is the one in the file. By hand, each line
-    of the file was held against docs/table/state_text.md: that its field is the page's next, with as
-    many bytes; that the sizes before sized fields, the numbers of types, algorithms, protection,
-    demand and localities, and the yes or no of each place are right; and that what the script sets
-    (values, nonces, command, times, counts, the layer's numbers) stands where it belongs."""
+    """The text of the device with everything in it, which must be the one in the file. Each line of
+    the file was compared by hand with docs/table/state_text.md. Its field is the page's next one,
+    with the same size. These are right: the sizes before sized fields, the numbers of types,
+    algorithms, protection, demand and localities, and the yes or no of each place. What the script
+    sets (values, nonces, command, times, counts, the layer's numbers) is in its place.
+    """
     text = worked_state.text()
     print("the worked text is as it is written:", text == worked_state.written())
     device, layer = state_text.open_state(text)
@@ -64,7 +66,7 @@ def worked():
 
 
 def sizes():
-    """As docs/table/state_text.md says them."""
+    """The sizes that docs/table/state_text.md says."""
     print(f"a new device has {len(state_text.state_text(Model())):,} bytes")
     most = state_text.state_text(*state_bodies.largest())
     same = state_text.state_text(*state_text.open_state(most)) == most
@@ -72,7 +74,7 @@ def sizes():
 
 
 def faults_of(texts):
-    """How many of these texts are refused, by their fault; None is that of those that are read."""
+    """How many of these texts are refused for each fault; None is for those that are read."""
     return collections.Counter(map(state_text.fault_of, texts))
 
 
@@ -92,7 +94,7 @@ def refused(text):
 
 
 def corrected(text):
-    """Bodies with a byte turned, in the frame that they have to have."""
+    """Bodies with a byte changed, in the right frame for them."""
     body, counts = text[HEAD_BYTES:-DIGEST_AT_END], collections.Counter()
     for at in range(0, len(body), ONE_IN):
         framed = state_text.framed(turned(body, at))

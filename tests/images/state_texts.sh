@@ -1,5 +1,5 @@
-# State texts of the device in Python: scripts go on over a device that is read from its text after
-# each command; one worked text pins the order of the fields; and what is no state text is refused.
+# State texts of the device in Python: scripts continue on a device that is read from its text after each
+# command; one worked text fixes the order of the fields; and what is not a state text is refused.
 tests=$(cd "$(dirname "$0")/.." && pwd -P)
 . "$tests/common/cases.sh"
 needs python3

@@ -1,6 +1,6 @@
-# What the program makes is its owner's to read and write, and nobody else's, whatever the umask is: an
-# image with its lock, a log, the socket, and the state of a kept device. Without that the next run of
-# a user who is not root has no device.
+# Only its owner may read and write what the program makes, whatever the umask is: an image with its lock, a
+# log, the socket, and the state of a kept device. Otherwise the next run of a user who is not root has no
+# device.
 tests=$(cd "$(dirname "$0")/.." && pwd -P)
 . "$tests/common/cases.sh"
 needs python3

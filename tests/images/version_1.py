@@ -1,6 +1,6 @@
-"""Images of version 1, as bytes that are kept in tests/images/version_1: NAME.hex has one of them,
-which a program of that version saved, and NAME.tpm the script of its device. Neither is ever written
-anew.
+"""Images of version 1, which are kept as bytes in tests/images/version_1: NAME.hex has an image
+that a program of that version saved, and NAME.tpm the script of its device. Neither is ever written
+again.
 """
 
 import pathlib
@@ -32,10 +32,10 @@ def spelled(text):
 
 
 def device_of(name):
-    """The device behind the script, each of whose comments names what must come."""
+    """The device after the script, each of whose comments names an outcome."""
     return device_behind(script(name))
 
 
 def image_of(device):
-    """The image of this version that a device has."""
+    """The image of this version of a device."""
     return image.image(device, image.VERSION_1)

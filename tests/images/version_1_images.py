@@ -1,10 +1,10 @@
-"""Has a program open the images of version 1 that are kept in tests/images/version_1:
+"""Opens the images of version 1 in tests/images/version_1 with a program:
 
     tools/python.sh tests/images/version_1_images.py PROGRAM
 
-What it answers to commands that look at the device, and use what it has, and what it saves
-afterwards, which is of version 2, has to be what the device in Python answers and saves. It says of
-each image what was tried; the last line is `N agree, M differ`.
+The commands look at the device, and use what it has. The program's answers, and the image of
+version 2 that it saves afterwards, must be those of the Python device. A line for each image says
+what was tried; the last line is `N agree, M differ`.
 """
 
 import collections
@@ -31,15 +31,15 @@ WITH_VALUES = RH_OWNER, RH_ENDORSEMENT, RH_PLATFORM
 AT_ONCE = 1024
 FIRST_TRANSIENT, NEW_COUNTER, LAST_INDEX = 0x8000_0000, 0x0111_1111, 0x01FF_FFFE
 
-# Where TPM2_ReadClock answers the milliseconds since the device has power, and Clock.
+# The places of Time and Clock in the response of TPM2_ReadClock.
 TIME, CLOCK = slice(10, 18), slice(18, 26)
 
-# Where an image has the lower byte of its version.
+# The place of the version's lower byte in an image.
 VERSION = 5
 
 
 class Commands(PreparedCommands):
-    """Commands for a device as it is, by the authorization values that it has."""
+    """Commands for a device in its present state, by its authorization values."""
 
     def __init__(self, device):
         super().__init__()
@@ -49,7 +49,7 @@ class Commands(PreparedCommands):
         return self.device.auth_value(handle)
 
     def use(self, handle):
-        """A command that needs the sensitive area of an object: a child of it, a MAC, or its data."""
+        """A command that needs an object's sensitive area: for a child, a MAC, or its data."""
         public = self.device.objects[handle].public
         if public.kind == SYMCIPHER:
             return self.child(handle, sealed(), user_auth=b"auth", data=b"data")
@@ -59,7 +59,7 @@ class Commands(PreparedCommands):
         return self.unsealing(handle)
 
     def asker(self, index):
-        """Who reads an index and writes it."""
+        """The handle that authorizes reading and writing an index."""
         public = self.device.indices[index].public
         if public.has(nv.Attribute.OWNERREAD):
             return RH_OWNER
@@ -70,7 +70,7 @@ class Commands(PreparedCommands):
 
 
 def looks(tpm):
-    """All that can be seen, a session that was lost, and a use of each secret."""
+    """Everything that can be seen, a session that was lost, and a use of each secret."""
     for first in (NV, frames.HMAC_SESSION, TRANSIENT, PERSISTENT):
         yield tpm.capability(HANDLES, first << 24, 64)
     yield tpm.command("PolicyGetDigest", 0x0300_0000)
@@ -92,8 +92,8 @@ def looks(tpm):
 
 
 def changes(tpm):
-    """What hangs on the largest value of a counter, and on authorization values; and wrong ones. An
-    index more is defined, even if the image has as many as its version can have.
+    """Commands that depend on a counter's largest value and on authorization values; and wrong
+    ones. One more index is defined, even if the image has as many as its version can have.
     """
     for index, held in sorted(tpm.device.indices.items()):
         if held.public.kind == nv.Type.COUNTER:
@@ -112,7 +112,7 @@ def changes(tpm):
 
 
 def resumed(tpm):
-    """A start by a saved state, or another where nothing is saved; and all of the above."""
+    """A start from a saved state, or another start if none is saved; and all of the above."""
     yield tpm.starting(STATE)
     yield tpm.starting(CLEAR)
     yield from looks(tpm)
@@ -121,7 +121,9 @@ def resumed(tpm):
 
 
 def restarted(tpm):
-    """A start that may be a restart; then what is the owner's goes, where nothing forbids it."""
+    """A start that may be a restart; then the owner's entities are removed, unless that is
+    disabled.
+    """
     yield tpm.starting(CLEAR)
     yield tpm.clearing(RH_PLATFORM)
     yield from looks(tpm)
@@ -131,7 +133,7 @@ def restarted(tpm):
 
 
 def taken(text, commands):
-    """The commands, each for the device as it is behind those before."""
+    """The commands, each for the device as it is after those before."""
     device = image.open_image(text)
     for prepared in commands(Commands(device)):
         buffer = prepared.buffer()
@@ -140,9 +142,9 @@ def taken(text, commands):
 
 
 def executed(device, buffers, clock):
-    """What comes of commands in as many milliseconds as passed for the program, which the answer to
-    the last one tells. They pass before that one, but for those that passed before TPM2_Clear: it
-    sets Clock back, which so tells less than Time.
+    """The outcomes of commands during the milliseconds that passed for the program. The answer to
+    the last command has them. All time passes before that command, except what passed before
+    TPM2_Clear: that sets Clock back, so that it then shows less than Time.
     """
     time, clock = int.from_bytes(clock[TIME], "big"), int.from_bytes(clock[CLOCK], "big")
     before_clear = max(time - clock, 0)
@@ -159,7 +161,7 @@ def is_clear(buffer):
 
 
 def told(outcomes):
-    """What came of the commands of each name, in a line each."""
+    """The outcomes of the commands of each name, one line each."""
     counts = {}
     for outcome in outcomes:
         refused = outcome.refused or "SUCCESS"
@@ -179,7 +181,7 @@ class Comparison:
         print(f"    {words}" if holds else f"    DIFFERS: {words}", flush=True)
 
     def run(self, text, buffers, connections=1):
-        """What the program answers in a run on an image, what it says, and what it saves."""
+        """The program's answers in a run on an image, its messages, and the image that it saves."""
         run = streams.Run(0, 0, text, True, b"".join(map(streams.random_of, buffers)))
         run.connections = [streams.Connection(AT_ONCE) for _ in range(connections)]
         for connection in run.connections:
@@ -188,7 +190,7 @@ class Comparison:
         return answers, error, self.folder.image.read_bytes()
 
     def kept(self, text, device):
-        """An image that is kept; the device in Python that its script gives has it, too."""
+        """A kept image; the Python device must have it after its script."""
         opened = image.open_image(text)
         again, of_script = version_1.image_of(opened), version_1.image_of(device)
         self.check(again == text, "the device in Python opens it, and has this image")
@@ -198,7 +200,7 @@ class Comparison:
         self.check(self.run(wanted[2], []) == wanted, "it opens that, and saves it as it is")
 
     def opened(self, text, words, commands):
-        """Commands, and TPM2_ReadClock behind them, to the device that an image is of."""
+        """Executes commands, and then TPM2_ReadClock, on the device of an image."""
         buffers = [*taken(text, commands), lines.assemble(b"ReadClock")]
         (answers,), error, saved = self.run(text, buffers)
         device = image.open_image(text)
@@ -214,7 +216,7 @@ class Comparison:
         self.check(saved == image.image(device), f"{words}, it saves the same")
 
     def refused(self, fault, text, words):
-        """A text that is no image."""
+        """A text that is not an image."""
         _, error, left = self.run(text, [], connections=0)
         holds = image.fault_of(text) == fault and error == f"tpmsim: image {fault}"
         self.check(holds and left == text, f"{words}: {fault}")
@@ -235,7 +237,7 @@ def damaged(text):
 
 
 def beyond_limits(text):
-    """A full device has as much as an image of this version can have."""
+    """A full device has everything that an image of this version can have."""
     device = image.open_image(text)
     device.indices[LAST_INDEX] = nv_commands.Index(area(LAST_INDEX, BY_OWNER, size=0), b"", b"")
     assert len(device.indices) == image.VERSION_1.indices + 1

@@ -1,5 +1,5 @@
-# Images of version 1, kept as bytes in tests/images/version_1: what the program answers that opens one, and
-# what it saves then, is what the device in Python answers and saves.
+# Images of version 1, kept as bytes in tests/images/version_1: the program that opens one responds, and saves
+# the device, as the device in Python does.
 tests=$(cd "$(dirname "$0")/.." && pwd -P)
 . "$tests/common/cases.sh"
 needs python3

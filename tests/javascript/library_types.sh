@@ -1,5 +1,5 @@
-# The types of the package for JavaScript: its sources by their comments, index.d.ts, that the sources are
-# what it declares, and a program that uses it, whose marked lines are refused.
+# The types of the package for JavaScript: its sources by their comments, index.d.ts, that the sources are as
+# it declares them, and a program that uses it, whose marked lines are refused.
 tests=$(cd "$(dirname "$0")/.." && pwd -P)
 . "$tests/common/cases.sh"
 . "$tests/common/javascript.sh"

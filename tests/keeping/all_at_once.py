@@ -1,12 +1,12 @@
-"""Hosts of each kind hold one kept device at once, and some of them are killed at any moment:
+"""Hosts of each kind hold one kept device at once, and some of them are killed at random moments:
 
     python3 all_at_once.py PROGRAM HOSTS SHIM SECONDS PROCESSES SEED [fills]
 
-LD_PRELOAD has loaded failing.c into this process, for clocks that jump about by a day. Each process counts
-in one index of the device, cycles its power, opens it again, and forks; signals interrupt its calls all the
-time, and its calls of the operating system are as they come. With `fills` the disk that the working folder
-is on is full now and then. Then the index has each increment that was answered, and no more than were asked
-for. What a process reads is never less than what it has counted.
+LD_PRELOAD has loaded failing.c into this process, for clocks that jump by up to a day. Each process
+counts in one index of the device, cycles its power, opens it again, and forks. Signals interrupt
+its calls all the time; its calls of the operating system do not fail otherwise. With `fills` the
+disk of the working folder is full now and then. At the end the index has each increment that was
+answered, and at most those that were asked for. A process never reads less than it has counted.
 """
 
 import contextlib
@@ -29,7 +29,8 @@ FOLDER, FULL, CLONE_NEWPID, SECONDS_TO_END = "state", "full", 0x20000000, 60
 INTERRUPT_EACH, KILL_EACH = 0.0007, 0.02
 ASKED, DONE, OTHER, WRONG = b"a", b"d", b"o", b"w"
 
-# Each of these begins in turn. With an odd seed the power is cycled often, and else the journals grow.
+# Each of these begins in turn. With an odd seed the power is cycled often; otherwise the journals
+# grow.
 KINDS = ((Module, Python, Run, Module, Python), (Module, Python, Run, Module, Python, Simulator))
 CYCLES = 0.0005, 0.02
 
@@ -93,7 +94,7 @@ class Worker:
             self.forks()
 
     def asks(self, act: str) -> object:
-        """What an act is answered; the device is started where that is wanted."""
+        """The answer to an act; the device is started if the act needs that."""
         answer = answer_of(act, does(self.host, act, FOLDER))
         if answer == INITIALIZE:
             does(self.host, STARTUP, FOLDER)
@@ -117,7 +118,7 @@ class Worker:
             self.least = answer[1]
 
     def forks(self) -> None:
-        """The child goes on with the host as it was, with the same process number if that can be had."""
+        """The child goes on with the host; if possible, with the same process number."""
         self.has_forked = True
         ctypes.CDLL(None).unshare(CLONE_NEWPID)
         child = os.fork()
@@ -153,7 +154,7 @@ class Counts:
 
 
 def begun(kind: type[Host], files: Files, seed: int, until: float) -> tuple[int, int]:
-    """A process of a group of its own, and the pipe by which it tells."""
+    """A process in a group of its own, and the pipe of its reports."""
     reads, writes = os.pipe()
     child = os.fork()
     if child == 0:
@@ -172,7 +173,7 @@ def begun(kind: type[Host], files: Files, seed: int, until: float) -> tuple[int,
 
 
 def plays(files: Files, seconds: float, processes: int, seed: int, fills: bool) -> Counts:
-    """So many processes at once, for so long. One that is killed has another in its place."""
+    """Runs this many processes at once, for this long. Each killed one is replaced."""
     choices, counts, chooser = random.Random(seed), Counts(), selectors.DefaultSelector()
     until, kinds = time.monotonic() + seconds, KINDS[seed % 2]
     pids: dict[int, int] = {}
@@ -212,13 +213,13 @@ def plays(files: Files, seconds: float, processes: int, seed: int, fills: bool) 
 
 
 def kill(group: int) -> None:
-    """Kills a process with its children, unless it has no group yet."""
+    """Kills a process with its children; or alone, while it has no group yet."""
     with contextlib.suppress(ProcessLookupError):
         os.killpg(group, signal.SIGKILL)
 
 
 def fill(choices: random.Random) -> None:
-    """Fills the disk, to its last byte perhaps, or makes room on it."""
+    """Fills the disk, perhaps to its last byte, or frees space on it."""
     full = pathlib.Path(FULL)
     if full.exists():
         full.unlink()

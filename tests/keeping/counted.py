@@ -1,7 +1,8 @@
-"""A counter in a kept device: what it may hold after commands that were answered, and others that failed.
+"""A counter in a kept device: its possible values after commands that were answered, and ones that
+failed.
 
-A history of acts is told as it comes: an act with its answer, or acts of which any first ones were done.
-What is known is a set of states. An answer that no state of it allows is wrong.
+A history of acts is recorded as it happens: an act with its answer, or acts the first few of which
+were done. The knowledge is a set of states. An answer that no state of the set allows is wrong.
 """
 
 from dataclasses import dataclass, replace
@@ -29,7 +30,7 @@ SUCCESS, INITIALIZE, NO_INDEX, DEFINED, UNWRITTEN = 0, 0x100, 0x28B, 0x14C, 0x14
 
 @dataclass(frozen=True, order=True)
 class State:
-    """A device with its counter, or none."""
+    """A device with its counter, or no device."""
 
     is_there: bool = False
     is_started: bool = False
@@ -60,7 +61,7 @@ def outcome(state: State, act: str) -> tuple[State, object]:
 
 
 def answer_of(act: str, response: bytes) -> object:
-    """What a response says, as `outcome` has it."""
+    """What a response says, in the form of `outcome`."""
     if act in (BEGIN, POWER):
         return None
     code = int.from_bytes(response[6:10], "big")
@@ -70,25 +71,25 @@ def answer_of(act: str, response: bytes) -> object:
 
 
 class Counted:
-    """The states in which a device may be."""
+    """The possible states of a device."""
 
     def __init__(self, states: Iterable[State]) -> None:
         self.states = set(states)
 
     def answers(self, act: str, response: bytes) -> bool:
-        """An act was answered. Whether a state allows it."""
+        """Records that an act was answered. Returns whether a state allows the answer."""
         told = answer_of(act, response)
         after = (outcome(state, act) for state in self.states if state.is_there or act == BEGIN)
         self.states = {state for state, answer in after if answer == told}
         return bool(self.states)
 
     def has(self, acts: Iterable[str]) -> None:
-        """Acts were done, whatever their answers were."""
+        """Records that acts were done, whatever their answers were."""
         for act in acts:
             self.states = {outcome(it, act)[0] for it in self.states if it.is_there or act == BEGIN}
 
     def may_have(self, acts: Iterable[str]) -> None:
-        """Acts were asked for, and perhaps the first ones of them were done."""
+        """Records that acts were asked for; perhaps the first few of them were done."""
         done = set(self.states)
         for act in acts:
             done = {outcome(it, act)[0] if it.is_there or act == BEGIN else it for it in done}

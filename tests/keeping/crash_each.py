@@ -2,12 +2,13 @@
 
     python3 crash_each.py PROGRAM HOSTS SHIM SHARE [WORD]
 
-SHIM is the library of disk.c, which LD_PRELOAD has loaded into this process too: it logs what each host does
-to its folder. A crash leaves of it what was forced, and of the rest any front, perhaps with zeros after it. A
-name that was not forced may be gone, and an earlier file may have it again. After each line of the log some
-such folders are made, and opened by another host. With force=always each is the device that executed the
-answered acts, and perhaps the one that was not answered; else it is one of those since the last power cycle.
-One of SHARE crashes is made, and with WORD those of hosts whose name has it.
+SHIM is the library of disk.c, which LD_PRELOAD has loaded into this process too: it logs what each
+host does to its folder. A crash keeps what was forced, and any prefix of the rest, perhaps followed
+by zeros. A name that was not forced may be gone, or may be an earlier file's again. After each line
+of the log some such folders are made, and another host opens them. With force=always each has the
+device that executed the answered acts, and perhaps the unanswered one; otherwise it has one of the
+devices since the last power cycle. One of SHARE crashes is made; with WORD, only those of hosts
+whose name contains it.
 """
 
 import ctypes
@@ -29,14 +30,16 @@ MOST_ZEROS, CHOICES = 5000, 3
 
 @dataclass
 class File:
-    """What a file holds; what it has held since it was forced; how many of its first bytes are on the disk."""
+    """A file's content; its contents since it was forced; and how many of its first bytes are on
+    the disk.
+    """
 
     now: bytes = b""
     past: list[bytes] = field(default_factory=list)
     forced: int = 0
 
     def becomes(self, text: bytes) -> None:
-        """Bytes that are written again as they were stay on the disk."""
+        """Sets the content. Bytes that are written again unchanged stay on the disk."""
         self.past.append(self.now)
         self.forced = min(self.forced, len(os.path.commonprefix([self.now, text])))
         self.now = text
@@ -70,12 +73,12 @@ class Disk:
                 self.files[number] = File(path.read_bytes(), [], path.stat().st_size)
 
     def name_of(self, path: str) -> str:
-        """The name of a file in the folder; nothing of another one."""
+        """The name of a file in the folder; empty for another file."""
         folder, _, name = path.rpartition("/")
         return name if folder == str(self.folder) else ""
 
     def hears(self, what: str, path: str, *rest: str) -> None:
-        """A line of the log."""
+        """Applies a line of the log."""
         if what == "mkdir" and path == str(self.folder):
             self.is_there = True
         elif what == "force" and path == str(self.folder):
@@ -109,7 +112,7 @@ class Disk:
             file.forces()
 
     def leaves(self, folder: pathlib.Path, choices: random.Random, how: int) -> None:
-        """Makes a folder that a crash leaves: with the least, with all, or by chance."""
+        """Makes a folder that a crash leaves: the least, all, or a random part."""
         shutil.rmtree(folder, ignore_errors=True)
         if not self.is_there or (not self.is_named and (how == 0 or choices.random() < 0.5)):
             return
@@ -131,7 +134,7 @@ class Disk:
 
 
 class Allowed:
-    """The devices that may be there: those that were answered, or all since the last power cycle."""
+    """The devices that may be there: the answered one, or all since the last power cycle."""
 
     def __init__(self, state: State, is_always: bool) -> None:
         self.counted, self.is_always, self.waiting = Counted([state]), is_always, list[str]()
@@ -150,7 +153,7 @@ class Allowed:
         self.holds(last)
 
     def holds(self, act: str) -> None:
-        """An act was done, and may be lost unless it was a power cycle."""
+        """Records that an act was done. It may be lost unless it was a power cycle."""
         before = set() if act == POWER else {it for it in self.since if it.is_there}
         self.since = before | self.counted.states
 
@@ -166,7 +169,7 @@ class Allowed:
 
 @dataclass(frozen=True)
 class Case:
-    """A host, what it begins with, and acts that it is asked for."""
+    """A host, what it begins with, and the acts that it is asked for."""
 
     files: Files
     host: type[Host]
@@ -210,7 +213,7 @@ class Case:
         self.plays(self.host(self.files, {"DISK_LOG": str(log)}), folder, mark)
 
     def lines(self, room: pathlib.Path, folder: pathlib.Path) -> list[list[str]]:
-        """What the host does to the folder, and what it answers."""
+        """What the host does to the folder, and its answers."""
         log = room / "log"
         log.unlink(missing_ok=True)
         runs = self.in_a_fork if self.host in (Module, Python) else self.as_a_program
@@ -218,7 +221,7 @@ class Case:
         return [line.split() for line in log.read_text("ascii").splitlines()]
 
     def check(self, room: pathlib.Path, share: int) -> tuple[int, int]:
-        """Makes one of so many crashes. How many those were, and how many were wrong."""
+        """Makes one of `share` crashes. Returns how many were made, and how many were wrong."""
         folder, left = room / "state", room / "left"
         self.start.put(folder)
         disk = Disk(folder, folder.exists())

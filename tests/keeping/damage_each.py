@@ -1,9 +1,9 @@
-"""Each call of a power cycle with --cut fails in turn, of a device whose journal is damaged in its middle:
+"""Each call of a power cycle with --cut fails in turn, on a device with damage inside its journal:
 
     python3 damage_each.py PROGRAM HOSTS SHIM SHARE
 
-The journal stays as it is, byte for byte, or a new one takes its place: of the device before the damage, or
-of that after the power cycle. One of SHARE runs is made.
+Either the journal stays unchanged, byte for byte, or a new one replaces it: of the device before
+the damage, or of that device after the power cycle. One of SHARE runs is made.
 """
 
 import functools
@@ -38,7 +38,7 @@ class Cut(Power):
 
 
 class ProgramCut(ProgramPower):
-    """The program's."""
+    """`tpmsim power --cut`."""
 
     name = "tpmsim power --cut"
 
@@ -47,7 +47,7 @@ class ProgramCut(ProgramPower):
 
 
 def made(files: Files, folder: pathlib.Path) -> None:
-    """A device that has counted to 3, and damage in the record of the second time."""
+    """Makes a device that has counted to 3, with damage in the record of the second time."""
     host, journal, sizes = Python(files), folder / "journal", []
     for act in (BEGIN, STARTUP, DEFINE, INCREMENT, INCREMENT, INCREMENT):
         does(host, act, str(folder))
@@ -59,7 +59,7 @@ def made(files: Files, folder: pathlib.Path) -> None:
 
 
 class Damaged:
-    """A damaged device, and a host that cuts the damage off."""
+    """A damaged device, and a host that cuts off the damage."""
 
     def __init__(self, files: Files, host: type[Host], room: pathlib.Path, shim: Shim) -> None:
         self.files, self.make, self.shim = files, functools.partial(host, files), shim
@@ -67,7 +67,7 @@ class Damaged:
         self.journal = (room / "damaged" / "journal").read_bytes()
 
     def tries(self, meeting: Meeting) -> tuple[str, str]:
-        """Which call was met, and what is wrong."""
+        """Which call had the fault, and what is wrong."""
         self.start.put(self.folder)
         told = Told(Counted([FRONT]))
         Trial(self.make, (POWER,), str(self.folder), told, self.shim, meeting).as_a_program()

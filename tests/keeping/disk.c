@@ -1,7 +1,6 @@
-/* Stands before the functions of the C library by which a host changes its folder, and logs what each
- * has done to the file that DISK_LOG names: a line for each, with the path and the number of the
- * file. LD_PRELOAD loads it. A caller in the same process calls disk_logs before and after what
- * counts. */
+/* Replaces the functions of the C library by which a host changes its folder, and logs what each has done.
+ * The file that DISK_LOG names gets a line for each, with the path and the number of the file. LD_PRELOAD
+ * loads it. A caller in the same process calls disk_logs before and after what counts. */
 #define _GNU_SOURCE
 #include <errno.h>
 #include <fcntl.h>
@@ -25,7 +24,7 @@ __attribute__((constructor)) static void begins(void) {
     if (told) disk_logs(told);
 }
 
-/* Adds a line, and bytes in hex at its end. */
+/* Adds a line that ends with bytes in hex. */
 static void note(const char *line, const unsigned char *bytes, size_t size) {
     int error = errno, file;
     char *hex = malloc(2 * size + 2);
@@ -41,7 +40,7 @@ static void note(const char *line, const unsigned char *bytes, size_t size) {
     errno = error;
 }
 
-/* Adds a line of the caller's. */
+/* Adds a line for the caller. */
 void disk_marks(const char *line);
 void disk_marks(const char *line) { note(line, NULL, 0); }
 
@@ -60,7 +59,7 @@ static void note_file(long done, const char *what, int file, long number,
     note(line, bytes, size);
 }
 
-/* The path of a name in an open folder, or of the working one. */
+/* The path of a name in an open folder, or in the working folder. */
 static void path_of(int folder, const char *name, char path[PATH_BYTES]) {
     char link[64];
     if (name[0] == '/') {

@@ -2,11 +2,12 @@
 
     python3 each_call.py PROGRAM HOSTS SHIM SHARE [WORD]
 
-HOSTS is the folder with the module and the programs, SHIM the library of failing.c, which LD_PRELOAD has
-loaded into this process too. One of SHARE runs is made, and with WORD those of hosts whose name has it.
-In each run a host is asked for some acts, and one call of the operating system is met by what VARIANTS
-says. Then another host opens the folder: the device is the one that executed the answered acts, and
-perhaps the one that was not answered. Standard error says what is wrong, and counts the runs.
+HOSTS is the folder with the module and the programs, SHIM the library of failing.c, which
+LD_PRELOAD has loaded into this process too. One of SHARE runs is made; with WORD, only those of
+hosts whose name contains it. In each run a host is asked for some acts, and one call of the
+operating system has a fault of VARIANTS. Then another host opens the folder. The device is the one
+that executed the answered acts, and perhaps the unanswered one. Standard error says what is wrong,
+and counts the runs.
 """
 
 import collections
@@ -30,7 +31,7 @@ from tests.keeping.counted import POWER, READ, STARTUP, State, UNWRITTEN
 from tests.keeping.hosts import does, Files, Host, Module, Power, ProgramPower, Python, Refused
 from tests.keeping.hosts import Run, Simulator
 
-# How failing.c meets a call.
+# The faults of failing.c for a call.
 Act = IntEnum(
     "Act",
     "FAILS FAILS_ON STORMS DOES_AND_FAILS DOES_HALF IS_KILLED DOES_AND_IS_KILLED"
@@ -57,7 +58,7 @@ WELL, FAULT, KILLED = 0, 3, -signal.SIGKILL
 
 @dataclass(frozen=True)
 class Meeting:
-    """The call of a number, and what meets it."""
+    """The number of a call, and its fault."""
 
     number: int
     act: Act
@@ -88,7 +89,7 @@ class Shim:
         return {"LD_PRELOAD": str(self.path), "FAILING": told}
 
     def met(self) -> str:
-        """Which call was met; nothing if there was none of this number."""
+        """Which call had the fault; empty if there was no call of the number."""
         if not self.report.exists():
             return ""
         text = self.report.read_text("utf8").strip()
@@ -98,8 +99,8 @@ class Shim:
 
 @dataclass
 class Told:
-    """What a run told. `waiting` are the acts that may be done, and are not answered. `untold` are those
-    that ended with an OSError and no sentence.
+    """What a run reported. `waiting` are the acts that may be done, and are not answered. `untold`
+    are those that ended with an OSError and no sentence.
     """
 
     counted: Counted
@@ -112,7 +113,7 @@ class Told:
         self.waiting.append(act)
 
     def answers(self, response: bytes) -> None:
-        """All acts that wait were done, and the last one was answered so."""
+        """Records that all waiting acts were done, and that this was the last one's answer."""
         *before, last = self.waiting
         self.waiting = []
         self.counted.has(before)
@@ -121,20 +122,20 @@ class Told:
             self.strange.append("no device answers so")
 
     def did(self) -> None:
-        """All acts that wait were done."""
+        """Records that all waiting acts were done."""
         self.counted.has(self.waiting)
         self.acts += self.waiting
         self.waiting = []
 
     def ends(self, how: str) -> None:
-        """Nothing is known of the acts that wait."""
+        """Records the end of the waiting acts; nobody knows whether they were done."""
         if self.waiting:
             self.acts.append(f"{'+'.join(self.waiting)}:{how}")
             self.counted.may_have(self.waiting)
         self.waiting = []
 
     def hears(self, word: str, text: str) -> None:
-        """A line of a child."""
+        """Applies a line that a child has sent."""
         if word == "asks":
             self.asks(text)
         elif word == "answers":
@@ -154,7 +155,7 @@ def one_line(fault: object) -> str:
 
 
 class Child:
-    """A host in a fork of this process, which tells each act before and after it."""
+    """A host in a fork of this process, which reports each act before and after it."""
 
     def __init__(self, host: Host, folder: str, shim: Shim, tells: int) -> None:
         self.host, self.folder, self.shim, self.tells = host, folder, shim, tells
@@ -171,7 +172,7 @@ class Child:
             word, text = "refuses", one_line(fault)
         except OSError as fault:
             word, text = "untold", one_line(fault)
-        except Exception as fault:  # whatever it is, it is told
+        except Exception as fault:  # whatever it is, it is reported
             word, text = "strange", f"{type(fault).__name__}: {one_line(fault)}"
         finally:
             self.shim.goes_on(False)
@@ -191,7 +192,7 @@ class Child:
 
 
 def lines_of(pipe: int, child: int) -> Iterator[tuple[str, str]]:
-    """What a child tells, until it ends. One that does not end is killed."""
+    """What a child reports, until it ends. A child that does not end is killed."""
     text, until = b"", time.monotonic() + SECONDS
     while True:
         ready, _, _ = select.select([pipe], [], [], max(0, until - time.monotonic()))
@@ -212,7 +213,7 @@ def lines_of(pipe: int, child: int) -> Iterator[tuple[str, str]]:
 
 @dataclass(frozen=True)
 class Trial:
-    """A host, the acts that it is asked for, and the call that is met."""
+    """A host, the acts that it is asked for, and the call with the fault."""
 
     make: Callable[..., Host]
     script: Sequence[str]
@@ -260,7 +261,7 @@ class Trial:
 
 
 def seen(files: Files, folder: str) -> State:
-    """The device that is in a folder, by a host of no faults."""
+    """The device in a folder, as a host without faults sees it."""
     if not os.path.exists(f"{folder}/journal"):
         return NOTHING
     host = Python(files)
@@ -298,7 +299,7 @@ class Start:
 
 @dataclass(frozen=True)
 class Starts:
-    """A kept device; one whose journal has grown so much that it begins anew; and none."""
+    """A kept device; one whose journal has grown so much that it begins again; and none."""
 
     kept: Start
     grown: Start
@@ -313,7 +314,7 @@ class Starts:
 
 @dataclass(frozen=True)
 class Case:
-    """A host, what it begins with, and acts that it is asked for."""
+    """A host, what it begins with, and the acts that it is asked for."""
 
     files: Files
     host: type[Host]
@@ -326,7 +327,7 @@ class Case:
         return f"{self.host.name}, {self.start.label}"
 
     def tries(self, room: pathlib.Path, shim: Shim, meeting: Meeting) -> tuple[str, Told, str]:
-        """Which call was met, what was told, and what is wrong."""
+        """Which call had the fault, what was reported, and what is wrong."""
         folder = room / "state"
         self.start.put(folder)
         told = Told(Counted([self.start.state]))
@@ -342,7 +343,7 @@ class Case:
         return met, told, "; ".join(told.strange)
 
     def check(self, room: pathlib.Path, shim: Shim, share: int) -> tuple[int, int]:
-        """Makes one of so many runs. How many those were, and how many were wrong."""
+        """Makes one of `share` runs. Returns how many were made, and how many were wrong."""
         runs, wrongs, untold = 0, 0, collections.Counter[str]()
         for turn, variant in enumerate(VARIANTS):
             for number in range(1 + turn % share, MOST_CALLS, share):
@@ -366,8 +367,8 @@ def said(line: str) -> None:
 
 
 def made(files: Files, folder: pathlib.Path, least: int) -> State:
-    """Makes a device that has counted to 2, or on until its journal has so many bytes. Then it has the
-    front of one more record.
+    """Makes a device that has counted to 2, or further until its journal has this size. Then adds
+    the beginning of one more record.
     """
     host, journal, count, sizes = Python(files), folder / "journal", 0, [0]
     for act in (BEGIN, STARTUP, DEFINE):

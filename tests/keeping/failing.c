@@ -1,9 +1,8 @@
-/* Stands before the functions of the C library by which a host of a kept device reaches its folder,
- * the clock, random bytes and memory. The call of one number is met by one of these acts.
- * LD_PRELOAD loads it. A program is told by FAILING: `NUMBER ACT ERROR REPORT`. A caller in the
- * same process calls failing_begins, and failing_goes_on before and after what counts. The name of
- * the call that was met goes to the file REPORT. With FAILING_CLOCK the clock jumps about, by a day
- * at most. */
+/* Replaces the functions of the C library by which a host of a kept device reaches its folder, the clock,
+ * random bytes and memory. The call of one number has one of these faults. LD_PRELOAD loads it. A program
+ * reads FAILING: `NUMBER ACT ERROR REPORT`. A caller in the same process calls failing_begins, and
+ * failing_goes_on before and after what counts. The name of the call with the fault is written to the file
+ * REPORT. With FAILING_CLOCK the clock jumps, by at most a day. */
 #define _GNU_SOURCE
 #include <errno.h>
 #include <fcntl.h>
@@ -19,7 +18,7 @@
 #include <time.h>
 #include <unistd.h>
 
-/* FAILS_ON: this call, and each later one of the function. STORMS: this call and two more that may
+/* FAILS_ON: this call fails, and each later one of the function. STORMS: this call and two more that can
  * be interrupted fail with EINTR. */
 enum act {
     PASSES,
@@ -59,11 +58,11 @@ static int is_object(struct dl_phdr_info *info, size_t size, void *unused) {
 void failing_goes_on(int goes_on);
 void failing_goes_on(int goes_on) { is_on = goes_on; }
 
-/* Whether the clock jumps about, for a caller in the same process. */
+/* Whether the clock jumps, for a caller in the same process. */
 void failing_jumps(int does_jump);
 void failing_jumps(int does_jump) { jumps = does_jump; }
 
-/* Has the call of a number met so. An object's name has a part, `from`; "" is the program. */
+/* Gives the call of a number a fault. `from` is part of an object's name; "" is the program. */
 void failing_begins(long at, int how, int with, const char *path, const char *from);
 void failing_begins(long at, int how, int with, const char *path, const char *from) {
     number = at;
@@ -96,7 +95,7 @@ static void note(const char *name, const char *of) {
     syscall(SYS_close, file);
 }
 
-/* Whether an act may meet a call of this kind. */
+/* Whether a call of this kind may have the fault. */
 static int may_meet(int kind, const void *caller) {
     int halves = act == DOES_HALF || act == DOES_HALF_AND_IS_KILLED;
     if (kind & IS_MEMORY)
@@ -107,7 +106,7 @@ static int may_meet(int kind, const void *caller) {
     return !(kind & CLOSES && (act == FAILS || act == FAILS_ON));
 }
 
-/* What meets this call. */
+/* The fault of this call. */
 static enum act meets(const char *name, int kind, const char *of, const void *caller) {
     if (!is_on || act == PASSES || !may_meet(kind, caller)) return PASSES;
     long at = ++counted;
@@ -145,7 +144,7 @@ static size_t half(enum act how, size_t size) {
 
 #define CALL(type, name, kind, of, words, real) type name words MET(type, #name, kind, of, real)
 
-/* The same by its name for large files, of which the header says other types. */
+/* The same with its name for large files, which the header declares with other types. */
 #define CALL_TWICE(type, name, kind, of, words, real)                                              \
     CALL(type, name, kind, of, words, real)                                                        \
     type large_##name words __asm__(#name "64");                                                   \
@@ -199,7 +198,7 @@ CALL(ssize_t, getrandom, MOVES | WAITS, "", (void *bytes, size_t size, unsigned 
 CALL(int, madvise, OTHER, "", (void *page, size_t size, int advice),
      syscall(SYS_madvise, page, size, advice))
 
-/* The standard streams are a caller's. */
+/* The standard streams belong to a caller. */
 ssize_t read(int file, void *bytes, size_t size) {
     enum act how = file < 3 ? PASSES : meets("read", MOVES | WAITS, "", NULL);
     if (is_refused(how)) return -1;

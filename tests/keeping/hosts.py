@@ -1,6 +1,6 @@
 """The hosts of a kept device, each with the acts of counted.py. `Files` says where they are.
 
-The module and Python run in this process, and are forked with it. The others are programs, which begin
+The module and Python run in this process, and fork with it. The others are programs, which begin
 with an environment.
 """
 
@@ -22,7 +22,7 @@ SECONDS, RESPONSE_BYTES, RC = 20, 4096, ctypes.c_uint32
 
 @dataclass(frozen=True)
 class Files:
-    """Where the hosts are: the program, and a folder with the module and the other programs."""
+    """The places of the hosts: the program, and a folder with the module and the other programs."""
 
     program: pathlib.Path
     folder: pathlib.Path
@@ -41,12 +41,13 @@ class Files:
 
 
 class Refused(Exception):
-    """A host says that it did not do an act."""
+    """A host's report that it did not do an act."""
 
 
 class Host:
-    """What a host does. `part` is in the name of its library. A host that does not answer all acts says
-    with the next response that it has begun or cycled the power. The power of one `comes_on` as it begins.
+    """What a host does. `part` is in the name of its library. A host that does not answer all acts
+    reports a beginning or a power cycle with the next response. If `comes_on`, power comes on as it
+    begins.
     """
 
     name, part, answers_all, comes_on = "", "", True, False
@@ -68,7 +69,7 @@ class Host:
         raise NotImplementedError
 
     def close(self) -> tuple[int, str]:
-        """How it ended, and what it said."""
+        """How the host ended, and what it said."""
         raise NotImplementedError
 
 
@@ -80,7 +81,7 @@ BEGINS = ctypes.CFUNCTYPE(RC, POINTER, ctypes.POINTER(SIZE), ctypes.c_char_p)
 
 
 class Context(ctypes.Structure):
-    """The front of TSS2_TCTI_CONTEXT."""
+    """The beginning of TSS2_TCTI_CONTEXT."""
 
     _fields_ = [
         ("magic", ctypes.c_uint64),
@@ -104,7 +105,7 @@ class Info(ctypes.Structure):
 
 
 class Module(Host):
-    """The module for libtss2, as that calls it."""
+    """The module for libtss2, called as libtss2 does."""
 
     name, part = "the module", "libtss2-tcti-tpmsim"
 
@@ -170,7 +171,7 @@ class Python(Host):
 
     @contextlib.contextmanager
     def refusing(self) -> Iterator[None]:
-        """DeviceEnded, BadImage and BadState say why, and so does MemoryError."""
+        """Turns DeviceEnded, BadImage, BadState and MemoryError into a refusal with its reason."""
         try:
             with warnings.catch_warnings():
                 warnings.simplefilter("ignore", RuntimeWarning)
@@ -198,8 +199,8 @@ class Python(Host):
 
 
 class Run(Host):
-    """`tpmsim run --state`, which is told one line after another. A power cycle is known to be done
-    with the next answer.
+    """`tpmsim run --state`, which gets one line after another. Its next answer shows that a power
+    cycle is done.
     """
 
     name, answers_all = "the program", False
@@ -263,7 +264,7 @@ class Power(Run):
         return [str(self.files.power), folder]
 
     def power(self) -> None:
-        """It is what the program does."""
+        """Nothing: the program's run is the power cycle."""
 
 
 class ProgramPower(Power):
@@ -320,7 +321,7 @@ class Simulator(Run):
 
 
 def does(host: Host, act: str, folder: str) -> bytes:
-    """An act of a host, and the response to it, if it has one."""
+    """Has a host do an act; returns the response, if it has one."""
     if act == BEGIN:
         host.begin(folder)
     elif act == POWER:

@@ -1,5 +1,5 @@
-# The same on a disk that is full now and then, which is mounted for this test alone, by root or by a user who
-# may be root in a namespace.
+# The test library_all_at_once.sh on a disk that is full now and then. It is mounted for this test alone, by
+# root or by a user who may be root in a namespace.
 if [ -z "${own_mounts:-}" ]; then
     for user in '' '--user --map-root-user'; do
         # shellcheck disable=SC2086 # it is two words, or none

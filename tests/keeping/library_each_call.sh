@@ -1,5 +1,5 @@
-# Each host of a kept device, of whose calls of the operating system one fails, is done and then fails, does
-# half, or kills it: each_call.py, of whose runs one in ten is made.
+# In each host of a kept device, one call of the operating system fails, fails after it is done, does half, or
+# kills the host: each_call.py. One of ten runs is made.
 tests=$(cd "$(dirname "$0")/.." && pwd -P)
 . "$tests/common/cases.sh"
 . "$tests/common/library.sh"

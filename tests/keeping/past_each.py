@@ -1,9 +1,9 @@
-"""Each call of a power cycle fails in turn that keeps journals of the past:
+"""Each call fails in turn of a power cycle that keeps journals of the past:
 
     python3 past_each.py PROGRAM HOSTS SHIM
 
-Python keeps three. After another power cycle that nothing meets, the last journals have the first numbers
-in order, and none is missing.
+Python keeps three of them. After another power cycle without a fault, the last journals have the
+first numbers in order, and none is missing.
 """
 
 import errno
@@ -30,7 +30,7 @@ class KeepingPast(Python):
 
 
 def made(host: Host, folder: pathlib.Path) -> None:
-    """A device with three journals of the past, each of one letter, the last one A."""
+    """Makes a device with three journals of the past, each of one letter, the last one A."""
     for act in (BEGIN, STARTUP):
         does(host, act, str(folder))
     host.close()
@@ -39,7 +39,7 @@ def made(host: Host, folder: pathlib.Path) -> None:
 
 
 def past_in(folder: pathlib.Path, journal: bytes) -> list[str]:
-    """What has the numbers from 1 on."""
+    """The journals with the numbers from 1 on."""
     told = []
     for number in range(1, KEPT + 1):
         path = folder / f"journal.{number}"

@@ -1,4 +1,4 @@
-// A caller in C++: the holder is a member, which a move hands on and the destructor frees.
+// A caller in C++: the holder is a member; a move passes it on, and the destructor frees it.
 #include "tpmsim.h"
 #include <array>
 #include <cstdio>

@@ -1,4 +1,4 @@
-// A caller in Go, by cgo: the holder stands in Go's memory, and holds a pointer to C's alone.
+// A caller in Go, by cgo: the holder is in Go's memory, and contains only a pointer to C's memory.
 package main
 
 // #include "tpmsim.h"

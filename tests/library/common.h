@@ -1,4 +1,4 @@
-/* What the callers of the library share: hex, commands, and ends that say what was wrong. */
+/* The common part of the library's callers: hex, commands, and failures with a reason. */
 #ifndef COMMON_H
 #define COMMON_H
 #include "tpmsim.h"
@@ -6,14 +6,14 @@
 #include <stdlib.h>
 #include <string.h>
 
-/* FILLED is the byte that fills a room before a call, to see what the call writes. */
+/* FILLED is the byte that fills a buffer before a call, to show what the call writes. */
 enum { RANDOM_BYTES = 256, RESPONSE_BYTES = 4096, FILLED = 0xa5 };
 
 /* TPM2_Startup(CLEAR), and TPM2_GetRandom of sixteen bytes. */
 static const uint8_t STARTUP[] = {0x80, 0x01, 0, 0, 0, 12, 0, 0, 0x01, 0x44, 0, 0};
 static const uint8_t GET_RANDOM[] = {0x80, 0x01, 0, 0, 0, 12, 0, 0, 0x01, 0x7b, 0, 16};
 
-/* Ends the program with a line, where this does not hold. */
+/* Ends the program with a line unless this holds. */
 static inline void must(int holds, const char *what) {
     if (holds) return;
     fflush(stdout);
@@ -21,20 +21,20 @@ static inline void must(int holds, const char *what) {
     exit(1);
 }
 
-/* Memory, or the end of the program. */
+/* Allocates memory, or ends the program. */
 static inline void *taken(size_t size) {
     void *memory = malloc(size ? size : 1);
     must(memory != NULL, "there is no memory");
     return memory;
 }
 
-/* Whether a room has the byte that filled it before a call, and no other: it begins with that, and
- * each byte is as the next one. */
+/* Whether a buffer has only the byte that filled it before a call: it begins with that byte, and each
+ * byte equals the next one. */
 static inline int is_filled(const uint8_t *room, size_t size) {
     return size == 0 || (room[0] == FILLED && memcmp(room, room + 1, size - 1) == 0);
 }
 
-/* The random bytes of a test: from this one up. */
+/* The random bytes of a test: they count up from this one. */
 static inline void count_up(uint8_t random[RANDOM_BYTES], uint8_t first) {
     for (int i = 0; i < RANDOM_BYTES; i++) random[i] = (uint8_t)(first + i);
 }
@@ -61,7 +61,7 @@ static inline uint8_t digit_of(char digit) {
     return (uint8_t)(digit - 'a' + 10);
 }
 
-/* Reads hex, and says how many bytes it has. */
+/* Reads hex, and returns its size in bytes. */
 static inline size_t hex_bytes(const char *hex, uint8_t *bytes) {
     size_t size = strlen(hex) / 2;
     for (size_t i = 0; i < size; i++)
@@ -69,7 +69,7 @@ static inline size_t hex_bytes(const char *hex, uint8_t *bytes) {
     return size;
 }
 
-/* Executes a command at locality 0 with no time in between, which has to be done. */
+/* Executes a command at locality 0 with no time in between; it must succeed as a call. */
 static inline struct tpmsim_answered answered_by(struct tpmsim *device, const uint8_t *buffer,
                                                  size_t size, uint8_t *response) {
     struct tpmsim_answered answered;

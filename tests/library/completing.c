@@ -1,6 +1,6 @@
-/* Executes commands for a journal with the completing layer and without it, opens what was written in
- * another handle, and goes on there: what is answered each time. Then it does without a journal, and
- * goes on in another handle from a state text. */
+/* Executes commands for a journal with and without the completing layer, opens what was written in
+ * another handle, and goes on there. Prints what is answered each time. Then it does the same without a
+ * journal, and goes on in another handle from a state text. */
 #include "common.h"
 #include "tpmsim.h"
 
@@ -20,19 +20,23 @@ static const uint8_t CREATE_PRIMARY[] = {
     0,    9, 0, 0, 1, 0,  0, 0, 4, 0,    0,    0, 0, 0, 0x12, 0, 0x25, 0, 11, 0,
     3,    4, 0x72, 0, 0, 0, 6, 0, 0x80, 0, 0x43, 0, 0, 0, 0, 0, 0, 0, 0};
 
+static const uint8_t TEST_RESULT[] = {0x80, 1, 0, 0, 0, 10, 0, 0, 1, 0x7c};
+static const uint8_t HASH[] = {0x80, 1,   0,   0, 0,  21,   0, 0, 1, 0x7d, 0,
+                               3,    'a', 'b', 'c', 0, 11, 0x40, 0, 0, 7};
+
 static tpmsim device, other;
 static uint8_t text[256 * 1024], response[RESPONSE_BYTES], context[CONTEXT_BYTES];
 static size_t text_size;
 static uint64_t now = CLOCK;
 
-/* Cycles the power, and begins the journal anew. */
+/* Cycles the power, and begins the journal again. */
 static void begin(void) {
     now += WAITED;
     text_size = tpmsim_journal_begin(&device, now, text, sizeof text);
     must(text_size > 0 && text_size <= sizeof text, "there is no room for the head");
 }
 
-/* Executes a command, adds its record to the text, and tells its code. */
+/* Executes a command, adds its record to the text, and prints its response code. */
 static void execute(const char *name, uint8_t completes, const uint8_t *buffer, size_t size) {
     static uint8_t record[TPMSIM_RECORD_ROOM], random_bytes[RANDOM_BYTES];
     tpmsim_answered answered;
@@ -47,8 +51,8 @@ static void execute(const char *name, uint8_t completes, const uint8_t *buffer, 
     printf("%s: %03x, %zu drawn\n", name, (unsigned)code_of(response), answered.drawn);
 }
 
-/* Asks for at most five of a capability, from this property on: what is told behind the response's
- * header and moreData, in hex. */
+/* Asks for at most five values of a capability, from this property on. Prints in hex what follows the
+ * response's header and moreData. */
 static void list(const char *name, uint8_t completes, uint32_t capability, uint32_t property) {
     uint8_t command[] = {0x80, 1, 0, 0, 0, 22, 0, 0, 1, 0x7a, 0, 0, 0, 0, 0, 0, 0, 0, 0, 0, 0, 5};
     for (int i = 0; i < 4; i++) {
@@ -62,7 +66,7 @@ static void list(const char *name, uint8_t completes, uint32_t capability, uint3
     putchar('\n');
 }
 
-/* What is listed of capabilities: those of the device, and those that are the layer's own. */
+/* Lists capabilities: those of the device, and those of the layer itself. */
 static void list_capabilities(void) {
     list("commands from ContextLoad on", 1, 2, 0x161);
     list("commands from StirRandom on, without the layer", 0, 2, 0x146);
@@ -70,8 +74,19 @@ static void list_capabilities(void) {
     list("properties from TPM_PT_PCR_COUNT on", 1, 6, 0x112);
     list("properties from TPM_PT_TOTAL_COMMANDS on", 1, 6, 0x129);
     list("properties from TPM_PT_TOTAL_COMMANDS on, without the layer", 0, 6, 0x129);
+    list("properties from TPM_PT_PERMANENT on", 1, 6, 0x200);
+    list("properties of PCRs from TPM_PT_PCR_RESET_L4 on", 1, 7, 10);
+    list("curves", 1, 8, 0);
     list("algorithms from CFB on", 1, 0, 0x43);
     list("algorithms, without the layer", 0, 0, 0);
+}
+
+/* Executes a command with the layer, and prints what follows the header of its response. */
+static void show(const char *name, const uint8_t *buffer, size_t size) {
+    execute(name, 1, buffer, size);
+    printf("  ");
+    put_hex(response + 10, (size_t)(response[4] << 8 | response[5]) - 10);
+    putchar('\n');
 }
 
 static void save(const char *name, const uint8_t *buffer, size_t size) {
@@ -88,14 +103,14 @@ static void load(const char *name) {
     execute(name, 1, command, sizeof command);
 }
 
-/* Goes on with the other handle. */
+/* Continues with the other handle. */
 static void swap_handles(void) {
     tpmsim before = device;
     device = other;
     other = before;
 }
 
-/* Opens the text in the other handle, and goes on with it. */
+/* Opens the text in the other handle, and continues with it. */
 static void open_other(void) {
     size_t size_taken;
     uint8_t told = tpmsim_journal_open(&other, text, text_size, &size_taken);
@@ -104,7 +119,7 @@ static void open_other(void) {
     swap_handles();
 }
 
-/* Executes a command with the completing layer and without a journal, and reports its code. */
+/* Executes a command with the completing layer and without a journal, and prints its response code. */
 static void complete(const char *name, const uint8_t *buffer, size_t size) {
     static uint8_t random_bytes[RANDOM_BYTES];
     tpmsim_answered answered;
@@ -132,7 +147,7 @@ static void restore_other(void) {
     complete_load("loaded twice");
 }
 
-/* A session that is saved is listed as that, and cannot be saved again. */
+/* A saved session is listed as saved, and cannot be saved again. */
 static void save_session(void) {
     execute("a session", 1, START_SESSION, sizeof START_SESSION);
     save("its context", SAVE_SESSION, sizeof SAVE_SESSION);
@@ -165,7 +180,7 @@ static void create_ninth(void) {
     load("the context of what gave up its place");
 }
 
-/* Turns the byte of the last record's mark that says whether the layer was on. */
+/* Changes the byte of the last record's mark that says whether the layer was on. */
 static void turn_flag(void) {
     size_t at = text_size, size_taken;
     while (text[at - 1] != '#') at--;
@@ -185,6 +200,8 @@ int main(void) {
     execute("a command of TPM 1.2 without the layer", 0, OF_FAMILY_1, sizeof OF_FAMILY_1);
     execute("a command of TPM 1.2", 1, OF_FAMILY_1, sizeof OF_FAMILY_1);
     list_capabilities();
+    show("a digest with the ticket of no hierarchy", HASH, sizeof HASH);
+    show("all tests", TEST_RESULT, sizeof TEST_RESULT);
     save_session();
     create_ninth();
     open_other();

@@ -1,6 +1,6 @@
-/* Many devices in a process: 1,000 side by side, each a device of its own, whose memory is given
- * back. The first argument is how many there are; with a second one, the allocator is asked how
- * much memory is in use, which sanitizers do not tell. */
+/* Many devices in a process: 1,000 at the same time, each independent, whose memory is freed. The first
+ * argument is their number. With a second one, the allocator is asked how much memory is in use, which
+ * sanitizers do not report. */
 #include "common.h"
 #include <malloc.h>
 
@@ -30,7 +30,7 @@ static void read_pcr(struct tpmsim *device, uint8_t value[DIGEST_BYTES]) {
     memcpy(value, response + VALUE_AT, DIGEST_BYTES);
 }
 
-/* The value that a device alone in its place has behind the same commands. */
+/* The value of PCR 10 after the same commands on the only device. */
 static void value_alone(unsigned number, uint8_t value[DIGEST_BYTES]) {
     struct tpmsim alone = {0};
     start_new(&alone, 1);

@@ -2,7 +2,7 @@
 //
 //	explained LOG
 //
-// An index is read that nobody has written.
+// It reads an index that nobody has written.
 package main
 
 // #include "tpmsim.h"

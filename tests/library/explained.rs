@@ -2,7 +2,7 @@
 //!
 //!     explained LOG
 //!
-//! An index is read that nobody has written.
+//! It reads an index that nobody has written.
 use std::fs::File;
 use std::io::{self, Write};
 use std::ptr::null_mut;

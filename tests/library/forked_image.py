@@ -1,4 +1,4 @@
-"""A device of an image, whose process forks. The image is the one's that opened it:
+"""A device of an image, whose process forks. Only the process that opened the image writes it:
 
     tools/python.sh forked_image.py LIBRARY
 
@@ -33,7 +33,7 @@ def image():
 
 
 def in_child(device, snapshot):
-    """What a forked child is told, and whether it has written the image then."""
+    """What a forked child gets, and whether it has written the image by then."""
     before = image()
     acts = {
         "a command": lambda: device.execute(b""),

@@ -1,12 +1,12 @@
-/* Begins a journal, executes two commands for it, opens and follows it, and begins it anew with a
- * checkpoint: what is told each time, and whether each call takes no more stack than tpmsim.h says. */
+/* Begins a journal, executes two commands for it, opens and follows it, and begins it again with a
+ * checkpoint. Prints the result each time, and whether each call stays within the stack of tpmsim.h. */
 #define _GNU_SOURCE
 #include "common.h"
 #include "tpmsim.h"
 #include <pthread.h>
 #include <sys/mman.h>
 
-/* MOST_STACK is what the header says. */
+/* MOST_STACK is the limit that the header says. */
 enum { STACK_BYTES = 512 * 1024, MOST_STACK = 96 * 1024, CLOCK = 1000, WAITED = 250 };
 
 static tpmsim device;
@@ -49,7 +49,7 @@ static void *follow(void *unused) {
     return unused;
 }
 
-/* How many bytes of stack a call takes in a thread of its own. */
+/* The size of the stack that a call takes in a thread of its own, in bytes. */
 static size_t stack_of(void *(*call)(void *)) {
     pthread_attr_t attributes;
     pthread_t thread;
@@ -68,7 +68,7 @@ static size_t stack_of(void *(*call)(void *)) {
     return STACK_BYTES - at;
 }
 
-/* Runs a call, and tells whether it takes more stack than it may. */
+/* Runs a call, and prints whether it takes more stack than it may. */
 static void run(const char *name, void *(*call)(void *), size_t most) {
     size_t took = stack_of(call), least = stack_of(nothing);
     printf("%s: told %u, %s\n", name, told, took - least <= most ? "within its stack" : "TOO MUCH STACK");
@@ -93,7 +93,7 @@ static void compare(const char *name) {
     printf("%s: %s\n", name, is_same ? "the same device" : "ANOTHER DEVICE");
 }
 
-/* The clock of the head, behind its word. */
+/* The clock of the head, after its word. */
 static void show_clock(const char *name, uint64_t wanted) {
     char digits[17] = "";
     memcpy(digits, text + strlen("# tpmsim journal 2 "), sizeof digits - 1);
@@ -107,7 +107,7 @@ static void check_small(void) {
     compare("a checkpoint that does not fit");
 }
 
-/* What is opened from a checkpoint is the device, and goes on as it. */
+/* A device that is opened from a checkpoint is the same device, and goes on as that does. */
 static void check_checkpoints(void) {
     memset(text, FILLED, sizeof text);
     remember();

@@ -1,5 +1,5 @@
-/* A device is kept by hosts over a folder in memory and over files: what each call asks of its
- * host, and that the device is the one which executed the answered commands, whatever host was
+/* Hosts keep a device in a folder in memory and in files. Prints what each call asks of its host, and
+ * checks that the device is always the one that executed the answered commands, whichever host was
  * killed. */
 #define _GNU_SOURCE
 #include "keeper_files.h"
@@ -13,13 +13,13 @@ static memory folder, other_folder;
 static files disk;
 static host alive;
 
-/* Zeros may be behind what a crash left of a record. */
+/* Puts zeros after what a crash left of a record. */
 static void litter(void) {
     memset(folder.journal.bytes + folder.journal.size, 0, 100);
     folder.journal.size += 100;
 }
 
-/* Kills a host at each task of EXTEND, before it, in it and after it, and opens the device anew. */
+/* Kills a host at each task of EXTEND, before it, in it and after it, and opens the device again. */
 static void kill_at_each(uint8_t force, extent how_much, int has_litter) {
     int count = 0, kills = 0;
     uint8_t fault = KILLED;
@@ -46,8 +46,8 @@ static void kill_at_each(uint8_t force, extent how_much, int has_litter) {
     tpmsim_keeper_free(&alive.keeper);
 }
 
-/* Kills a host at each task of the beginning of a device: there is one or none, and then one
- * begins. */
+/* Kills a host at each task as a device is made: then there is a device or none, and the next host can
+ * begin one. */
 static void kill_beginnings(void) {
     uint8_t fault = KILLED;
     for (int task = 0; fault == KILLED; task++) {
@@ -83,8 +83,7 @@ static void show_tasks(void) {
     }
 }
 
-/* Kills a host at each task of a new beginning of the journal: the device is the one that it was.
- */
+/* Kills a host at each task as the journal begins again: the device stays the same. */
 static void kill_renewals(extent how_much) {
     uint8_t fault = KILLED;
     memset(&folder, 0, sizeof folder);
@@ -132,7 +131,7 @@ static void check_head(void) {
          "another head is shown");
 }
 
-/* From its limit on a journal begins anew, in the same state. */
+/* At its limit a journal begins again, with the same state. */
 static void check_limit(void) {
     int count = 0;
     memset(&folder, 0, sizeof folder);
@@ -153,7 +152,7 @@ static void check_limit(void) {
     kill_at_limit(&other_folder, count - 1);
 }
 
-/* A journal with a byte turned is refused, and stays as it is. */
+/* A journal with a changed byte is refused, and stays as it is. */
 static void check_damage(void) {
     int refused = 0, tried = 0;
     memset(&folder, 0, sizeof folder);
@@ -192,7 +191,7 @@ static void check_refusals(void) {
     tpmsim_keeper_free(&alive.keeper);
 }
 
-/* Asks a handle without a keeper. */
+/* Uses a handle without a keeper. */
 static void check_none(void) {
     tpmsim_ask ask;
     tpmsim_keeper none = {0};
@@ -204,7 +203,7 @@ static void check_none(void) {
     tpmsim_keeper_free(&none);
 }
 
-/* A power cycle, and the restoring of a state, which have no record. */
+/* A power cycle, and the restoring of a state: neither has a record. */
 static void check_leaps(void) {
     static uint8_t state[TPMSIM_STATE_SIZE];
     tpmsim device = {0};
@@ -230,7 +229,7 @@ static void check_leaps(void) {
     tpmsim_keeper_free(&alive.keeper);
 }
 
-/* A host that fails at a task drops what is in memory, and opens the device anew. */
+/* A host that fails at a task drops what is in memory, and opens the device again. */
 static void check_failures(void) {
     int count = 0;
     uint8_t fault = KILLED;
@@ -249,11 +248,11 @@ static void check_failures(void) {
     tpmsim_keeper_free(&alive.keeper);
 }
 
-/* The task of a call at which the host forks, how often EXTEND was answered then, and the child. */
+/* The task of a call at which the host forks, the number of answered EXTENDs then, and the child. */
 static int forked_at, expected;
 static pid_t child;
 
-/* A child that is forked in the middle of a call begins one of its own, with a lock of its own. */
+/* A child that is forked in the middle of a call begins its own call, with its own lock. */
 static void child_goes_on(host *it) {
     files_close(&disk.lock);
     it->does = files_do;

@@ -1,16 +1,16 @@
-/* What a keeper reports of a command, when a command comes, what a keeper does about a damaged
+/* What a keeper reports of a command, the time of a command, what a keeper does about a damaged
  * journal, and what its faults say. */
 #define _GNU_SOURCE
 #include "keeper_known.h"
 #include "keeper_memory.h"
 #include "keeper_stack.h"
 
-/* A journal of the head, STARTUP, GET_RANDOM, and EXTEND a few times. */
+/* A journal of the head, STARTUP, GET_RANDOM, and a few times EXTEND. */
 enum { RECORDS = 5, EXTEND_FROM = 2 };
 
 static memory folder, before;
 static host alive;
-/* How many bytes the journal has with its head and so many records. */
+/* The size of the journal with its head and this many records. */
 static size_t sizes[RECORDS + 1];
 
 static const uint8_t READ_CLOCK[] = {0x80, 1, 0, 0, 0, 10, 0, 0, 1, 0x81};
@@ -23,7 +23,7 @@ static uint64_t number_at(const uint8_t *at, int size) {
 
 /* ---- reports */
 
-/* The report of a command is what a device tells that executes the same. */
+/* A command's report is that of a device that executes the same command. */
 static void check_report(tpmsim *device, const uint8_t *command, size_t size) {
     uint8_t response[RESPONSE_BYTES];
     tpmsim_answered answered = answered_by(device, command, size, response);
@@ -98,14 +98,14 @@ static void write_journal(void) {
     tpmsim_keeper_free(&alive.keeper);
 }
 
-/* How many records are before a byte. */
+/* How many records end before a byte. */
 static int records_before(size_t at) {
     int count = 0;
     while (count < RECORDS && sizes[count + 1] <= at) count++;
     return count;
 }
 
-/* A new host begins in a folder that is as it was but for this byte. */
+/* A new host begins in a folder in which only this byte is changed. */
 static void turn(size_t at) {
     folder = before;
     folder.journal.bytes[at] ^= 1;
@@ -121,7 +121,7 @@ static void is_refused(uint8_t fault, size_t at) {
     folder.journal.bytes[at] ^= 1;
 }
 
-/* The device executed so many records, and no more. */
+/* The device executed this many records, and no more. */
 static void is_device_of(int records) {
     memory_host(&alive, &folder, TPMSIM_FORCE_NEVER, FAR);
     int extends = records < EXTEND_FROM ? 0 : records - EXTEND_FROM;
@@ -154,7 +154,7 @@ static void check_damage(void) {
     printf(", cut at each byte of %d records\n", RECORDS);
 }
 
-/* Kills a host at each task of a cut: the journal is damaged as before, or it is the new one. */
+/* Kills a host at each task of a cut: the journal still has its damage, or is the new one. */
 static void check_kills(extent how_much) {
     uint8_t fault = KILLED;
     int kills = -1;
@@ -176,14 +176,14 @@ static void check_kills(extent how_much) {
     printf("cut: killed %d times %s a task\n", kills, how_much == ALL ? "after" : "in");
 }
 
-/* Adds what no crash leaves. */
+/* Adds bytes that no crash leaves. */
 static void add_damage(void) {
     memset(folder.journal.bytes + folder.journal.size, 'x', 100);
     folder.journal.size += 100;
 }
 
-/* What opens is not cut, nor what is not there. What is damaged after it was opened is cut when that
- * is asked again. */
+/* A journal that opens is not cut, nor is a missing one. A journal that was damaged after it was opened
+ * is cut when the keeper is asked to again. */
 static void check_whole(void) {
     folder = before;
     memory_host(&alive, &folder, TPMSIM_FORCE_ALWAYS, FAR);
@@ -201,7 +201,7 @@ static void check_whole(void) {
     tpmsim_keeper_free(&alive.keeper);
 }
 
-/* Adds the record of READ as a device answers it that executed one command more. */
+/* Adds the record of READ with the answer of a device that executed one command more. */
 static void answer_otherwise(void) {
     tpmsim device = {0};
     tpmsim_answered answered;
@@ -221,7 +221,7 @@ static void answer_otherwise(void) {
     tpmsim_free(&device);
 }
 
-/* A journal whose device answers otherwise is refused, and is not cut, whatever comes after that. */
+/* A journal whose device answers otherwise is refused, and never cut, whatever follows. */
 static void check_otherwise(void) {
     answer_otherwise();
     add_damage();

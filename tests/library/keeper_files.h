@@ -1,5 +1,5 @@
-/* A folder of the file system, and what a host does with it. Each call opens the lock's file anew,
- * so that a forked process has a lock of its own. */
+/* A folder of the file system, and what a host does with it. Each call opens the lock's file again, so
+ * that a forked process has its own lock. */
 #ifndef KEEPER_FILES_H
 #define KEEPER_FILES_H
 #include "keeper_host.h"
@@ -9,8 +9,8 @@
 #include <sys/stat.h>
 #include <unistd.h>
 
-/* The folder; the lock's file, while it is held; the journal's, which is the `number`th that the
- * host opened; and the new one's. -1 is none. */
+/* The folder; the lock's file while it is held; the journal's file, the `number`th that the host
+ * opened; and the new journal's file. -1 is no file. */
 typedef struct files {
     int folder, lock, journal, fresh;
     uint64_t number;
@@ -30,7 +30,7 @@ static inline int files_lock(files *it) {
     return 0;
 }
 
-/* Opens the file that is named journal, unless it is the one that is open. */
+/* Opens the file that is named journal, unless that one is open already. */
 static inline seen files_look(files *it) {
     struct stat named, open;
     if (fstatat(it->folder, "journal", &named, 0) != 0)

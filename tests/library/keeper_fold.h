@@ -1,14 +1,14 @@
-/* The device that executed the history of a world, by the definition: a fold over its commands,
- * with the calls on a journal and on a device, and no keeper but for the text of a new device. */
+/* The device that executed the history of a world, by the definition: a fold over its commands. It calls
+ * journals and devices; it uses a keeper only for the text of a new device. */
 #ifndef KEEPER_FOLD_H
 #define KEEPER_FOLD_H
 #include "keeper_folder.h"
 
-/* A head is kept of every so many commands, to go back to. */
+/* The head after every EACHth command is kept, to go back to it. */
 enum { EACH = 16, HEAD_BYTES = 128 * 1024 };
 
-/* Kinds of commands, and the offsets in those of the standard after the clock, or after what has
- * elapsed. */
+/* Kinds of commands, and the offsets in commands of the standard after the clock, or after the elapsed
+ * time. */
 enum { BY_CLOCK = 0, CYCLE = 1, RESTORING = 2, BY_ELAPSED = 3, NO_KIND = 9, MOMENT_AT = 1 };
 enum { LOCALITY_AFTER = 0, COMPLETES_AFTER = 1, RANDOM_AFTER = 2, BUFFER_AFTER = 258 };
 
@@ -19,7 +19,7 @@ typedef struct mark {
     uint8_t *head;
 } mark;
 
-/* The device after so many commands of the world's history, of which origin, and its time. */
+/* The device after some commands of the world's history, the origin of its device, and its time. */
 static struct fold {
     tpmsim device;
     int commands, origin, marks;
@@ -35,7 +35,7 @@ static inline uint64_t number_at(const uint8_t *at, int size) {
     return number;
 }
 
-/* The head with which the journal of a seed's device begins; 0 bytes if the seed is none. */
+/* The head of the journal of a seed's new device; 0 bytes if the seed is not one. */
 static inline size_t head_of_seed(const uint8_t *seed, size_t size) {
     tpmsim_ask ask = {0};
     tpmsim_keeper keeper = {0};
@@ -79,7 +79,7 @@ static inline void fold_forgets(void) {
     fold.commands = 0;
 }
 
-/* Goes back to where the history has so many commands. */
+/* Goes back to the state after this many commands of the history. */
 static inline void fold_goes_back(int commands) {
     if (fold.commands <= commands) return;
     while (fold.marks && fold.mark[fold.marks - 1].commands > commands)
@@ -95,8 +95,8 @@ static inline void fold_goes_back(int commands) {
     fold.time = it->time;
 }
 
-/* The clock at the moment of a command, and then the time of the journal. A command takes no less
- * than no time, and at most 2^32 - 1 milliseconds. */
+/* The clock at the moment of a command, and then the time of the journal. A command takes at least no
+ * time, and at most 2^32 - 1 milliseconds. */
 static inline uint64_t fold_clock(const uint8_t *text) {
     int is_by_clock = text[0] == BY_CLOCK;
     uint64_t told = number_at(text + MOMENT_AT, is_by_clock ? 8 : 4);
@@ -106,7 +106,7 @@ static inline uint64_t fold_clock(const uint8_t *text) {
     return now;
 }
 
-/* A command of the standard. Returns how many bytes the response has, with its report. */
+/* Executes a command of the standard. Returns the size of its response and report, in bytes. */
 static inline size_t fold_executes(const uint8_t *text, size_t size, uint8_t *response) {
     static uint8_t record[TPMSIM_RECORD_ROOM];
     tpmsim_answered answered;
@@ -125,7 +125,7 @@ static inline size_t fold_executes(const uint8_t *text, size_t size, uint8_t *re
     return answered.size + TPMSIM_REPORT_SIZE;
 }
 
-/* A power cycle is the device of its own image, as power comes on. */
+/* A power cycle makes the device of its own image, as power comes on. */
 static inline size_t fold_cycles(const uint8_t *text) {
     static uint8_t seed[HEAD_BYTES];
     seed[0] = 1;
@@ -159,7 +159,7 @@ static inline void fold_steps(executed *next) {
     fold.commands++;
 }
 
-/* Executes what the history has more. */
+/* Executes the rest of the history. */
 static inline void fold_follows(void) {
     if (fold.origin != all->origin) {
         fold_forgets();

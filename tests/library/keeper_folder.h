@@ -1,23 +1,23 @@
-/* The folder of specs/World.antt of tpm_keeping, in memory that forked processes share: what all
- * processes see of its files, and what a crash of the host may leave of them. */
+/* The folder of specs/World.antt of tpm_keeping, in memory that forked processes share: the files as all
+ * processes see them, and what a crash of the host may leave of them. */
 #ifndef KEEPER_FOLDER_H
 #define KEEPER_FOLDER_H
 #include "keeper_host.h"
 #include <sys/mman.h>
 
-/* The model has any number of contents and of earlier files. Of more than these a random one is
- * forgotten, which leaves a crash fewer choices. COMMANDS is the longest history. */
+/* The model has any number of contents and of earlier files. If there are more than these, a random one
+ * is forgotten, so that a crash has fewer choices. COMMANDS is the length of the longest history. */
 enum { PAST = 4, OLDER = 4, CONTENT_BYTES = 192 * 1024, COMMANDS = 2000, ARENA_BYTES = 4 << 20 };
 
-/* `commands` is how many commands the history has after the last one whose entry is whole here. */
+/* `commands` is the length of the history after the last command whose entry is whole here. */
 typedef struct content {
     size_t size;
     int commands;
     uint8_t bytes[CONTENT_BYTES];
 } content;
 
-/* `before` is how many commands were executed before the head; `ends` are the offsets after the
- * entries of those that follow. The first `forced` bytes are on the disk. */
+/* `before` is the number of commands that were executed before the head; `ends` are the offsets after
+ * the entries of the later ones. The first `forced` bytes are on the disk. */
 typedef struct file {
     uint64_t number;
     int before;
@@ -33,7 +33,7 @@ typedef struct executed {
     size_t size, response_size;
 } executed;
 
-/* files[names[0]] is the journal, and the others had its name since the folder was forced. */
+/* files[names[0]] is the journal; the others had its name after the folder was forced last. */
 typedef struct world {
     file files[1 + OLDER];
     int names[1 + OLDER], olders;
@@ -45,7 +45,7 @@ typedef struct world {
     int commands, promised, is_lasting;
     /* The latest answer of a holder that forces always. */
     int always;
-    /* The seed of the device, and which beginning of one this is. */
+    /* The seed of the device, and the number of its beginning. */
     const uint8_t *seed;
     size_t seed_size;
     int origin;
@@ -102,21 +102,21 @@ static inline void world_begins(uint64_t seed) {
     all->draws = seed * 0x9e3779b97f4a7c15u + 1;
 }
 
-/* What the file held is left by a crash, perhaps. */
+/* Keeps the file's content, which a crash may leave. */
 static inline void remember(file *it) {
     int at = it->pasts < PAST ? it->pasts++ : (int)rolled(PAST);
     copy_content(&it->past[at], &it->now);
 }
 
-/* A command is in the history. */
+/* Adds a command to the history. */
 static inline void history_adds(const uint8_t *command, size_t size) {
     must(all->commands < COMMANDS, "the history is full");
     all->history[all->commands++] = (executed){stored(command, size), NULL, size, 0};
 }
 
-/* The first `count` bytes of a text of `size` are written at `at`, after a cut to `cut` bytes. What
- * was dropped is there again if all after the forced bytes is written. `adds` is whether the text
- * ends with a command's entry. */
+/* Cuts the file to `cut` bytes, then writes the first `count` bytes of a text of `size` at `at`. If all
+ * bytes after the forced ones are written, no dropped bytes are missing. `adds` is whether the text ends
+ * with a command's entry. */
 static inline void file_puts(file *it, size_t cut, size_t at, const uint8_t *text, size_t count,
                              size_t size, int adds) {
     content *now = &it->now;
@@ -131,15 +131,15 @@ static inline void file_puts(file *it, size_t cut, size_t at, const uint8_t *tex
     if (adds && count == size) it->ends[now->commands++ - it->before] = at + count;
 }
 
-/* All of it is on the disk, unless some was dropped. */
+/* The whole file is on the disk, unless some of it was dropped. */
 static inline void file_forced(file *it) {
     if (it->is_dropped) return;
     it->pasts = 0;
     it->forced = it->now.size;
 }
 
-/* The new file takes the journal's name. Its head is of the state after all commands but the last,
- * which has an entry, if `whole`. */
+/* The new file takes the journal's name. Its head has the state after all commands; if `whole`, after
+ * all but the last, which has an entry. */
 static inline void file_named(int whole) {
     int last = all->olders < OLDER ? ++all->olders : 1 + (int)rolled(OLDER);
     int place = all->names[last];
@@ -155,15 +155,15 @@ static inline void file_named(int whole) {
     it->ends[0] = it->now.size;
 }
 
-/* How many commands have their entries whole in so many bytes of a content. */
+/* The number of commands whose entries are whole in the first `size` bytes of a content. */
 static inline int whole_in(const file *it, const content *from, size_t size) {
     int count = 0, most = from->commands - it->before;
     while (count < most && it->ends[count] <= size) count++;
     return it->before + count;
 }
 
-/* The host crashes. It leaves one of the files, in one of its contents, up to a byte that is on the
- * disk or after it, and zeros. */
+/* The host crashes. One of the files stays, with one of its contents, up to a byte that is on the disk
+ * or later, and then zeros. */
 static inline void world_crashes(void) {
     int place = all->names[rolled((unsigned)all->olders + 1)];
     file *it = &all->files[place];

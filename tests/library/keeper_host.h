@@ -1,14 +1,14 @@
-/* A host of a keeper: the loop, over whatever does a task; the texts of commands and seeds; and a
- * host that is killed in the middle of a call. */
+/* A host of a keeper: its loop, with any way to do a task; the texts of commands and seeds; and a host
+ * that is killed in the middle of a call. */
 #ifndef KEEPER_HOST_H
 #define KEEPER_HOST_H
 #include "common.h"
 
-/* What a host is asked for at most, what it tells of a call in which it was killed, and for one
+/* The greatest size of a text; the result of a call in which the host was killed; and the task of a host
  * that is not killed. */
 enum { TEXT_BYTES = 128 * 1024, KILLED = 255, NEVER = -1 };
 
-/* What a host saw as it did a task. */
+/* What a host saw when it did a task. */
 typedef struct seen {
     uint8_t got;
     uint64_t file, file_size;
@@ -16,11 +16,11 @@ typedef struct seen {
     size_t size;
 } seen;
 
-/* How much of a task a host does that is killed at it: nothing, a part, or all. */
+/* How much a host does of a task at which it is killed: nothing, a part, or all. */
 typedef enum extent { NOTHING, A_PART, ALL } extent;
 
-/* A host: how it does a task in its folder, and what the system does for it as it dies. It is
- * killed at this task of a call, or says of that one that it failed. */
+/* A host: how it does a task in its folder, and what the system does when it dies. It is killed at one
+ * task of a call, or reports that one as failed. */
 typedef struct host host;
 struct host {
     tpmsim_keeper keeper;
@@ -31,8 +31,8 @@ struct host {
     extent killed_after;
     int fails_at;
     uint64_t clock;
-    /* Of the last call: the tasks, a letter for each; how many bytes of the old journal the device
-     * executed, if a new one was made; the report; and the response after it. */
+    /* The last call: its tasks, a letter for each; the size of the old journal that the device executed,
+     * if a new one was made; the report; and the response after it. */
     char tasks[64];
     uint64_t whole;
     uint8_t report[TPMSIM_REPORT_SIZE];
@@ -42,7 +42,7 @@ struct host {
 
 static uint8_t host_text[TEXT_BYTES];
 
-/* Does a task as far as a host comes that is killed at it. */
+/* Does as much of a task as a host that is killed at it. */
 static inline void host_dies(host *it, tpmsim_ask *ask, extent how_much) {
     int is_writing = ask->task == TPMSIM_TASK_PUT || ask->task == TPMSIM_TASK_MAKE;
     if (how_much == A_PART) ask->size /= 2;
@@ -74,7 +74,7 @@ static inline uint8_t host_run(host *it, uint8_t job, const uint8_t *text, size_
     return ask.fault;
 }
 
-/* Has a host begin as a process does: with a keeper that has seen nothing. */
+/* A host begins as a process does: its keeper has seen nothing. */
 static inline void host_starts(host *it, uint8_t force, uint64_t limit) {
     it->killed_at = it->fails_at = NEVER;
     must(tpmsim_keeper_new(&it->keeper, force, limit) == TPMSIM_DONE, "there is no keeper");
@@ -85,7 +85,7 @@ static inline uint8_t *put_number(uint8_t *at, uint64_t number) {
     return at;
 }
 
-/* A seed: its kind, the clock, the number of the layer's start, and what the kind says. */
+/* A seed: its kind, the clock, the number of the layer's start, and the content for its kind. */
 static inline size_t put_seed(uint8_t *text, uint8_t kind, const uint8_t *content, size_t size) {
     uint8_t *at = text;
     *at++ = kind;
@@ -94,14 +94,14 @@ static inline size_t put_seed(uint8_t *text, uint8_t kind, const uint8_t *conten
     return (size_t)(at - text) + size;
 }
 
-/* Begins a device of random bytes, or sees that there is one. */
+/* Begins a device of random bytes, or finds that there is one. */
 static inline uint8_t host_begins(host *it) {
     uint8_t random[RANDOM_BYTES], text[512];
     count_up(random, 1);
     return host_run(it, TPMSIM_JOB_BEGIN, text, put_seed(text, 0, random, sizeof random));
 }
 
-/* Takes the report from the front of the response to a command of the standard. */
+/* Takes the report from the beginning of the response to a command of the standard. */
 static inline void host_takes_report(host *it) {
     must(it->response_size >= TPMSIM_REPORT_SIZE, "a response without a report");
     memcpy(it->report, it->response, TPMSIM_REPORT_SIZE);
@@ -109,8 +109,8 @@ static inline void host_takes_report(host *it) {
     memmove(it->response, it->response + TPMSIM_REPORT_SIZE, it->response_size);
 }
 
-/* Executes a command of the standard whose text is filled up to its moment. After that come the
- * locality, whether the layer completes, 256 random bytes, and the command. */
+/* Executes a command of the standard whose text is filled up to its moment. Then follow the locality,
+ * whether the layer completes, 256 random bytes, and the command. */
 static inline uint8_t host_gives(host *it, uint8_t *text, uint8_t *at, const uint8_t *command,
                                  size_t size) {
     *at++ = 0;
@@ -129,7 +129,7 @@ static inline uint8_t host_executes(host *it, const uint8_t *command, size_t siz
     return host_gives(it, text, put_number(text + 1, it->clock += 10), command, size);
 }
 
-/* Executes one so many milliseconds after the command before it: kind 3, and these in four bytes. */
+/* Executes one some milliseconds after the command before it: kind 3, and these in four bytes. */
 static inline uint8_t host_waits(host *it, uint32_t elapsed, const uint8_t *command, size_t size) {
     uint8_t text[4096] = {3}, number[8];
     put_number(number, elapsed);

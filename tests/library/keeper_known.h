@@ -1,10 +1,10 @@
-/* What a kept device answers: the responses by which a test sees which commands it executed. */
+/* The answers of a kept device: its responses show a test which commands it executed. */
 #ifndef KEEPER_KNOWN_H
 #define KEEPER_KNOWN_H
 #include "keeper_host.h"
 
-/* FAR is a limit that no journal here reaches, and EXTENDS how many commands change the PCR at
- * most. */
+/* FAR is a limit that no journal here reaches, and EXTENDS the greatest number of commands that change
+ * the PCR. */
 enum { FAR = 1 << 20, EXTENDS = 200 };
 
 /* TPM2_PCR_Extend of PCR 16 with a SHA-256 digest of zeros, by a password, and TPM2_PCR_Read of it.
@@ -14,7 +14,7 @@ static const uint8_t EXTEND[65] = {0x80, 2,    0, 0, 0, 65, 0, 0, 1, 0x82, 0, 0,
 static const uint8_t READ[20] = {0x80, 1, 0, 0, 0, 20,   0, 0, 1, 0x7e,
                                  0,    0, 0, 1, 0, 0x0b, 3, 0, 0, 1};
 
-/* The response to READ after so many times EXTEND, of a host that nobody kills. */
+/* The responses to READ after each number of EXTENDs, of a host that nobody kills. */
 static uint8_t known[EXTENDS][RESPONSE_BYTES];
 static size_t known_size[EXTENDS];
 
@@ -35,7 +35,7 @@ static void start(host *it) {
     executes(it, GET_RANDOM, sizeof GET_RANDOM, 0);
 }
 
-/* Learns the responses from a host in a folder of its own, which nobody kills. */
+/* Learns the responses from a host in its own folder, which nobody kills. */
 static void learn(host *it) {
     start(it);
     for (int count = 0; count < EXTENDS; count++) {
@@ -53,7 +53,7 @@ static int is_after(const host *it, int count) {
            memcmp(it->response, known[count], it->response_size) == 0;
 }
 
-/* How many times EXTEND the device executed, which is this or one more. */
+/* How many EXTENDs the device executed: `count` or one more. */
 static int count_of(host *it, int count) {
     executes(it, READ, sizeof READ, 0);
     if (is_after(it, count)) return count;

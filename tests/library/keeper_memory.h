@@ -3,7 +3,7 @@
 #define KEEPER_MEMORY_H
 #include "keeper_host.h"
 
-/* PART is how many bytes are read at once. */
+/* PART is the size of one read, in bytes. */
 enum { FILE_BYTES = 512 * 1024, PART = 1000 };
 
 typedef struct memory_file {
@@ -62,7 +62,7 @@ static inline seen memory_does(host *it, const tpmsim_ask *ask, const uint8_t *t
         folder->number++;
         return memory_seen(folder);
     case TPMSIM_TASK_UNLOCK: memory_locks(folder, 0); break;
-    default: break; /* nothing is to be forced */
+    default: break; /* there is nothing to force */
     }
     return (seen){TPMSIM_GOT_DONE, 0, 0, text, 0};
 }

@@ -1,14 +1,14 @@
-/* How many bytes of stack a call takes. */
+/* The size of the stack that a call takes. */
 #ifndef KEEPER_STACK_H
 #define KEEPER_STACK_H
 #include "common.h"
 #include <pthread.h>
 #include <sys/mman.h>
 
-/* MOST_STACK is what the header says of a call. A host and a thread take the rest. */
+/* MOST_STACK is the header's limit for a call. A host and a thread take the rest. */
 enum { STACK_BYTES = 512 * 1024, MOST_STACK = 96 * 1024, HOST_STACK = 20 * 1024 };
 
-/* How many bytes of stack the calls take, and the host around them. */
+/* Checks the size of the stack of the calls, and of the host around them. */
 static inline void check_stack(void *(*calls)(void *)) {
 #ifndef __SANITIZE_ADDRESS__
     pthread_attr_t attributes;

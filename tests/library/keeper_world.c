@@ -1,11 +1,11 @@
-/* The world of specs/World.antt of tpm_keeping drives the compiled keeper, at random: processes
- * that each have a keeper are asked, do what they are asked for, fail, are killed and fork, and the
- * host crashes. Each answer, and after each crash the journal, is compared with the device that
- * executed the history, by the definition (keeper_fold.h).
+/* The world of specs/World.antt of tpm_keeping drives the compiled keeper with random events. Processes
+ * with a keeper each get commands, do the tasks, fail, are killed and fork; and the host crashes. Each
+ * answer, and after each crash the journal, is compared with the device that executed the history, by
+ * the definition (keeper_fold.h).
  *
- *     keeper_world EVENTS SEED     so many events, of a seed
- *     keeper_world wrong EVENTS    hosts that do wrong, each of which has to be caught within so
- * many
+ *     keeper_world EVENTS SEED     this many events, of a seed
+ *     keeper_world wrong EVENTS    wrong hosts; each of them has to be caught within this many events
+ *
  *
  * Linked with --wrap=malloc and --wrap=realloc, to refuse memory. */
 #define _GNU_SOURCE
@@ -17,7 +17,7 @@
 
 enum { PROCESSES = 5, WORLD_EVENTS = 1500, CHILD_EVENTS = 60, STATES = 8 };
 
-/* A process. It was hindered if a task of its call failed, or it was refused memory. */
+/* A process. It was hindered if a task of its call failed, or if it was refused memory. */
 typedef struct process {
     tpmsim_keeper keeper;
     uint8_t force, job;
@@ -55,7 +55,7 @@ static void starts(process *it) {
          "there is no keeper");
 }
 
-/* ---- what is asked for */
+/* ---- what a process is asked for */
 
 static void add(process *it, const void *bytes, size_t size) {
     memcpy(it->command + it->size, bytes, size);
@@ -188,7 +188,7 @@ static void names(process *it) {
     all->fresh.size = 0;
 }
 
-/* Does of a task nothing, a part, or all. */
+/* Does nothing, a part, or all of a task. */
 static void acts(process *it, const tpmsim_ask *ask, extent much) {
     size_t count = much == ALL ? ask->size : rolled((unsigned)ask->size + 1);
     if (much == NOTHING) return;
@@ -209,7 +209,7 @@ static void acts(process *it, const tpmsim_ask *ask, extent much) {
     }
 }
 
-/* What the host then tells. */
+/* What the host then reports. */
 static seen tells(process *it, const tpmsim_ask *ask) {
     const content *now = &journal()->now;
     seen told = {TPMSIM_GOT_DONE, journal()->number, now->size, host_text, 0};
@@ -253,7 +253,7 @@ static void is_answered(process *it) {
     counts.answers++;
 }
 
-/* How a call has to end that nobody hindered. */
+/* How a call has to end if nothing hindered it. */
 static uint8_t end_of(const process *it) {
     if (journal()->number == 0)
         return it->job == TPMSIM_JOB_BEGIN ? TPMSIM_FAULT_UNREADABLE : TPMSIM_FAULT_ABSENT;
@@ -279,7 +279,7 @@ static void goes_on(process *it, const seen *told) {
 
 /* ---- events */
 
-/* A process and its fork are two. */
+/* The lock's holder: a process and its fork are two holders. */
 static int holder_of(int number) { return is_child ? PROCESSES + number : number; }
 
 /* Takes the lock, unless another process has it. */
@@ -334,8 +334,7 @@ static void dies(int number, const tpmsim_ask *ask) {
 
 static void happens(void);
 
-/* All processes fork. The children go on for a while, and die. Their parents do nothing meanwhile.
- */
+/* All processes fork. The children go on for a while, and die. Their parents do nothing meanwhile. */
 static void forks(void) {
     int status;
     if (is_child) return;
@@ -374,7 +373,7 @@ static void begins_anew(uint64_t seed) {
     counts.worlds++;
 }
 
-/* Whether a process waits for the lock that another one has. */
+/* Whether a process waits for the lock, which another one has. */
 static int waits(const process *it, const tpmsim_ask *ask) {
     return it->is_busy && ask->task == TPMSIM_TASK_LOCK && all->is_locked && !is_wrong(LOCKS_NOT);
 }
@@ -424,7 +423,7 @@ static void run(long events, uint64_t seed) {
     }
 }
 
-/* Each wrong host is run in a process of its own, which has to see it. */
+/* Each wrong host runs in its own process, which has to detect it. */
 static void check_wrong(long events) {
     for (wrong = ANSWERS_FIRST; wrong < WRONGS; wrong++) {
         int status;

@@ -1,4 +1,4 @@
-/* Hosts that do wrong, as a test of the test: each of them has to be caught. */
+/* Hosts that do something wrong, as a test of the test: each of them has to be caught. */
 #ifndef KEEPER_WRONG_H
 #define KEEPER_WRONG_H
 

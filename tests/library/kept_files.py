@@ -1,5 +1,5 @@
-"""A device that Python keeps in a folder, beside files that are not what they are to be, with writes that
-fail, and in threads and forked processes:
+"""A device that Python keeps in a folder, next to files that are wrong, with writes that fail, and
+in threads and forked processes:
 
     tools/python.sh kept_files.py LIBRARY
 
@@ -28,7 +28,7 @@ FAULTS = BadImage, BadState, DeviceEnded, MemoryError, OSError, TypeError, Value
 
 
 def told(act):
-    """What comes of an act, in words."""
+    """The result of an act, in words."""
     try:
         within(SECONDS, act)
     except FAULTS as fault:
@@ -44,7 +44,7 @@ def asks():
 
 
 def with_file(path, make):
-    """What is told where something else stands at a path, which is as it was then."""
+    """What is reported while `make` has put something else at a path, until that is restored."""
     aside = pathlib.Path("aside")
     if path.exists():
         path.rename(aside)
@@ -90,14 +90,14 @@ def wrong_words():
 
 
 def head(kind, text):
-    """The head of a journal that holds a text, whichever that is."""
+    """The head of a journal that holds a text, whatever the text is."""
     mark = number(0, 8) + number(len(text), 4) + number(sum_of(text), 8)
     line = f"# tpmsim journal {kind} {mark.hex()} {sum_from(OFFSET_BASIS, mark):016x}"
     return f"{line}\n# {text.hex()}\n".encode()
 
 
 def wrong_texts(text):
-    """For each fault a text that is not this one, which is an image or a state text."""
+    """A text for each fault, made from this one, which is an image or a state text."""
     turned = bytes([text[60] ^ 1])
     body = bytes(len(text) - 42)
     yield "Short", b""
@@ -110,7 +110,7 @@ def wrong_texts(text):
 
 
 def damaged_journals():
-    """Each is told, and stays as it is."""
+    """Each damage is reported, and the journal stays as it is."""
     started(STATE).close()
     whole = JOURNAL.read_bytes()
     with ModelDevice() as device:
@@ -149,7 +149,7 @@ def changed_meanwhile():
 
 @contextlib.contextmanager
 def file_limit(size):
-    """No file gets more bytes, nor does what this prints."""
+    """Limits the size of every file, and so of what this program prints."""
     limits = resource.getrlimit(resource.RLIMIT_FSIZE)
     resource.setrlimit(resource.RLIMIT_FSIZE, (size, limits[1]))
     try:
@@ -222,7 +222,7 @@ def journals_of_the_past():
 
 
 def takes_turns():
-    """One device in threads, while children are forked, which have it too."""
+    """Threads share a device, while forked children use it too."""
     device = started(STATE)
     before, ended = value_of(device), []
 
@@ -250,7 +250,7 @@ def takes_turns():
 
 
 def forks():
-    """A forked child holds the device too, with no part in its parent's lock."""
+    """A forked child holds the device too, but has no part in its parent's lock."""
     device = started(STATE)
     before = value_of(device)
     child = os.fork()
@@ -265,7 +265,8 @@ def forks():
     device.close()
 
 
-# From 3.12 on Python says at each fork of a process with threads that a child may wait for ever.
+# From version 3.12 on, Python warns at each fork of a process with threads that a child may wait
+# for ever.
 warnings.filterwarnings("ignore", "This process .* is multi-threaded", DeprecationWarning)
 wrong_files()
 wrong_words()

@@ -1,10 +1,11 @@
-"""A device that Python keeps in a folder, whose calls are interrupted: each at each of its lines, then at
-random moments, and while it waits for the lock:
+"""A device that Python keeps in a folder, whose calls are interrupted: each call at each of its
+lines, then at random moments, and while it waits for the lock:
 
     tools/python.sh kept_interrupts.py LIBRARY
 
-It prints a line for each call. After each interrupt the device has what its journal has, another thread may
-use it, and no file is locked or left open; `restore` leaves the device of the snapshot, or the one before.
+It prints a line for each call. After each interrupt the device has what its journal has, another
+thread can use it, and no file is locked or left open. `restore` leaves the device of the snapshot,
+or the one before.
 """
 
 import contextlib
@@ -27,17 +28,18 @@ from tpmsim.device import DeviceEnded, KeptDevice
 WATCHED = str(pathlib.Path(sys.modules[KeptDevice.__module__].__file__).parent)
 SECONDS, LEAST_LINES = 5, 5
 
-# How often a call is interrupted by signals, and so many seconds after it began at most.
+# How often signals interrupt a call, and how many seconds after its beginning at most.
 SIGNALS, MOST_DELAY = 400, 200e-6
 
-# For so many seconds the lock is held, and the handler's signal comes long before.
+# For how many seconds the lock is held; the handler's signal comes long before the end.
 HELD_SECONDS, SIGNAL_SECONDS = 0.4, 0.1
 
 
 @contextlib.contextmanager
 def interrupted(number):
-    """Raises KeyboardInterrupt at so many lines that are executed of the package's devices; but what
-    __del__ raises is nobody's, and no signal handler runs between the body of a `with` and its end.
+    """Raises KeyboardInterrupt at the executed line of this number of the package's devices. What
+    __del__ raises reaches nobody, and no signal handler runs between the body of a `with` and its
+    end.
     """
     left, entered = number, set()
 
@@ -70,8 +72,8 @@ def interrupted(number):
 
 
 def is_interrupted(act, number, then):
-    """Whether an act comes to so many lines. `then` looks at what it left, with all that the fault
-    still holds.
+    """Whether an act executes this many lines. `then` checks what it left, together with everything
+    that the fault still holds.
     """
     try:
         with interrupted(number):
@@ -88,7 +90,7 @@ def files_open():
 
 
 def in_thread(act):
-    """What another thread comes to, which waits for ever if this one has its turn left."""
+    """The result in another thread, which waits for ever if this one still has its turn."""
     done = []
     thread = threading.Thread(target=lambda: done.append(act()), daemon=True)
     thread.start()
@@ -117,7 +119,7 @@ class Lines:
         }
 
     def begin(self):
-        """A new device, in a folder that is not there."""
+        """A new device, in a folder that does not exist."""
         self.begun += 1
         KeptDevice(self.new).close()
 
@@ -126,7 +128,7 @@ class Lines:
         return f"{self.folder}/{self.begun}"
 
     def then(self):
-        """The other holder is first, as it would wait for a lock that was left."""
+        """The other holder comes first, because it would wait for a lock that was left."""
         with contextlib.suppress(Exception):
             Caller(self.other).start_up()
         before = value_of(self.other)
@@ -157,7 +159,7 @@ class Lines:
 
 
 def at_random(folder):
-    """The command of an interrupted call was executed, or was not. What was answered was."""
+    """The command of an interrupted call was executed or not; an answered one was executed."""
     device, chance = started(folder), random.Random(1)
     before, counts = value_of(device), [0, 0]
 
@@ -187,7 +189,7 @@ def at_random(folder):
 
 
 def while_it_waits(folder):
-    """The handler runs when the call has returned, and its command was executed."""
+    """The handler runs after the call has returned, and its command was executed."""
     device = started(folder)
     before = value_of(device)
     with open(f"{folder}/lock", "rb") as lock:

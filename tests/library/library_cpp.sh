@@ -1,4 +1,4 @@
-# A caller of the library in C++: library/caller.cpp, beside sanitizers.
+# A caller of the library in C++: library/caller.cpp, with sanitizers.
 tests=$(cd "$(dirname "$0")/.." && pwd -P)
 . "$tests/common/cases.sh"
 . "$tests/common/library.sh"

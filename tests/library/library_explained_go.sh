@@ -1,4 +1,4 @@
-# A caller in Go logs what it executes, by the function of docs/LIBRARY.md, and tools/explain.py tells why
+# A caller in Go logs what it executes, by the function of docs/LIBRARY.md, and tools/explain.py says why
 # one command was refused.
 tests=$(cd "$(dirname "$0")/.." && pwd -P)
 . "$tests/common/cases.sh"

@@ -1,5 +1,5 @@
-# What is delivered of the library: which names the files have and need, and that the header stands
-# for itself, in C and in C++.
+# The delivered files of the library: the names that they define and need, and that the header compiles by
+# itself, in C and in C++.
 tests=$(cd "$(dirname "$0")/.." && pwd -P)
 . "$tests/common/cases.sh"
 . "$tests/common/library.sh"

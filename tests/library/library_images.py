@@ -1,9 +1,9 @@
-"""Has the library open damaged images:
+"""Opens damaged images with the library:
 
     tools/python.sh library_images.py LIBRARY
 
-LIBRARY is the shared object. The images, and what is printed of them, are those of
-common/damaged_images.py, which has the program open them.
+LIBRARY is the shared object. The images and the output are those of common/damaged_images.py, which
+opens them with the program.
 """
 
 import os
@@ -15,13 +15,13 @@ from tests.common.damaged_images import main, RANDOM
 
 
 class Library:
-    """The library, which does what a served device does with an image; one holder is for all."""
+    """The library, which treats an image as a served device does; all images share one holder."""
 
     def __init__(self) -> None:
         self.device = LibraryDevice(manufactured=RANDOM)
 
     def fault_of(self, text: bytes) -> str | None:
-        """The fault of an image; where it is none, the holder has its device."""
+        """The fault of an image; if it has none, the holder has its device."""
         try:
             self.device.begin(text)
         except BadImage as fault:
@@ -29,7 +29,7 @@ class Library:
         return None
 
     def saved(self, commands: bytes) -> bytes:
-        """The image of a new device behind these commands."""
+        """The image of a new device after these commands."""
         self.device.manufacture(RANDOM)
         while commands:
             size = int.from_bytes(commands[2:6], "big")

@@ -1,6 +1,5 @@
-# Damaged images: what the library answers to each is what the device in Python says of it. These are
-# all beginnings of an image and all changes of its bytes, of which images.sh has the program open
-# some.
+# Damaged images: what the library returns for each is what the device in Python says of it. They are all
+# prefixes of an image and all changes of one of its bytes; images.sh has the program open some of them.
 tests=$(cd "$(dirname "$0")/.." && pwd -P)
 . "$tests/common/cases.sh"
 . "$tests/common/library.sh"

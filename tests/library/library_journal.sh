@@ -1,5 +1,5 @@
-# The calls on a device's journal: journal.c, beside sanitizers for what they are told, and without them
-# for the stack.
+# The calls on a device's journal: journal.c, with sanitizers for the arguments, and without them for the
+# stack.
 tests=$(cd "$(dirname "$0")/.." && pwd -P)
 . "$tests/common/cases.sh"
 . "$tests/common/library.sh"

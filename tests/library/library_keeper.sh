@@ -1,5 +1,5 @@
 # The calls on a device's keeper: keeper.c, over a folder in memory and over files, without sanitizers and
-# beside them.
+# with them.
 tests=$(cd "$(dirname "$0")/.." && pwd -P)
 . "$tests/common/cases.sh"
 . "$tests/common/library.sh"

@@ -1,4 +1,4 @@
-# A device that Python keeps in a folder, beside files that are not what they are to be, in threads and in
+# A device that Python keeps in a folder: with files that are not what they should be, in threads, and in
 # forked processes: library/kept_files.py.
 tests=$(cd "$(dirname "$0")/.." && pwd -P)
 . "$tests/common/cases.sh"

@@ -1,5 +1,5 @@
-# State texts over the library: what each good and bad text is (library/snapshots.py), and devices that
-# are restored at random moments of random scripts (library/moved.c), beside sanitizers and without.
+# State texts over the library: the result of each good and bad text (library/snapshots.py), and devices
+# that are restored at random moments of random scripts (library/moved.c), with sanitizers and without.
 # tools/soak/snapshots.sh plays more of both.
 tests=$(cd "$(dirname "$0")/.." && pwd -P)
 . "$tests/common/cases.sh"

@@ -1,6 +1,5 @@
-# What a device in Python makes is its user's to read and write, and nobody else's, whatever the umask
-# is: an image with its lock, and a kept device. Without that the next process of a user who is not root
-# has no device.
+# Only its user may read and write what a device in Python makes, whatever the umask is: an image with its
+# lock, and a kept device. Otherwise the next process of a user who is not root has no device.
 tests=$(cd "$(dirname "$0")/.." && pwd -P)
 . "$tests/common/cases.sh"
 . "$tests/common/library.sh"

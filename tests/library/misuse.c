@@ -1,6 +1,6 @@
-/* Each misuse of the library that has a result, and what it is: one line each. The first argument
- * is a file with an image whose digest is right, and whose body is none. Linked with --wrap for
- * malloc and realloc, so that it counts the calls that take memory, and refuses one of them. */
+/* Each misuse of the library that has a result, and that result, one line each. The first argument is a
+ * file with an image whose digest is right and whose body is wrong. Linked with --wrap for malloc and
+ * realloc, so that it counts the calls that take memory, and can refuse one of them. */
 #include "common.h"
 
 void *__real_malloc(size_t size);
@@ -8,7 +8,7 @@ void *__real_realloc(void *memory, size_t size);
 void *__wrap_malloc(size_t size);
 void *__wrap_realloc(void *memory, size_t size);
 
-/* How often memory was asked for, and the number of the call that is refused, 0 for none. */
+/* How often memory was requested, and the number of the call that is refused; 0 for none. */
 static unsigned asked, refused;
 
 static int is_refused(void) {
@@ -28,19 +28,19 @@ static uint8_t random_bytes[RANDOM_BYTES], response[RESPONSE_BYTES];
 static const uint8_t CHANGE_AUTH[] = {0x80, 0x02, 0, 0, 0, 30,   0, 0, 0x01, 0x29, 0x40, 0, 0, 1, 0,
                                       0,    0,    9, 0x40, 0, 0, 9, 0, 0,    0,    0,    0, 0, 1, 'a'};
 
-/* The room for images, and two images: that of the device before a call and behind it. */
+/* The size of buffers for images, and the device's image before a call and after it. */
 enum { ROOM = 4096, HEAD_BYTES = 10, DIGEST_BYTES = 32 };
 static uint8_t image[ROOM], before[ROOM], behind[ROOM];
 
-/* The image of the tests' device, from its head on, and how many bytes it has. */
+/* The image of the tests' device, from its head on, and its size in bytes. */
 static size_t image_size;
 
-/* A state text of that device, and how many bytes it has. */
+/* A state text of that device, and its size in bytes. */
 static uint8_t state[ROOM];
 static size_t state_size;
 
-/* A call that is refused leaves the holder's device as it was: its image says so, and so does the
- * pointer, which a caller must not look at, but a test may. */
+/* A call that is refused leaves the holder's device as it was. The image shows that, and so does the
+ * pointer, which a caller must not read, but a test may. */
 static void *kept_pointer;
 
 static void keep(struct tpmsim *device) {
@@ -55,8 +55,8 @@ static const char *as_it_was(struct tpmsim *device) {
     return "the device is as it was";
 }
 
-/* Executes GetRandom where it is refused, alone and below the completing layer: neither the response nor
- * what is answered is written. */
+/* Executes GetRandom in a case in which it is refused, alone and under the completing layer. Neither the
+ * response nor the answer is written. */
 static unsigned refused_command(struct tpmsim *device, uint8_t locality) {
     struct tpmsim_answered answered;
     memset(&answered, FILLED, sizeof answered);
@@ -94,7 +94,7 @@ static void of_localities(struct tpmsim *device) {
     puts(as_it_was(device));
 }
 
-/* A buffer that is no command is executed, and refused in the response. */
+/* A buffer that is not a command is executed, and refused in the response. */
 static void of_buffers(struct tpmsim *device) {
     static const size_t sizes[] = {0, 1, 9, 4097, 1000000};
     uint8_t *buffer = taken(1000000);
@@ -110,7 +110,7 @@ static void of_buffers(struct tpmsim *device) {
     free(buffer);
 }
 
-/* What a call writes that tells how large its text is, in rooms of some sizes. */
+/* What a call writes that returns the size of its text, with buffers of several sizes. */
 static void in_rooms(struct tpmsim *device, const char *label,
                      size_t (*written)(struct tpmsim *, uint8_t *, size_t)) {
     size_t wanted = written(device, image, 0);
@@ -137,7 +137,7 @@ static void of_rooms(struct tpmsim *device) {
     in_rooms(device, "snapshot", tpmsim_snapshot);
 }
 
-/* How many bytes of the text are others than those of the image between its head and its digest. */
+/* The number of bytes of the text that differ from those of the image between its head and its digest. */
 static size_t others_than_in_image(const uint8_t *text, size_t size) {
     size_t others = 0;
     for (size_t i = 0; i < size; i++) others += text[i] != image[HEAD_BYTES + i];
@@ -219,7 +219,7 @@ static void of_states(struct tpmsim *device) {
     puts(as_it_was(device));
 }
 
-/* Calls one that takes memory, each time with the next request refused, until it is done. */
+/* Calls a function that takes memory, each time with the next request refused, until it succeeds. */
 static void starve(struct tpmsim *device, const char *label,
                    uint8_t (*called)(struct tpmsim *device)) {
     uint8_t told = TPMSIM_NO_MEMORY;

@@ -1,12 +1,12 @@
-/* Plays scripts on two devices, each time new ones: `steady` is never taken apart, and `moved` is
- * restored from its state text at random moments, in the place of another device:
+/* Plays scripts on two devices, new ones each time. `steady` always goes on; `moved` is restored from its
+ * state text at random moments, replacing an earlier device:
  *
  *     moved SEED ONE_IN <SCRIPTS
  *
- * The lines are those that play.c reads. Before one event in ONE_IN, by a generator that begins with
- * SEED, the moved device is restored. Both answer each event alike, and have one state text at the end
- * of a script. In every second script the completing layer is above both. It prints how many events
- * there were, how many restores, and how many bytes the largest text had. */
+ * The lines are those that play.c reads. The moved device is restored before one event in ONE_IN, by a
+ * generator that begins with SEED. Both must answer each event alike, and have the same state text at the
+ * end of a script. In every second script the completing layer is on for both. Prints how many events
+ * and restores there were, and the size of the largest text in bytes. */
 #define _POSIX_C_SOURCE 200809L
 #include "common.h"
 
@@ -48,7 +48,7 @@ static void have_one_text(struct tpmsim *device, struct tpmsim *other) {
     if (size > largest) largest = size;
 }
 
-/* Restores the moved device in the other place, whose device is one of earlier. */
+/* Restores the moved device into the other holder, which has an earlier device. */
 static void move(struct player *player) {
     size_t size = text_of(moved(player), text);
     struct tpmsim *before = moved(player);

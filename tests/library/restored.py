@@ -1,8 +1,8 @@
-"""Devices of which everything is told, whose calls are interrupted at their lines:
+"""Devices whose whole state is reported, and whose calls are interrupted at their lines:
 
     tools/python.sh restored.py LIBRARY
 
-LIBRARY is the shared object. A device that a call left halfway says so, until `restore` mends it.
+LIBRARY is the shared object. A device that a call left halfway says so, until `restore` repairs it.
 """
 
 import os
@@ -24,7 +24,9 @@ EXTEND = frames.on_handle(
 
 
 def interrupted(act, left):
-    """Whether an act comes to so many lines of the package, where it is interrupted."""
+    """Whether an act executes this many lines of the package, at the last of which it is
+    interrupted.
+    """
 
     def trace(frame, event, _):
         nonlocal left
@@ -47,7 +49,7 @@ def interrupted(act, left):
 
 
 def values(device):
-    """Those of both banks, and what is told that led to them."""
+    """The values of both banks, and the reported events that led to them."""
     read = Caller(device).send(Caller(device).read_pcr(PCR))["pcrValues"]
     return tuple(read)
 
@@ -57,7 +59,7 @@ def extend(device):
 
 
 class Played:
-    """A device with a snapshot; what each bank has there, further on, and one command later."""
+    """A device with a snapshot; and the banks' values there, further on, and a command later."""
 
     def __init__(self, made):
         self.device = made()
@@ -75,7 +77,7 @@ class Played:
         extend(self.device)
 
     def told(self, allowed):
-        """What the device says for itself after an interrupt, and after it is restored."""
+        """What the device reports after an interrupt, and after it is restored."""
         try:
             said = "known" if values(self.device) in allowed else "unknown values"
         except Refused:
@@ -98,7 +100,7 @@ class Played:
 
 
 def within_writing():
-    """A handler's fault while an image is written is not one of the image. The command was executed."""
+    """A handler's fault while an image is written is not the image's. The command was executed."""
     image = pathlib.Path("image")
     with LibraryDevice(image) as device:
         tpm = Caller(device)

@@ -1,14 +1,13 @@
-"""Scripts over the library:
+"""Scripts on the library:
 
     tools/python.sh scripts.py STACK PLAYER..     compares
-    tools/python.sh scripts.py --figures STACK    tells how much stack each call takes
+    tools/python.sh scripts.py --figures STACK    reports how much stack each call takes
     tools/python.sh scripts.py --lines SCRIPT     prints a script without words, for play.c
 
-Each PLAYER, which play.c is the source of, plays each script of tests/ and of the examples that is
-to end well, one after another. What it prints has to be what stands in the files beside the script,
-and what the device in Python tells of the same commands: each response, row and count of random
-bytes that were drawn, and the images at the end. STACK, of stack.c, plays them too, and no call may
-take more stack than tpmsim.h says.
+Each PLAYER, which is built of play.c, plays each script of tests/ and the examples that ends well,
+one after another. What it prints must be what the files next to the script say, and what the Python
+device says of the same commands: each response, row and count of drawn random bytes, and the images
+at the end. STACK, of stack.c, plays them too, and no call may take more stack than tpmsim.h says.
 """
 
 import pathlib
@@ -27,7 +26,7 @@ MOST_STACK = 64 * 1024
 
 
 def check_number(check: str) -> int:
-    """The number by which a row tells a check."""
+    """The number of a check in a row."""
     if check == "ok":
         return 0
     if check == "M":
@@ -36,7 +35,7 @@ def check_number(check: str) -> int:
 
 
 class Counted(Model):
-    """The device in Python, which counts the random bytes that a command draws."""
+    """The Python device, which counts the random bytes that a command draws."""
 
     drawn = 0
 
@@ -55,7 +54,7 @@ class Counted(Model):
 
 
 class Lines(Player):
-    """What a script is without words, and what a player has to print of each command."""
+    """A script without words, and what a player has to print for each command."""
 
     def __init__(self) -> None:
         super().__init__(Counted())
@@ -91,7 +90,7 @@ class Lines(Player):
 
 
 class Script:
-    """A script, which the device in Python has played."""
+    """A script, after the Python device has played it."""
 
     def __init__(self, path: pathlib.Path) -> None:
         self.path = path
@@ -107,7 +106,7 @@ class Script:
         fail(f"{self.path.name}: {words}")
 
     def check(self, given: list[str]) -> None:
-        """Compares what a player printed of the script with what it has to."""
+        """Compares what a player printed for the script with the expected lines."""
         pairs = zip_longest(self.wanted, given, fillvalue="no more")
         for number, (one, other) in enumerate(pairs, 1):
             if one != other:
@@ -115,7 +114,7 @@ class Script:
         self.check_files(given[:-2])
 
     def check_files(self, given: list[str]) -> None:
-        """Compares what was printed of the commands with the files beside the script."""
+        """Compares what was printed for the commands with the files next to the script."""
         responses = "".join(line.split(" ")[0] + "\n" for line in given)
         if self.path.with_suffix(".out").read_text("ascii") != responses:
             self.fail("the responses are other than those of its file")
@@ -126,7 +125,7 @@ class Script:
 
 
 def printed(program: str, played: list[Script]) -> Iterator[str]:
-    """The lines that a program prints of scripts."""
+    """The lines that a program prints for scripts."""
     given = ran(program, stdin="".join(script.plain for script in played).encode("ascii"))
     if given.status or given.error:
         done = given.output.count(b"\nopened ")
@@ -144,7 +143,7 @@ def check(player: str, played: list[Script]) -> None:
 
 
 class Stack:
-    """The most stack that each call takes, with the command where it is an execution."""
+    """The most stack that each call takes; for an execution, with its command."""
 
     def __init__(self, program: str, played: list[Script]) -> None:
         self.most: dict[str, tuple[int, str]] = {}

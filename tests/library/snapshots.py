@@ -1,10 +1,10 @@
-"""Has the library restore state texts, and compares what it reports with the device in Python:
+"""Restores state texts with the library, and compares its reports with the Python device:
 
     tools/python.sh snapshots.py LIBRARY [ONE_IN]
 
-LIBRARY is the shared object. Of the texts with a byte turned, and of those whose digest is right again,
-it is given one in ONE_IN, or all. A text that is refused leaves the device as it was. A text that is
-read is written again as it was; one without the completing layer gets a new one.
+LIBRARY is the shared object. It gets one in ONE_IN, or all, of the texts with a changed byte and of
+those with a changed byte and the right digest. A text that is refused leaves the device as it was.
+A text that is read is written again unchanged; one without the completing layer gets a new one.
 """
 
 import collections
@@ -21,11 +21,12 @@ from tests.images import state_bodies, worked_state
 
 MOST_BYTES, RANDOM = 36_323, bytes(range(256))
 
-# What a call reports.
+# The results of a call.
 FAULTS = {0: None}
 FAULTS |= dict(enumerate(("Short", "Magic", "Version", "Length", "Digest", "Body"), 13))
 
-# The lowest bit, the highest one, and by one in the direction that is not the lowest bit's.
+# Changes of the lowest bit, of the highest one, and by one in the direction that is not the lowest
+# bit's.
 WAYS = (
     *(lambda byte: byte ^ 0x01, lambda byte: byte ^ 0x80),
     lambda byte: byte + (1 if byte & 1 else -1) & 0xFF,
@@ -49,20 +50,20 @@ class Library:
         return self.buffer.raw[:size]
 
     def fault_of(self, text: bytes) -> str | None:
-        """The fault of a text; the device is the one of a text without a fault."""
+        """The fault of a text; if it has none, the device is restored from it."""
         size = ctypes.c_size_t(len(text))
         told = self.calls.tpmsim_restore(ctypes.byref(self.holder), text, size)
         return FAULTS.get(told, f"number {told}")
 
 
 def with_layer(text: bytes) -> bytes:
-    """The text of the same device with a completing layer, which is a new one if it has none."""
+    """The text of the same device with a completing layer; a new one, if it has none."""
     device, layer = state_text.open_state(text)
     return state_text.state_text(device, layer or Layer())
 
 
 def judge(library: Library, words: str, text: bytes) -> str:
-    """The fault of a text by both devices; a refused text leaves the library's as it was."""
+    """The fault of a text by both devices; a refused text leaves the library's device as it was."""
     wanted, before = state_text.fault_of(text), library.snapshot()
     given = library.fault_of(text)
     if given != wanted:
@@ -73,13 +74,13 @@ def judge(library: Library, words: str, text: bytes) -> str:
 
 
 def kind(library: Library, words: str, texts: Iterable[bytes]) -> None:
-    """Prints how many texts of a kind there are, and what they are."""
+    """Prints how many texts of a kind there are, and their faults."""
     counts = collections.Counter(judge(library, words, it) for it in texts)
     print(f"{words}: {', '.join(f'{count:,} {it}' for it, count in sorted(counts.items()))}")
 
 
 def turned(text: bytes, one_in: int) -> Iterator[bytes]:
-    """The bytes turned, one in so many, each in three ways."""
+    """The text with a changed byte, one of `one_in` bytes, each in three ways."""
     for at in range(0, len(text), one_in):
         for way in WAYS:
             yield text[:at] + bytes([way(text[at])]) + text[at + 1 :]

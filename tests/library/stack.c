@@ -1,10 +1,10 @@
-/* Tells how much stack each call takes at most, and of which command that of an execution is:
+/* Reports the most stack that each call takes, and for an execution also the command:
  *
  *     stack <SCRIPTS
  *
- * The lines are those that play.c reads. Each call runs on a stack that was painted before; what it
- * painted over counts, less what is so where nothing is called. The stack is twice as large as what a
- * call may take. At its far end lies a page that nobody may touch, which ends the program. */
+ * The lines are those that play.c reads. Each call runs on a stack that was painted before. What it painted
+ * over counts, minus what an empty call paints over. The stack is twice as large as a call's limit. At its
+ * far end is a page without access, which ends the program. */
 #define _DEFAULT_SOURCE
 #include "common.h"
 #include <sys/mman.h>
@@ -62,7 +62,7 @@ static void called(void) {
     }
 }
 
-/* How many bytes of the stack are painted still, from its far end on: first whole blocks. */
+/* The size of the stack that is still painted, from its far end on: first whole blocks. */
 static size_t painted_bytes(void) {
     static uint8_t painted[BLOCK_BYTES];
     size_t at = 0;

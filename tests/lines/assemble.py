@@ -1,7 +1,7 @@
-"""Writes assemble.out, what comes of the lines of assemble.lines, which tests/lines/assemble.sh
-hands to `tpmsim asm`, and of lines that are longer.
+"""Writes assemble.out: the results of the lines of assemble.lines, which tests/lines/assemble.sh
+passes to `tpmsim asm`, and of longer lines.
 
-A line stands in assemble.lines as printf takes it: a byte that is no ASCII is \\ooo, in octal.
+assemble.lines has a line as printf takes it: a byte that is not ASCII is \\ooo, in octal.
 """
 
 import pathlib
@@ -11,7 +11,7 @@ from tests.common.expected import assembled
 
 
 def spelled(written):
-    """The bytes of a line that is written as printf takes it."""
+    """The bytes of a line in printf's form."""
     named = {b"t": b"\t", b"r": b"\r", b"n": b"\n"}
     return re.sub(
         rb"\\([0-7]{3}|[trn])",
@@ -27,7 +27,7 @@ def outcome(label, line):
 
 
 def long_lines():
-    """What assemble.sh writes itself: labels, and lines."""
+    """The lines that assemble.sh writes itself, with their labels."""
     zeros = "0" * 59999
     yield "GetRandom and 60000 digits", f"GetRandom {zeros}7"
     yield "GetRandom and 0x and 60000 digits", f"GetRandom 0x{zeros}7"

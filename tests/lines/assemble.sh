@@ -1,11 +1,10 @@
-# What `tpmsim asm` makes of lines: those of assemble.lines, which stand there as printf takes them
-# (\ooo is a byte in octal), and some that are too long to stand there. assemble.py
-# beside it writes assemble.out.
+# What `tpmsim asm` makes of lines: those of assemble.lines, with the escapes of printf (\ooo is a byte in
+# octal), and some that are too long for a file. assemble.py, next to it, writes assemble.out.
 here=$(cd "$(dirname "$0")" && pwd -P)
 tests=${here%/*}
 . "$tests/common/cases.sh"
 
-# assembled LABEL LINE: what is printed, by which status, and what standard error has.
+# assembled LABEL LINE: prints the output, the status and standard error.
 assembled() {
     status=0
     output=$("$program" asm "$2" 2>"$room/error") || status=$?
@@ -14,7 +13,7 @@ assembled() {
     printf '%s: status %s, output "%s", error "%s"\n' "$1" "$status" "$output" "$error"
 }
 
-# zeros DIGITS: so many digits 0.
+# zeros DIGITS: DIGITS digits 0.
 zeros() {
     printf '%0*d' "$1" 0
 }
@@ -29,7 +28,7 @@ while IFS= read -r written; do
     esac
 done <"$here/assemble.lines"
 
-# A number of digits in their tens of thousands, and commands of 4,096 bytes and of 4,097.
+# A number of tens of thousands of digits, and commands of 4,096 bytes and of 4,097.
 assembled 'GetRandom and 60000 digits' "GetRandom $(zeros 59999)7"
 assembled 'GetRandom and 0x and 60000 digits' "GetRandom 0x$(zeros 59999)7"
 assembled 'GetRandom and a number of 60000 digits' "GetRandom 1$(zeros 59999)"
@@ -38,7 +37,7 @@ for bytes in 4067 4068 4096 32767 40000; do
     assembled "PCR_Event and $bytes bytes" "PCR_Event 00000000 pw:- $data"
 done
 
-# What is wrong otherwise is said first, wherever it stands.
+# Another fault is reported first, wherever it is.
 data=$(zeros 8192)
 assembled 'NV_Write of 4096 bytes' "NV_Write OWNER 01000000 pw:- $data 0"
 assembled 'NV_Write of 4096 bytes without an offset' "NV_Write OWNER 01000000 pw:- $data"

@@ -1,22 +1,22 @@
-# Lines that are none of a script's lines. Each stands as the third of four, between two commands,
-# of which the first is answered and the second is not. Lines are written and shown as printf takes
-# them: \t is a tab, \r a carriage return, and \ooo a byte in octal.
+# Lines that a script may not have. Each is the third of four, between two commands, of which the first is
+# answered and the second is not. Lines are written and shown with the escapes of printf: \t is a tab, \r a
+# carriage return, and \ooo a byte in octal.
 tests=$(cd "$(dirname "$0")/.." && pwd -P)
 . "$tests/common/cases.sh"
 
-# third LINE [LABEL]: a script of which this is the third line.
+# third LINE [LABEL]: plays a script with this third line.
 third() {
     # shellcheck disable=SC2059 # a line has escapes of printf
     printf "$startup\n# the second\n$1\n$startup\n" >script
     run "${2:-\"$1\"}" run script
 }
 
-# zeros BYTES: so many bytes 00 in hex.
+# zeros BYTES: BYTES bytes 00 in hex.
 zeros() {
     printf '%0*d' "$((2 * $1))" 0
 }
 
-# Digits that are no hex, an odd number of them, and more than one space.
+# Digits that are not hex, an odd number of them, and more than one space.
 third 'cmd 0'
 third 'cmd 0g'
 third 'cmd 800'
@@ -35,7 +35,7 @@ third 'CMD 00'
 third 'cmd00'
 third 'command 00'
 
-# A locality that is none of 0 to 4, or no decimal number.
+# A locality that is not one of 0 to 4, or not a decimal number.
 third 'loc'
 third 'loc '
 third 'loc 5'
@@ -49,7 +49,7 @@ third 'loc 256'
 third 'loc 4294967296'
 third 'loc 18446744073709551616'
 
-# Milliseconds over 4,294,967,295, or no decimal number.
+# Milliseconds over 4,294,967,295, or not a decimal number.
 third 'wait'
 third 'wait '
 third 'wait 4294967296'
@@ -81,7 +81,7 @@ third 'power\r'
 third 'poweroff'
 third 'trace'
 
-# What is no command in words; assemble.sh has more of them.
+# Commands in wrong words; assemble.sh has more of them.
 third 'do'
 third 'do '
 third 'do GetRandom'
@@ -105,12 +105,12 @@ third '\r'
 third ' # late'
 third '; late'
 
-# Bytes that are no ASCII.
+# Bytes that are not ASCII.
 third '\303\251'
 third '\377'
 third '\000'
 
-# Lines right beside these, which are a script's.
+# Similar lines that are right.
 third 'cmd '
 third 'cmd 00'
 third 'do GetRandom 4'

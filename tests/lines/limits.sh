@@ -1,9 +1,8 @@
-# How much a script may have: bytes in a line, lines, milliseconds; and that no response is lost
-# where there are many.
+# The limits of a script: bytes in a line, lines, milliseconds; and that none of many responses is lost.
 tests=$(cd "$(dirname "$0")/.." && pwd -P)
 . "$tests/common/cases.sh"
 
-# padded START BYTES: a line without its line break, of so many bytes, the rest of them zeros.
+# padded START BYTES: a line of BYTES bytes without its line break, filled with zeros.
 padded() {
     printf '%s%0*d' "$1" "$(($2 - ${#1}))" 0
 }
@@ -49,8 +48,8 @@ for _ in 1 2 3; do
 done >script
 run 'three commands in lines of 65536 bytes, between three empty ones' run script
 
-# A script has at most 1,048,576 lines. With one more these are run, and that one is not, whatever
-# it is.
+# A script has at most 1,048,576 lines. If it has one more, these are run, and that one is not, whatever it
+# is.
 empty_lines() {
     yes '' | head -n "$1"
 }
@@ -70,7 +69,7 @@ run '1048577 lines on standard input' run - <longer
 { echo "$startup"; empty_lines 1048573; echo "$startup"; echo bad; } >script
 run '1048576 lines, of which the last is bad' run script
 
-# Responses that are more than what is held before it is written.
+# More responses than the program holds before it writes them.
 yes cmd | head -n 7000 >script
 run '7000 commands' run script
 echo bad >>script

@@ -1,10 +1,10 @@
-# What `tpmsim lines` and `tpmsim code` tell: each command is said in words as its section of
-# docs/table says, and its example is assembled; response codes have the names that the table has.
+# What `tpmsim lines` and `tpmsim code` print: each command is described as in its section of docs/table, and
+# its example is assembled; response codes have the names of the table.
 tests=$(cd "$(dirname "$0")/.." && pwd -P)
 . "$tests/common/cases.sh"
 table=${tests%/*}/docs/table
 
-# count WHAT NUMBER WRONG: says how many there are of something, and how many of these are wrong.
+# count WHAT NUMBER WRONG: prints how many there are of something, and how many of these are wrong.
 count() {
     printf '%s: %s, of which wrong: %s\n' "$1" "$2" "$3"
 }

@@ -1,5 +1,5 @@
 """Writes dictionary_attack_commands.tpm. TPM2_DictionaryAttackLockReset and
-TPM2_DictionaryAttackParameters: their bytes, and what refuses them. TPM_RH_LOCKOUT authorizes them,
+TPM2_DictionaryAttackParameters: their bytes, and their refusals. TPM_RH_LOCKOUT authorizes them,
 by a password or an HMAC session.
 """
 
@@ -32,7 +32,7 @@ tpm.chapter("The parameters.")
 for place in (1, 2, 3):
     case = f"Cut within parameter {place}: INSUFFICIENT/p{place}"
     says(case, *(on_handle(PARAMETERS, RH_LOCKOUT, THREE[: 4 * place - it]) for it in (4, 1)))
-case = "A byte behind them: SIZE"
+case = "A byte after them: SIZE"
 says(case, *(on_handle(code, RH_LOCKOUT, parameters + b"\0") for code, parameters in COMMANDS))
 most = 0xFFFF_FFFF
 good = (0, 0, 0), (most, most, most), (0, most, 1), (3, 1000, 1)
@@ -53,7 +53,7 @@ for attribute, words in ((DECRYPT, "decrypted"), (ENCRYPT, "encrypted")):
 policy = tpm.policy("A policy session")
 said = tpm("No policy authorizes TPM_RH_LOCKOUT: AUTH_UNAVAILABLE")
 said.refused(tpm.lock_reset(policy), tpm.attack_parameters(3, 1000, 1, policy))
-tpm("Behind the password it may stand").lock_reset(b"lockout", policy)
+tpm("It may come after the password").lock_reset(b"lockout", policy)
 tpm("A session that ends").lock_reset(Use(bound, attributes=0))
 tpm("It is gone: REFERENCE_S0").lock_reset(bound)
 case = "Wrong parameters of a wrong password: the password is looked at first: AUTH_FAIL/s1"

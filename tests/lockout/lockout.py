@@ -1,7 +1,7 @@
 """Writes lockout.tpm. Dictionary attack protection: a wrong authorization value of an object
 without noDA or of an NV index without TPMA_NV_NO_DA is counted in failedTries. At maxTries all of
-them are locked, and the right value is refused too. For each recoveryTime that passes one try is
-forgiven. A new device has maxTries 3, recoveryTime 1,000 seconds, and lockoutRecovery 1,000
+them are locked: the right value is refused too. After each recoveryTime one try is forgiven. A new
+device has maxTries 3, recoveryTime 1,000 seconds, and lockoutRecovery 1,000
 seconds.
 """
 
@@ -40,7 +40,7 @@ def locked(what, *passwords, index=FIRST, after=0):
 
 
 def opened(what, wait):
-    """It is locked until so many milliseconds have passed, and not one less."""
+    """The device is locked until exactly this many milliseconds have passed."""
     tpm.chapter(what)
     locked(f"{wait - 1:,} milliseconds later", after=wait - 1)
     right("One more", after=1)
@@ -62,7 +62,7 @@ tpm.written("One with TPMA_NV_NO_DA", free, SECRET, auth=PIN)
 
 
 def sealed_objects():
-    """They are gone after a power cycle."""
+    """The objects, which are gone after a power cycle."""
     for words, handle, more in (("without", GUARDED, 0), ("with", FREE, ObjectAttribute.NO_DA)):
         said, template = tpm(f"A sealed object {words} noDA"), sealed(attributes=PROTECTED | more)
         made = said.owned(template, user_auth=PIN, data=SECRET)
@@ -88,12 +88,12 @@ tpm.chapter("One try is forgiven, and two are not.")
 wrong("So one more is one too many")
 locked("The right password")
 opened("And again.", 1_000_000)
-tpm.chapter("A counted try starts the time anew.")
+tpm.chapter("A counted try restarts the time.")
 wrong("The third one, a millisecond before one would have been forgiven", after=999_999)
 locked("In that millisecond it was not", after=1)
 locked("One before the end", after=999_998)
 right("At the end", after=1)
-tpm.chapter("A try that is answered LOCKOUT is not counted, and starts no time anew.")
+tpm.chapter("A try that is answered LOCKOUT is not counted, and restarts no time.")
 wrong("The third one")
 locked("Wrong ones in the middle of the time", b"0000", b"1111", b"2222", b"3333", after=500_000)
 locked("The right one, a millisecond before the end", after=499_999)
@@ -119,7 +119,7 @@ lock()
 locked("So three are three")
 tpm.unlocks()
 
-tpm.chapter("Where there is no try, no time counts.")
+tpm.chapter("While there is no try, no time counts.")
 tpm.wait(999_999)
 lock()
 locked("A millisecond after the last try, and 1,000 seconds after the last before", after=1)
@@ -138,7 +138,7 @@ locked("999,999 milliseconds have passed")
 right("One more", after=1)
 tpm.unlocks()
 
-tpm.chapter("A power cycle takes no try back, and starts the time anew.")
+tpm.chapter("A power cycle forgives no try, and restarts the time.")
 lock()
 locked("A millisecond before the end", after=999_999)
 tpm.power_cycle()
@@ -163,7 +163,7 @@ tpm.unlocks()
 
 sealed_objects()
 
-tpm.chapter("TPM2_DictionaryAttackParameters starts the time anew, and takes no try back.")
+tpm.chapter("TPM2_DictionaryAttackParameters restarts the time, and forgives no try.")
 lock()
 tpm.wait(999_999)
 tpm.set_protection("The same values as before", 3, 1000, 1000)
@@ -239,7 +239,7 @@ tpm("Nor is TPM_RH_OWNER").change_auth(RH_OWNER, b"", b"")
 tpm("A wrong one of them is as before: BAD_AUTH/s1").unsealing(FREE, b"0")
 tpm.unlocks()
 
-tpm.chapter("The order of the checks: what comes before LOCKOUT, and what behind it.")
+tpm.chapter("The order of the checks: what comes before LOCKOUT, and what after it.")
 session = tpm.policy("A policy session")
 lock()
 read = tpm.reading(FIRST, 8)
@@ -270,9 +270,9 @@ wrong_hmac = tpm.reset(plain, bound).but_entry(1, hmac=b"x")
 tpm.fails("A wrong entry before one that touches it: BAD_AUTH/s1", wrong_hmac)
 tpm("A right one before it: LOCKOUT").reset(plain, bound)
 wrong_behind = tpm.reset(bound, plain).but_entry(2, hmac=b"x")
-tpm.fails("It, and a wrong one behind it: LOCKOUT", wrong_behind)
-tpm.fails("Behind LOCKOUT: no parameters: LOCKOUT", read.but(parameters=b""))
-tpm.fails("Bytes behind them: LOCKOUT", read.but(parameters=bytes(20)))
+tpm.fails("It, and a wrong one after it: LOCKOUT", wrong_behind)
+tpm.fails("After LOCKOUT: no parameters: LOCKOUT", read.but(parameters=b""))
+tpm.fails("Bytes after them: LOCKOUT", read.but(parameters=bytes(20)))
 tpm("A range that is not there: LOCKOUT").reading(FIRST, 9)
 tpm.unlocks()
 tpm.fails("These, when nothing is locked: INSUFFICIENT/p1", read.but(parameters=b""))

@@ -1,6 +1,6 @@
-"""Writes lockout_authorization.tpm. A wrong entry is AUTH_FAIL where it was a try at the value of
-TPM_RH_LOCKOUT: as a password or in the key of an hmac, or else because its session was bound to
-TPM_RH_LOCKOUT at the start. Every other wrong entry is BAD_AUTH. Each such try closes lockoutAuth
+"""Writes lockout_authorization.tpm. A wrong entry is AUTH_FAIL if it was a try at the value of
+TPM_RH_LOCKOUT: as a password or in the key of an HMAC, or because its session was bound to
+TPM_RH_LOCKOUT at the start. Every other wrong entry is BAD_AUTH. Each such try locks lockoutAuth
 for lockoutRecovery.
 """
 
@@ -13,7 +13,7 @@ tpm = Teller(__name__, __doc__, tries=True)
 
 
 def change(handle, *means):
-    """To the value that it has."""
+    """Changes the value to itself."""
     return tpm.change_auth(handle, tpm.auth_value(handle), *means)
 
 
@@ -34,7 +34,7 @@ tpm.refused(
     "of those bound to TPM_RH_LOCKOUT: AUTH_FAIL/s1",
     *(wrong(change(RH_LOCKOUT, it)) for it in (unbound, to_owner, bound, early)),
 )
-said = tpm("No hmac where the session has no key of its own: AUTH_FAIL/s1")
+said = tpm("No hmac for a session without a key of its own: AUTH_FAIL/s1")
 said.refused(change(RH_LOCKOUT, unbound).but_entry(1, hmac=b""))
 for session, words in (
     (unbound, "Right hmacs: bound to nothing"),
@@ -56,8 +56,8 @@ tpm("Right hmacs: on TPM_RH_OWNER").change_auth(RH_OWNER, b"owner", bound)
 tpm("On PCR 16").reset(bound)
 
 tpm.chapter("In an entry that authorizes nothing.")
-tpm.refused("Behind a password: AUTH_FAIL/s2", wrong(tpm.reset(b"", bound), 2))
-said = tpm("Behind two right entries: AUTH_FAIL/s3")
+tpm.refused("After a password: AUTH_FAIL/s2", wrong(tpm.reset(b"", bound), 2))
+said = tpm("After two right entries: AUTH_FAIL/s3")
 behind_two = tpm.reset(b"", to_owner, bound), tpm.reset(to_owner, unbound, early)
 said.refused(*(wrong(it, 3) for it in behind_two))
 said = tpm("Of TPM2_GetRandom: AUTH_FAIL/s1")
@@ -71,10 +71,10 @@ tpm.chapter("Entries that are no try at it.")
 said = tpm("A wrong hmac on TPM_RH_OWNER, bound to it or to nothing: BAD_AUTH/s1")
 said.refused(wrong(change(RH_OWNER, to_owner)), wrong(change(RH_OWNER, unbound)))
 tpm("lockoutAuth as the password of TPM_RH_OWNER: BAD_AUTH/s1").change_auth(RH_OWNER, b"x", LOCKOUT)
-said = tpm("A wrong hmac beside a right one of a session bound to TPM_RH_LOCKOUT: BAD_AUTH/s1")
+said = tpm("A wrong hmac next to a right one of a session bound to TPM_RH_LOCKOUT: BAD_AUTH/s1")
 said.refused(wrong(tpm.reset(to_owner, bound)))
-tpm.refused("Behind it: BAD_AUTH/s2", wrong(tpm.reset(bound, to_owner), 2))
-case = "The second entry of TPM_RH_LOCKOUT's own command, where the first is right: BAD_AUTH/s2"
+tpm.refused("After it: BAD_AUTH/s2", wrong(tpm.reset(bound, to_owner), 2))
+case = "The second entry of TPM_RH_LOCKOUT's own command, with a right first one: BAD_AUTH/s2"
 tpm.refused(case, wrong(change(RH_LOCKOUT, bound, to_owner), 2))
 case = "Of two wrong entries the first is answered, here the one that is no such try: BAD_AUTH/s1"
 tpm.refused(case, wrong(wrong(tpm.reset(to_owner, bound)), 2))
@@ -90,7 +90,7 @@ said = tpm("A wrong hmac of the session that is bound to nothing: AUTH_FAIL/s1")
 said.refused(tpm.change_auth(RH_LOCKOUT, b"", unbound).but_entry(1, hmac=b"\0"))
 tpm("No hmac of it").change_auth(RH_LOCKOUT, b"", unbound)
 
-# From here on no time passes but where it is said.
+# From here on time passes only where the script says so.
 tpm.script.pause = 0
 
 
@@ -131,7 +131,7 @@ said.fails(tpm.lock_reset(unbound), tpm.lock_reset(bound), wrong(tpm.lock_reset(
 case = "One that is bound to it and authorizes PCR 16, and one that authorizes nothing: LOCKOUT"
 tpm.fails(case, tpm.reset(bound), tpm.random(2, bound), tpm.reset(b"", bound))
 tpm("A session that is bound to another entity").reset(to_owner)
-closed_for("It opens. Wrong tries while it was closed have not closed it anew.", 1_000_000)
+closed_for("It opens. Wrong tries while it was closed have not closed it again.", 1_000_000)
 tpm.chapter("In the middle of the time.")
 wrong_password("A wrong one")
 closed("Another wrong one", b"wrong", after=500_000)
@@ -140,11 +140,11 @@ tpm.chapter("At a wrong hmac it closes too.")
 tpm.fails("Of PCR 16, bound to it: AUTH_FAIL/s1", wrong(tpm.reset(bound)))
 closed("The right password")
 right("Later", after=1_000_000)
-tpm.fails("Behind a password: AUTH_FAIL/s2", wrong(tpm.reset(b"", bound), 2))
+tpm.fails("After a password: AUTH_FAIL/s2", wrong(tpm.reset(b"", bound), 2))
 closed("The right password")
 closed_for("It opens.", 1_000_000)
 
-tpm.chapter("A power cycle opens nothing, and starts the time anew.")
+tpm.chapter("A power cycle opens nothing, and restarts the time.")
 wrong_password("A wrong one")
 closed("A millisecond before the end", after=999_999)
 tpm.power_cycle()
@@ -162,7 +162,7 @@ tpm("lockoutRecovery is 0").attack_parameters(3, 1000, 0, LOCKOUT)
 wrong_password("A wrong one")
 closed("The right one, after the longest time that one command can take", after=4_294_967_295)
 tpm.power_cycle()
-right("Behind a power cycle and TPM2_Startup(CLEAR)")
+right("After a power cycle and TPM2_Startup(CLEAR)")
 wrong_password("A wrong one")
 closed("It closes again")
 tpm.power_cycle()

@@ -1,5 +1,5 @@
-"""Writes lockout_commands.tpm. Each command that is authorized by a protected entity: with maxTries
-1 one wrong entry locks, and the right one is refused then, whichever command the try was made by.
+"""Writes lockout_commands.tpm. Each command that a protected entity authorizes: with maxTries 1 one
+wrong entry locks, and then the right one is refused, whichever command made the try.
 """
 
 from tests.common.steps import PROTECTED, Steps
@@ -10,7 +10,7 @@ from tests.common.vocabulary import storage_key, STORES, THIRD, wrong
 
 PIN, DATA = b"pin", b"data"
 
-# The policy of an index whose value may be changed by who knows it.
+# The policy of an index whose value anybody who knows it may change.
 AFTER_CODE = policy.after_command_code(SHA256, bytes(32), CC.NV_ChangeAuth)
 CHANGING = policy.after_auth_value(SHA256, AFTER_CODE)
 

@@ -1,5 +1,5 @@
 """Writes lockout_sessions.tpm. Each way in which an entry can be a try at a protected authorization
-value: as the password, in the key of an hmac, or else because its session was bound to a protected
+value: as the password, in the key of an HMAC, or because its session was bound to a protected
 entity at the start. maxTries is 1 here. So one wrong entry of such a way locks it, and all the
 others.
 """
@@ -20,8 +20,8 @@ tpm = Steps(__name__, __doc__)
 
 @dataclass
 class Way:
-    """A way to use an entity: how a command is prepared, the place of the entry that is to be
-    wrong, and what is to be told to the policy session before each use.
+    """A way to use an entity: how a command is prepared, the place of the entry that becomes wrong,
+    and the assertions that the policy session needs before each use.
     """
 
     words: str
@@ -58,11 +58,11 @@ def ways(handle, use):
         Way("A policy session with TPM2_PolicyPassword", lambda: use(in_plain(told)), 1, password),
         Way(on_owner, lambda: tpm.change_auth(RH_OWNER, OWNER, bound)),
         Way("On PCR 16", lambda: tpm.reset(bound)),
-        Way("Where it authorizes nothing, alone", lambda: tpm.random(2, bound)),
-        Way("And behind a password", lambda: tpm.reset(b"", bound), place=2),
-        Way("And behind two", lambda: tpm.reset(to_owner, unbound, bound), place=3),
+        Way("In an entry that authorizes nothing, alone", lambda: tpm.random(2, bound)),
+        Way("And after a password", lambda: tpm.reset(b"", bound), place=2),
+        Way("And after two", lambda: tpm.reset(to_owner, unbound, bound), place=3),
         Way("The policy session that is bound to it", lambda: tpm.random(2, bound_policy)),
-        Way("And behind a password", lambda: tpm.reset(b"", bound_policy), place=2),
+        Way("And after a password", lambda: tpm.reset(b"", bound_policy), place=2),
     )
 
 
@@ -79,16 +79,21 @@ def check(name, handle, use):
         if way.tell:
             tpm.restarts(sessions[4])
         tpm.unlocks()
-    # The ways that have nothing to do with a protected value are open while it is locked.
+    # Ways without a protected value stay open while it is locked.
     unbound, to_owner, bound, to_lockout, told, bound_policy = sessions
     tpm.chapter(f"What is no try, {name}.")
     others = (
         ("On TPM_RH_OWNER, bound to nothing", tpm.change_auth, (RH_OWNER, OWNER, unbound), 1),
         ("Bound to TPM_RH_OWNER", tpm.change_auth, (RH_OWNER, OWNER, to_owner), 1),
         ("The password of TPM_RH_OWNER", tpm.change_auth, (RH_OWNER, OWNER, OWNER), 1),
-        ("Bound to TPM_RH_OWNER, where it authorizes nothing", tpm.random, (2, to_owner), 1),
+        (
+            "Bound to TPM_RH_OWNER, in an entry that authorizes nothing",
+            tpm.random,
+            (2, to_owner),
+            1,
+        ),
         ("On PCR 16, bound to TPM_RH_OWNER", tpm.reset, (to_owner,), 1),
-        ("Behind a session that is bound to TPM_RH_OWNER", tpm.reset, (to_owner, unbound), 2),
+        ("After a session that is bound to TPM_RH_OWNER", tpm.reset, (to_owner, unbound), 2),
     )
     for words, prepare, arguments, place in others:
         tpm.refused(f"{words}: wrong: BAD_AUTH/s{place}", wrong(prepare(*arguments), place))
@@ -104,7 +109,7 @@ def check(name, handle, use):
 
 
 def policy_without_value():
-    """A policy that asks for no value is no try, whatever its hmac."""
+    """A policy that demands no value is not a try, whatever its HMAC is."""
     tpm.chapter("A policy that asks for no authorization value, and a session bound to nothing.")
     digest = policy.after_locality(SHA256, bytes(32), 1)
     tpm.define("An index with this policy", area(SECOND, BY_POLICY, auth_policy=digest))

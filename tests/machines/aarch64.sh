@@ -1,5 +1,5 @@
-# The program for ARM64, in qemu: every third script of tests/ answers and traces as its files say, or with
-# EVERY=1 each. A device in a folder and an image are read by both machines.
+# The program for ARM64, in qemu: every third script of tests/, or with EVERY=1 each, prints the responses and
+# traces of its files. Both machines read each other's device in a folder and image.
 tests=$(cd "$(dirname "$0")/.." && pwd -P)
 . "$tests/common/cases.sh"
 needs qemu-aarch64
@@ -14,7 +14,7 @@ arm() {
     qemu-aarch64 -L /usr/aarch64-linux-gnu "$arm" "$@"
 }
 
-# compare NAME: whether a script answers, traces and ends as its files say.
+# compare NAME: whether a script prints the responses and traces of its files, and ends as they say.
 compare() {
     base=${1%.tpm}
     wanted=0

@@ -1,6 +1,6 @@
-# The two commands of the README on an ARM64 machine: a copy of the repository, where uname names that
-# machine, and programs for it run in qemu, in a namespace of their own. What is verified there is its
-# program, and not the one for x86-64.
+# The two commands of the README on an ARM64 machine: a copy of the repository, where uname names that machine,
+# and programs for it run in qemu, in a namespace of their own. There the launcher verifies the program for
+# ARM64, and not the one for x86-64.
 tests=$(cd "$(dirname "$0")/.." && pwd -P)
 . "$tests/common/cases.sh"
 needs git qemu-aarch64 unshare

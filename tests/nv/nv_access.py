@@ -1,12 +1,12 @@
-"""Writes nv_access.tpm. Each attribute for writing and reading alone, with each kind of authHandle:
-the owner, the platform, the index itself and another one. By passwords, which a policy is not.
+"""Writes nv_access.tpm. Each attribute for writing and reading by itself, with each kind of
+authHandle: the owner, the platform, the index itself and another one. By passwords, not policies.
 """
 
 from tests.common.vocabulary import area, bits, BY_POLICY, BY_VALUE, counter, extended, FIRST, LOCKS
 from tests.common.vocabulary import nv, NvAttribute, RH_ENDORSEMENT, RH_LOCKOUT, RH_NULL, RH_OWNER
 from tests.common.vocabulary import RH_PLATFORM, RS_PW, SECOND, Teller, THIRD
 
-# What an index allows by one attribute for writing and one for reading, and who then may.
+# What an index allows by one attribute for writing and one for reading, and who then may do it.
 ALLOWED = (
     (NvAttribute.OWNERWRITE, NvAttribute.OWNERREAD, "owner"),
     (NvAttribute.PPWRITE, NvAttribute.PPREAD, "platform"),
@@ -24,7 +24,7 @@ tpm = Teller(__name__, __doc__)
 
 
 def refusal(asker, allowed):
-    """What a password of an asker comes to, where one kind of asker alone is allowed."""
+    """The outcome of a password of an asker, if only one kind of asker is allowed."""
     if asker == allowed:
         return "SUCCESS"
     return "AUTH_UNAVAILABLE" if asker == "index" else "NV_AUTHORIZATION"
@@ -33,7 +33,7 @@ def refusal(asker, allowed):
 def each_asker(what, allowed, prepare):
     for words, handle, asker in ASKERS:
         tpm.comes_to(f"{words}, {what}: {refusal(asker, allowed)}", prepare(handle))
-    # Another index authorizes by its own attributes, and may not ask for this one.
+    # Another index authorizes by its own attributes, and may not authorize this one.
     tpm.fails(f"Another index that can be written, {what}: NV_AUTHORIZATION", prepare(SECOND))
 
 
@@ -41,7 +41,7 @@ tpm.define("Another index, which can be used by its value", area(SECOND, BY_VALU
 tpm("It is written").writing(SECOND, b"other...")
 for write, read, allowed in ALLOWED:
     tpm.chapter(f"{write.name} alone.")
-    # All changes ask for the same attribute.
+    # All changes need the same attribute.
     for name, make, change in (
         ("An ordinary index", area, lambda it, by: tpm.writing(it, b"x", by=by)),
         ("A counter", counter, tpm.incrementing),
@@ -64,7 +64,7 @@ for write, read, allowed in ALLOWED:
     session = tpm.policy("A policy session")
     each_asker("TPM2_PolicyNV", allowed, lambda by: tpm.comparing(session, FIRST, b"w", by=by))
     tpm("It is flushed").flush(session)
-    session = tpm.policy("Another, to be told TPM2_PolicySecret")
+    session = tpm.policy("Another one, for TPM2_PolicySecret")
     said = tpm(f"TPM2_PolicySecret of the index: {refusal('index', allowed)}")
     said.secret(session, tpm.auth_value(FIRST), of=FIRST)
     tpm("It is flushed").flush(session)

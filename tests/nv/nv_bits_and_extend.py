@@ -1,5 +1,5 @@
-"""Writes nv_bits_and_extend.tpm. Indices of bits, in which TPM2_NV_SetBits sets more and more, and
-indices that are extended as PCRs are, each by its own hash algorithm.
+"""Writes nv_bits_and_extend.tpm. Indices of bits, in which TPM2_NV_SetBits sets more and more bits;
+and indices that are extended like PCRs, each with its own hash algorithm.
 """
 
 from tests.common.vocabulary import bits, BY_OWNER, digest, digest_bytes, extended, FIRST, frames
@@ -53,11 +53,11 @@ for index, (algorithm, name) in enumerate(HASHES, THIRD):
     wrong = tpm.extending(index, bytes(1025), by=RH_OWNER)
     tpm.fails("By 1,025 bytes: SIZE/p1", wrong)
     tpm.fails("By 1,024 that are cut: INSUFFICIENT/p1", wrong.but(parameters=b"\4\0" + bytes(1023)))
-    tpm.fails("A byte behind the data: SIZE", wrong.but(parameters=frames.sized(b"abc") + b"d"))
-    tpm.read("It is as it was", index, value, by=RH_OWNER)
+    tpm.fails("A byte after the data: SIZE", wrong.but(parameters=frames.sized(b"abc") + b"d"))
+    tpm.read("It is unchanged", index, value, by=RH_OWNER)
     tpm.read("A piece of it", index, value[3:9], offset=3, by=RH_OWNER)
 
-tpm.chapter("At the next start the first is as it was, and the second is not written any more.")
+tpm.chapter("At the next start the first is unchanged, and the second is not written any more.")
 tpm.power_cycle()
 tpm.read("TPM2_NV_Read of the first", FIRST, b"\xff" * 8, by=RH_OWNER)
 tpm("Of the second: NV_UNINITIALIZED").reading(SECOND, 8, by=RH_OWNER)

@@ -1,5 +1,5 @@
 """Writes nv_change_auth.tpm. TPM2_NV_ChangeAuth: an index is authorized in the ADMIN role, which
-takes a policy with TPM2_PolicyCommandCode of this very command.
+needs a policy with TPM2_PolicyCommandCode of this very command.
 """
 
 from tests.common.steps import AFTER_AUTH_VALUE, Steps, with_value
@@ -11,7 +11,7 @@ tpm = Steps(__name__, __doc__, tries=True)
 
 
 def changing_policy(algorithm=SHA256, before=None):
-    """The digest of TPM2_PolicyCommandCode, behind what was asserted before."""
+    """The digest of TPM2_PolicyCommandCode after earlier assertions."""
     old = before or bytes(digest_bytes(algorithm))
     return policy.after_command_code(algorithm, old, CC.NV_ChangeAuth)
 
@@ -35,7 +35,7 @@ tpm("By it: ATTRIBUTES/s1").changing_auth(FIRST, b"new", trial)
 tpm("TPM2_PolicyCommandCode of TPM2_NV_Write").command_code(session, CC.NV_Write)
 tpm("By this session: POLICY_CC/s1").changing_auth(FIRST, b"new", session)
 tpm.restarts(session)
-tpm("The value is as it was: TPM2_NV_Write by it").writing(FIRST, b"x")
+tpm("The value is unchanged: TPM2_NV_Write by it").writing(FIRST, b"x")
 
 tpm.chapter("By the policy.")
 told(session)
@@ -44,12 +44,12 @@ tpm.digest_is("The policy counts once", session, zeros(session))
 tpm("Again: POLICY_FAIL/s1").changing_auth(FIRST, b"newer", session)
 tpm("TPM2_NV_Write by the old value: AUTH_FAIL/s1").writing(FIRST, b"y", b"old")
 tpm("By the new one").writing(FIRST, b"y")
-tpm.is_now("Its Name is as it was, as no value is in it", FIRST)
+tpm.is_now("Its Name is unchanged, as it contains no value", FIRST)
 told(session)
 tpm("To the empty one").changing_auth(FIRST, b"", session)
 tpm.read("TPM2_NV_Read by the empty password", FIRST, b"y")
 told(session)
-tpm('To "a" and zeros behind it').changing_auth(FIRST, b"a" + bytes(31), session)
+tpm('To "a" and zeros after it').changing_auth(FIRST, b"a" + bytes(31), session)
 tpm.read("They do not count", FIRST, b"y", b"a")
 tpm.power_cycle()
 tpm.read("It outlives a power cycle", FIRST, b"y", b"a")
@@ -105,7 +105,7 @@ for algorithm, name in HASHES:
     said.fails(*(wrong.but(parameters=it) for it in (b"", b"\0", b"\0\1", b"\0\x20" + bytes(31))))
     said = tpm("33 bytes, whole or cut: SIZE/p1")
     said.fails(wrong.but(parameters=sized(bytes(33))), wrong.but(parameters=number(33, 2)))
-    tpm.fails("A byte behind it: SIZE", wrong.but(parameters=sized(b"a") + b"\0"))
+    tpm.fails("A byte after it: SIZE", wrong.but(parameters=sized(b"a") + b"\0"))
     if algorithm == SHA1:
         longer = (tpm.changing_auth(FIRST, b"a" * it, session) for it in (21, 32))
         tpm.fails("21 and 32 bytes: SIZE/p1", *longer)
@@ -144,7 +144,7 @@ tpm("TPM2_NV_Write by it").writing(FIRST, b"x")
 tpm.chapter("A session that was bound to the index is so while it has the value of then.")
 bound = tpm.start("An HMAC session that is bound to it", bind=FIRST)
 tpm("TPM2_NV_Write by it").writing(FIRST, b"y", bound)
-said = tpm("TPM2_NV_ChangeAuth, with this session beside the one that authorizes")
+said = tpm("TPM2_NV_ChangeAuth, with this session in addition to the one that authorizes")
 said.changing_auth(FIRST, b"another", both_told(), bound)
 tpm("TPM2_NV_Write: the new value is in the hmac's key").writing(FIRST, b"z", bound)
 tpm("Back to the value of then").changing_auth(FIRST, b"open", both_told())

@@ -1,5 +1,5 @@
-"""Writes nv_counters.tpm. Counters. A new one begins behind the largest value that any counter ever
-had, so that none has a value twice. Index 01000002 has the attributes 00020012.
+"""Writes nv_counters.tpm. Counters. A new one begins after the largest value that any counter ever
+had, so that no value occurs twice. Index 01000002 has the attributes 00020012.
 """
 
 from tests.common.vocabulary import area, BY_OWNER, counter, FIRST, FOURTH, number, NvAttribute
@@ -9,7 +9,7 @@ tpm = Teller(__name__, __doc__)
 
 
 def count(what, index, value, times=1):
-    """Increments a counter so often, and reads it."""
+    """Increments a counter `times` times, and reads it."""
     for words in (what, *[""] * (times - 1)):
         tpm(words).incrementing(index, by=RH_OWNER)
     tpm.read(f"It is {value}", index, number(value, 8), by=RH_OWNER)
@@ -31,23 +31,23 @@ said.reading(SECOND, 8, by=RH_OWNER)
 count("Three times TPM2_NV_Increment", SECOND, 3, times=3)
 define_again("It is defined again", SECOND)
 tpm("TPM2_NV_Read: NV_UNINITIALIZED").reading(SECOND, 8, by=RH_OWNER)
-count("TPM2_NV_Increment: it goes on behind 3", SECOND, 4)
+count("TPM2_NV_Increment: it goes on after 3", SECOND, 4)
 assert tpm.last.response == bytes.fromhex(
     "8002 0000001D 00000000 0000000A 0008 0000000000000004 0000 01 0000"
 )
 
 tpm.chapter("Two counters side by side.")
 define("Another counter, of SHA-1", FIRST, algorithm=SHA1)
-count("The other begins behind the first", FIRST, 5)
+count("The other begins after the first", FIRST, 5)
 count("The first goes on by its own value", SECOND, 5)
 count("And on", SECOND, 7, times=2)
-count("So does the other, which is behind it now", FIRST, 6)
+count("So does the other, which is after it now", FIRST, 6)
 define("A third one", THIRD)
-count("It begins behind the largest of the two", THIRD, 8)
+count("It begins after the largest of the two", THIRD, 8)
 count("The other again", FIRST, 7)
 tpm("The third is undefined").undefining(THIRD)
 define("A fourth one", FOURTH)
-count("It begins behind what the third had", FOURTH, 9)
+count("It begins after what the third had", FOURTH, 9)
 count("The first", SECOND, 8)
 
 tpm.chapter("A counter that is defined and not incremented changes nothing.")
@@ -62,7 +62,7 @@ for index, value in ((FIRST, 7), (SECOND, 8), (FOURTH, 10)):
 count("The first", SECOND, 9)
 define_again("Another one again", FIRST)
 tpm.power_cycle()
-count("It begins behind the largest", FIRST, 11)
+count("It begins after the largest", FIRST, 11)
 
 tpm.chapter("Its bytes are read as those of any index.")
 tpm.read("The last byte", FIRST, b"\x0b", offset=7, by=RH_OWNER)

@@ -28,7 +28,7 @@ def unfitting(words, *publics, **more):
 
 
 def raw(text):
-    """The parameters are the text."""
+    """The command with these parameters."""
     return tpm.defining(area()).but(parameters=text)
 
 
@@ -64,7 +64,7 @@ def sizes():
             unfitting("auth of 21 bytes: SIZE/p1", of(), auth=b"a" * 21)
             unfitting("Of 32: SIZE/p1", of(), auth=b"a" * 32)
         fitting(f"auth of {size} bytes", of(), auth=b"a" * size)
-        fitting("auth of a byte, and zeros behind it up to 32", of(), auth=b"a" + bytes(31))
+        fitting("auth of a byte, and zeros after it up to 32", of(), auth=b"a" + bytes(31))
         fitting("auth of 32 zeros", of(), auth=bytes(32))
         case = "authPolicy of any size but a digest's: SIZE/p2"
         unfitting(case, *(of(auth_policy=b"p" * it) for it in range(1, 33) if it != size))
@@ -87,7 +87,7 @@ tpm.chapter("The parameters: auth and publicInfo.")
 good = sized(area().text)
 said = tpm("auth that is cut: before its size, within it, and within its bytes: INSUFFICIENT/p1")
 said.fails(*(raw(it) for it in (b"", b"\0", b"\0\1", b"\0\x20" + bytes(31))))
-said = tpm("auth of 33 bytes, whole or cut, also where they are zeros: SIZE/p1")
+said = tpm("auth of 33 bytes, whole or cut, even if they are zeros: SIZE/p1")
 said.fails(raw(sized(b"a" * 33) + good), raw(sized(bytes(33)) + good), raw(number(33, 2)))
 empty = sized(b"")
 case = "publicInfo that is cut: before its size, within it, and within its bytes: INSUFFICIENT/p2"
@@ -95,9 +95,9 @@ tpm.fails(case, *(raw(empty + it) for it in (b"", b"\0", good[:-1], b"\xff\xff")
 text = area().text
 said = tpm("Its size does not reach to the end of its fields: SIZE/p2")
 said.fails(*(raw(empty + sized(text[:length])) for length in range(len(text))))
-said = tpm("Its size reaches beyond them, or dataSize is behind it: SIZE/p2")
+said = tpm("Its size reaches beyond them, or dataSize is after it: SIZE/p2")
 said.fails(raw(empty + sized(text + b"\0")), raw(empty + sized(text[:-2]) + text[-2:]))
-tpm.fails("A byte behind publicInfo: SIZE", raw(empty + good + b"\0"))
+tpm.fails("A byte after publicInfo: SIZE", raw(empty + good + b"\0"))
 others = 0, 0x0000_0001, 0x0200_0001, RH_OWNER, 0x8100_0001, 0xFFFF_FFFF
 unfitting("nvIndex that is no handle of an index: VALUE/p2", *map(area, others))
 reserved = (1 << 8, 1 << 9, *(BY_OWNER | 1 << it for it in range(20, 25)))

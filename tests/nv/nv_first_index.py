@@ -28,7 +28,7 @@ tpm.is_now("TPM2_NV_ReadPublic: it has WRITTEN now, and so another Name", FIRST)
 tpm("TPM2_NV_Write of eight bytes at offset 1: NV_RANGE").writing(FIRST, bytes(8), offset=1)
 tpm("TPM2_NV_WriteLock, without WRITEDEFINE and WRITE_STCLEAR: ATTRIBUTES/h2").write_locking(FIRST)
 tpm("TPM2_NV_ReadLock, without READ_STCLEAR: ATTRIBUTES/h2").read_locking(FIRST)
-tpm.read("It is as it was", FIRST, b"\xff\xff\x5a\xff\xff\xff\xff\xff")
+tpm.read("It is unchanged", FIRST, b"\xff\xff\x5a\xff\xff\xff\xff\xff")
 
 tpm.chapter("It is written piece by piece.")
 for what, data, offset in (
@@ -36,14 +36,14 @@ for what, data, offset in (
     ("At the beginning", b"abc", 0),
     ("Across what is written", b"BCD", 1),
     ("No bytes, in the middle", b"", 4),
-    ("No bytes, behind the last", b"", 8),
+    ("No bytes, after the last", b"", 8),
 ):
     tpm(what).writing(FIRST, data, offset=offset)
 tpm.read("TPM2_NV_Read", FIRST, WHOLE)
 tpm.read("A piece", FIRST, WHOLE[1:4], offset=1)
 tpm.read("The last byte", FIRST, WHOLE[7:], offset=7)
 tpm.read("No bytes", FIRST, b"")
-tpm.read("No bytes, behind the last", FIRST, b"", offset=8)
+tpm.read("No bytes, after the last", FIRST, b"", offset=8)
 AT_END, FAR = ((1, 8), (0, 9)), (1024, 0xFFFF)
 tpm.fails(
     "TPM2_NV_Read past the end: of nine bytes, of eight at 1, of one at 8, of none at 9, and of "
@@ -59,7 +59,7 @@ tpm.fails(
 tpm.chapter("Passwords, and the owner, who has neither OWNERWRITE nor OWNERREAD.")
 tpm("A wrong password of what is protected from guessing: AUTH_FAIL/s1").reading(FIRST, 8, b"b")
 tpm("The empty password: AUTH_FAIL/s1").writing(FIRST, b"x", b"")
-tpm.read("The right one with zeros behind it", FIRST, WHOLE, b"a\0\0")
+tpm.read("The right one with zeros after it", FIRST, WHOLE, b"a\0\0")
 tpm("TPM2_NV_Read by the owner: NV_AUTHORIZATION").reading(FIRST, 8, by=RH_OWNER)
 tpm("TPM2_NV_Write by the owner: NV_AUTHORIZATION").writing(FIRST, b"x", by=RH_OWNER)
 tpm.fails("No sessions: AUTH_MISSING", tpm.reading(FIRST, 8).but(entries=[]))

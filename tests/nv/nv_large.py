@@ -1,4 +1,4 @@
-"""Writes nv_large.tpm. 1,024 bytes are written and read at once; an index of 2,048 takes two
+"""Writes nv_large.tpm. 1,024 bytes are written and read at once; an index of 2,048 bytes needs two
 commands.
 """
 
@@ -13,7 +13,7 @@ writing, reading, read = (partial(it, by=RH_OWNER) for it in (tpm.writing, tpm.r
 
 
 def some(size, seed=b""):
-    """So many bytes, no two pieces of which are the same."""
+    """Bytes of this size, no two pieces of which are the same."""
     digests = (hashlib.sha256(seed + number(it, 4)).digest() for it in range(size // 32 + 1))
     return b"".join(digests)[:size]
 
@@ -56,7 +56,7 @@ case = "TPM2_NV_Read of 1,024 bytes past the end: NV_RANGE"
 tpm.fails(case, reading(SECOND, 1024, offset=1025), reading(FIRST, 1024, offset=1))
 case = "TPM2_NV_Write of 1,024 bytes past the end: NV_RANGE"
 tpm.fails(case, writing(SECOND, bytes(1024), offset=1025), writing(FIRST, bytes(1024), offset=1))
-read("The first is as it was", FIRST, data)
+read("The first is unchanged", FIRST, data)
 
 tpm.chapter("WRITEALL: all bytes at once.")
 public = area(THIRD, BY_OWNER | NvAttribute.WRITEALL, size=1024)

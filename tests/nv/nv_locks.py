@@ -1,6 +1,6 @@
-"""Writes nv_locks.tpm. Locks: WRITEDEFINE locks an index against writing for good, once it is
-written; WRITE_STCLEAR and READ_STCLEAR lock it until the next start. CLEAR_STCLEAR has it not
-written at each start.
+"""Writes nv_locks.tpm. Locks: WRITEDEFINE locks a written index against writing for good.
+WRITE_STCLEAR and READ_STCLEAR lock an index until the next start. CLEAR_STCLEAR makes it unwritten
+at each start.
 """
 
 import contextlib
@@ -145,7 +145,7 @@ with defined(CLEARED | DEFINE):
 tpm.chapter("With all of them.")
 with defined(CLEARED | DEFINE | WRITE_CLEAR | READ_CLEAR):
     takes(write, write_lock, read_lock, not_written, not_read, start)
-    is_now("It is as it was defined", WRITTEN | WRITE_LOCKED | READ_LOCKED)
+    is_now("It is as defined", WRITTEN | WRITE_LOCKED | READ_LOCKED)
     takes(without_data, write, read)
 
 tpm.chapter("It is TPM2_Startup that opens, not the power; what is not started cannot be asked.")

@@ -1,5 +1,5 @@
-"""Writes nv_policies.tpm. Indices and policy sessions: POLICYWRITE and POLICYREAD let the policy of
-an index authorize what is asked of it.
+"""Writes nv_policies.tpm. Indices and policy sessions: with POLICYWRITE and POLICYREAD the policy
+of an index can authorize writing and reading it.
 """
 
 from tests.common.steps import AFTER_AUTH_VALUE, Steps, with_value
@@ -13,7 +13,7 @@ BY_KNOWING = AFTER_AUTH_VALUE[SHA256]
 
 tpm = Steps(__name__, __doc__, tries=True)
 
-# Every command that an index can authorize, on itself, and whether it asks for what allows to read.
+# Every command that an index can authorize, on itself, and whether it needs the right to read.
 COMMANDS = (
     ("TPM2_NV_Write", False, lambda by: tpm.writing(FIRST, DATA, by)),
     ("TPM2_NV_WriteLock", False, lambda by: tpm.write_locking(FIRST, by)),
@@ -69,7 +69,7 @@ def by_code_and_pcrs():
     tpm("The session is flushed").flush(session)
 
 
-told = tpm.policy("A session that TPM2_PolicyNV and TPM2_PolicySecret are told to")
+told = tpm.policy("A session with TPM2_PolicyNV and TPM2_PolicySecret")
 
 for algorithm, name in HASHES:
     tpm.chapter(f"TPM2_PolicyAuthValue and TPM2_PolicyPassword, of {name}.")
@@ -119,7 +119,7 @@ for name, _, prepare in COMMANDS:
     tpm.fails(f"{name} by a policy session: AUTH_UNAVAILABLE", prepare(session))
 for name, _, prepare in USES:
     tpm.does(f"{name} by the password", prepare(b"a"))
-tpm("TPM2_PolicyRestart of the session that was told").restart(told)
+tpm("TPM2_PolicyRestart of the session with assertions").restart(told)
 tpm.undefines(FIRST)
 
 tpm.chapter("With all attributes and a policy, each way is open.")
@@ -172,7 +172,7 @@ for words, asker in (
 trial = tpm.trial("A trial session")
 tpm("TPM2_PolicyAuthValue").auth_value_told(trial)
 tpm("By it: ATTRIBUTES/s1").writing(FIRST, DATA, trial)
-tpm("Also where nothing can: ATTRIBUTES/s1").writing(FIRST, DATA, trial, by=RH_OWNER)
+tpm("Also when nothing can: ATTRIBUTES/s1").writing(FIRST, DATA, trial, by=RH_OWNER)
 tpm("The first is undefined: its policy is nobody's").undefining(FIRST)
 tpm("The second").writing(SECOND, DATA, tpm.by_value(session))
 said = tpm("TPM2_NV_Write through the session, which then returns to its start")

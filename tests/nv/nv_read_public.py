@@ -1,5 +1,5 @@
 """Writes nv_read_public.tpm. TPM2_NV_ReadPublic needs no authorization. It answers the public area
-with the attributes of now, and the Name, which is nameAlg and the digest of the public area.
+with the present attributes, and the Name, which is nameAlg and the digest of the public area.
 """
 
 from tests.common.vocabulary import area, BY_OWNER, BY_VALUE, counter, DECRYPTS, digest
@@ -50,7 +50,7 @@ encrypting = tpm.start("One that is bound to the other index, with AES", bind=SE
 tpm.is_now("With both", SECOND, plain, encrypting)
 tpm.is_now("The public area encrypted", SECOND, encrypting.encrypting, plain)
 tpm("With a password: HANDLE/s1").index_public(SECOND, b"a")
-said = tpm("With decrypt, where no parameter is: ATTRIBUTES/s1")
+said = tpm("With decrypt, without a parameter: ATTRIBUTES/s1")
 said.fails(tpm.index_public(SECOND, plain).but_entry(1, attributes=DECRYPTS))
 tpm.fails(
     "A wrong hmac, which is no try of the index's value, but the session's key was made of that: "
@@ -68,4 +68,4 @@ others = RH_OWNER, 0, 0x8000_0000, 0x8100_0000, encrypting.handle
 tpm.fails(case, *(right.but(handles=[it]) for it in others))
 said = tpm("Indices that are not defined: HANDLE/h1")
 said.fails(*(right.but(handles=[it]) for it in (0x0100_0000, 0x0100_0003, 0x01FF_FFFF)))
-tpm.fails("A byte behind the handle: SIZE", right.but(parameters=b"\0"))
+tpm.fails("A byte after the handle: SIZE", right.but(parameters=b"\0"))

@@ -1,5 +1,5 @@
 """Writes nv_sessions.tpm. NV indices and HMAC sessions: the Name of an index, which its first write
-changes, is in the hmacs and in what a session is bound to.
+changes, is part of the HMACs and of the binding of a session.
 """
 
 from tests.common.vocabulary import area, bits, BY_OWNER, BY_VALUE, CC, counter, DECRYPTS, ENCRYPTS
@@ -33,7 +33,7 @@ def sent_again():
     start = tpm.prepare(CC.StartAuthSession, *frames.start_auth_session(nonce))
 
     def start_session(what):
-        """Each time with the same bytes and the same random bytes."""
+        """Starts a session, each time with the same bytes and the same random bytes."""
         tpm.chapter(f"{what}.")
         tpm.script.entropy(b"the start's own")
         answer = tpm.received(start, tpm.says("TPM2_StartAuthSession: SUCCESS", start))
@@ -85,7 +85,7 @@ tpm.define("An index", area(FIRST, BY_VALUE), auth=b"a")
 session = tpm.start("A session")
 before = tpm.writing(FIRST, DATA, session)
 tpm("TPM2_NV_Write by the password").writing(FIRST, DATA)
-tpm.fails("By the session, as it was prepared before: AUTH_FAIL/s1", before)
+tpm.fails("By the session, as prepared before: AUTH_FAIL/s1", before)
 tpm("With the Name of now").writing(FIRST, DATA, session)
 tpm.define("Another index with the same value", area(SECOND, BY_VALUE), auth=b"a")
 prepared = tpm.writing(FIRST, DATA, session)
@@ -99,7 +99,7 @@ undefine(FIRST, SECOND)
 
 tpm.chapter(
     "A session that is bound to an index before its first write. The command's hmac is without "
-    "the value; as the Name is another then, the response's has it in its key."
+    "the value; as the Name then differs, the response's has it in its key."
 )
 tpm.define("An index", area(FIRST, BY_VALUE | LOCKS), auth=b"a")
 session = tpm.start("A session that is bound to it", bind=FIRST)
@@ -130,7 +130,9 @@ def is_wrong(words, prepared):
 case = "A wrong hmac on the second, which has NO_DA, is a try at the first: AUTH_FAIL/s1"
 is_wrong(case, tpm.writing(SECOND, DATA, session))
 other = tpm.start("A session that is bound to the second", bind=SECOND)
-is_wrong("A wrong hmac by it on the second is none: BAD_AUTH/s1", tpm.writing(SECOND, DATA, other))
+is_wrong(
+    "A wrong hmac by it on the second is not a try: BAD_AUTH/s1", tpm.writing(SECOND, DATA, other)
+)
 is_wrong("On the first it is: AUTH_FAIL/s1", tpm.writing(FIRST, DATA, other))
 case = "A wrong hmac by the first session on TPM_RH_OWNER: AUTH_FAIL/s1"
 is_wrong(case, tpm.undefining(FIRST, session))
@@ -154,7 +156,7 @@ for name, use in (("the bound session", session), ("the other", plain)):
     tpm.read("TPM2_NV_Read with its answer encrypted", FIRST, DATA, use.encrypting)
     tpm("TPM2_NV_Extend").extending(SECOND, DATA, use.decrypting)
     tpm.is_now("TPM2_NV_ReadPublic", SECOND, use.encrypting)
-said = tpm("The password authorizes, and a session beside it encrypts")
+said = tpm("The password authorizes, and a session next to it encrypts")
 said.writing(FIRST, b"8 others", b"hidden", session.decrypting)
 tpm.read("So in TPM2_NV_Read", FIRST, b"8 others", b"hidden", owner.encrypting)
 tpm.read("One session authorizes, another encrypts", FIRST, b"8 others", plain, owner.encrypting)
@@ -175,14 +177,14 @@ write = tpm.writing(FIRST, DATA, session)
 changes = tpm.setting(THIRD, 1, session), tpm.incrementing(FOURTH, session)
 others = tpm.write_locking(FIRST, session), tpm.undefining(FIRST, owner)
 tpm.fails(
-    "decrypt, where the first parameter is no sized buffer or none: TPM2_NV_Read, "
+    "decrypt, but the first parameter is no sized buffer or missing: TPM2_NV_Read, "
     "TPM2_NV_SetBits, TPM2_NV_Increment, TPM2_NV_WriteLock and TPM2_NV_UndefineSpace: "
     "ATTRIBUTES/s1",
     *bent(DECRYPTS, read, *changes, *others),
 )
 others = tpm.extending(SECOND, DATA, session), tpm.defining(area(0x0100_0006), owner)
 tpm.fails(
-    "encrypt, where nothing is answered: TPM2_NV_Write, TPM2_NV_Extend and TPM2_NV_DefineSpace: "
+    "encrypt, but nothing is answered: TPM2_NV_Write, TPM2_NV_Extend and TPM2_NV_DefineSpace: "
     "ATTRIBUTES/s1",
     *bent(ENCRYPTS, write, *others),
 )

@@ -1,5 +1,6 @@
-"""Writes nv_types.tpm. An ordinary index is written, a counter incremented, bits are set, and what
-is extended is extended. Every other change is refused, before the first one and after it.
+"""Writes nv_types.tpm. Each type of index allows one change: an ordinary one is written, a counter
+incremented, bits are set, and the others are extended. Every other change is refused, before the
+first one and after it.
 """
 
 from tests.common.vocabulary import area, bits, BY_OWNER, counter, digest, extended, FIRST, number
@@ -17,7 +18,7 @@ CHANGES = {
     "TPM2_NV_Extend": lambda index: tpm.extending(index, SECRET, by=RH_OWNER),
 }
 
-# Each type with what is read behind the only change that fits, in the order of the changes.
+# Each type with what is read after the only change that it allows, in the order of the changes.
 TYPES = (
     ("An ordinary index", area, SECRET),
     ("A counter", counter, number(1, 8)),
@@ -44,7 +45,7 @@ for index, (fitting, (name, make, value)) in enumerate(zip(CHANGES, TYPES), FIRS
     tpm.is_now("It has WRITTEN", index)
     others(index, fitting)
 
-    tpm.read("It is as it was", index, value, by=RH_OWNER)
+    tpm.read("It is unchanged", index, value, by=RH_OWNER)
     said = tpm("TPM2_NV_WriteLock, which none of the attributes allows: ATTRIBUTES/h2")
     said.write_locking(index, by=RH_OWNER)
     tpm("Nor TPM2_NV_ReadLock: ATTRIBUTES/h2").read_locking(index, by=RH_OWNER)

@@ -1,4 +1,6 @@
-"""Writes nv_undefine_space.tpm. TPM2_NV_UndefineSpace: the owner takes its own indices away, the platform all."""
+"""Writes nv_undefine_space.tpm. TPM2_NV_UndefineSpace: the owner removes its indices, the platform
+all.
+"""
 
 from tests.common.vocabulary import area, BY_OWNER, BY_VALUE, CC, FIRST, NvAttribute, RH_ENDORSEMENT
 from tests.common.vocabulary import RH_NULL, RH_OWNER, RH_PLATFORM, SECOND, Teller, THIRD
@@ -32,7 +34,7 @@ tpm("The value of before: AUTH_FAIL/s1").writing(FIRST, b"x", b"a")
 tpm("TPM2_NV_Read: NV_UNINITIALIZED").reading(FIRST, 8)
 tpm("TPM2_NV_Write of a byte").writing(FIRST, b"x")
 tpm.read("TPM2_NV_Read: nothing of before is in it", FIRST, b"x" + b"\xff" * 7)
-tpm("The platform takes away what is the owner's, too").undefining(FIRST, by=RH_PLATFORM)
+tpm("The platform also removes the owner's").undefining(FIRST, by=RH_PLATFORM)
 
 tpm.chapter("Handles, and authorization values.")
 tpm.define("An index of the owner's", area(FIRST, BY_OWNER | NvAttribute.AUTHREAD), auth=b"a")
@@ -40,24 +42,24 @@ right = tpm.undefining(FIRST)
 case = "authHandle that is an index, TPM_RH_ENDORSEMENT, TPM_RH_NULL, a PCR or a session: VALUE/h1"
 others = FIRST, RH_ENDORSEMENT, RH_NULL, 0, 0x0300_0000
 tpm.fails(case, *(right.but(handles=[it, FIRST]) for it in others))
-said = tpm("nvIndex that is none: VALUE/h2")
+said = tpm("nvIndex that is not an index: VALUE/h2")
 said.fails(*(right.but(handles=[RH_OWNER, it]) for it in (RH_OWNER, 0, 0x8000_0000, 0x8100_0000)))
 tpm.fails("An index that is not there: HANDLE/h2", right.but(handles=[RH_OWNER, THIRD]))
 tpm.fails("Without sessions: AUTH_MISSING", right.but(entries=[]))
 tpm('ownerAuth becomes "abc"').change_auth(RH_OWNER, b"abc", b"")
 said = tpm("By the empty password, and by the index's: BAD_AUTH/s1")
 said.fails(right, tpm.undefining(FIRST, b"a"))
-tpm.fails("A byte behind the area: SIZE", tpm.undefining(FIRST).but(parameters=b"\0"))
+tpm.fails("A byte after the area: SIZE", tpm.undefining(FIRST).but(parameters=b"\0"))
 tpm("By the right one").undefining(FIRST)
 
-tpm.chapter("Sessions: one that is bound to the owner, and one beside it.")
+tpm.chapter("Sessions: one that is bound to the owner, and another one.")
 bound = tpm.start("A session that is bound to TPM_RH_OWNER", bind=RH_OWNER)
 tpm.define("An index, defined through it", area(FIRST, BY_VALUE), bound, auth=b"a")
 of_index = tpm.start("A session that is bound to the index", bind=FIRST)
 tpm("TPM2_NV_Write by it").writing(FIRST, b"x", of_index)
 wrong = tpm.undefining(FIRST, bound)
 tpm.fails("A wrong hmac: BAD_AUTH/s1", wrong.but_entry(1, hmac=bytes(32)))
-said = tpm("TPM2_NV_UndefineSpace by the first; the second, whose index it is, stands beside it")
+said = tpm("TPM2_NV_UndefineSpace by the first; the second, whose index it is, is next to it")
 said.undefining(FIRST, bound, of_index)
 tpm("The second is there yet, and only encrypts").random(4, of_index)
 said = tpm("The index is defined again, with the same value")

@@ -1,6 +1,6 @@
 """Writes order_of_nv_refusals.tpm. The order of refusals in the commands on NV indices: a buffer
-with many faults, of which one after the other is repaired. What is answered is the first that is
-left.
+has many faults, which are repaired one after the other. The answer is always the first fault that
+is left.
 """
 
 from tpmsim.standard import handle_kinds
@@ -19,7 +19,7 @@ tpm = OrderTeller(__name__, __doc__, tries=True)
 
 
 def handles_in_order(code, handles):
-    """Each handle cut, of another kind, and absent, with no handle behind it that is right."""
+    """Each handle cut, of another kind, and absent, and no right handle after it."""
     for place, handle in enumerate(handles, 1):
         before = b"".join(number(it, 4) for it in handles[: place - 1])
         is_of_kind = handle_kinds.IS_OF_KIND[code.handles[place - 1].kind]
@@ -35,7 +35,7 @@ def handles_in_order(code, handles):
 
 
 def general_refusals(code, handles, cut, uses):
-    """Up to the parameters, which are `cut` in all of these."""
+    """All refusals up to the parameters, which are always `cut`."""
     handles_in_order(code, handles)
     is_first = handle_kinds.IS_OF_KIND[code.handles[0].kind]
     closed = BY_OTHERS if code.authorized and is_first(BY_OTHERS) else None
@@ -44,7 +44,7 @@ def general_refusals(code, handles, cut, uses):
 
 
 def changes(code, what, index, locked, parameters, faults=(), ranges=()):
-    """One of the four commands that change an index: `locked` is of another type."""
+    """One of the four commands that change an index; `locked` is of another type."""
     tpm.chapter(f"TPM2_{code.name}{what}.")
     uses = [VALUE, Use(session, 1 | DECRYPT) if code.takes_sized else Use(session)]
     general_refusals(code, [index, index], parameters[:-1] or b"\0", uses)
@@ -55,7 +55,7 @@ def changes(code, what, index, locked, parameters, faults=(), ranges=()):
         code,
         uses,
         *((what, outcome, by_owner, text) for what, outcome, text in faults),
-        ("A byte behind the rest", "SIZE", by_owner, out + b"\0"),
+        ("A byte after the rest", "SIZE", by_owner, out + b"\0"),
         ("By the owner, who may not, of a locked index", "NV_AUTHORIZATION", by_owner, out),
         ("By another index", "NV_AUTHORIZATION", [ORDINARY, locked], out),
         ("By the index itself", "NV_LOCKED", [locked, locked], out),
@@ -91,7 +91,7 @@ def define_space():
             "authPolicy of 33 bytes", "SIZE/p2", sized(everything[:10] + sized(bytes(33))) + b"\0"
         ),
         case("dataSize is cut", "SIZE/p2", sized(everything[:-1]) + b"\0"),
-        case("A byte behind publicInfo", "SIZE", sized(everything) + b"\0"),
+        case("A byte after publicInfo", "SIZE", sized(everything) + b"\0"),
         case("auth of 21 bytes, with SHA-1", "SIZE/p1", sized(everything)),
         case("authPolicy of a byte", "SIZE/p2", sized(everything), none),
         case("No attributes", "ATTRIBUTES/p2", defined(attributes=0, size=2049), none),
@@ -131,7 +131,7 @@ def change_auth():
     for words, parameters in (
         ("newAuth is cut: INSUFFICIENT/p1", cut),
         ("It has 33 bytes: SIZE/p1", sized(bytes(33)) + b"\0"),
-        ("A byte behind it: SIZE", sized(b"a" * 21) + b"\0"),
+        ("A byte after it: SIZE", sized(b"a" * 21) + b"\0"),
         ("21 bytes: SIZE/p1", sized(b"a" * 21)),
     ):
         tpm.refused(words, prepared(parameters))
@@ -140,7 +140,7 @@ def change_auth():
 
 
 def policy_in_order(told, both_wrong):
-    """What a policy session was told, and what its two entries come to, both of which are wrong."""
+    """A policy session's assertions, and the outcome of its two entries, which are both wrong."""
 
     def tell_code(code):
         tpm(f"TPM2_PolicyCommandCode of TPM2_{code.name}").command_code(told, code)
@@ -187,7 +187,7 @@ def policy_nv():
         case("offset is cut", "INSUFFICIENT/p2", operand + b"\0"),
         case("operation is cut", "INSUFFICIENT/p3", operand + bytes(3)),
         case("operation C", "VALUE/p3", frames.policy_nv(b"x", 9, 0xC) + b"\0"),
-        case("A byte behind it", "SIZE", far + b"\0"),
+        case("A byte after it", "SIZE", far + b"\0"),
         case("By the owner, who may not", "NV_AUTHORIZATION", far),
         case("By another index", "NV_AUTHORIZATION", far, by=ORDINARY),
         case("Locked, and not written", "NV_LOCKED", far, by=READ_LOCKED),
@@ -233,7 +233,7 @@ general_refusals(code, [RH_OWNER, PLATFORMS], b"\0", uses)
 tpm.in_order(
     code,
     uses,
-    ("A byte behind the area", "SIZE", [RH_OWNER, PLATFORMS], b"\0"),
+    ("A byte after the area", "SIZE", [RH_OWNER, PLATFORMS], b"\0"),
     ("An index of the platform's", "NV_AUTHORIZATION", [RH_OWNER, PLATFORMS], b""),
     ("With nothing wrong", "SUCCESS", [RH_PLATFORM, PLATFORMS], b""),
 )
@@ -241,7 +241,7 @@ tpm.in_order(
 tpm.chapter("TPM2_NV_ReadPublic, with a session that authorizes nothing.")
 general_refusals(CC.NV_ReadPublic, [ORDINARY], b"\0", [Use(session)])
 wrong_size = tpm.index_public(ORDINARY, session).handles
-tpm("A byte behind the handle: SIZE").prepare(CC.NV_ReadPublic, wrong_size, b"\0", session)
+tpm("A byte after the handle: SIZE").prepare(CC.NV_ReadPublic, wrong_size, b"\0", session)
 tpm.is_now("With nothing wrong", ORDINARY, session)
 
 LONG = sized(bytes(1025))
@@ -267,7 +267,7 @@ tpm.in_order(
     uses,
     ("size is cut", "INSUFFICIENT/p1", [RH_OWNER, READ_LOCKED], far[:1]),
     ("offset is cut", "INSUFFICIENT/p2", [RH_OWNER, READ_LOCKED], far[:3]),
-    ("A byte behind it", "SIZE", [RH_OWNER, READ_LOCKED], far + b"\0"),
+    ("A byte after it", "SIZE", [RH_OWNER, READ_LOCKED], far + b"\0"),
     ("By the owner, who may not", "NV_AUTHORIZATION", [RH_OWNER, READ_LOCKED], far),
     ("By another index", "NV_AUTHORIZATION", [ORDINARY, READ_LOCKED], far),
     ("Locked, and not written", "NV_LOCKED", [READ_LOCKED, READ_LOCKED], far),
@@ -284,7 +284,7 @@ for code in (CC.NV_WriteLock, CC.NV_ReadLock):
     tpm.in_order(
         code,
         uses,
-        ("A byte behind the area", "SIZE", [RH_OWNER, ORDINARY], b"\0"),
+        ("A byte after the area", "SIZE", [RH_OWNER, ORDINARY], b"\0"),
         ("By the owner, who may not", "NV_AUTHORIZATION", [RH_OWNER, ORDINARY], b""),
         ("By another index", "NV_AUTHORIZATION", [COUNTER, ORDINARY], b""),
         ("What cannot be locked", "ATTRIBUTES/h2", [ORDINARY, ORDINARY], b""),

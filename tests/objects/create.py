@@ -1,5 +1,5 @@
-"""Writes create.tpm. TPM2_Create makes an object and gives it out in a private area, which its
-parent alone can load. Nothing of it stays in the device.
+"""Writes create.tpm. TPM2_Create makes an object and returns it in a private area, which only its
+parent can load. Nothing of it stays in the device.
 """
 
 from tpmsim.model import object_rules
@@ -49,8 +49,8 @@ again = tpm.child(parent, sealed(), data=b"secret")
 tpm.says("With the same random bytes it is the same: SUCCESS", again, again)
 
 tpm.chapter(
-    "The random bytes are drawn from the front: a key, where none is given, then the seed, and "
-    "then the first block of the cipher, which stands in the private area. Here they are 00 to ff."
+    "The random bytes are drawn from the front: a key, if none is given, then the seed, and "
+    "then the first block of the cipher, which is in the private area. Here they are 00 to ff."
 )
 RANDOM = bytes(range(256))
 tpm.script.entropy(RANDOM)
@@ -73,7 +73,7 @@ for what, public, data, key_bytes in (
     assert made.unique == digest(public.name_algorithm, seed + key)
     assert (len(private.sized()), private.sized()) == (32, RANDOM[seed_end : seed_end + aes.BLOCK])
 
-tpm.chapter("The nonces of sessions are drawn behind them.")
+tpm.chapter("The nonces of sessions are drawn after them.")
 session = tpm.start("A session", aes=True)
 other = tpm.start("And another")
 tpm.create("TPM2_Create with both", parent, storage_key(), session, other)
@@ -100,7 +100,7 @@ for hierarchy, name in HIERARCHIES:
     ticket_hierarchy, ticket = tpm.ticket
     assert ticket_hierarchy == hierarchy
     if hierarchy in proofs:
-        # The device is manufactured with the bytes 00 to ff: the proofs are the second half.
+        # The device is manufactured with the bytes 00 to ff; the proofs are the second half.
         proof = bytes(range(proofs[hierarchy], proofs[hierarchy] + 32))
         text = number(frames.ST_CREATION, 2) + made.public.name
         assert ticket == mac(SHA256, proof, text + digest(SHA256, tpm.creation_data))
@@ -132,4 +132,4 @@ case = "35 bytes of outsideInfo: SIZE/p3"
 refused(case, tpm.child(parent, sealed(), data=b"x", outside_info=bytes(35)))
 refused("17 banks: SIZE/p4", tpm.child(parent, sealed(), data=b"x", pcrs=17 * [(SHA1, [])]))
 whole = under(parent)
-refused("A byte behind creationPCR: SIZE", whole.but(parameters=whole.parameters + b"\0"))
+refused("A byte after creationPCR: SIZE", whole.but(parameters=whole.parameters + b"\0"))

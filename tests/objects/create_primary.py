@@ -1,4 +1,4 @@
-"""Writes create_primary.tpm. TPM2_CreatePrimary makes an object out of its template and its
+"""Writes create_primary.tpm. TPM2_CreatePrimary makes an object from its template and its
 hierarchy's seed.
 """
 
@@ -102,7 +102,7 @@ tpm(case).primary(RH_OWNER, storage_key(), pcrs=17 * [(SHA1, [])])
 creates("16 of them", RH_OWNER, storage_key(), pcrs=16 * [(SHA256, [23])])
 tpm.flush_objects("It is flushed", FIRST)
 whole = tpm.primary(RH_OWNER, storage_key())
-tpm.says("A byte behind creationPCR: SIZE", whole.but(parameters=whole.parameters + b"\0"))
+tpm.says("A byte after creationPCR: SIZE", whole.but(parameters=whole.parameters + b"\0"))
 
 tpm.chapter("Objects of each type, with data that are given and that are generated.")
 for algorithm, hash_name in HASHES:

@@ -1,6 +1,6 @@
 """Writes evict_control.tpm. TPM2_EvictControl makes a persistent object of a transient one, or
-takes a persistent one away. A persistent object outlives power cycles, has a handle from 81000000
-on, and is used as the transient one was.
+removes a persistent one. A persistent object survives power cycles, has a handle from 81000000 on,
+and is used like the transient one.
 """
 
 from tpmsim.model.capability import HANDLES
@@ -18,7 +18,7 @@ from tests.common.vocabulary import (
 from tests.common.vocabulary import RH_ENDORSEMENT, RH_LOCKOUT, RH_NULL, RH_OWNER, RH_PLATFORM
 from tests.common.vocabulary import sealed, SHA256, storage_key, wrong
 
-# The handles of persistent objects: the owner's are below 81800000, the platform's from there on.
+# Handles of persistent objects: the owner's are below 81800000, the platform's from there on.
 FIRST, OWNERS_LAST, PLATFORMS_FIRST, LAST = 0x8100_0000, 0x817F_FFFF, 0x8180_0000, 0x81FF_FFFF
 OTHER, THIRD = 0x8100_0001, 0x8100_0002
 
@@ -28,7 +28,7 @@ tpm = Steps(__name__, __doc__)
 
 
 def fails(words, *commands):
-    """By the password: who asks, the object, and the persistent handle."""
+    """By the password; with the hierarchy, the object, and the persistent handle."""
     tpm.says(words, *(tpm.evicting(*it, b"") for it in commands))
 
 
@@ -59,12 +59,12 @@ def handles_and_parameter(owners):
     case = "It is no handle of a persistent object: VALUE/p1"
     others = 0, owners, 0x8200_0000, 0x0100_0000, 0xFFFF_FFFF
     fails(case, *((RH_OWNER, owners, it) for it in others))
-    tpm.says("That, and a byte behind it: VALUE/p1", evicting(number(owners, 4) + b"\0"))
-    tpm.says("A byte behind a right one: SIZE", evicting(number(FIRST, 4) + b"\0"))
+    tpm.says("That, and a byte after it: VALUE/p1", evicting(number(owners, 4) + b"\0"))
+    tpm.says("A byte after a right one: SIZE", evicting(number(FIRST, 4) + b"\0"))
 
 
 def in_order():
-    """Each refusal, where those behind it would stand too."""
+    """Each refusal, with the later ones possible too."""
     tpm.chapter("The checks in their order; each command has the later faults too.")
     owners = tpm.owned("An object of the owner", storage_key())
     clears = tpm.owned("One with stClear", CLEARED)
@@ -84,14 +84,14 @@ def in_order():
     fails(case, *((RH_OWNER, it, at) for at in (FIRST, LAST) for it in others))
     tpm.chapter("stClear, and a wrong range.")
     fails(
-        "An object that a start takes away cannot stay: ATTRIBUTES/h2",
+        "An object that a start removes cannot stay: ATTRIBUTES/h2",
         *((RH_OWNER, clears, it) for it in (FIRST, LAST)),
         *((RH_PLATFORM, platforms_clears, it) for it in (LAST, FIRST)),
     )
     tpm.chapter("The range of handles.")
     case, all_owners = "The owner's ends at 817FFFFF: RANGE/p1", (owners, endorsements)
     fails(case, *((RH_OWNER, it, at) for it in all_owners for at in (PLATFORMS_FIRST, LAST)))
-    case = "The platform's begins behind it: RANGE/p1"
+    case = "The platform's begins after it: RANGE/p1"
     fails(case, *((RH_PLATFORM, platforms, it) for it in (FIRST, OWNERS_LAST)))
     return owners, endorsements, platforms
 
@@ -108,7 +108,7 @@ def borders(owners, endorsements, platforms):
         tpm.keep(words, asker, handle, wanted)
     kept_handles("The four", FIRST, OWNERS_LAST, PLATFORMS_FIRST, LAST)
     tpm.chapter("A persistent object is taken away by its own handle.")
-    case = "The owner takes the platform's not away, by whatever handle: HIERARCHY/h2"
+    case = "The owner cannot remove the platform's, by whatever handle: HIERARCHY/h2"
     fails(case, *((RH_OWNER, it, it) for it in (PLATFORMS_FIRST, LAST)), (RH_OWNER, LAST, FIRST))
     fails("The owner's by a handle of the platform: RANGE/p1", (RH_OWNER, FIRST, LAST))
     fails(
@@ -119,10 +119,10 @@ def borders(owners, endorsements, platforms):
     )
     by_owner = (RH_OWNER, owners, FIRST), (RH_OWNER, endorsements, FIRST)
     fails("A handle that is taken: NV_DEFINED", *by_owner, (RH_PLATFORM, platforms, LAST))
-    tpm.remove("The owner takes the last one away", RH_OWNER, OWNERS_LAST)
+    tpm.remove("The owner removes the last one", RH_OWNER, OWNERS_LAST)
     tpm("It is gone: HANDLE/h1").public(OWNERS_LAST)
     kept_handles("Three are left", FIRST, PLATFORMS_FIRST, LAST)
-    tpm.remove("The platform takes away what is the owner's", RH_PLATFORM, FIRST)
+    tpm.remove("The platform removes the owner's", RH_PLATFORM, FIRST)
     for handle in (PLATFORMS_FIRST, LAST):
         tpm.remove("And its own", RH_PLATFORM, handle)
     kept_handles("None")
@@ -139,7 +139,7 @@ handles = [FIRST + 3 * it for it in range(15)] + [LAST]
 for handle in handles[:-1]:
     tpm.keep("Fifteen of the owner" if handle == FIRST else "", RH_OWNER, transient, handle)
 tpm.keep("One of the platform", RH_PLATFORM, platforms, LAST)
-kept_handles("They are there, and the transient ones beside them", *handles)
+kept_handles("They are there, and so are the transient ones", *handles)
 case = "One more, of either: NV_SPACE"
 fails(case, (RH_OWNER, transient, OTHER), (RH_PLATFORM, platforms, PLATFORMS_FIRST))
 fails("At a handle that is taken: NV_DEFINED", (RH_OWNER, transient, FIRST))
@@ -157,7 +157,7 @@ kept_handles("They ascend", *handles)
 tpm.power_cycle()
 kept_handles("A power cycle later", *handles)
 for handle in handles:
-    tpm.remove("The platform takes all away" if handle == FIRST else "", RH_PLATFORM, handle)
+    tpm.remove("The platform removes all" if handle == FIRST else "", RH_PLATFORM, handle)
 kept_handles("None")
 
 tpm.chapter("A persistent object is what the transient one was.")
@@ -209,7 +209,7 @@ tpm('ownerAuth is "owner"').change_auth(RH_OWNER, b"owner", b"")
 session = tpm.start("An HMAC session, bound to TPM_RH_OWNER", RH_OWNER, aes=True)
 tpm.fails("A wrong hmac: BAD_AUTH/s1", wrong(tpm.evicting(RH_OWNER, handle, wanted, session)))
 tpm.keep("The right one", RH_OWNER, handle, wanted, session)
-tpm.remove("It takes it away again", RH_OWNER, wanted, session)
+tpm.remove("It removes it again", RH_OWNER, wanted, session)
 prepared = (tpm.evicting(RH_OWNER, handle, wanted, session) for _ in range(2))
 bent = (it.but_entry(1, attributes=bit) for it, bit in zip(prepared, (DECRYPT, ENCRYPT)))
 tpm.fails("Nothing can be encrypted or decrypted: ATTRIBUTES/s1", *bent)

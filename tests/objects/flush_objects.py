@@ -1,5 +1,5 @@
-"""Writes flush_objects.tpm. TPM2_FlushContext takes a transient object out of the device. There are
-eight places, 80000000 to 80000007, and an object gets the lowest that is free.
+"""Writes flush_objects.tpm. TPM2_FlushContext removes a transient object from the device. There are
+eight places, 80000000 to 80000007; an object gets the lowest free one.
 """
 
 from dataclasses import replace
@@ -30,7 +30,7 @@ tpm.says("Numbers past the eight: HANDLE/p1", *map(tpm.flush, ABSENT[2:]))
 said = tpm("With sessions (tag 8002): AUTH_CONTEXT")
 said.raw(command(CC.FlushContext, frames.area(frames.entry()) + number(parent, 4), frames.SESSIONS))
 tpm.raw("Three bytes of a handle: INSUFFICIENT/p1", command(CC.FlushContext, b"\x80\0\0"))
-tpm.raw("A byte behind it: SIZE", command(CC.FlushContext, number(parent, 4) + b"\0"))
+tpm.raw("A byte after it: SIZE", command(CC.FlushContext, number(parent, 4) + b"\0"))
 
 tpm.chapter("In any order. The lowest place that is free is taken first.")
 for places in ((7,), (0,), (3, 1), (2, 5, 4), (6, 0, 7)):
@@ -47,7 +47,7 @@ for places in ((7,), (0,), (3, 1), (2, 5, 4), (6, 0, 7)):
 tpm.chapter("All of them.")
 tpm.flush_objects("From the last to the first", *range(FIRST + 7, FIRST - 1, -1))
 tpm.says("There is none: HANDLE/p1", *map(tpm.flush, range(FIRST, FIRST + PLACES)))
-tpm.chapter("A refused command leaves an object where it is, and a place free.")
+tpm.chapter("A refused command removes no object, and takes no place.")
 parent = tpm.create_primary("A storage key, 80000000", RH_OWNER, storage_key())
 tpm("TPM2_CreatePrimary by a wrong password: BAD_AUTH/s1").primary(RH_OWNER, sealed(), b"x")
 said = tpm("TPM2_Load with another private area: INTEGRITY/p1")

@@ -1,5 +1,6 @@
-"""Writes hmac_keys.tpm. TPM2_HMAC makes an HMAC of a buffer by an object that is a key for it: of
-the hash algorithm of its scheme, or with scheme NULL of the one that the command names.
+"""Writes hmac_keys.tpm. TPM2_HMAC makes an HMAC of a buffer with an object that is a key for it. The
+hash algorithm is that of the scheme of the key; if that scheme is NULL, the command names the hash
+algorithm.
 """
 
 from tests.common.steps import aes_key, RESTRICTED_KEY, Steps
@@ -64,7 +65,7 @@ cut("A buffer that is cut, and half a size: INSUFFICIENT/p1", number(1024, 2) + 
 cut("No hashAlg, and half of one: INSUFFICIENT/p2", sized(b"text"), sized(b"text") + b"\0")
 words = "hashAlg is neither SHA-1 nor SHA-256 nor TPM_ALG_NULL: SHA-384, HMAC, none: HASH/p2"
 refused(words, *(tpm.hmac(key, b"text", it) for it in (0x000C, 0x0005, 0, 0xFFFF)))
-cut("A byte behind it: SIZE", whole.parameters + b"\0")
+cut("A byte after it: SIZE", whole.parameters + b"\0")
 tpm.needs_entries(CC.HMAC, key, whole.parameters)
 refused("By another value: BAD_AUTH/s1", tpm.hmac(key, b"text", SHA256, b"b"))
 tpm.flush_objects("It is flushed", key)

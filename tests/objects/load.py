@@ -1,4 +1,4 @@
-"""Writes load.tpm. TPM2_Load takes a private and a public area that TPM2_Create gave for this
+"""Writes load.tpm. TPM2_Load takes a private and a public area that TPM2_Create returned for this
 parent.
 """
 
@@ -80,7 +80,7 @@ cut = (whole.but(parameters=it) for it in (number(257, 2), b"\xff\xff"))
 refused(case, tpm.loading(parent, long), *cut)
 others = (replace(made, private=it) for it in (bytes(256), b""))
 refused("Of 256 bytes, and empty: INTEGRITY/p1", *(tpm.loading(parent, it) for it in others))
-refused("A byte behind inPublic: SIZE", whole.but(parameters=whole.parameters + b"\0"))
+refused("A byte after inPublic: SIZE", whole.but(parameters=whole.parameters + b"\0"))
 case = "inPrivate reaches beyond the command: INSUFFICIENT/p1"
 refused(case, whole.but(parameters=number(256, 2) + whole.parameters[2:]))
 case = "inPublic does: INSUFFICIENT/p2"

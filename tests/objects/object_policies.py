@@ -1,5 +1,5 @@
 """Writes object_policies.tpm. A policy session authorizes an object whose authPolicy is its digest.
-What it was told is held against the command and the device, and it counts for one command.
+Its assertions are checked against the command and the device, and hold for one command.
 """
 
 from tests.common.steps import AFTER_AUTH_VALUE, in_plain, Steps, with_value
@@ -24,12 +24,12 @@ def sealed_by(what, auth_policy, algorithm=SHA256, attributes=HERE | NO_DA, user
 
 
 def start_again(session):
-    """What was asserted counts once: the policy state is the starting one."""
+    """Checks that assertions hold once: the policy state is the initial one."""
     tpm.digest_is("TPM2_PolicyGetDigest: zeros", session, zeros(session))
 
 
 def demands(algorithm, handle):
-    """Of an object whose value is "pin", by a session that is bound to nothing."""
+    """Demands of an object whose value is "pin", by a session that is bound to nothing."""
     session = tpm.policy("A policy session", algorithm=algorithm)
     tpm("Nothing is asserted: POLICY_FAIL/s1").unsealing(handle, session)
 
@@ -46,7 +46,7 @@ def demands(algorithm, handle):
     tpm("Once more: POLICY_FAIL/s1").unsealing(handle, by_password)
     tpm("TPM2_PolicyPassword again").password_told(session)
     padded = tpm.unsealing(handle, by_password).but_entry(1, hmac=PIN + bytes(29))
-    tpm.accepted("The value, and zeros behind it", padded)
+    tpm.accepted("The value, and zeros after it", padded)
 
     tpm.chapter("TPM2_PolicyAuthValue: the value is in the key of the hmac and of the answer's.")
     by_value = tpm.by_value(session)
@@ -89,7 +89,7 @@ def demands_of_bound(algorithm, handle):
     tpm("TPM2_PolicyPassword").password_told(session)
     beside = tpm.random(2, session)
     tpm.refused("The password there: BAD_AUTH/s1", beside.but_entry(1, hmac=PIN))
-    tpm.accepted("The hmac, and it keeps what it was told", beside)
+    tpm.accepted("The hmac, and it keeps its assertions", beside)
     tpm.digest_is("TPM2_PolicyGetDigest", session, AFTER_AUTH_VALUE[algorithm])
     hidden = in_plain(session, ENCRYPTING)
     tpm.unseal("TPM2_Unseal by the password, with outData encrypted", handle, SECRET, hidden)
@@ -110,7 +110,7 @@ def demands_of_no_value(algorithm):
     shown = with_value(session, shows_empty_key=True)
     tpm.unseal("With the hmac of an empty key, and it is answered by one", handle, SECRET, shown)
     by_password = tpm.by_password(session)
-    tpm("That, where the password is asked for: BAD_AUTH/s1").unsealing(handle, shown)
+    tpm("That, although the policy demands the password: BAD_AUTH/s1").unsealing(handle, shown)
     three_zeros = tpm.unsealing(handle, by_password).but_entry(1, hmac=bytes(3))
     tpm.accepted("Three zeros, as the password", three_zeros)
     tpm("The session is flushed").flush(session)
@@ -143,16 +143,16 @@ tpm.refused("An empty hmac: BAD_AUTH/s1", tpm.unsealing(handle, bound).but_entry
 said = tpm("The hmac by the session's key; outData is encrypted, with the value in that key")
 said.unseal(handle, SECRET, bound.encrypting)
 tpm("TPM2_PolicyCommandCode").command_code(bound, CC.Unseal)
-tpm.unseal("Beside another session", handle, SECRET, bound, session)
+tpm.unseal("With another session", handle, SECRET, bound, session)
 tpm("TPM2_PolicyCommandCode").command_code(bound, CC.Unseal)
-tpm.unseal("The other authorizes nothing, and keeps what it was told", handle, SECRET, bound)
+tpm.unseal("The other authorizes nothing, and keeps its assertions", handle, SECRET, bound)
 tpm.flush_objects("The object is flushed", handle)
 
 tpm.chapter("Each condition of a use in its order: all of them fail, and one is put right.")
 
 
 def tell_all(session, cp_hash, code=CC.Unseal, localities=1):
-    """Something of each kind. The last assertion is that of the locality."""
+    """An assertion of each kind; the last one is that of the locality."""
     tpm("TPM2_PolicyPCR").pcrs(session, PCR_16)
     tpm("TPM2_PolicyCommandCode").command_code(session, code)
     tpm("TPM2_PolicySecret with a cpHash").secret(session, cp_hash=cp_hash)
@@ -175,7 +175,7 @@ right_hash, wrong_hash = tpm.cp_hash(tpm.unsealing(handle)), bytes([7]) * 32
 
 
 def wrong(handle, session):
-    """With an hmac that is wrong, too, which is compared last."""
+    """A command whose HMAC is wrong as well, which is compared last."""
     return others_in(tpm.unsealing(handle, session), 1)
 
 
@@ -329,7 +329,7 @@ for what, attributes, outcome in TRIES:
     tpm.flushes("A session is flushed", bound, unbound)
     tpm.flush_objects("The object is flushed", handle)
 
-tpm.chapter("TPM2_PolicySecret of an object, authorized by the very session that it is told to.")
+tpm.chapter("TPM2_PolicySecret of an object, authorized by the very session that it is for.")
 handle = sealed_by("An object with TPM2_PolicyAuthValue as its policy", AFTER_AUTH_VALUE[SHA256])
 told = tpm.secret(session, tpm.by_value(session), of=handle)
 tpm.accepted("TPM2_PolicySecret, first asserted, and then the session starts again", told)

@@ -1,5 +1,5 @@
-"""Writes object_sessions.tpm. HMAC sessions that authorize objects. The Name of an object stands
-where that of a hierarchy is its handle: in the hash of a command, in a binding, and in
+"""Writes object_sessions.tpm. HMAC sessions that authorize objects. Everywhere the Name of an
+object is used as the handle of a hierarchy is: in the hash of a command, in a binding, and in
 TPM2_PolicySecret.
 """
 
@@ -46,7 +46,7 @@ for algorithm, hash_name in reversed(HASHES):
     said.refused(tpm.unsealing(handle, unbound).but(handles=[twin]))
     names = dict(tpm.names)
     tpm.names.clear()
-    tpm("An hmac with the handle in place of the Name: BAD_AUTH/s1").unsealing(handle, unbound)
+    tpm("An hmac with the handle instead of the Name: BAD_AUTH/s1").unsealing(handle, unbound)
     tpm.names.update(names)
     again = tpm.load("The object once more, with another handle", parent, made)
     assert again != handle
@@ -87,7 +87,7 @@ for what, public, data in (
     tpm.flush_objects("The object is flushed", other)
     tpm("TPM2_PCR_Reset by the session").reset(Use(session, 0))
 
-tpm.chapter("A wrong entry is a try where it uses the value of an object without noDA.")
+tpm.chapter("A wrong entry is a try if it uses the value of an object without noDA.")
 guarded = tpm.owned("Such an object", sealed(attributes=PROTECTED), user_auth=PIN, data=SECRET)
 plain = tpm.start("A session that is bound to nothing")
 to_guarded = tpm.start("One that is bound to this object", bind=guarded)
@@ -130,7 +130,7 @@ for algorithm, hash_name in reversed(HASHES):
     session = tpm.policy("A policy session")
     handles = number(key, 4), number(session.handle, 4)
     for what, outcome, handle_text in (
-        ("Behind the object's handle: three bytes", "INSUFFICIENT/h2", handles[1][:3]),
+        ("After the object's handle: three bytes", "INSUFFICIENT/h2", handles[1][:3]),
         ("A handle that is no policy session's", "VALUE/h2", handles[0]),
         ("A policy session that is not there", "REFERENCE_H1", number(0x0300_000F, 4)),
         ("No sessions (tag 8001)", "AUTH_MISSING", handles[1]),

@@ -1,10 +1,10 @@
 """Writes object_vectors.tpm: objects whose every byte is computed here, step by step.
 
-    tools/python.sh tests/objects/object_vectors.py    also prints each step, for tests that want numbers
+    tools/python.sh tests/objects/object_vectors.py    also prints each step, for tests that need numbers
 
-It uses hashlib and hmac, and aes.py for the cipher, and nothing of object_rules.py: the equations of
-objects stand here once more, each on its own line, with the numbers of one example. The script's
-answers, which the model gives, are compared with them.
+It uses hashlib and hmac, and aes.py for the cipher, but not object_rules.py: the equations of
+objects are here once more, each on its own line, with the numbers of one example. The script's
+answers, which the Python device gives, are compared with them.
 """
 
 import hashlib
@@ -43,8 +43,8 @@ def step(name, value):
 
 
 def creation(kind, name, above, outside_info):
-    """What is answered of it: the data, with no PCRs and locality 0 (bit 0), their hash and the
-    ticket. `above` is the algorithm, the Name and the qualified name of the parent.
+    """The answer about the creation: the data, with no PCRs and locality 0 (bit 0), their hash and
+    the ticket. `above` is the algorithm, the Name and the qualified name of the parent.
     """
     algorithm, *names = above
     data = selection() + sized(sha256(b"")) + b"\x01" + algorithm
@@ -74,7 +74,7 @@ public = template[:-2] + sized(unique)
 name = step("primary Name", SHA256_NUMBER + sha256(public))
 qualified_name = step("primary qualified name", SHA256_NUMBER + sha256(OWNER, name))
 
-# The hierarchy stands in place of a parent.
+# The hierarchy takes the role of a parent.
 created = creation("primary", name, (bytes.fromhex("0010"), OWNER, OWNER), b"first")
 
 given = sized(in_sensitive) + sized(template)
@@ -86,9 +86,9 @@ assert answer[18:-5] == sized(public) + created + sized(name)
 answer = script.command("TPM2_ReadPublic: SUCCESS", command(CC.ReadPublic, number(0x8000_0000, 4)))
 assert answer[10:] == sized(public) + sized(name) + sized(qualified_name)
 
-# Sealed data under it, created with the random bytes 40, 41, 42, .., of which the seed and then the
-# first block of the cipher are drawn. Attributes fixedTPM, fixedParent, userWithAuth, noDA
-# (00000452); scheme NULL. The value has two zeros behind it, which do not count.
+# Data sealed under it, created with the random bytes 40, 41, 42, .., from which the seed and then
+# the first block of the cipher are taken. Attributes fixedTPM, fixedParent, userWithAuth, noDA
+# (00000452); scheme NULL. The value ends with two zeros, which do not count.
 random = bytes(range(0x40, 0x40 + 64))
 data = b"what is sealed"
 in_sensitive = sized(b"pin\0\0") + sized(data)

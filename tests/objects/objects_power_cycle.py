@@ -1,5 +1,5 @@
 """Writes objects_power_cycle.tpm. Transient objects are gone after a power cycle. The seeds of the
-owner's, the endorsement and the platform hierarchy stay, and so the same primary objects can be
+owner's, the endorsement and the platform hierarchy stay, so that the same primary objects can be
 made again. The null hierarchy has a new seed and a new proof after each TPM2_Startup(CLEAR).
 """
 

@@ -1,6 +1,6 @@
 """Writes order_of_object_refusals.tpm. The order of refusals in the commands of objects: a buffer
-with many faults, of which one after the other is repaired. What is answered is the first that is
-left.
+has many faults, which are repaired one after the other. The answer is always the first fault that
+is left.
 """
 
 from functools import partial
@@ -16,7 +16,7 @@ SECRET = b"secret"
 
 
 def general_refusals(code, handle, cut, uses):
-    """Up to the parameters: the handle, the authorization area, the entries, and their hmacs."""
+    """All refusals before the parameters: the handle, the authorization area, entries, HMACs."""
     other = RH_LOCKOUT if code == CC.CreatePrimary else RH_OWNER
     for words, text in (
         ("Half a handle, and no sessions (tag 8001): INSUFFICIENT/h1", b"\x80\0"),
@@ -41,7 +41,8 @@ restricted = said.create_primary(RH_OWNER, RESTRICTED_KEY, user_auth=b"r", data=
 session = tpm.start("A session with AES, that is bound to TPM_RH_OWNER", bind=RH_OWNER, aes=True)
 DECRYPTS = Use(session, 1 | DECRYPT)
 
-# A template whose authPolicy, attributes and scheme are wrong, and others with some of that.
+# A template whose authPolicy, attributes and scheme are wrong, and others with some of these
+# faults.
 WRONG = hmac_key(SHA1, HERE | OPEN | ObjectAttribute.RESTRICTED, ALG_NULL, auth_policy=b"p")
 FIXED_ALONE = sealed(SHA1, ObjectAttribute.FIXED_TPM | OPEN, scheme=SHA1)
 PUBLIC_FAULTS = (
@@ -50,7 +51,7 @@ PUBLIC_FAULTS = (
     ("Scheme HMAC without sign", "SCHEME/p2", sealed(SHA1, scheme=SHA1)),
 )
 GOOD = frames.sensitive_create(data=SECRET)
-# userAuth is too long in it.
+# Its userAuth is too long.
 LONG = frames.sensitive_create(b"a" * 21, SECRET)
 NONE, BAD_TYPE = sized(b""), sized(number(1, 2))
 BANK = number(1, 4) + number(0x000C, 2) + b"\x03\0\0\0"
@@ -76,7 +77,7 @@ for code, on in ((CC.CreatePrimary, RH_OWNER), (CC.Create, parent)):
         ("The type", "TYPE/p2", LONG + BAD_TYPE + faults),
         ("outsideInfo of 35 bytes", "SIZE/p3", LONG + sized(WRONG.text) + faults),
         ("The hash of a bank", "HASH/p4", LONG + sized(WRONG.text) + NONE + BANK),
-        ("A byte behind creationPCR", "SIZE", with_public(WRONG) + b"\0"),
+        ("A byte after creationPCR", "SIZE", with_public(WRONG) + b"\0"),
     )
     if code == CC.Create:
         case = "Under what is no parent", "TYPE/h1", [handle], with_public(WRONG)
@@ -102,7 +103,7 @@ of_loading(
     ("inPrivate is cut", "INSUFFICIENT/p1", private[:-1]),
     ("It has 257 bytes", "SIZE/p1", sized(bytes(257)) + BAD_TYPE + b"\0"),
     ("The type", "TYPE/p2", NONE + BAD_TYPE + b"\0"),
-    ("A byte behind inPublic", "SIZE", NONE + sized(WRONG.text) + b"\0"),
+    ("A byte after inPublic", "SIZE", NONE + sized(WRONG.text) + b"\0"),
 )
 case = "Under what is no parent", "TYPE/h1", [handle], NONE + sized(WRONG.text)
 tpm.in_order(CC.Load, uses, case)
@@ -119,12 +120,12 @@ tpm.flush_objects("It is flushed", again)
 
 tpm.chapter("TPM2_ReadPublic, with a session that authorizes nothing.")
 general_refusals(CC.ReadPublic, key, b"\0", [Use(session)])
-tpm("A byte behind the handle: SIZE").prepare(CC.ReadPublic, [key], b"\0", session)
+tpm("A byte after the handle: SIZE").prepare(CC.ReadPublic, [key], b"\0", session)
 tpm.read_public("With nothing wrong", key, session)
 
 tpm.chapter("TPM2_Unseal.")
 general_refusals(CC.Unseal, key, b"\0", [b"k", Use(session)])
-tpm("A byte behind the area, of a key: SIZE").prepare(CC.Unseal, [key], b"\0", b"k", session)
+tpm("A byte after the area, of a key: SIZE").prepare(CC.Unseal, [key], b"\0", b"k", session)
 tpm("A storage key: TYPE/h1").prepare(CC.Unseal, [parent], b"", b"parent", session)
 tpm("An HMAC key: ATTRIBUTES/h1").prepare(CC.Unseal, [key], b"", b"k", session)
 tpm.unseal("With nothing wrong", handle, SECRET, b"s", session)
@@ -140,7 +141,7 @@ tpm.in_order(
     ("The buffer is cut", "INSUFFICIENT/p1", [key], data[:-1]),
     ("It has 1,025 bytes", "SIZE/p1", [key], sized(bytes(1025)) + number(0, 2) + b"\0"),
     ("hashAlg", "HASH/p2", [key], data + number(0, 2) + b"\0"),
-    ("A byte behind it", "SIZE", [key], by_sha1 + b"\0"),
+    ("A byte after it", "SIZE", [key], by_sha1 + b"\0"),
     ("A storage key", "TYPE/h1", [parent], by_sha1),
     ("A restricted key", "ATTRIBUTES/h1", [restricted], by_sha1),
     ("Sealed data", "KEY/h1", [handle], by_sha1),

@@ -1,5 +1,5 @@
 """Writes private_area.tpm. A private area is an integrity value, the first block of the cipher, and
-the encrypted sensitive area. TPM2_Load takes it where its parent made it for this public area.
+the encrypted sensitive area. TPM2_Load accepts it if its parent made it for this public area.
 """
 
 from dataclasses import dataclass
@@ -37,7 +37,7 @@ for (algorithm, hash_name), (step, words) in zip(HASHES, LENGTHS):
     refused(case, parent, public, *(flipped(private, at) for at in range(len(private))))
     shorter = (private[:length] for length in range(0, len(private), step))
     refused(f"Cut to {words}", parent, public, *shorter)
-    refused("With a byte behind it", parent, public, private + b"\0", private + private)
+    refused("With a byte after it", parent, public, private + b"\0", private + private)
     handle = tpm.load("As it is", parent, made)
     tpm.unseal("TPM2_Unseal", handle, b"x")
     tpm.flush_objects("Both are flushed", handle, parent)
@@ -54,7 +54,7 @@ def sensitive(data=b"forged", auth=b"", seed=b"s" * 32, kind=KEYEDHASH):
 
 @dataclass(frozen=True)
 class Forger:
-    """Who knows the seed of the parent, and makes private areas for a public one."""
+    """A forger who knows the seed of the parent, and makes private areas for a public one."""
 
     parent: int
     public: Public
@@ -64,7 +64,7 @@ class Forger:
         return tpm.script.device.objects[self.parent]
 
     def forge(self, text, iv=b"\x5a" * aes.BLOCK, name=None, algorithm=None):
-        """Its encrypted part is this text, by the equations and not by object_rules.py."""
+        """A private area with this encrypted text, by the equations and not by object_rules.py."""
         seed = self.known.sensitive.seed_value
         algorithm = algorithm or self.known.public.name_algorithm
         name = self.public.name if name is None else name
@@ -75,7 +75,7 @@ class Forger:
         return sized(mac(algorithm, key, protected + name)) + protected
 
     def behind(self, rest):
-        """A private area with anything behind the right integrity value of it."""
+        """A private area with any rest after its right integrity value."""
         return sized(object_rules.integrity(self.known, rest, self.public.name)) + rest
 
     def refused(self, what, *privates):
@@ -85,7 +85,7 @@ class Forger:
         self.refused(what, *map(self.forge, texts))
 
     def made(self, given=b"", **parts):
-        """With these parts of its sensitive area, and the value that authorizes it."""
+        """A private area with these parts of its sensitive area, and its authorization value."""
         return Made(self.forge(sensitive(**parts)), self.public, given)
 
     def loaded(self, what, given=b"", flushed="It is flushed", **parts):
@@ -114,7 +114,7 @@ def integrity(forger, algorithm):
     forger.refused("Of 0, 1, 15, 17 and 32 bytes", *wrong)
     cut = b"", b"\0", number(16, 2), number(16, 2) + bytes(15), b"\xff\xff" * 20
     forger.refused(
-        "Cut, as its size reaches too far: nothing is behind the integrity value, half a size, "
+        "Cut, as its size reaches too far: nothing is after the integrity value, half a size, "
         "fewer bytes than it says",
         *map(forger.behind, cut),
     )
@@ -132,7 +132,7 @@ def sensitive_area(forger):
     forger.bad_text(case, *shorter)
     case = "Its size, and fewer bytes; no size; nothing"
     forger.bad_text(case, text[:-1], text[:2], text[:1], b"")
-    forger.bad_text("A byte left over in it, and behind it", sized(content + b"\0"), text + b"\0")
+    forger.bad_text("A byte left over in it, and after it", sized(content + b"\0"), text + b"\0")
     case = "An authorization value and a seed of 33 bytes, and data of 129"
     long = {"auth": b"a" * 33}, {"seed": b"s" * 33}, {"data": b"d" * 129}
     forger.bad_text(case, *(sensitive(**it) for it in long))

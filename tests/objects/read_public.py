@@ -1,6 +1,6 @@
-"""Writes read_public.tpm. TPM2_ReadPublic answers an object's public area, its Name, which is
-nameAlg and the hash of that area, and its qualified name, which has the Names of all that are above
-it in it. It needs no authorization.
+"""Writes read_public.tpm. TPM2_ReadPublic answers an object's public area; its Name, which is
+nameAlg and the hash of that area; and its qualified name, which depends on the Names of all objects
+above it. It needs no authorization.
 """
 
 from tests.common.steps import Steps
@@ -35,7 +35,7 @@ for hierarchy, name in ((RH_OWNER, "TPM_RH_OWNER"), (RH_NULL, "TPM_RH_NULL")):
 tpm.chapter("What is wrong with the command.")
 key = tpm.owned('An HMAC key, whose value is "a"', hmac_key(), user_auth=b"a", data=b"key")
 whole = tpm.public(key)
-tpm.says("A byte behind the handle: SIZE", whole.but(parameters=b"\0"))
+tpm.says("A byte after the handle: SIZE", whole.but(parameters=b"\0"))
 tpm("A password, as it needs none: HANDLE/s1").public(key, b"a")
 session, other = tpm.start("A session", aes=True), tpm.start("And another")
 tpm.read_public("TPM2_ReadPublic with both", key, session, other)

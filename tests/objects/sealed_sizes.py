@@ -1,6 +1,6 @@
-"""Writes sealed_sizes.tpm. Sealed data of up to 128 bytes, which a session hides on the wire:
-inSensitive of TPM2_Create, inPrivate of TPM2_Load, outData of TPM2_Unseal, and what TPM2_HMAC takes
-and answers.
+"""Writes sealed_sizes.tpm. Sealed data of up to 128 bytes, which a session encrypts on the way:
+inSensitive of TPM2_Create, inPrivate of TPM2_Load, outData of TPM2_Unseal, and the buffer and the
+answer of TPM2_HMAC.
 """
 
 from tests.common.steps import Steps
@@ -33,8 +33,10 @@ for algorithm, hash_name in reversed(HASHES):
     bound = tpm.start("One that is bound to the object", bind=handle, algorithm=algorithm, aes=True)
     tpm.unseal("TPM2_Unseal by it, with encrypt", handle, data, bound.encrypting)
     unrelated = tpm.start("One that is bound to the parent", bind=parent, aes=True)
-    tpm.unseal("Beside the one that authorizes", handle, data, session, unrelated.encrypting)
-    tpm.unseal("Beside a password", handle, data, b"pin", unrelated.encrypting)
+    tpm.unseal(
+        "In addition to the one that authorizes", handle, data, session, unrelated.encrypting
+    )
+    tpm.unseal("With a password", handle, data, b"pin", unrelated.encrypting)
     for size in (1, 16, 17, 127):
         said = tpm(f"{size} bytes: TPM2_Create, with inSensitive encrypted")
         part = data[:size]

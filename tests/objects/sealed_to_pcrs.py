@@ -1,5 +1,5 @@
 """Writes sealed_to_pcrs.tpm. Sealed data whose authPolicy is that of TPM2_PolicyPCR over PCR 10: a
-trial session tells its digest, and a policy session authorizes TPM2_Unseal while PCR 10 has the
+trial session computes its digest, and a policy session authorizes TPM2_Unseal while PCR 10 has the
 same value.
 """
 
@@ -40,7 +40,7 @@ template = sealed(attributes=HERE | ObjectAttribute.NO_DA, auth_policy=AUTH_POLI
 made = said.create(parent, template, data=SECRET, pcrs=CHOSEN)
 handle = tpm.load("TPM2_Load", parent, made)
 
-tpm.chapter("PCR 10 is as it was.")
+tpm.chapter("PCR 10 is unchanged.")
 tpm("By a password: AUTH_UNAVAILABLE").unsealing(handle)
 plain = tpm.start("An HMAC session")
 tpm("By it: AUTH_UNAVAILABLE").unsealing(handle, plain)
@@ -58,7 +58,7 @@ tpm("TPM2_PolicyPCR").pcrs(session, CHOSEN)
 tpm.says("TPM2_PCR_Extend of PCR 10: SUCCESS", extend(10))
 tpm("TPM2_Unseal: PCR_CHANGED").unsealing(handle, session)
 tpm("And again: PCR_CHANGED").unsealing(handle, session)
-tpm.digest_is("The policy digest is as it was", session, AUTH_POLICY)
+tpm.digest_is("The policy digest is unchanged", session, AUTH_POLICY)
 tpm("TPM2_PolicyPCR in this session: PCR_CHANGED").pcrs(session, CHOSEN)
 tpm.restarts(session)
 tpm("TPM2_PolicyPCR, which makes another digest").pcrs(session, CHOSEN)
@@ -98,7 +98,7 @@ tpm.accepted("TPM2_PCR_Extend on TPM_RH_NULL", extend(RH_NULL))
 tpm("TPM2_PCR_Extend of PCR 10 by no digest").prepare(CC.PCR_Extend, [10], digests(), b"")
 tpm.says("Of PCR 17, which is refused here: LOCALITY", extend(17))
 tpm.accepted("TPM2_PCR_Read", tpm.read_pcr(10))
-tpm("TPM2_GetRandom beside the session").random(2, session)
+tpm("TPM2_GetRandom with the session").random(2, session)
 tpm.unseal("TPM2_Unseal", handle, SECRET, session)
 
 tpm.chapter("Somebody extends PCR 10 in the moment between: the session of another caller.")

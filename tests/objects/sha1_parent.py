@@ -1,6 +1,6 @@
-"""Writes sha1_parent.tpm. A private area is protected by the nameAlg of the parent; the Name, the
-qualified name, the hashes in the creation data and unique are by the nameAlg of the object itself.
-The hierarchy comes from the parent.
+"""Writes sha1_parent.tpm. The nameAlg of the parent protects a private area. The Name, the
+qualified name, the hashes in the creation data and unique use the nameAlg of the object itself. The
+hierarchy comes from the parent.
 """
 
 from tpmsim.standard import Fields
@@ -31,7 +31,7 @@ for parent_algorithm, parent_hash in HASHES:
             said = tpm(f"TPM2_Create of {what} with nameAlg {hash_name}")
             pcrs = [(SHA1, [0]), (SHA256, [0])]
             made = said.create(parent, public, user_auth=b"child", data=data, pcrs=pcrs)
-            # integrity is by the parent's hash algorithm, and the first block always of 16 bytes.
+            # integrity uses the parent's hash algorithm; the first block always has 16 bytes.
             fields = Fields(made.private)
             assert len(fields.sized()) == digest_bytes(parent_algorithm)
             assert len(fields.sized()) == 16

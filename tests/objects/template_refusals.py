@@ -1,6 +1,6 @@
 """Writes template_refusals.tpm. What TPM2_CreatePrimary, TPM2_Create and TPM2_Load refuse of
-inSensitive and inPublic: first what cannot be read, in reading order, then what is asked of every
-public area, and then what is asked of what is created.
+inSensitive and inPublic: first what cannot be read, in reading order; then what is wrong in any
+public area; and then what is wrong in an area of a new object.
 """
 
 from dataclasses import dataclass
@@ -26,15 +26,15 @@ tpm = Steps(__name__, __doc__)
 
 @dataclass(frozen=True)
 class Target:
-    """A command with inPublic, and the handle that it is used on. Behind inPublic all is empty; and
-    so is the private area of TPM2_Load, which would be refused later.
+    """A command with inPublic, and its handle. Everything after inPublic is empty, also the private
+    area of TPM2_Load, which would be refused later.
     """
 
     code: CC
     handle: int
 
     def prepared(self, public, first=None):
-        """With these texts, each behind its size already."""
+        """The command with these texts, each with its size already before it."""
         if self.code == CC.Load:
             first, rest = first or sized(b""), b""
         else:
@@ -48,7 +48,7 @@ class Target:
         tpm.says(words, *(self.prepared(sized(it)) for it in texts))
 
     def also_cut(self, what, code, texts, cut):
-        self.public(f"{what}; also where no more follows: {code}", *texts, cut)
+        self.public(f"{what}; even if no more follows: {code}", *texts, cut)
 
     def asked(self, words, *publics):
         self.public(words, *(it.text for it in publics))
@@ -106,12 +106,12 @@ def read_head(target):
         head(attributes=0xFFFF_FFFF)[:8],
     )
     long = head(auth_policy=bytes(33))
-    case = "authPolicy of 33 bytes, whole and cut, also with a wrong scheme behind it: SIZE/p2"
+    case = "authPolicy of 33 bytes, whole and cut, also with a wrong scheme after it: SIZE/p2"
     target.public(case, long + shorts(ALG_NULL, 0), head()[:8] + shorts(33), long + shorts(0, 0))
 
 
 def read_parameters(target):
-    """Those of a KEYEDHASH and of a SYMCIPHER."""
+    """The parameters of a KEYEDHASH and of a SYMCIPHER."""
     case = "The scheme of a KEYEDHASH is neither HMAC nor NULL: XOR, AES, none"
     schemes = (head() + shorts(it, 0) for it in (0x000A, AES, 0, SHA256))
     target.also_cut(case, "SCHEME/p2", schemes, head() + shorts(0x0014))
@@ -148,7 +148,7 @@ def read_public(target):
     case = "A size that reaches beyond the command, whatever is in it: INSUFFICIENT/p2"
     tpm.says(case, *map(target.prepared, beyond))
     behind = target.prepared(sized(shorts(1)))
-    said = tpm("It is read before what is behind it, here too many bytes: TYPE/p2")
+    said = tpm("It is read before what follows it, here too many bytes: TYPE/p2")
     said.says(behind.but(parameters=behind.parameters + bytes(80)))
     case, behind = "SIZE/p2", target.prepared(sized(hmac_key(auth_policy=b"p").text))
     if target.code == CC.Load:
@@ -210,7 +210,7 @@ def ask_of_all(target):
 
 
 def below_movable():
-    tpm.chapter("Under a parent without fixedTPM nothing has it; fixedParent may be or not.")
+    tpm.chapter("Below a parent without fixedTPM nothing has it; fixedParent is allowed.")
     movable = tpm.owned("A storage key without fixedTPM", storage_key(attributes=OPEN | STORES))
     for code in (CC.Create, CC.Load):
         Target(code, movable).asked(
@@ -266,7 +266,7 @@ def create_what_is_right(target):
     tpm.chapter("What is just right.")
     for what, public, user_auth, data in (
         ("userAuth of 20 bytes, for SHA-1", sealed(SHA1), b"a" * 20, b"x"),
-        ("And of 12 zeros behind them", sealed(SHA1), b"a" * 20 + bytes(12), b"x"),
+        ("And of 12 zeros after them", sealed(SHA1), b"a" * 20 + bytes(12), b"x"),
         ("32 zeros, which is the empty one", sealed(SHA1), bytes(32), b"x"),
         ("32 bytes, for SHA-256", sealed(), b"a" * 32, b"x"),
         ("authPolicy of 20 bytes, for SHA-1", sealed(SHA1, auth_policy=bytes(20)), b"", b"x"),

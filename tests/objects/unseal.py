@@ -1,4 +1,4 @@
-"""Writes unseal.tpm. TPM2_Unseal gives out the data of a sealed object, by its authorization."""
+"""Writes unseal.tpm. TPM2_Unseal returns the data of a sealed object, by its authorization."""
 
 from tests.common.steps import aes_key, PROTECTED, RESTRICTED_KEY, Steps
 from tests.common.vocabulary import ALG_NULL, CC, HERE, hmac_key, ObjectAttribute, sealed, SHA1
@@ -28,7 +28,7 @@ for what, value, passwords, wrong in (
 ):
     made = tpm.create(f"{what}: TPM2_Create", parent, sealed(), user_auth=value, data=b"secret")
     with tpm.loaded("TPM2_Load", parent, made) as handle:
-        said = tpm("TPM2_Unseal by it, also with zeros behind it: SUCCESS")
+        said = tpm("TPM2_Unseal by it, also with zeros after it: SUCCESS")
         said.says(*(tpm.unsealing(handle, it) for it in passwords))
         refused("By others: BAD_AUTH/s1", *(tpm.unsealing(handle, it) for it in wrong))
 made = tpm.create("Without noDA", parent, sealed(attributes=PROTECTED), data=b"secret")
@@ -58,4 +58,4 @@ for what, public, data, outcome in (
     with tpm.held(what, public, user_auth=b"a", data=data) as handle:
         refused("TPM2_Unseal by another value: BAD_AUTH/s1", tpm.unsealing(handle, b"b"))
         refused(f"By the right one: {outcome}", tpm.unsealing(handle))
-        refused("With a byte behind: SIZE", tpm.unsealing(handle).but(parameters=b"\0"))
+        refused("With a byte after: SIZE", tpm.unsealing(handle).but(parameters=b"\0"))

@@ -1,11 +1,11 @@
-# What bash completes: the program's subcommands, options, files and names of commands, and what a
-# program tells that no tpmsim has yet.
+# What bash completes: the program's subcommands, options, files and names of commands, and those in the
+# help of a program that is newer than any tpmsim.
 tests=$(cd "$(dirname "$0")/.." && pwd -P)
 . "$tests/common/cases.sh"
 needs bash python3
 top=${tests%/*}
 
-# complete_words FOLDER: reads lines of words, and tells what the last word may become, with the
+# complete_words FOLDER: reads lines of words, and prints the completions of the last word, with the
 # programs of this folder. `_` is an empty word.
 complete_words() {
     cat >complete.bash <<'CODE'

@@ -1,10 +1,10 @@
-# What zsh completes, as completion_bash.sh has it for bash, and how each is explained.
+# What zsh completes, as completion_bash.sh has it for bash, and the explanation of each.
 tests=$(cd "$(dirname "$0")/.." && pwd -P)
 . "$tests/common/cases.sh"
 needs zsh python3
 top=${tests%/*}
 
-# complete_words FOLDER: reads lines of words, and tells what the last word may become, with the
+# complete_words FOLDER: reads lines of words, and prints the completions of the last word, with the
 # programs of this folder. `_` is an empty word.
 complete_words() {
     cat >complete.zsh <<'CODE'
@@ -39,7 +39,7 @@ tpmsim|help|_
 tpmsim-explain|-
 tpmsim-explain|_
 CODE
-# Each command of the TPM has a line, of which the first are enough here.
+# Each command of the TPM has a line; the first ones are enough here.
 awk '/^==/ { lines = 0 } lines++ < 9' completed
 
 echo '== a program with another subcommand'

@@ -1,5 +1,5 @@
-# The steps of .github/actions/tpmsim, and those of its snippet for GitLab, start a device, which later steps reach by
-# the variables of the job. Words that are wrong, and a device that does not start, end the step.
+# The steps of .github/actions/tpmsim, and those of its snippet for GitLab, start a device, which later steps
+# reach by the variables of the job. Wrong words, and a device that does not start, end the step.
 tests=$(cd "$(dirname "$0")/.." && pwd -P)
 . "$tests/common/cases.sh"
 . "$tests/common/library.sh"
@@ -18,7 +18,7 @@ end_devices() {
     done
 }
 
-# The repository, as far as the steps need it, with the library that is tested.
+# The repository, as far as the steps need it, with the library under test.
 mkdir -p "$room/source/dist" "$room/source/.github"
 cp -r "$top/.github/actions" "$room/source/.github/" && cp -r "$top/hosts" "$room/source/" &&
     cp -L "$dist/tpmsim" "$archive" "$dist/tpmsim.h" "$room/source/dist/"

@@ -1,11 +1,11 @@
-# What is installed beside the program: each link of a document leads to an installed file, the examples
-# run, and what man pages and documents name is installed, or said to be in the sources.
+# What is installed with the program: each link of a document leads to an installed file, the examples run,
+# and whatever man pages and documents name is installed, or they say that it is in the sources.
 tests=$(cd "$(dirname "$0")/.." && pwd -P)
 . "$tests/common/cases.sh"
 needs python3
 top=${tests%/*}
 
-# The modules are left out: this compiler has no header.
+# The modules are left out: this compiler has no headers for them.
 mkdir none
 printf '#!/bin/sh\nexit 1\n' >none/cc
 chmod +x none/cc
@@ -14,7 +14,7 @@ PATH=$room/folder/none:$PATH DESTDIR=$room/root PREFIX=/usr "$top/tools/install.
 documents=$room/root/usr/share/doc/tpmsim
 pages=$room/root/usr/share/man
 
-# follow: what is said of the links of all documents, of which there are many.
+# follow: prints the faults of the links of all documents, of which there are many.
 follow() {
     (cd "$documents" && find . -name '*.md' | sed 's|^\./||' | LC_ALL=C sort | tr '\n' '\0') |
         xargs -0 env PYTHONPATH= python3 -S "$tests/common/links.py" --count "$documents" |

@@ -1,13 +1,13 @@
-# What `tools/install.sh` does for the loader and for Python, and what it says to a user, where nothing
-# stands before the prefix: root's ldconfig is called, and the package goes where python3 looks.
+# What `tools/install.sh` does for the loader and for Python, and what it says to a user, if there is no
+# DESTDIR: it calls root's ldconfig, and the package goes where python3 looks.
 tests=$(cd "$(dirname "$0")/.." && pwd -P)
 . "$tests/common/cases.sh"
 needs python3
 top=${tests%/*}
 unset PYTHONPATH DESTDIR
 
-# The modules are left out: this compiler has no header. What ldconfig was asked is in `asked`, and it knows
-# what is in `known`.
+# The modules are left out: this compiler has no headers for them. The stand-in for ldconfig writes its
+# arguments to `asked`, and knows the content of `known`.
 mkdir bin
 printf '#!/bin/sh\nexit 1\n' >bin/cc
 cat >bin/ldconfig <<END
@@ -19,7 +19,7 @@ END
 printf '#!/bin/sh\necho "$USER_NUMBER"\n' >bin/id
 chmod +x bin/*
 
-# install_as USER PREFIX: what is said to this user who installs there, and what ldconfig was asked.
+# install_as USER PREFIX: what this user reads who installs there, and the arguments of ldconfig.
 install_as() {
     : >asked
     USER_NUMBER=$1 PREFIX=$2 PATH=$room/folder/bin:$PATH "$top/tools/install.sh" >said 2>&1 ||

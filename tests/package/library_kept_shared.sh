@@ -1,5 +1,5 @@
-# The C host of kept devices as a shared object, which hosts/shared.sh makes: the one in dist/ is that of the
-# sources, and what it shows and needs.
+# The C host of kept devices as a shared object, which hosts/shared.sh makes: the one in dist/ is made of the
+# current sources, and which names it defines and needs.
 tests=$(cd "$(dirname "$0")/.." && pwd -P)
 . "$tests/common/cases.sh"
 . "$tests/common/library.sh"
@@ -33,7 +33,7 @@ cat >loads.py <<'PROGRAM'
 import ctypes
 import sys
 
-# By its path alone, and with libtpmsim.so.0 of another folder before it.
+# By its path alone, and with libtpmsim.so.0 of another folder loaded first.
 for path in sys.argv[1:]:
     ctypes.CDLL(path)
 maps = open("/proc/self/maps", encoding="utf-8").read().split()

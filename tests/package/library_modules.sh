@@ -1,4 +1,4 @@
-# What `make install` puts into a prefix: there the loader finds the modules for libtss2 and for swtpm.
+# `make install` puts the modules for libtss2 and for swtpm where the loader finds them in the prefix.
 tests=$(cd "$(dirname "$0")/.." && pwd -P)
 . "$tests/common/cases.sh"
 needs cc nm make python3 tpm2_startup swtpm tss2/tss2_tcti.h libtpms/tpm_library.h

@@ -1,4 +1,4 @@
-# The package for Debian: it is unpacked into an empty root, and what is in it runs from there.
+# The package for Debian: it is unpacked into an empty root, and its contents run from there.
 tests=$(cd "$(dirname "$0")/.." && pwd -P)
 . "$tests/common/cases.sh"
 needs dpkg-deb cc c++ pkg-config man python3
@@ -9,13 +9,13 @@ aarch64) machine=arm64 folder=aarch64-linux-gnu dist=$top/dist/aarch64 ;;
 *) machine=amd64 folder=x86_64-linux-gnu dist=$top/dist ;;
 esac
 
-# said COMMAND..: what a command prints, at its head, and its status where that is not 0.
+# said COMMAND..: prints the first lines of a command's output, and its status unless that is 0.
 said() {
     "$@" >said 2>&1 || echo "status $?" >>said
     head -n "${lines:-3}" said | sed -e "s|$root|ROOT|g" -e "s|$room|ROOM|g" -e "s|$top|TOP|g"
 }
 
-# A compiler that has no header of others, so that the modules are left out.
+# A compiler that has no headers of other libraries, so that the modules are left out.
 mkdir headers
 cat >headers/cc <<END
 #!/bin/sh

@@ -1,5 +1,5 @@
-# tools/release.sh, in a copy of the repository whose dist/ is said to be of its sources: what stands in
-# the way of a release, and what it makes. Of the crates it has the two that dist/ is made of.
+# tools/release.sh, in a copy of the repository whose dist/ claims to be of its sources: what prevents a
+# release, and what it makes. The copy has only the two crates of which dist/ is made.
 tests=$(cd "$(dirname "$0")/.." && pwd -P)
 . "$tests/common/cases.sh"
 needs git dpkg-deb python3
@@ -16,7 +16,7 @@ chmod +x none/cc
 cd copy || exit 1
 version=$(dist/tpmsim --version | sed 's/.* //')
 for of in '' tpmsim_library; do
-    # shellcheck disable=SC2086 # an empty word is none
+    # shellcheck disable=SC2086 # an empty word is left out
     sum=$(. tools/lib/proved.sh && sources_checksum $of)
     sed -i "s/^${of:+library }sources: .*/${of:+library }sources: $sum/" dist/PROVED
 done
@@ -26,7 +26,7 @@ export GIT_COMMITTER_NAME=Somebody GIT_COMMITTER_EMAIL=somebody@localhost TPMSIM
 PATH=$room/folder/none:$PATH
 git init -q . && git add . && git commit -q -m 'Begin'
 
-# release LABEL: what is said of a release, with no version, no checksum of a file and no time.
+# release LABEL: prints the output of a release, without its version, checksums of files and times.
 release() {
     echo "== $1"
     tools/release.sh "$room/made" 2>&1 | sed -e 's/[0-9a-f]\{64\}/SUM/' -e "s/$version/VERSION/g" \

@@ -1,5 +1,6 @@
 # tools/wheel.py makes a wheel with the library in it, which pip installs in a plain venv without a network;
-# pip installs the folder python/ too, and leaves nothing there. README's first example runs, and the program.
+# pip installs the folder python/ too, and changes nothing there. README's first example runs, and so does
+# the program.
 tests=$(cd "$(dirname "$0")/.." && pwd -P)
 . "$tests/common/cases.sh"
 needs python3
@@ -18,7 +19,7 @@ try() {
         "$venv/bin/tpmsim-explain" --help | grep -c '^    tpmsim-explain LOG')
 }
 
-# remove: removes it again, and what is left is printed.
+# remove: uninstalls it, and prints what is left.
 remove() {
     "$venv/bin/pip" uninstall -q -y tpmsim && find venv \( -name 'tpmsim*' -o -name 'libtpmsim*' \)
 }

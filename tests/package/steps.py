@@ -1,11 +1,11 @@
-"""Reads the steps of the workflows for GitHub and GitLab, of the part of YAML that they use.
+"""Reads the steps of the workflows for GitHub and GitLab, which use only a part of YAML.
 
     python3 tests/package/steps.py FOLDER [--run]
 
-It prints each command of .github/workflows/*.yml and .gitlab-ci.yml in FOLDER, and of each what it
-names that is not there: a path of the repository, or a target of the Makefile. The status is 1 where
-something is not there. With --run it runs the commands in FOLDER, but for those of apt-get and of
-git, each one once, and ends at the first that fails.
+It prints each command of .github/workflows/*.yml and .gitlab-ci.yml in FOLDER, and what it names
+that does not exist: a path of the repository, or a target of the Makefile. The status is 1 if
+something does not exist. With --run it runs the commands in FOLDER, each once, except those of
+apt-get and git, and ends at the first that fails.
 """
 
 import pathlib
@@ -28,7 +28,7 @@ def commands_of(text: str) -> list[str]:
 
 
 def missing(folder: pathlib.Path, command: str) -> list[str]:
-    """What a command names and is not there."""
+    """What a command names that does not exist."""
     makefile = (folder / "Makefile").read_text()
     targets = [target for found in TARGET.findall(command) for target in found.split()]
     return [path for path in PATH.findall(command) if not (folder / path).exists()] + [

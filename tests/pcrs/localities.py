@@ -1,12 +1,13 @@
 """Writes localities.tpm: each PCR extended and reset from each locality.
 
-Which PCR changes from where is the table of TPM2_PCR_Extend in docs/table/pcrs.md, once more.
+Which locality can change which PCR is the table of TPM2_PCR_Extend in docs/table/pcrs.md, once
+more.
 """
 
 from tpmsim.standard import CC, command, digests, on_handle, selection, SHA1, SHA256
 from tests.common.script import Script
 
-# The PCRs, what they are for, and from which localities they are extended and reset.
+# The PCRs, their use, and the localities from which they are extended and reset.
 ANY, NONE = range(5), ()
 USES = (
     (range(0, 16), "of the platform's start", ANY, NONE),

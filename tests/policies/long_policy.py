@@ -1,5 +1,5 @@
-"""Writes long_policy.tpm. A policy of many assertions. A trial session comes to the digest that a
-policy session comes to, without anything being so yet.
+"""Writes long_policy.tpm. A policy of many assertions. A trial session gets the same digest as a
+policy session, although no assertion has to hold yet.
 """
 
 from tests.common.policy_teller import PolicyTeller
@@ -44,7 +44,7 @@ for algorithm, name in HASHES:
     future = digest(algorithm, b"values that the PCRs do not have")
     tpm("PCRs of a future").pcrs(trial, BANKS, future)
     tpm("In the policy session: VALUE/p1").pcrs(session, BANKS, future)
-    tpm("Branches of which it is none").branches(trial, *branches)
+    tpm("Branches without its digest").branches(trial, *branches)
     tpm("In the policy session: VALUE/p1").branches(session, *branches)
     tpm.digest_is("The trial session's digest", trial)
     tpm.digest_is("The policy session's is zeros yet", session, zeros(session))

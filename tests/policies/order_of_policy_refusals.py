@@ -1,5 +1,5 @@
-"""Writes order_of_policy_refusals.tpm. The order of refusals of the policy commands: of many faults
-one after the other is repaired. What is answered is the first that is left, in the order of
+"""Writes order_of_policy_refusals.tpm. The order of refusals of the policy commands: many faults
+are repaired one after the other. The answer is always the first one that is left, in the order of
 docs/table/order_of_refusals.md.
 """
 
@@ -19,7 +19,7 @@ def refused(words, prepared, *wrong):
 
 
 def up_to_hmacs(text):
-    """What is refused before the parameters of a command with one handle; the last is text."""
+    """All refusals before the parameters of a command with one handle; the last is text."""
 
     def using(*uses, handle=policy.handle):
         return tpm.prepare(code, [handle], text, *uses)
@@ -33,10 +33,10 @@ def up_to_hmacs(text):
     case = "A nonce of 33 bytes in the first entry, and the second is not there: SIZE/s1"
     refused(case, using(hmac).but(entries=[Entry(hmac.handle, bytes(33), 0xFF, b""), ABSENT]))
     refused("An entry that is not there: REFERENCE_S0", using().but(entries=[ABSENT]))
-    refused("A password behind a session whose hmac is wrong: HANDLE/s2", using(hmac, b""), 1)
-    case = "Reserved attributes behind it: RESERVED_BITS/s2"
+    refused("A password after a session with a wrong hmac: HANDLE/s2", using(hmac, b""), 1)
+    case = "Reserved attributes after it: RESERVED_BITS/s2"
     refused(case, using(hmac, plain).but_entry(2, attributes=0x98), 1)
-    refused("audit behind it: ATTRIBUTES/s2", using(hmac, plain).but_entry(2, attributes=0x81), 1)
+    refused("audit after it: ATTRIBUTES/s2", using(hmac, plain).but_entry(2, attributes=0x81), 1)
     refused("Both hmacs: BAD_AUTH/s1", using(hmac, policy), 1, 2)
     refused("The second one's: BAD_AUTH/s2", using(hmac, policy), 2)
 
@@ -48,7 +48,7 @@ def symmetric(use):
 
 
 def by_right(words, text):
-    """By the right password, and the policy session itself decrypts nonceTPM."""
+    """By the right password, while the policy session itself decrypts nonceTPM."""
     refused(words, secret(text, b"lockout", policy.decrypting))
 
 
@@ -68,7 +68,7 @@ def says(words, text, session=policy, attributes=CONTINUE_SESSION):
 
 
 def decrypted(words, text, session=policy):
-    """The same where the HMAC session decrypts."""
+    """The same, while the HMAC session decrypts."""
     says(words, text, session, DECRYPTS)
 
 
@@ -89,17 +89,17 @@ code = CC.PolicyLocality
 tpm.chapter("TPM2_PolicyLocality.")
 up_to_hmacs(b"")
 says("No byte: INSUFFICIENT/p1", b"")
-says("A byte behind 0, and behind FF: SIZE", b"\0\0")
+says("A byte after 0, and after FF: SIZE", b"\0\0")
 says("SIZE", b"\xff\0")
 says("0: RANGE/p1", b"\0")
 says("No fault is left", b"\1")
 
 code = CC.PolicyCommandCode
-tpm.chapter("TPM2_PolicyCommandCode behind TPM2_PolicyCommandCode of Unseal.")
+tpm.chapter("TPM2_PolicyCommandCode after TPM2_PolicyCommandCode of Unseal.")
 tpm("Unseal").command_code(policy, CC.Unseal)
 up_to_hmacs(b"\0\0\1")
 says("Three bytes: INSUFFICIENT/p1", b"\0\0\1")
-says("Another code, 0, and a byte behind it: SIZE", bytes(5))
+says("Another code, 0, and a byte after it: SIZE", bytes(5))
 says("0, which is no code, and another: VALUE/p1", bytes(4))
 tpm.restarts(policy)
 says("0, and none is recorded: POLICY_CC/p1", bytes(4))
@@ -115,13 +115,13 @@ says("Two, the first cut: INSUFFICIENT/p1", number(2, 4) + b"\0\x20" + bytes(31)
 says("Its size over 32: SIZE/p1", number(2, 4) + b"\0\x21" + bytes(31))
 case = "The second over 32 and cut, though the digest is not among them: SIZE/p1"
 says(case, number(2, 4) + sized(b"x") + b"\0\x21")
-says("A byte behind two of others: SIZE", frames.sized_list(b"x", b"y") + b"\0")
+says("A byte after two of others: SIZE", frames.sized_list(b"x", b"y") + b"\0")
 says("Two of others: VALUE/p1", frames.sized_list(b"x", b"y"))
 tpm.restarts(policy)
 says("No fault is left", frames.sized_list(b"x", bytes(32)))
 
 code = CC.PolicyPCR
-tpm.chapter("TPM2_PolicyPCR behind TPM2_PolicyPCR, and PCR 16 has changed; hmac decrypts.")
+tpm.chapter("TPM2_PolicyPCR after TPM2_PolicyPCR, and PCR 16 has changed; hmac decrypts.")
 tpm.restarts(policy)
 tpm("TPM2_PolicyPCR").pcrs(policy, [(SHA256, [0])])
 tpm.accepted("TPM2_PCR_Reset of PCR 16", tpm.reset(b""))
@@ -129,13 +129,13 @@ GIVEN, CUT_DIGEST = sized(bytes(32)), sized(bytes(32))[:-1]
 up_to_hmacs(CUT_DIGEST)
 symmetric(plain.decrypting)
 decrypted("pcrDigest that is cut, and cannot be decrypted: INSUFFICIENT/p1", CUT_DIGEST)
-decrypted("One of 33 bytes, and nothing behind it: SIZE/p1", sized(bytes(33)))
-decrypted("No selection behind it: INSUFFICIENT/p2", GIVEN)
+decrypted("One of 33 bytes, and nothing after it: SIZE/p1", sized(bytes(33)))
+decrypted("No selection after it: INSUFFICIENT/p2", GIVEN)
 decrypted("Of seventeen banks, the first cut: SIZE/p2", GIVEN + number(17, 4) + b"\0")
 decrypted("Of a wrong hash, of four octets, and cut: HASH/p2", GIVEN + number(1, 4) + b"\0\x0c\4")
 decrypted("Of four octets, and cut: VALUE/p2", GIVEN + number(1, 4) + b"\0\x0b\4")
 decrypted("Cut: INSUFFICIENT/p2", GIVEN + selection((SHA256, [0]))[:-1])
-decrypted("A byte behind it: SIZE", GIVEN + selection((SHA256, [0])) + b"\0")
+decrypted("A byte after it: SIZE", GIVEN + selection((SHA256, [0])) + b"\0")
 decrypted("The PCR that has changed, and a wrong pcrDigest: PCR_CHANGED", GIVEN + selection())
 tpm.restarts(policy)
 decrypted("The pcrDigest: VALUE/p1", GIVEN + selection())
@@ -154,7 +154,7 @@ def secret(text, *uses, of=RH_LOCKOUT, session=policy.handle):
 
 
 CUT = b"\0\x20"
-case = "TPM_RH_NULL, and a policy session that is none: VALUE/h1"
+case = "TPM_RH_NULL, and a policy session that does not exist: VALUE/h1"
 refused(case, secret(CUT, of=RH_NULL, session=RH_NULL))
 case = "An object that is not there, and that: REFERENCE_H0"
 refused(case, secret(CUT, of=0x8000_0000, session=RH_NULL))
@@ -164,30 +164,30 @@ refused("No policy session, no sessions: VALUE/h2", secret(CUT, session=hmac.han
 refused("One that is not there, and no sessions: REFERENCE_H1", secret(CUT, session=ABSENT_POLICY))
 refused("No sessions (tag 8001): AUTH_MISSING", secret(CUT))
 refused("An entry that is not there: REFERENCE_S0", secret(CUT).but(entries=[ABSENT]))
-case = "Behind a policy session: REFERENCE_S1"
+case = "After a policy session: REFERENCE_S1"
 refused(case, secret(CUT, policy).but(entries=[*secret(CUT, policy).entries, ABSENT]))
-refused("A second password behind a wrong one: HANDLE/s2", secret(CUT, b"wrong", b"lockout"))
-case = "decrypt in a session that cannot, behind a wrong password: SYMMETRIC/s2"
+refused("A second password after a wrong one: HANDLE/s2", secret(CUT, b"wrong", b"lockout"))
+case = "decrypt in a session that cannot, after a wrong password: SYMMETRIC/s2"
 refused(case, secret(CUT, b"wrong", plain.decrypting))
-case = "A trial session that is to authorize it, and a wrong hmac behind it: ATTRIBUTES/s1"
+case = "A trial session that is to authorize it, and a wrong hmac after it: ATTRIBUTES/s1"
 refused(case, secret(CUT, trial, hmac), 1, 2)
-case = "A policy session that is to authorize it, and a wrong hmac behind it: AUTH_UNAVAILABLE"
+case = "A policy session that is to authorize it, and a wrong hmac after it: AUTH_UNAVAILABLE"
 refused(case, secret(CUT, policy, hmac), 1, 2)
-case = "A wrong password, and a wrong hmac behind it: AUTH_FAIL/s1"
+case = "A wrong password, and a wrong hmac after it: AUTH_FAIL/s1"
 refused(case, secret(CUT, b"wrong", hmac.decrypting), 2)
-refused("A wrong hmac, and another behind it: AUTH_FAIL/s1", secret(CUT, hmac, policy), 1, 2)
-refused("The one behind: BAD_AUTH/s2", secret(CUT, b"lockout", policy.decrypting), 2)
+refused("A wrong hmac, and another after it: AUTH_FAIL/s1", secret(CUT, hmac, policy), 1, 2)
+refused("The one after: BAD_AUTH/s2", secret(CUT, b"lockout", policy.decrypting), 2)
 NONCE = bytes(16)
 assert policy.nonce_tpm != NONCE
 by_right("nonceTPM that is cut, and cannot be decrypted: INSUFFICIENT/p1", CUT)
-by_right("One of 33 bytes, and nothing behind it: SIZE/p1", sized(bytes(33)))
-by_right("cpHashA of 33 bytes, and nothing behind it: SIZE/p2", sized(NONCE) + b"\0\x21")
+by_right("One of 33 bytes, and nothing after it: SIZE/p1", sized(bytes(33)))
+by_right("cpHashA of 33 bytes, and nothing after it: SIZE/p2", sized(NONCE) + b"\0\x21")
 by_right("One of 32 that is cut: INSUFFICIENT/p2", sized(NONCE) + CUT)
 by_right("policyRef of 33 bytes: SIZE/p3", sized(NONCE) + sized(b"x") + b"\0\x21")
 by_right("One of 32 that is cut: INSUFFICIENT/p3", sized(NONCE) + sized(b"x") + CUT)
 by_right("expiration that is cut: INSUFFICIENT/p4", sized(NONCE) + sized(b"x") + sized(b"") + b"\1")
 faulty = dict(nonce_tpm=NONCE, cp_hash=b"x", expiration=1)
-by_right("A byte behind it: SIZE", frames.policy_secret(**faulty) + b"\0")
+by_right("A byte after it: SIZE", frames.policy_secret(**faulty) + b"\0")
 by_right("expiration is 1: VALUE/p4", frames.policy_secret(**faulty))
 del faulty["expiration"]
 by_right("cpHashA of one byte: SIZE/p2", frames.policy_secret(**faulty))
@@ -205,15 +205,15 @@ in_trial("cpHashA of one byte: SIZE/p2", nonce_tpm=NONCE, cp_hash=b"x")
 in_trial("Another nonceTPM, and a cpHashA: SUCCESS", nonce_tpm=NONCE, cp_hash=CP_HASH)
 in_trial("And another cpHashA: SUCCESS", nonce_tpm=NONCE, cp_hash=bytes(32))
 others = frames.sized_list(b"x", b"y") + b"\0"
-refused("A byte behind TPM2_PolicyOR of others: SIZE", tpm.told(CC.PolicyOR, trial, others))
+refused("A byte after TPM2_PolicyOR of others: SIZE", tpm.told(CC.PolicyOR, trial, others))
 tpm("TPM2_PolicyOR of others").branches(trial, b"x", b"y")
 tpm("TPM2_PolicyPCR").pcrs(trial, [])
 tpm.accepted("TPM2_PCR_Reset of PCR 16", tpm.reset(b""))
-case = "A byte behind TPM2_PolicyPCR with another pcrDigest: SIZE"
+case = "A byte after TPM2_PolicyPCR with another pcrDigest: SIZE"
 refused(case, tpm.told(CC.PolicyPCR, trial, GIVEN + selection() + b"\0"))
 tpm("TPM2_PolicyPCR with it").pcrs(trial, [], bytes(32))
 
-tpm.chapter("TPM2_PolicyCpHash behind TPM2_PolicyCpHash; hmac decrypts.")
+tpm.chapter("TPM2_PolicyCpHash after TPM2_PolicyCpHash; hmac decrypts.")
 tpm.says("TPM2_PolicyRestart: SUCCESS", tpm.restart(policy), tpm.restart(trial))
 code = CC.PolicyCpHash
 tpm("A cpHash").cp_hash_told(policy, CP_HASH)
@@ -222,8 +222,8 @@ up_to_hmacs(CUT_DIGEST)
 symmetric(plain.decrypting)
 for what, outcome, text in (
     ("cpHashA that is cut, and cannot be decrypted", "INSUFFICIENT/p1", CUT_DIGEST),
-    ("One of 33 bytes, and a byte behind it", "SIZE/p1", sized(bytes(33)) + b"\0"),
-    ("A byte behind one of 31", "SIZE", sized(bytes(31)) + b"\0"),
+    ("One of 33 bytes, and a byte after it", "SIZE/p1", sized(bytes(33)) + b"\0"),
+    ("A byte after one of 31", "SIZE", sized(bytes(31)) + b"\0"),
     ("One of 31, which is another", "SIZE/p1", sized(bytes(31))),
     ("Another one", "CPHASH", sized(bytes(32))),
 ):
@@ -232,14 +232,14 @@ for what, outcome, text in (
 for session in (policy, trial):
     decrypted("No fault is left", sized(CP_HASH), session)
 
-tpm.chapter("TPM2_PolicyNvWritten behind TPM2_PolicyNvWritten of 1.")
+tpm.chapter("TPM2_PolicyNvWritten after TPM2_PolicyNvWritten of 1.")
 code = CC.PolicyNvWritten
 tpm("In a policy session").written_told(policy, True)
 tpm("In a trial session").written_told(trial, True)
 up_to_hmacs(b"")
 for session in (policy, trial):
     says("No byte: INSUFFICIENT/p1", b"", session)
-    says("2, and a byte behind it: VALUE/p1", b"\2\0", session)
-    says("A byte behind 0: SIZE", b"\0\0", session)
+    says("2, and a byte after it: VALUE/p1", b"\2\0", session)
+    says("A byte after 0: SIZE", b"\0\0", session)
     says("0, and 1 is recorded: VALUE/p1", b"\0", session)
     says("No fault is left", b"\1", session)

@@ -1,5 +1,5 @@
-"""Writes policy_auth_value.tpm. TPM2_PolicyAuthValue and TPM2_PolicyPassword: who uses the policy
-has to show the entity's authorization value, in an hmac or as a password. They make the same
+"""Writes policy_auth_value.tpm. TPM2_PolicyAuthValue and TPM2_PolicyPassword: a user of the policy
+must show the entity's authorization value, in an HMAC or as a password. Both make the same
 digest.
 """
 
@@ -13,18 +13,18 @@ for session in tpm.each_session():
     twice = policy.after_auth_value(session.algorithm, once)
     tpm("TPM2_PolicyAuthValue").auth_value_told(session)
     tpm.digest_is("Its digest is the hash of zeros and 0000016B", session, once)
-    tpm("TPM2_PolicyPassword behind it").password_told(session)
+    tpm("TPM2_PolicyPassword after it").password_told(session)
     tpm.digest_is("The hash of that and 0000016B once more", session, twice)
     tpm.restarts(session)
     tpm("TPM2_PolicyPassword").password_told(session)
     tpm.digest_is("The digest is the same as that of TPM2_PolicyAuthValue", session, once)
-    tpm("TPM2_PolicyAuthValue behind it").auth_value_told(session)
+    tpm("TPM2_PolicyAuthValue after it").auth_value_told(session)
     tpm.digest_is("Also in this order", session, twice)
-    said = tpm("There are no parameters: a byte behind the handle: SIZE")
+    said = tpm("There are no parameters: a byte after the handle: SIZE")
     said.says(*(tpm.told(it, session, b"\0") for it in (CC.PolicyAuthValue, CC.PolicyPassword)))
-    tpm.digest_is("The digest is as it was", session, twice)
+    tpm.digest_is("The digest is unchanged", session, twice)
 
     said = tpm("TPM2_PolicyAuthValue with the session itself as an entry")
     said.auth_value_told(session, session)
     tpm("TPM2_PolicyPassword with it").password_told(session, session)
-    tpm.digest_is("The digest is four times behind zeros", session)
+    tpm.digest_is("The digest is that of four assertions after zeros", session)

@@ -1,4 +1,4 @@
-"""Writes policy_command_code.tpm. TPM2_PolicyCommandCode: the policy is for one command alone. Its
+"""Writes policy_command_code.tpm. TPM2_PolicyCommandCode: the policy is only for one command. Its
 parameter is the code of a command, served or not.
 """
 
@@ -22,7 +22,7 @@ for session in tpm.each_session():
     case = "A code that is no command's: 0, 11E, 194, and all ones: POLICY_CC/p1"
     says(case, 0, 0x11E, UNKNOWN, 0xFFFF_FFFF)
     texts("No code, and cut: INSUFFICIENT/p1", b"", bytes(3))
-    case = "A byte behind it, also where it is no command's: SIZE"
+    case = "A byte after it, even if it is no command's: SIZE"
     texts(case, number(CC.Unseal, 4) + b"\0", number(UNKNOWN, 4) + b"\0")
     tpm.digest_is("The digest is zeros", session, zeros(session))
 
@@ -33,7 +33,7 @@ for session in tpm.each_session():
     says(case, CC.NV_Read, CC.ReadPublic)
     says("One that is no command's, which is another as well: VALUE/p1", UNKNOWN, 0)
     texts("Cut, all the same: INSUFFICIENT/p1", number(CC.NV_Read, 4)[:3])
-    tpm.digest_is("The digest is as it was", session, once)
+    tpm.digest_is("The digest is unchanged", session, once)
     says("The code of Unseal once more: SUCCESS", CC.Unseal)
     tpm.digest_is("And it is in the digest again", session)
     says("NV_Read: VALUE/p1", CC.NV_Read)

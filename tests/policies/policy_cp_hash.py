@@ -1,4 +1,4 @@
-"""Writes policy_cp_hash.tpm. TPM2_PolicyCpHash: the policy is for one command alone, with its
+"""Writes policy_cp_hash.tpm. TPM2_PolicyCpHash: the policy is only for one command, with its
 handles and its parameters. Its parameter is the cpHash of that command, by the session's hash.
 """
 
@@ -37,7 +37,7 @@ for session in tpm.each_session():
     texts("Over 32 bytes, whole or cut: SIZE/p1", sized(bytes(33)), b"\0\x21", b"\xff\xff")
     case = "Cut: no size, half of it, no bytes and one too few: INSUFFICIENT/p1"
     texts(case, b"", b"\0", number(size, 2), sized(one)[:-1])
-    case = "A byte behind it, also behind one of another size: SIZE"
+    case = "A byte after it, also after one of another size: SIZE"
     texts(case, sized(one) + b"\0", sized(b"") + b"\0")
     tpm.digest_is("The digest is zeros", session, zeros(session))
 
@@ -47,7 +47,7 @@ for session in tpm.each_session():
     tpm.digest_is("Its digest, of the zeros, 0000016E and the cpHash", session, once)
     says("Another one, in a trial session too: CPHASH", other, bytes(size))
     says("One of another size comes before: SIZE/p1", b"", bytes(size - 1))
-    tpm.digest_is("The digest is as it was", session, once)
+    tpm.digest_is("The digest is unchanged", session, once)
     says("The same once more: SUCCESS", one)
     tpm.digest_is("And it is in the digest again", session)
 

@@ -1,5 +1,5 @@
-"""Writes policy_get_digest.tpm. TPM2_PolicyGetDigest answers the digest that a policy session or a
-trial session has come to. It has no parameters, and changes nothing.
+"""Writes policy_get_digest.tpm. TPM2_PolicyGetDigest answers the present digest of a policy session
+or a trial session. It has no parameters, and changes nothing.
 """
 
 from tests.common.policy_teller import PolicyTeller
@@ -10,7 +10,7 @@ tpm = PolicyTeller(__name__, __doc__)
 for session in tpm.each_session(size=20):
     tpm.digest_is("It begins with zeros", session, zeros(session))
     tpm.digest_is("They are there when asked again", session, zeros(session))
-    said = tpm("There are no parameters: a byte behind the handle, and two: SIZE")
+    said = tpm("There are no parameters: a byte after the handle, and two: SIZE")
     said.refused(*(tpm.told(CC.PolicyGetDigest, session, it) for it in (b"\0", b"\0\0")))
     tpm.makes("TPM2_PolicyAuthValue", session, tpm.auth_value_told(session), "The digest of that")
     tpm.makes("TPM2_PolicyAuthValue once more", session, tpm.auth_value_told(session))

@@ -1,5 +1,5 @@
-"""Writes policy_handles.tpm. The commands of policies have the handle of a policy session or a
-trial session, which needs no authorization; TPM2_PolicySecret has it as its second one.
+"""Writes policy_handles.tpm. The commands of policies have the handle of a policy or trial session,
+which needs no authorization. In TPM2_PolicySecret it is the second.
 """
 
 from tpmsim.standard import area
@@ -59,7 +59,7 @@ def handles_of(code, text):
     tpm.chapter(f"TPM2_{code.name}.")
     refused("No handle: INSUFFICIENT/h1", plain(code), plain(code, text=b"\3\0\0"))
     refused("A handle of another kind: VALUE/h1", *(plain(code, it, text=text) for it in OTHERS))
-    case = "A session that is not there, the first where an HMAC session is: REFERENCE_H0"
+    case = "A session that is not there; the first has an HMAC session's place: REFERENCE_H0"
     refused(case, *(plain(code, it, text=text) for it in ABSENT))
     for words, handle, behind in (
         (f"{TAGGED}; the handle comes first: AUTHSIZE", policy.handle, b""),
@@ -99,7 +99,7 @@ case = "No policySession: INSUFFICIENT/h2"
 refused(case, plain(SECRET, RH_OWNER), plain(SECRET, RH_OWNER, text=b"\3\0\0"))
 refused("A policySession of another kind: VALUE/h2", *(by_password(RH_OWNER, it) for it in OTHERS))
 refused("One that is not there: REFERENCE_H1", *(by_password(RH_OWNER, it) for it in ABSENT))
-case = "Without sessions (tag 8001), behind the handles: AUTH_MISSING"
+case = "Without sessions (tag 8001), after the handles: AUTH_MISSING"
 refused(case, plain(SECRET, RH_OWNER, policy.handle, text=NOTHING))
 case = "Which are looked at before: REFERENCE_H1"
 refused(case, plain(SECRET, RH_OWNER, ABSENT[0], text=NOTHING))

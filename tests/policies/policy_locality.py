@@ -1,6 +1,6 @@
-"""Writes policy_locality.tpm. TPM2_PolicyLocality: the policy is for some localities alone. Its
-parameter has a bit for each of the localities 0 to 4, and what is left is what all such parameters
-have in common.
+"""Writes policy_locality.tpm. TPM2_PolicyLocality: the policy is only for some localities. Its
+parameter has a bit for each of the localities 0 to 4. The localities that all such parameters have
+in common are left.
 """
 
 from tests.common.policy_teller import PolicyTeller
@@ -15,10 +15,10 @@ def says(words, *masks):
 
 for session in tpm.each_session():
     says("No locality: RANGE/p1", 0)
-    case = "Localities that there are not: bit 5, 6 and 7, alone and beside others: RANGE/p1"
+    case = "Localities that do not exist: bit 5, 6 and 7, alone and with others: RANGE/p1"
     says(case, 0x20, 0x21, 0x3F, 0x40, 0x5F, 0x80, 0x81, 0xE0, 0xFF)
     tpm("No parameter: INSUFFICIENT/p1").told(CC.PolicyLocality, session, b"")
-    case = "A byte behind it, also where it is 0: SIZE"
+    case = "A byte after it, even if it is 0: SIZE"
     tpm.texts(case, CC.PolicyLocality, session, b"\1\0", b"\0\0")
     tpm.digest_is("The digest is zeros", session, zeros(session))
 
@@ -37,7 +37,7 @@ for session in tpm.each_session():
         tpm.digest_is("Its digest", session, wanted)
         if absent:
             says("Of what is left none: RANGE/p1", *absent)
-            tpm.digest_is("The digest is as it was", session, wanted)
+            tpm.digest_is("The digest is unchanged", session, wanted)
     says("Nothing, as ever: RANGE/p1", 0)
 
     tpm.chapter("Each locality alone, from the start.")
@@ -47,7 +47,7 @@ for session in tpm.each_session():
         says("The others: RANGE/p1", 0x1F & ~(1 << locality))
         tpm.digest_is("Its digest, of twice the same", session)
 
-tpm.chapter("From which locality it is told does not matter.")
+tpm.chapter("The locality of this command does not matter.")
 session = tpm.policy("A policy session")
 tpm.locality_is(3)
 says("For locality 0, from locality 3: SUCCESS", 1)

@@ -1,5 +1,5 @@
-"""Writes policy_nv.tpm. TPM2_PolicyNV: the policy is for when an index holds what is compared with
-it. Its parameters are operandB, offset and operation; the index stands at the left of the
+"""Writes policy_nv.tpm. TPM2_PolicyNV: the policy holds while the content of an index compares with
+a value. Its parameters are operandB, offset and operation; the index is on the left of the
 comparison.
 """
 
@@ -12,7 +12,7 @@ from tests.common.vocabulary import counter, extended, FIFTH, FIRST, flipped, FO
 from tests.common.vocabulary import is_trial, number, NvAttribute, policy, RH_OWNER, RH_PLATFORM
 from tests.common.vocabulary import SECOND, SHA1, SHA256, sized, THIRD, Use, zeros
 
-# The operations, and how those compare that are no tests of bits.
+# The operations, and how those compare that do not test bits.
 NAMES = (
     *("equal", "not equal", "greater, signed", "greater", "less, signed", "less"),
     *("greater or equal, signed", "greater or equal", "less or equal, signed", "less or equal"),
@@ -26,7 +26,7 @@ tpm = PolicyTeller(__name__, __doc__)
 
 
 def after(session, old, index, operand, offset, operation):
-    """The digest behind the assertion, as the standard spells it."""
+    """The digest after the assertion, as the standard computes it."""
     digest = hashlib.sha1 if session.algorithm == SHA1 else hashlib.sha256
     compared = digest(operand + number(offset, 2) + number(operation, 2)).digest()
     return digest(old + number(CC.PolicyNV, 4) + compared + tpm.names[index]).digest()
@@ -44,13 +44,13 @@ def fails(words, session, operation, *operands, offset=0, index=FIRST):
 
 
 def adds(what, session, operand, offset=0, operation=EQ, index=FIRST, by=RH_OWNER):
-    """An assertion that must be accepted, and the digest behind it."""
+    """An assertion that must be accepted, and the digest after it."""
     wanted = after(session, tpm.digest_of(session), index, operand, offset, operation)
     compares(what, session, operation, operand, offset=offset, index=index, by=by)
     tpm.digest_is("Its digest", session, wanted)
 
 
-# What an index of four bytes holds, and what it is compared with.
+# The content of an index of four bytes, and the operands that it is compared with.
 OPERANDS = {
     0x0000_0005: (5, 4, 6, 0, 0x7FFF_FFFF, 0x8000_0000, 0xFFFF_FFFF),
     0xFFFF_FFFE: (0xFFFF_FFFE, 0xFFFF_FFFD, 0xFFFF_FFFF, 0x8000_0000, 0x7FFF_FFFF, 0, 1),
@@ -85,7 +85,7 @@ for session in tpm.each_session():
         ("The same comparison, once more", b".", 7, EQ),
         ("Not equal to zeros", bytes(8), 0, NEQ),
         ("Greater or equal, at 2", b"byte", 2, GE),
-        ("No bytes, behind the last", b"", 8, EQ),
+        ("No bytes, after the last", b"", 8, EQ),
     ):
         adds(what, session, *comparison)
     if is_trial(session):
@@ -162,7 +162,7 @@ case = "007FFF is less than 008000, signed or not"
 compares(case, session, SIGNED_LT, b"\0\x80\0", offset=1, index=THIRD)
 compares("", session, LT, b"\0\x80\0", offset=1, index=THIRD)
 fails("Past the end: NV_RANGE", session, EQ, b"\x3b\0", bytes(32), offset=63, index=THIRD)
-fails("One byte, and none, behind it: NV_RANGE", session, EQ, b"x", offset=64, index=THIRD)
+fails("One byte, and none, after it: NV_RANGE", session, EQ, b"x", offset=64, index=THIRD)
 fails(": NV_RANGE", session, EQ, b"", offset=65, index=THIRD)
 fails("At FFFF: NV_RANGE", session, EQ, bytes(32), b"", offset=0xFFFF, index=THIRD)
 tpm("The index is undefined").undefining(THIRD)
@@ -211,7 +211,7 @@ refused("What does not hold: POLICY", THIRD, offset=1)
 tpm.digest_is("The digest is zeros", session, zeros(session))
 refused("What holds: SUCCESS", THIRD, offset=0)
 
-tpm.chapter("In a trial session none of these stands.")
+tpm.chapter("In a trial session none of these matters.")
 tpm("TPM2_NV_ReadLock").read_locking(THIRD)
 for what, by, offset in (
     ("By the owner", RH_OWNER, 0),
@@ -244,11 +244,11 @@ for words, *texts in (
     ("offset that is cut: INSUFFICIENT/p2", empty, empty + b"\0"),
     ("operation that is cut: INSUFFICIENT/p3", empty + bytes(2), empty + bytes(3)),
     ("An operation over B: VALUE/p3", *(text(b"", 0, it) for it in (0xC, 0x10, 0x100, 0xFFFF))),
-    ("And a byte behind it: VALUE/p3", text(b"", 0, 0xC) + b"\0"),
-    ("A byte behind the operation: SIZE", text() + b"\0"),
+    ("And a byte after it: VALUE/p3", text(b"", 0, 0xC) + b"\0"),
+    ("A byte after the operation: SIZE", text() + b"\0"),
 ):
     tpm.fails(words, *(right.but(parameters=it) for it in texts))
-tpm.digest_is("The digest is as it was", trial)
+tpm.digest_is("The digest is unchanged", trial)
 
 tpm.chapter("By sessions.")
 hmac = tpm.start("An HMAC session that is bound to the index, with AES", bind=FIRST, aes=True)
@@ -257,10 +257,10 @@ tpm("By it").comparing(session, FIRST, b"8", hmac)
 tpm("With operandB encrypted").comparing(session, FIRST, b"8 bytes.", hmac.decrypting)
 once = after(session, zeros(session), FIRST, b"8", 0, EQ)
 tpm.digest_is("What is hashed is plain", session, after(session, once, FIRST, b"8 bytes.", 0, EQ))
-said = tpm("encrypt, where nothing is answered: ATTRIBUTES/s1")
+said = tpm("encrypt, but nothing is answered: ATTRIBUTES/s1")
 said.fails(tpm.comparing(session, FIRST, b"8", hmac).but_entry(1, attributes=0x41))
 
-tpm.chapter("By a policy: the index authorizes itself to the very session that is told.")
+tpm.chapter("By a policy: the index authorizes itself by the very session of the command.")
 auth_policy = policy.after_auth_value(SHA256, bytes(32))
 tpm.define("An index", area(FIFTH, BY_POLICY, auth_policy=auth_policy), auth=b"a")
 by_value = lambda: Use(session, demand=policy.AUTH_VALUE)

@@ -1,5 +1,5 @@
 """Writes policy_nv_written.tpm. TPM2_PolicyNvWritten: the policy is for an NV index that is written
-(1), or for one that is not (0). Whether it is, is looked at when the session authorizes.
+(1), or for one that is not (0). The device checks that when the session authorizes.
 """
 
 import hashlib
@@ -31,9 +31,9 @@ def define(what, index, auth_policy, by=BY_OWNER | BY_POLICY, make=area, **more)
 
 for session in tpm.each_session():
     texts("No parameter: INSUFFICIENT/p1", b"")
-    case = "What is neither 0 nor 1, also with a byte behind it: VALUE/p1"
+    case = "What is neither 0 nor 1, also with a byte after it: VALUE/p1"
     texts(case, b"\2", b"\x80", b"\xff", b"\2\0")
-    texts("A byte behind it: SIZE", b"\0\0", b"\1\0")
+    texts("A byte after it: SIZE", b"\0\0", b"\1\0")
     tpm.digest_is("The digest is zeros", session, zeros(session))
     for value, other in ((NO, YES), (YES, NO)):
         hashed = hashlib.sha1 if session.algorithm == SHA1 else hashlib.sha256
@@ -41,7 +41,7 @@ for session in tpm.each_session():
         says(f"{value:d}: SUCCESS", value)
         tpm.digest_is("Its digest, of the zeros, 0000018F and the byte", session, once)
         says(f"{other:d}, in a trial session too: VALUE/p1", other)
-        tpm.digest_is("The digest is as it was", session, once)
+        tpm.digest_is("The digest is unchanged", session, once)
         says(f"{value:d} once more: SUCCESS", value)
         tpm.digest_is("And it is in the digest again", session)
         says(f"{other:d}: VALUE/p1", other)
@@ -67,7 +67,7 @@ for algorithm, hash_name, index in ((SHA256, "SHA-256", FIRST), (SHA1, "SHA-1", 
     tpm.restarts(session)
     says("1 is what holds now, and is not its policy: SUCCESS", YES)
     tpm("TPM2_NV_Write: POLICY_FAIL/s1").writing(index, b"other", session)
-    tpm.read("It is as it was first written", index, b"first", by=RH_OWNER)
+    tpm.read("It is as first written", index, b"first", by=RH_OWNER)
     tpm("The owner may write all the same").writing(index, b"again", by=RH_OWNER)
     tpm("It ends").flush(session)
 
@@ -94,7 +94,7 @@ for words in ("TPM2_NV_Write", "After a startup it is a first one again"):
     tpm.power_cycle()
     tpm.read_index_public("TPM2_NV_ReadPublic: not written", FOURTH)
 
-tpm.chapter("Defined anew, an index is not written.")
+tpm.chapter("Defined again, an index is not written.")
 define("A counter", FIFTH, UNWRITTEN, make=counter)
 session = tpm.policy("A policy session")
 for _ in range(2):
@@ -126,7 +126,7 @@ for value, digest in ((NO, UNWRITTEN), (YES, WRITTEN)):
     tpm.accepted("The object is flushed", tpm.flush(handle))
 
 tpm.chapter(
-    "Where it stands in the order. A policy of the command code and of an index that is not "
+    "Its place in the order. A policy of the command code and of an index that is not "
     "written, and of locality 1; the index is written already."
 )
 digest = policy.after_command_code(SHA256, bytes(32), CC.NV_Write)
@@ -147,8 +147,8 @@ tpm("And a PCR before that: PCR_CHANGED").reading(SIXTH, 4, session)
 tpm.restarts(session)
 
 tpm.chapter(
-    "With a cpHash. Which of both is looked at first cannot be seen, as both answer POLICY_FAIL; "
-    "the locality behind them shows whether both hold."
+    "With a cpHash. Which of both is checked first cannot be seen, as both answer POLICY_FAIL; "
+    "the locality after them shows whether both hold."
 )
 writes = tpm.writing(SIXTH, b"data", session)
 right = tpm.cp_hash(writes)

@@ -1,4 +1,4 @@
-"""Writes policy_or.tpm. TPM2_PolicyOR: the digest is one of two to eight in a list, and becomes
+"""Writes policy_or.tpm. TPM2_PolicyOR: the digest is one of two to eight in a list; then it becomes
 that of the list.
 """
 
@@ -10,7 +10,7 @@ tpm = PolicyTeller(__name__, __doc__)
 
 
 def other(count):
-    """Digests of this session's size, none of which it comes to."""
+    """Digests of this session's size that it never has."""
     return [digest(session.algorithm, b"branch %d" % it) for it in range(count)]
 
 
@@ -20,7 +20,7 @@ def joins(what, *branches):
 
 
 def again():
-    """As a new one; its digest is zeros."""
+    """The session is like a new one; its digest is zeros."""
     tpm.restarts(session)
     return zeros(session)
 
@@ -37,7 +37,7 @@ for session in tpm.each_session():
     joins("Two that are the same", *2 * [again()])
     tpm("TPM2_PolicyAuthValue").auth_value_told(session)
     joins(
-        "Another digest than zeros, the third of three|and the zeros that it is hashed behind are "
+        "Another digest than zeros, the third of three|and the zeros that it is hashed after are "
         "not the digest before",
         *other(2),
         tpm.digest_of(session),
@@ -45,7 +45,7 @@ for session in tpm.each_session():
     joins("The digest of that, the first of two", tpm.digest_of(session), *other(1))
     joins("The digest of that, the second of them", *other(1), tpm.digest_of(session))
     current = again()
-    case = "Elements of other lengths beside it, of 0, 1, 19, 20, 21, 31 and 32 bytes"
+    case = "Elements of other lengths next to it, of 0, 1, 19, 20, 21, 31 and 32 bytes"
     joins(case, *(bytes([it]) * it for it in (0, 1, 19, 20, 21, 31, 32)), current)
 
     current = again()
@@ -64,13 +64,13 @@ for session in tpm.each_session():
             joins(f"{what}, which a trial session does not look at", *branches)
         else:
             tpm(f"{what}: VALUE/p1").branches(session, *branches)
-            tpm.digest_is("Its digest is as it was", session, zeros(session))
+            tpm.digest_is("Its digest is unchanged", session, zeros(session))
 
     current = again()
     case = "A list of no digests, of one, of nine, and of 2^32 - 1: SIZE/p1"
     most = tpm.branches(session, current, current, count=0xFFFF_FFFF)
     tpm.says(case, *(tpm.branches(session, *it * [current]) for it in (0, 1, 9)), most)
-    case = "The number of one and of nine, and nothing behind it: SIZE/p1"
+    case = "The number of one and of nine, and nothing after it: SIZE/p1"
     texts(case, number(1, 4), number(9, 4))
     two, whole = number(2, 4), frames.sized_list(current, current)
     case = "An element of 33 bytes, the first or the second, whole or cut: SIZE/p1"
@@ -85,14 +85,14 @@ for session in tpm.each_session():
     said = tpm("A list that says three and has two: INSUFFICIENT/p1")
     said.branches(session, current, current, count=3)
     texts(
-        "A byte behind the list, also where the digest is not among it, and a list that says two "
+        "A byte after the list, also where the digest is not among it, and a list that says two "
         "and has three: SIZE",
         *(whole + b"\0", frames.sized_list(*other(2)) + b"\0"),
         frames.sized_list(current, current, current, count=2),
     )
     tpm.digest_is("No refusal changed the digest", session, current)
 
-tpm.chapter("What was recorded before a list stays behind it.")
+tpm.chapter("What was recorded before a list still holds after it.")
 session = tpm.policy("A policy session is started")
 cp_hash = digest(session.algorithm, b"a command")
 tpm.says(

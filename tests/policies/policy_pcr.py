@@ -1,5 +1,5 @@
-"""Writes policy_pcr.tpm. TPM2_PolicyPCR: the policy is for PCRs that have the values of now. Its
-parameters are the digest that they should have, if any, and the selection of PCRs.
+"""Writes policy_pcr.tpm. TPM2_PolicyPCR: the policy is for PCRs with their present values. Its
+parameters are the digest that they should have, if any, and the selection.
 """
 
 from tests.common.policy_teller import PolicyTeller
@@ -12,7 +12,7 @@ tpm = PolicyTeller(__name__, __doc__)
 
 
 def changed(what, banks=ZERO):
-    """Refused in a policy session, and not in a trial session."""
+    """A change that is refused in a policy session, and not in a trial session."""
     outcome = "SUCCESS" if is_trial(session) else "PCR_CHANGED"
     tpm(f"{what}: {outcome}").pcrs(session, banks)
 
@@ -23,7 +23,7 @@ def values_digest(banks):
 
 
 def texts(words, *those, front=EMPTY):
-    """Parameters whose pcrDigest is empty where no other is given."""
+    """Parameters; their pcrDigest is empty unless another one is given."""
     tpm.texts(words, CC.PolicyPCR, session, *(front + it for it in those))
 
 
@@ -44,7 +44,7 @@ for pcr in (0, 1, 7, 8, 16, 23):
     event(f"TPM2_PCR_Event into PCR {pcr}", pcr, b"event %d" % pcr)
 
 for session in tpm.each_session():
-    # What is refused of the parameters, and the digest is zeros behind it.
+    # Refused parameters; the digest is still zeros after them.
     one, of_one = selection((SHA256, [0])), number(1, 4) + number(SHA256, 2)
     case = "pcrDigest that is cut: INSUFFICIENT/p1"
     texts(case, b"", b"\0", b"\0\x01", number(32, 2) + bytes(31), front=b"")
@@ -52,17 +52,17 @@ for session in tpm.each_session():
     texts(case, sized(bytes(33)) + one, number(33, 2), b"\xff\xff", front=b"")
     texts(
         "The selection that is cut: within its number, before its first bank, within the bank's "
-        "hash, before its size, within its bits, and where it has a bank less than it says: "
+        "hash, before its size, within its bits, and with a bank less than it says: "
         "INSUFFICIENT/p2",
         *(one[:it] for it in (0, 3, 4, 5, 6, 7, 9)),
         number(2, 4) + one[4:],
     )
-    case = "Of seventeen banks, whole, and with nothing behind that number: SIZE/p2"
+    case = "Of seventeen banks, whole, and with nothing after that number: SIZE/p2"
     texts(case, selection(*17 * ZERO), number(17, 4), number(0xFFFF_FFFF, 4))
     case = "A hash that is neither SHA-1 nor SHA-256: TPM_ALG_NULL, and SHA-384 as the second"
     texts(f"{case}: HASH/p2", selection((0x0010, [0])), selection((SHA1, [0]), (0x000C, [0])))
     texts("A bank of two octets, and of four: VALUE/p2", of_one + b"\2\0\0", of_one + b"\4\0\0\0\0")
-    case = "A byte behind them, also where pcrDigest is another: SIZE"
+    case = "A byte after them, even if pcrDigest is another: SIZE"
     texts(case, EMPTY + one + b"\0", sized(bytes(32)) + one + b"\0", front=b"")
     tpm.digest_is("The digest is zeros", session, zeros(session))
     for what, banks in (
@@ -93,7 +93,7 @@ for session in tpm.each_session():
     once = policy.after_pcr(session.algorithm, zeros(session), selection(*both), right)
     tpm.digest_is("It is as if none were given", session, once)
     tpm("The right one of no values").pcrs(session, [], digest(session.algorithm, b""))
-    tpm.digest_is("Its digest, behind the one before", session)
+    tpm.digest_is("Its digest, after the one before", session)
     for words, given in (
         ("Another, by one bit", flipped(right)),
         ("One that is a byte too short", right[:-1]),
@@ -101,7 +101,7 @@ for session in tpm.each_session():
         ("That of other values", values_digest([(SHA256, [0, 1])])),
         ("Zeros of its size", bytes(len(right))),
         ("Zeros of another size", bytes(52 - len(right))),
-        ("The right one and a byte behind it", (right + b"\0")[:32]),
+        ("The right one and a byte after it", (right + b"\0")[:32]),
     ):
         if given == right:
             continue
@@ -112,9 +112,9 @@ for session in tpm.each_session():
             )
         else:
             tpm(f"{words}: VALUE/p1").pcrs(session, both, given)
-            tpm.digest_is("The digest is as it was", session, zeros(session))
+            tpm.digest_is("The digest is unchanged", session, zeros(session))
 
-    tpm.chapter("PCRs that change behind it.")
+    tpm.chapter("PCRs that change after it.")
     from_the_start("PCR 0")
     tpm("Once more, and nothing has changed").pcrs(session, ZERO)
     extended("TPM2_PCR_Extend of PCR 0", 0, (SHA256, digest(SHA256, b"more")))
@@ -144,13 +144,13 @@ for session in tpm.each_session():
     tpm("TPM2_PolicyPCR again").pcrs(session, ZERO)
     tpm.digest_is("Its digest, of twice the same", session)
 
-tpm.chapter("Other assertions are not refused where a PCR has changed.")
+tpm.chapter("Other assertions are not refused when a PCR has changed.")
 session = tpm.policy("A policy session")
 tpm("TPM2_PolicyPCR").pcrs(session, ZERO)
 event()
 tpm.makes("TPM2_PolicyAuthValue", session, tpm.auth_value_told(session))
 
-tpm.chapter("That nothing changes is asked from the first one on, also where it selects none.")
+tpm.chapter("No change is allowed from the first one on, even if it selects none.")
 tpm.restarts(session)
 tpm("No PCR").pcrs(session, [])
 event()
@@ -166,5 +166,5 @@ tpm.makes("PCR 0", session, tpm.pcrs(session, ZERO))
 tpm.chapter("Each session by itself.")
 other = tpm.policy("Another policy session")
 tpm.accepted("TPM2_PCR_Reset of PCR 16", tpm.reset(b""))
-tpm("It has not been told of a PCR").pcrs(other, ZERO)
+tpm("It has no assertion of a PCR").pcrs(other, ZERO)
 tpm("But the one before has: PCR_CHANGED").pcrs(session, ZERO)

@@ -1,5 +1,5 @@
-"""Writes policy_restart.tpm. TPM2_PolicyRestart: the session has forgotten what it was told, and
-keeps all else.
+"""Writes policy_restart.tpm. TPM2_PolicyRestart: the session has forgotten its assertions, and
+keeps everything else.
 """
 
 from tests.common.policy_teller import PolicyTeller
@@ -10,7 +10,7 @@ PCR_0 = [(SHA256, [0])]
 
 
 def forgets(what, told):
-    """What is told, and restarted."""
+    """An assertion, and then the restart."""
     tpm.says(f"{what}: SUCCESS", told)
     tpm.restarts(session)
     tpm.digest_is("The digest is zeros", session, zeros(session))
@@ -19,7 +19,7 @@ def forgets(what, told):
 for session in tpm.each_session():
     tpm("On a new session it changes nothing").restart(session)
     tpm.digest_is("The digest is zeros", session, zeros(session))
-    said = tpm("There are no parameters: a byte behind the handle: SIZE")
+    said = tpm("There are no parameters: a byte after the handle: SIZE")
     said.told(CC.PolicyRestart, session, b"\0")
 
     tpm("TPM2_PolicyCommandCode of Unseal").command_code(session, 0x15E)

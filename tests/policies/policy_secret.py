@@ -1,6 +1,6 @@
-"""Writes policy_secret.tpm. TPM2_PolicySecret: the policy is for who knows the authorization value
-of an entity, and shows it now. Its parameters are nonceTPM, cpHashA, policyRef and expiration. Here
-by the empty password alone.
+"""Writes policy_secret.tpm. TPM2_PolicySecret: the policy is for a user who knows the authorization
+value of an entity, and shows it now. Its parameters are nonceTPM, cpHashA, policyRef and
+expiration. Here only by the empty password.
 """
 
 from tests.common.policy_teller import ENTITIES, PolicyTeller
@@ -27,7 +27,7 @@ def refused_but_in_trial(words, *choices):
 
 
 def not_looked_at(what, outcome, **others):
-    """Wrong ones of a parameter, which a trial session takes all the same."""
+    """Wrong values of a parameter, which a trial session accepts nevertheless."""
     ((name, values),) = others.items()
     if not is_trial(session):
         refused(f"{what}: {outcome}", *({name: it} for it in values))
@@ -75,7 +75,7 @@ for session in tpm.each_session():
     size = digest_bytes(session.algorithm)
     one, other = bytes([1]) * size, bytes(size)
     tpm.restarts(session)
-    case = "cpHashA of another size than the session's digests, also where it is in a trial session"
+    case = "cpHashA of another size than the session's digests, also in a trial session"
     sizes = [it for it in (1, 19, 21, 31) if it != size] + [52 - size]
     refused(f"{case}: SIZE/p2", *(dict(cp_hash=bytes(it)) for it in sizes))
     accepted("One that is a digest", cp_hash=one)
@@ -106,7 +106,7 @@ for session in tpm.each_session():
         raw(f"Of 33 bytes, whole or cut: SIZE/p{place}", *(front + it for it in long))
     raw("expiration that is cut: INSUFFICIENT/p4", *(3 * EMPTY + bytes(it) for it in (0, 1, 3)))
     whole = frames.policy_secret(), frames.policy_secret(expiration=1)
-    raw("A byte behind them, also where expiration is 1: SIZE", *(it + b"\0" for it in whole))
+    raw("A byte after them, even if expiration is 1: SIZE", *(it + b"\0" for it in whole))
     tpm.digest_is("The digest is zeros", session, zeros(session))
 
 tpm.chapter("A nonceTPM of 32 bytes, of a session of SHA-256.")
@@ -116,7 +116,7 @@ refused("Half of it: NONCE/p1", dict(nonce_tpm=session.nonce_tpm[:16]))
 other = tpm.policy("Another session", size=32)
 refused("The other's: NONCE/p1", dict(nonce_tpm=other.nonce_tpm))
 tpm.refused("The other way round: NONCE/p1", tpm.secret(other, nonce_tpm=session.nonce_tpm))
-said = tpm("nonceTPM, cpHashA and policyRef of 32 bytes, and two entries of 32 bytes each behind")
+said = tpm("nonceTPM, cpHashA and policyRef of 32 bytes, followed by two entries of 32 bytes each")
 largest = dict(nonce_tpm=session.nonce_tpm, cp_hash=bytes(range(32)), policy_ref=bytes(32))
 said.secret(session, b"", session, Use(other, shows_empty_key=True), **largest)
 tpm.digest_is("Its digest", session)
@@ -124,7 +124,7 @@ tpm.digest_is("Its digest", session)
 tpm.chapter("On the policy session that is named as a further entry too.")
 session = tpm.policy("The session, bound to TPM_RH_OWNER", bind=RH_OWNER, algorithm=SHA256)
 old = session.nonce_tpm
-said = tpm("With its nonceTPM of before, as it has the new one behind the command")
+said = tpm("With its old nonceTPM, as it has the new one after the command")
 said.secret(session, b"", session, nonce_tpm=old)
 tpm("The same again: NONCE/p1").secret(session, b"", session, nonce_tpm=old)
 tpm("With the new one").secret(session, b"", session, nonce_tpm=session.nonce_tpm)

@@ -1,6 +1,6 @@
-"""Writes policy_secret_authorization.tpm. TPM2_PolicySecret is authorized by the value of its first
-handle, in a password or an HMAC session, as any other command. Of the policy session nothing is
-asked.
+"""Writes policy_secret_authorization.tpm. The value of its first handle authorizes
+TPM2_PolicySecret, in a password or an HMAC session, as in any other command. The policy session
+needs no authorization.
 """
 
 from tests.common.policy_teller import HIERARCHIES, PolicyTeller
@@ -35,7 +35,7 @@ for handle, value in VALUES.items():
     bound = tpm.start("An HMAC session that is bound to it", handle, aes=True)
     for session in (target, trial):
         accepted("The right password", session, value, of=handle)
-        accepted("And with zeros behind it", session, value + b"\0\0", of=handle)
+        accepted("And with zeros after it", session, value + b"\0\0", of=handle)
         case = f"Wrong passwords: none, fewer bytes, more, and that of another: {code}"
         wrong = b"", value[:-1], value + b"x", b"another"
         tpm.refused(case, *(tpm.secret(session, it, of=handle) for it in wrong))
@@ -69,19 +69,19 @@ digests()
 
 tpm.chapter("With further entries.")
 bound = tpm.start("An HMAC session that is bound to TPM_RH_LOCKOUT", RH_LOCKOUT, algorithm=SHA1)
-accepted("Behind a password", target, b"owner", bound, of=RH_OWNER)
-case = "Behind a session, and before the policy session"
+accepted("After a password", target, b"owner", bound, of=RH_OWNER)
+case = "After a session, and before the policy session"
 accepted(case, target, unbound, bound, target, of=RH_OWNER)
-case = "A wrong hmac behind a password, of a session that is bound to TPM_RH_LOCKOUT: AUTH_FAIL/s2"
+case = "A wrong hmac after a password, of a session that is bound to TPM_RH_LOCKOUT: AUTH_FAIL/s2"
 tpm.refused(case, wrong_in(tpm.secret(target, b"owner", bound, of=RH_OWNER), 2))
-said = tpm("A wrong one behind it: BAD_AUTH/s3")
+said = tpm("A wrong one after it: BAD_AUTH/s3")
 said.refused(wrong_in(tpm.secret(target, b"owner", bound, target, of=RH_OWNER), 3))
 locked = tpm.policy("A policy session that is bound to TPM_RH_LOCKOUT", bind=RH_LOCKOUT)
 said = tpm("A wrong hmac of it, as a further entry: AUTH_FAIL/s2")
 said.refused(wrong_in(tpm.secret(target, b"owner", locked, of=RH_OWNER), 2))
 accepted("A right one", target, b"owner", locked, of=RH_OWNER)
 owned = tpm.policy("One that is bound to TPM_RH_OWNER", bind=RH_OWNER, algorithm=SHA256)
-said = tpm("A wrong hmac of it, where the first entry is of TPM_RH_LOCKOUT: BAD_AUTH/s2")
+said = tpm("A wrong hmac of it, with a first entry of TPM_RH_LOCKOUT: BAD_AUTH/s2")
 said.refused(wrong_in(tpm.secret(target, b"lockout", owned, of=RH_LOCKOUT), 2))
 case = "A right one, on TPM_RH_OWNER: it has the session's key alone, and no authorization value"
 accepted(case, target, b"owner", owned, of=RH_OWNER)

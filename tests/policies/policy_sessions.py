@@ -1,5 +1,5 @@
-"""Writes policy_sessions.tpm. Policy sessions and trial sessions have the sixteen places that HMAC
-sessions have. Their handles begin with 03, and those of HMAC sessions with 02.
+"""Writes policy_sessions.tpm. Policy sessions and trial sessions have the same sixteen places as
+HMAC sessions. Their handles begin with 03, and those of HMAC sessions with 02.
 """
 
 from tests.common.vocabulary import CC, Entry, flipped, frames, HASHES, number, RH_LOCKOUT, RH_OWNER
@@ -26,12 +26,12 @@ def get_digest(handle):
 
 
 def random_by(handle):
-    """TPM2_GetRandom with a session of which nothing is known but its handle."""
+    """TPM2_GetRandom with a session of which only the handle is known."""
     return tpm.random(1).but(entries=[Entry(handle, b"", 1, b"")])
 
 
 def tell(session, code, mask, cp_hash):
-    """Something of each kind, of which a session takes no other later."""
+    """An assertion of each kind for which a session accepts no other value later."""
     said = tpm("TPM2_PolicyCommandCode, TPM2_PolicyLocality, TPM2_PolicyPCR: SUCCESS")
     said.says(
         tpm.command_code(session, code), tpm.locality(session, mask), tpm.pcrs(session, PCR_0)
@@ -55,10 +55,10 @@ for kind, name in NAMES.items():
     said = tpm(f"A seventeenth one: a {name} session: SESSION_MEMORY")
     said.prepare(CC.StartAuthSession, *frames.start_auth_session(bytes(16), kind=kind))
 tpm.says("Each has zeros: SUCCESS", *map(tpm.get_digest, sessions))
-tpm("The ninth is told something").auth_value_told(sessions[8])
+tpm("The ninth gets an assertion").auth_value_told(sessions[8])
 tpm.digest_is("The eleventh is not", sessions[10], zeros(sessions[10]))
-tpm("Three of them beside TPM2_GetRandom").random(4, *sessions[2:5])
-said = tpm("A session beside it that would end gives its place up too late: SESSION_MEMORY")
+tpm("Three of them with TPM2_GetRandom").random(4, *sessions[2:5])
+said = tpm("Another session that would end gives its place up too late: SESSION_MEMORY")
 new = frames.start_auth_session(bytes(16), kind=SE_POLICY)
 said.prepare(CC.StartAuthSession, *new, Use(sessions[4], 0))
 flushed = sessions[5], sessions[3]
@@ -84,7 +84,7 @@ trial = start(SE_TRIAL, 3, "A trial session has its place", bind=RH_OWNER)
 tpm.raw("And the handle 02000003 is no more: HANDLE/p1", flush(0x0200_0003))
 tpm("As an entry: REFERENCE_S0").random(1, hmac)
 
-tpm.chapter("A new session in the place of one that was told something knows nothing of it.")
+tpm.chapter("A new session in the place of one with assertions has none of them.")
 CP_HASHES = bytes([1]) * 32, bytes([2]) * 32
 PCR_0 = [(SHA256, [0])]
 tpm("A trial session ends").flush(sessions[7])
@@ -110,7 +110,7 @@ tell(told, 0x173, 8, CP_HASHES[1])
 tpm.chapter("A policy session's entry has its own nonce, and ends without continueSession.")
 for session, words in ((policy, "policy"), (trial, "trial")):
     told = tpm.random(2, session)
-    tpm.accepted(f"The {words} session beside TPM2_GetRandom", told)
+    tpm.accepted(f"The {words} session with TPM2_GetRandom", told)
     tpm.refused("The same again, of a nonce that is past: BAD_AUTH/s1", told)
     tpm("Without continueSession|and it ends").random(2, Use(session, 0))
     tpm("As an entry: REFERENCE_S0").random(2, session)
@@ -138,13 +138,13 @@ again = start(SE_POLICY, 0, "The first place is free", algorithm=SHA1)
 tpm.digest_is("A new policy is there", again, zeros(again))
 tpm("It is flushed").flush(again)
 
-tpm.chapter("Nor is anything left in the eighth place, whose session was told something.")
+tpm.chapter("Nor is anything left in the eighth place, whose session had assertions.")
 MIXED = (SE_POLICY, SE_HMAC, SE_TRIAL)
 for place in range(8):
     last = start(MIXED[place % 3], place, "" if place else "Eight of each kind are started")
 assert last.handle == 0x0200_0007
 tpm("An HMAC session has the eighth").flush(last)
-last = start(SE_POLICY, 7, "And a policy session has it then")
+last = start(SE_POLICY, 7, "And then a policy session has it")
 tpm.digest_is("It begins with zeros", last, zeros(last))
 tell(last, 0x14E, 16, bytes([3]) * 32)
 for place in range(7):

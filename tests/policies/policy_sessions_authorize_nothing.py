@@ -1,6 +1,6 @@
-"""Writes policy_sessions_authorize_nothing.tpm. A policy session authorizes what has a policy.
-Hierarchies and PCRs have none: they are authorized by their authorization value alone. A trial
-session never authorizes.
+"""Writes policy_sessions_authorize_nothing.tpm. A policy session authorizes entities with a policy.
+Hierarchies and PCRs have none: only their authorization value authorizes them. A trial session
+never authorizes.
 """
 
 from tests.common.vocabulary import CC, CONTINUE_SESSION, DECRYPT, DECRYPTS, Entry, frames
@@ -11,7 +11,7 @@ tpm = Teller(__name__, __doc__)
 
 
 def commands(session):
-    """One of each command with a handle that is authorized, on all of its kinds of handles."""
+    """A command for each handle that needs authorization, on all kinds of such handles."""
     digests = frames.digests((frames.SHA1, bytes(20)))
     yield tpm.reset(session)
     yield tpm.prepare(CC.PCR_Extend, [0], digests, session)
@@ -36,7 +36,7 @@ bound = tpm.policy("One that is bound to TPM_RH_OWNER, with AES", bind=RH_OWNER,
 lockout = tpm.policy("One that is bound to TPM_RH_LOCKOUT", bind=RH_LOCKOUT)
 trial = tpm.trial("A trial session, without a key")
 keyed = tpm.trial("One that is bound to TPM_RH_OWNER, with AES", bind=RH_OWNER, aes=True)
-target = tpm.policy("A policy session that is to be told something")
+target = tpm.policy("A policy session for assertions")
 WHAT = "TPM2_PCR_Reset, Extend, Event, HierarchyChangeAuth and PolicySecret"
 for words, session in (
     ("policy session without a key: AUTH_UNAVAILABLE", policy),
@@ -47,7 +47,7 @@ for words, session in (
 ):
     tpm.refused(f"{WHAT}, by the {words}", *commands(session))
 
-tpm.chapter("Whatever the session was told.")
+tpm.chapter("Whatever the session has asserted.")
 tpm.says("TPM2_PolicyAuthValue: SUCCESS", *map(tpm.auth_value_told, (policy, trial)))
 reset_by_both()
 tpm.says("TPM2_PolicyPassword: SUCCESS", *map(tpm.password_told, (policy, trial)))
@@ -59,11 +59,11 @@ for session in (policy, trial):
         tpm.locality(session, 16),
         tpm.pcrs(session, [(frames.SHA256, [16])]),
     )
-said = tpm("PCR 16 changes behind TPM2_PolicyPCR, by the session bound to TPM_RH_OWNER")
+said = tpm("PCR 16 changes after TPM2_PolicyPCR, by the session bound to TPM_RH_OWNER")
 said.event(b"abc", hmac)
 reset_by_both()
 
-tpm.chapter("It comes before its own hmac, right or wrong, and before the entries behind.")
+tpm.chapter("It comes before its own hmac, right or wrong, and before the entries after.")
 case = "The hmac wrong, left out, and that of the second entry wrong"
 for words, session in (
     (f"{case}: AUTH_UNAVAILABLE", bound),
@@ -82,13 +82,13 @@ for session in (bound, keyed):
     said = tpm("A session that is not there as the second entry: REFERENCE_S1")
     said.refused(right.but(entries=[*right.entries, absent]))
     tpm.refused("The same session twice: HANDLE/s2", right.but(entries=2 * right.entries))
-    said = tpm("decrypt, where the first parameter is no sized buffer: ATTRIBUTES/s1")
+    said = tpm("decrypt, but the first parameter is no sized buffer: ATTRIBUTES/s1")
     said.refused(right.but_entry(1, attributes=DECRYPTS))
     tpm.refused("A reserved attribute: RESERVED_BITS/s1", right.but_entry(1, attributes=0x08))
 for session in (policy, trial):
     said = tpm("decrypt in a session without AES, TPM2_PCR_Event: SYMMETRIC/s1")
     said.event(b"abc", session.decrypting)
-said = tpm("A parameter that cannot be decrypted comes behind: AUTH_UNAVAILABLE")
+said = tpm("A parameter that cannot be decrypted is checked later: AUTH_UNAVAILABLE")
 said.refused(tpm.event(b"abc", Use(bound, DECRYPT)).but(parameters=b"\0"))
 said = tpm("And in a trial session: ATTRIBUTES/s1")
 said.refused(tpm.event(b"abc", Use(keyed, DECRYPT)).but(parameters=b"\0"))
@@ -96,8 +96,8 @@ said = tpm("And so do parameters, and LOCALITY of PCR 0: AUTH_UNAVAILABLE")
 said.refused(tpm.reset(policy).but(parameters=b"\0"), tpm.reset(policy, pcr=0))
 
 tpm.chapter("No session was changed, nor anything else.")
-tpm.digest_is("The session that was to be told something", target, zeros(target))
+tpm.digest_is("The session for assertions", target, zeros(target))
 for session in (policy, bound, lockout, trial, keyed):
-    tpm("TPM2_GetRandom beside it").random(1, session)
+    tpm("TPM2_GetRandom with it").random(1, session)
 tpm.accepted("ownerAuth", tpm.change_auth(RH_OWNER, b"owner", b"owner"))
 tpm.accepted("The others are empty", tpm.secret(target, b"", of=RH_LOCKOUT))

@@ -1,6 +1,6 @@
 """Writes policy_sessions_that_encrypt.tpm. Policy sessions and trial sessions as further entries:
-they authorize nothing there, and are held against their hmac as HMAC sessions are. They can decrypt
-and encrypt, and keep what they were told.
+they authorize nothing there, and their HMAC is compared like that of HMAC sessions. They can
+decrypt and encrypt, and keep their assertions.
 """
 
 from tests.common.policy_teller import PolicyTeller
@@ -9,7 +9,7 @@ from tests.common.vocabulary import CC, CONTINUE_SESSION, DECRYPTS, digest, ENCR
 from tests.common.vocabulary import flipped, frames, HASHES, RH_ENDORSEMENT, RH_LOCKOUT, RH_OWNER
 from tests.common.vocabulary import SE_POLICY, SE_TRIAL, SHA1, Use, wrong_in, zeros
 
-# Commands whose first parameter is no sized buffer.
+# Commands whose first parameter is not a sized buffer.
 PLAIN = (
     (CC.PolicyOR, frames.sized_list(bytes(20), bytes(20))),
     (CC.PolicyGetDigest, b""),
@@ -41,7 +41,7 @@ def as_a_further_entry():
     said.change_auth(RH_OWNER, b"owner", hmac, session.decrypting)
     tpm("TPM2_GetRandom, which it encrypts").random(20, session.encrypting)
     tpm("TPM2_GetRandom that it does not encrypt").random(20, hmac, session)
-    tpm.digest_is("Its digest is as it was", session)
+    tpm.digest_is("Its digest is unchanged", session)
     tpm("TPM2_PolicyGetDigest, which it encrypts itself").get_digest(session, session.encrypting)
     tpm("And which the HMAC session encrypts").get_digest(session, session, hmac.encrypting)
     right = event()
@@ -55,7 +55,7 @@ def as_a_further_entry():
     said.prepare(CC.PCR_Event, [16], b"\0\1", b"", session.decrypting)
     tpm.accepted("The right one", right)
     tpm.refused("It is of a nonce that is past: BAD_AUTH/s2", right)
-    tpm.digest_is("Its digest is as it was", session)
+    tpm.digest_is("Its digest is unchanged", session)
 
 
 def of_its_own_policy():
@@ -70,22 +70,22 @@ def of_its_own_policy():
     case = "TPM2_PolicySecret, of which it decrypts nonceTPM itself: the one of before"
     secret(case, b"owner", session.decrypting)
     secret("And which the HMAC session decrypts, that authorizes", hmac.decrypting, session)
-    case = "Decrypted by it, where the HMAC session authorizes and encrypts"
+    case = "Decrypted by it; the HMAC session authorizes and encrypts"
     secret(case, hmac.encrypting, session.decrypting)
-    case = "It encrypts, behind a password, and there is nothing to encrypt"
+    case = "It encrypts, after a password, and there is nothing to encrypt"
     secret(case, b"owner", session.encrypting, nonce_tpm=b"")
     tpm.digest_is("Its digest", session)
     if session.kind == SE_POLICY:
         case = "Another nonceTPM, decrypted: NONCE/p1"
         secret(case, b"owner", session.decrypting, nonce_tpm=flipped(session.nonce_tpm))
     tpm.refused(
-        "encrypt, where no sized buffer is answered: TPM2_PolicyPCR and TPM2_PolicyRestart: "
+        "encrypt, but no sized buffer is answered: TPM2_PolicyPCR and TPM2_PolicyRestart: "
         "ATTRIBUTES/s1",
         tpm.pcrs(session, [], b"", [session.encrypting]),
         tpm.restart(session, session.encrypting),
     )
     tpm.refused(
-        "decrypt, where the first parameter is no sized buffer: TPM2_PolicyOR, "
+        "decrypt, but the first parameter is no sized buffer: TPM2_PolicyOR, "
         "TPM2_PolicyGetDigest, TPM2_PolicyRestart, TPM2_PolicyCommandCode, "
         "TPM2_PolicyLocality, TPM2_PolicyAuthValue and TPM2_PolicyPassword: ATTRIBUTES/s1",
         *with_attributes(DECRYPTS, PLAIN),
@@ -117,7 +117,7 @@ for algorithm, hash_name in HASHES:
     for kind, name in KINDS:
         said = tpm(f"A {name} session of {hash_name} that is bound to nothing")
         session = said.start(algorithm=algorithm, aes=True, kind=kind)
-        tpm.accepted("Behind a password, with no hmac|and none is answered", event())
+        tpm.accepted("After a password, with no hmac|and none is answered", event())
         tpm.accepted("With an hmac by the empty key", event(shows_empty_key=True))
         shown = event(shows_empty_key=True)
         said = tpm("With a wrong one, and with a byte: BAD_AUTH/s2")
@@ -133,21 +133,21 @@ plain = tpm.policy("A policy session", bind=RH_OWNER)
 decrypting = tpm.pcrs(plain, [], b"", [plain.decrypting])
 said = tpm("decrypt and encrypt: SYMMETRIC/s1")
 said.refused(decrypting, tpm.get_digest(plain, plain.encrypting))
-tpm("Behind a password: SYMMETRIC/s2").event(b"a", b"", plain.decrypting)
+tpm("After a password: SYMMETRIC/s2").event(b"a", b"", plain.decrypting)
 
-tpm.chapter("Started beside others, and with others beside it.")
+tpm.chapter("Started with other sessions, and used with others.")
 first = tpm.policy("A policy session, with AES", bind=RH_OWNER, aes=True)
 said = tpm("TPM2_StartAuthSession of another, by which it is encrypted in both directions")
 second = said.start(RH_ENDORSEMENT, kind=SE_TRIAL, aes=True, uses=[Use(first, DECRYPTS | ENCRYPT)])
 said = tpm("Of an HMAC session: the trial session decrypts and the policy session encrypts")
 third = said.start(RH_OWNER, aes=True, uses=[second.decrypting, first.encrypting])
-tpm("Three beside a password would be four; two").event(b"a", b"", first, second)
+tpm("Three with a password would be four; two").event(b"a", b"", first, second)
 tpm(
     "TPM2_HierarchyChangeAuth by the HMAC session, with both: the first hmac has the nonce of the "
     "one that decrypts"
 ).change_auth(RH_OWNER, b"owner", third, second, first.decrypting)
 changing = tpm.change_auth, RH_OWNER, b"owner", third, second, first.decrypting
-tpm.refused("Where it is left out: BAD_AUTH/s1", tpm.with_nonces_of([], *changing))
+tpm.refused("If it is left out: BAD_AUTH/s1", tpm.with_nonces_of([], *changing))
 tpm.accepted(
     "TPM2_PolicySecret in the policy session, which encrypts, and the trial session decrypts: the "
     "first hmac has the nonces of both, in this order",
@@ -167,8 +167,8 @@ tpm.script.wait_each_time()
 locked = tpm.policy("A policy session", bind=RH_LOCKOUT)
 trial = tpm.trial("A trial session, of SHA-1", bind=RH_LOCKOUT, algorithm=SHA1)
 for it in (locked, trial):
-    tpm.refused("Behind a password: AUTH_FAIL/s2", wrong_in(tpm.event(b"a", b"", it), 2))
+    tpm.refused("After a password: AUTH_FAIL/s2", wrong_in(tpm.event(b"a", b"", it), 2))
     tpm.refused("As the first entry: AUTH_FAIL/s1", wrong_in(tpm.random(1, it), 1))
     tpm("A right one").random(1, it)
-said = tpm("One that is bound to TPM_RH_OWNER, beside them: BAD_AUTH/s3")
+said = tpm("One that is bound to TPM_RH_OWNER, in addition: BAD_AUTH/s3")
 said.refused(wrong_in(tpm.random(1, locked, trial, first), 3))

@@ -1,5 +1,5 @@
-"""Writes written_policies.tpm. Policies with branches, each of them taken, and each refused; and
-other policies. tests/python/policy_audit.sh tells tools/audit.py these policies in words.
+"""Writes written_policies.tpm. Policies with branches, each of which is taken, and refused; and
+other policies. tests/python/policy_audit.sh gives tools/audit.py these policies in words.
 """
 
 from tests.common.vocabulary import AUTH_VALUE, BY_OWNER, CC, digest, HERE, name_of, number
@@ -36,23 +36,23 @@ def recovery(session, of=RH_ENDORSEMENT, ref=REF):
 
 
 def ends(session):
-    """What both branches have behind them."""
+    """The end of both branches."""
     return tpm.branches(session, *WAYS), tpm.command_code(session, CC.Unseal)
 
 
 def no_way(session, **demand):
-    """The session has come to neither branch."""
+    """The session meets neither branch."""
     tpm.says("TPM2_PolicyOR: VALUE/p1", ends(session)[0])
     asserts("TPM2_PolicyCommandCode", ends(session)[1])
     lost("TPM2_Unseal: POLICY_FAIL/s1", tpm.unsealing(disk, Use(session, **demand)))
 
 
-# A policy of an update: from locality 0, or from 3 or 4, and a version that an index has; or the
+# A policy of an update: from locality 0, or from 3 or 4, and a version that is in an index; or the
 # value of that index.
 
 
 def after_version(old=ZEROS):
-    """The index has at least the version that is asked for."""
+    """The index has at least the required version."""
     return policy.after_nv(SHA256, old, LEAST + number(0, 2) + number(AT_LEAST, 2), tpm.name(index))
 
 
@@ -103,7 +103,7 @@ tpm.unseal("TPM2_Unseal", disk, SECRET, session)
 tpm.unseal("The other object is unsealed by its value alone", openly, SECRET, PIN)
 restart = tpm.restart(session)
 unsealing = lambda **demand: tpm.unsealing(disk, Use(session, **demand))
-tpm.chapter("What is refused. A PCR is written behind TPM2_PolicyPCR.")
+tpm.chapter("What is refused. A PCR is written after TPM2_PolicyPCR.")
 asserts("By the system", *system(), *ends(session))
 tpm("TPM2_PCR_Event of PCR 16").event(b"event", b"", pcr=16)
 lost("TPM2_Unseal: PCR_CHANGED", unsealing(demand=AUTH_VALUE))
@@ -115,7 +115,7 @@ tpm.chapter("The session has counted for one command.")
 asserts("The recovery secret", restart, recovery(session), *ends(session))
 tpm.unseal("TPM2_Unseal", disk, SECRET, session)
 lost("TPM2_Unseal once more: POLICY_FAIL/s1", unsealing())
-tpm.chapter("It is told all but the secret.")
+tpm.chapter("It asserts all but the secret.")
 no_way(session)
 tpm.chapter("The secret was shown before TPM2_PolicyRestart.")
 late = tpm.policy("Another policy session")

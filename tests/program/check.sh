@@ -1,17 +1,17 @@
-# What `tpmsim check` says of scripts: the number of each bad line, its fault with its column, and
-# what is wanted there (docs/SCRIPTS.md, docs/LINES.md). Each line stands between two good ones.
-# Lines are written and shown as printf takes them.
+# What `tpmsim check` says of scripts: the number of each bad line, its fault with its column, and what is
+# expected there (docs/SCRIPTS.md, docs/LINES.md). Each line is between two good ones. Lines are written
+# and shown with the escapes of printf.
 tests=$(cd "$(dirname "$0")/.." && pwd -P)
 . "$tests/common/cases.sh"
 
-# second LINE [LABEL]: a script of which this is the second line.
+# second LINE [LABEL]: checks a script with this second line.
 second() {
     # shellcheck disable=SC2059 # a line has escapes of printf
     printf "# the first\n$1\n$startup\n" >script
     run "${2:-\"$1\"}" check script
 }
 
-# zeros BYTES: so many bytes 00 in hex.
+# zeros BYTES: BYTES bytes 00 in hex.
 zeros() {
     printf '%0*d' "$((2 * $1))" 0
 }
@@ -24,13 +24,13 @@ second 'cmd\t00'
 second ' '
 second '\377'
 
-# What stands alone, though a word wants something behind it.
+# A word without the words that have to follow it.
 second 'do'
 second 'loc'
 second 'wait'
 second 'entropy'
 
-# What stands behind a word.
+# What follows a word.
 second 'cmd 0'
 second 'cmd 0g'
 second 'cmd  00'
@@ -65,7 +65,7 @@ second 'do '
 second 'do  Startup 0'
 second "do PCR_Event NULL pw:- $(zeros 4096)" 'do PCR_Event with 4096 bytes'
 
-# Each kind of word in a line: handles, entries, parameters, and what is one too many or missing.
+# Each kind of word in a line: handles, entries, parameters, and one too many or missing.
 second 'do PCR_Reset 10 pw:-'
 second 'do NV_Write OWNER 0100000 pw:- 616263 0'
 second 'do NV_Write 4000000 01000000 pw:- 616263 0'
@@ -91,7 +91,7 @@ second 'do PolicyPCR 03000000 - sha256'
 second 'do PCR_Extend 0000000a pw:- sha256:00'
 second 'do PolicyOR 03000000 00+'
 
-# Lines right beside these, which are a script's.
+# Similar lines that are right.
 second 'cmd'
 second 'cmd '
 second 'cmd 00'
@@ -103,7 +103,7 @@ second 'power'
 second ''
 second '#\377'
 
-# What waits add up to for a command; one that is bad adds nothing, and a power cycle ends nothing.
+# The sum of the waits before a command. A bad one adds nothing, and a power cycle ends none.
 cat >script <<'END'
 wait 4294967295
 power
@@ -118,7 +118,7 @@ wait 1
 END
 run 'waits' check script
 
-# All bad lines, each under its number, behind lines that are too long too.
+# All bad lines, each by its number, also after lines that are too long.
 {
     printf 'bad\n%s\n' "$startup"
     printf '#%065535d\n#%065536d\n' 0 0
@@ -128,7 +128,7 @@ run 'several' check script
 run 'several on standard input' check - <script
 run 'several, run' run script
 
-# No line, one without an end, and lines that a run refuses: those are the lines of a good script.
+# No line, one without an end, and lines that a run refuses: they all make a good script.
 : >script
 run 'an empty script' check script
 printf 'cmd' >script
@@ -136,7 +136,7 @@ run 'a line without an end' check script
 printf 'do Unseal 80000000 pw:-\n' >script
 run 'a command that the device refuses' check script
 
-# As many lines as a script may have, and one more.
+# The most lines that a script may have, and one more.
 yes '' 2>"$room/yes" | head -n 1048576 >script
 run '1,048,576 lines' check script
 echo >>script
@@ -145,7 +145,7 @@ echo bad >script
 yes '' 2>"$room/yes" | head -n 1048576 >>script
 run 'a line more, the first of which is bad' check script
 
-# No script, and words that are none.
+# No script, and wrong words.
 run 'no file' check missing
 run 'a folder' check .
 run 'no word' check

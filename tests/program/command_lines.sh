@@ -1,11 +1,11 @@
-# Which words make a command line: `run [--trace] SCRIPT`, where `-` is standard input, `asm LINE`,
-# whose line is one word, and `line HEX`. kept_scripts.sh has those of `run --image`, and check.sh
-# those of `check`. Help and the version are told on standard output. All others are refused, though
-# the files that they name are there and hold scripts.
+# Which words make a command line: `run [--trace] SCRIPT`, with `-` for standard input, `asm LINE`, whose
+# line is one word, and `line HEX`. kept_scripts.sh has those of `run --image`, and check.sh those of
+# `check`. Help and the version are printed on standard output. All others are refused, though the files
+# that they name are there and have scripts.
 tests=$(cd "$(dirname "$0")/.." && pwd -P)
 . "$tests/common/cases.sh"
 
-# Each of the three scripts is answered in its own way.
+# Each of the three scripts has a response of its own.
 echo "$startup" >a
 echo "$startup" >b
 printf '%s\n%s\n' "$startup" "$startup" >./-
@@ -13,12 +13,12 @@ for name in run --trace -x -h --help help; do
     cp a "./$name"
 done
 
-# words WORDS..: a command line, while standard input has the empty command.
+# words WORDS..: a command line, with the empty command on standard input.
 words() {
     echo cmd | run "tpmsim${*:+ $*}" "$@"
 }
 
-# A script in a file, though standard input holds another one.
+# A script in a file, though standard input has another one.
 words run a
 words run ./-
 
@@ -34,24 +34,24 @@ words run a b
 words run - a
 words run a -
 
-# The one option, before the script or behind it.
+# The only option, before the script or after it.
 words run --trace a
 words run a --trace
 words run --trace ./-
 words run --trace -
 
-# It alone, and before the command.
+# The option alone, and before the command.
 words run --trace
 words --trace run a
 
-# A device that is kept: in an image or in a folder, and not in both; random bytes for it alone.
+# A kept device: in an image or in a folder, and not in both; random bytes for it alone.
 words run --image image
 words run --image image --state state a
 words run --state state --image image --entropy a -
 words run --entropy a a
 words run --state
 
-# A device that is served: in an image or in a folder, and not in both; a log beside an image alone.
+# A served device: in an image or in a folder, and not in both; a log with an image alone.
 served() {
     words serve --socket socket --entropy /dev/zero --locality 0 --connections 1 "$@"
 }
@@ -61,7 +61,7 @@ served --state state --log log
 served --image image --state state --log log
 served --log log
 
-# A state, which stands in one folder.
+# A state, which is in one folder.
 words power
 words power a b
 words snapshot
@@ -78,7 +78,7 @@ run "tpmsim asm 'Startup 0'" asm 'Startup 0'
 run "tpmsim asm Bogus" asm Bogus
 run "tpmsim asm ''" asm ''
 
-# None, or more than one word.
+# No word, or more than one.
 words asm
 run "tpmsim asm Startup 0" asm Startup 0
 run "tpmsim asm 'Startup 0' a" asm 'Startup 0' a

@@ -1,4 +1,4 @@
-# The lines of docs/EXPLAIN.md that are to be typed: each prints what stands below it there.
+# The lines of docs/EXPLAIN.md that a reader types: each prints what the page shows below it.
 tests=$(cd "$(dirname "$0")/.." && pwd -P)
 . "$tests/common/cases.sh"
 . "$tests/common/typed.sh"

@@ -9,14 +9,14 @@ echo bad >bad_first_line
 : >empty
 mkdir a_folder
 
-# Files that are read: with a line break at the end, without one, and with nothing in them.
+# Files that can be read: with a line break at the end, without one, and empty.
 run 'a script' run script
 run 'a script by its whole path' run "$room/folder/script"
 run 'a script without a line break at its end' run without_line_break
 run 'an empty script' run empty
 run 'an empty script on standard input' run - <empty
 
-# Files that are not.
+# Files that cannot.
 run 'a file that is not there' run missing
 run 'a folder that is not there' run missing/script
 run 'a folder in place of a script' run a_folder
@@ -25,7 +25,7 @@ run 'a folder as standard input' run - <a_folder
 run 'standard input that is closed' run - <&-
 run 'standard input that is closed, and a script in a file' run script <&-
 
-# A reader that fails behind its first lines: this pipe never ends, and has no more to give.
+# A reader that fails after its first lines: this pipe never ends, and nothing more comes.
 mkfifo pipe
 exec 3<>pipe
 printf '%s\ncmd\n# half a line' "$startup" >&3
@@ -33,7 +33,7 @@ dd iflag=nonblock count=0 <&3 2>"$room/dd" || cat "$room/dd"
 run 'standard input that fails after two lines and a half' run - <&3
 exec 3<&-
 
-# unseen LABEL SCRIPT: a script whose responses go where the fourth file descriptor does.
+# unseen LABEL SCRIPT: a script whose responses go to the fourth file descriptor.
 unseen() {
     rm -f "$room/output"
     status=0
@@ -41,7 +41,7 @@ unseen() {
     report "$1" "$status"
 }
 
-# A full device: where responses are lost, the fault is that and not a bad line behind them.
+# A full device: if responses are lost, that is the fault, and not a bad line after them.
 exec 4>/dev/full
 unseen 'a full device' script
 unseen 'a full device, and no response' empty

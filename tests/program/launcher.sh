@@ -1,6 +1,6 @@
-# The launcher: that it runs a proved program, and no other. It stands in a copy of the repository,
-# in a folder with a space in its path. The program of this test is shipped there, as one that was
-# proved; a stand-in for `rt` builds another, which says that it was built.
+# The launcher: that it runs a proved program, and no other. It is in a copy of the repository, in a folder
+# with a space in its path. The program of this test is shipped there as a proved one; a stand-in for `rt`
+# builds another, which says that it was built.
 tests=$(cd "$(dirname "$0")/.." && pwd -P)
 . "$tests/common/cases.sh"
 [ "$(uname -m)" = x86_64 ] || skip 'there is no program that tools/dist.sh ships but for x86-64'
@@ -10,7 +10,7 @@ copy="$room/a copy"
 lib=$copy/crates/tpm_line/src/lib.rt
 kept=$room/kept
 
-# What the scripts need of a machine, and no `rt`; and folders that are put before it on the path.
+# What the scripts need of a machine, without `rt`; and folders that come first on the path.
 mkdir "$room/tools" "$room/rt" "$room/failing" "$room/other_machine" "$room/no_checksum"
 for tool in awk cat chmod cmp cp dirname find git grep head mkdir mktemp mv readlink rm sed sh \
     sha256sum sort tar touch uname wc xargs; do
@@ -37,7 +37,7 @@ mkdir "$copy"
     (cd "$copy" && tar xf -)
 chmod -R a+rX "$room"
 
-# with FOLDER LABEL COMMAND..: runs a command with this folder before the path, or with none for -.
+# with FOLDER LABEL COMMAND..: runs a command with this folder first on the path; - for none.
 with() {
     path=$room/tools
     [ "$1" = - ] || path=$room/$1:$path
@@ -85,7 +85,8 @@ ship_library() (
     } >>"$proved"
 )
 
-# changed FILE LABEL: starts it with a byte more in a file that keeps its time, and as it was again.
+# changed FILE LABEL: starts it with one byte more in a file whose time is unchanged, and again with the
+# old bytes.
 changed() {
     cp -p "$1" "$kept"
     echo >>"$1"
@@ -142,7 +143,7 @@ chmod +x "$room/new"
 ship "$room/new"
 start - 'a C library that is too old'
 
-# What is built here comes before what is shipped.
+# What is built here takes precedence over what is shipped.
 ship "$program"
 start failing 'it is shipped, and rt can build nothing'
 with rt 'the build' "$copy/tools/build.sh"

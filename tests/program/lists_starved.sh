@@ -1,5 +1,5 @@
-# The device in lists, to which memory is refused: each growth in turn, in the opening of an image, in
-# a line, and in each command that needs memory. common/lists_starved.py says what then has to come.
+# The device in lists, to which memory is refused: at each growth in turn, while an image is opened, in a
+# line, and in each command that needs memory. common/lists_starved.py says what has to come then.
 tests=$(cd "$(dirname "$0")/.." && pwd -P)
 . "$tests/common/cases.sh"
 needs cc nm python3

@@ -1,4 +1,4 @@
-# The list of crates in docs/MAP.md is made of the first clause of each crate's root file.
+# The list of crates in docs/MAP.md is made from the first clause of each crate's root file.
 tests=$(cd "$(dirname "$0")/.." && pwd -P)
 . "$tests/common/cases.sh"
 needs python3

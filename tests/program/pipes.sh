@@ -1,32 +1,32 @@
-# Each response comes before more of the script is read, so that whoever types or pipes a script
-# sees it before giving the next line.
+# Each response is printed before more of the script is read, so that whoever types or pipes a script sees
+# it before the next line.
 tests=$(cd "$(dirname "$0")/.." && pwd -P)
 . "$tests/common/cases.sh"
 
-# A program that ends early is no reason for this test to end.
+# If the program ends early, this test goes on.
 trap '' PIPE
 mkfifo lines responses
 
-# begin SCRIPT: starts the program, for at most twenty seconds. What is given to it goes into one
-# pipe, and its responses come out of another.
+# begin SCRIPT: starts the program, for at most twenty seconds. Its input comes from one pipe, and its
+# responses go to another.
 begin() {
     timeout 20 "$program" run "$1" <lines >responses 2>"$room/error" &
     exec 3>lines 4<responses
 }
 
-# give TEXT: more of the script, as printf takes it.
+# give TEXT: writes more of the script, with the escapes of printf.
 give() {
     # shellcheck disable=SC2059 # it has escapes of printf
     printf "$1" >&3
 }
 
-# answered LABEL: the next response.
+# answered LABEL: prints the next response.
 answered() {
     IFS= read -r response <&4 || response='no response'
     echo "$1: $response"
 }
 
-# ended LABEL: the rest of the responses, and how the program ended.
+# ended LABEL: prints the rest of the responses, and how the program ended.
 ended() {
     cat <&4 >"$room/output"
     status=0
@@ -72,7 +72,7 @@ give 'cmd\nbad\ncmd\n'
 answered 'a line before a bad one'
 ended 'a bad line'
 
-# A script that is a pipe is no different.
+# A script that is a pipe is treated alike.
 mkfifo script
 begin script
 exec 5>script

@@ -1,13 +1,13 @@
-# The crates, calls and types that were asked for (public_calls.txt) are there under their names, or
-# docs/DECISIONS.md says what stands for them, and says no more than that. Then each kind of difference is
-# made in two small crates, and reported.
+# The crates, calls and types that were asked for (public_calls.txt) exist under their names, or
+# docs/DECISIONS.md says what replaces them, and nothing else. Then each kind of difference is made in two
+# small crates, and has to be reported.
 # shellcheck disable=SC2016 # the backquotes are those of a page
 tests=$(cd "$(dirname "$0")/.." && pwd -P)
 . "$tests/common/cases.sh"
 needs python3
 top=${tests%/*}
 
-# compare ASKED PAGE FOLDER: what is reported of them.
+# compare ASKED PAGE FOLDER: prints the reported differences.
 compare() {
     python3 "$tests/common/public_calls.py" "$@"
     echo "status $?"
@@ -105,7 +105,7 @@ END
 echo '== two crates, as their page says'
 compare asked.txt page.md .
 
-# turn FILE SCRIPT: turns a file of a copy of the two crates and their page by sed.
+# turn FILE SCRIPT: changes a file of a copy of the two crates and their page, by sed.
 turn() {
     [ -d ../turned ] || cp -r . ../turned
     cp "../turned/$1" ../before
@@ -113,7 +113,7 @@ turn() {
     cmp -s ../before "../turned/$1" && printf 'nothing was turned: %s\n' "$2"
 }
 
-# report_turned LABEL: what is reported of the copy, which then goes.
+# report_turned LABEL: prints what is reported of the copy, and removes it.
 report_turned() {
     echo "== $1"
     (cd ../turned && compare asked.txt page.md .)

@@ -1,5 +1,5 @@
-# The statements that docs/THEOREMS.md quotes stand in the code, under the files that it names; and
-# a quote that differs in a letter, names no file or is not there is told of.
+# The statements that docs/THEOREMS.md quotes are in the code, in the files that it names; and a quote that
+# differs in a letter, names no file or is missing there is reported.
 tests=$(cd "$(dirname "$0")/.." && pwd -P)
 . "$tests/common/cases.sh"
 needs python3

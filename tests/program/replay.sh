@@ -1,6 +1,6 @@
-# `replay` executes what a journal or a log recorded again: it prints the traces and the responses that
-# `run --trace` printed then. A last entry that is not whole was not answered, and is left out. Where the
-# text is damaged, or the device answers otherwise, the fault names the line where the entry begins.
+# `replay` executes again what a journal or a log recorded: it prints the traces and the responses that
+# `run --trace` printed then. A last entry that is not whole was not answered, and is left out. If the text
+# is damaged, or the device answers otherwise, the fault names the first line of the entry.
 tests=$(cd "$(dirname "$0")/.." && pwd -P)
 . "$tests/common/cases.sh"
 needs python3
@@ -31,8 +31,8 @@ do GetRandom 4
 do GetRandom 8' >script
 "$program" run --state other script >answers
 
-# changed LABEL LINES: what comes of a copy of the journal whose lines are changed by a line of Python.
-# `answered` gives an entry another sum of its response, and the sum of its mark that goes with that.
+# changed LABEL LINES: replays a copy of the journal whose lines are changed by a line of Python. `answered`
+# gives an entry another sum of its response, and the sum of its mark that belongs to it.
 changed() {
     python3 -c "
 lines = open('other/journal', 'rb').read().splitlines(keepends=True)

@@ -1,6 +1,5 @@
-# Tests that cannot run: tools/scripts.sh skips them with their reasons, and .ci/run fails then.
-# Each stands in a copy of the repository, with other tests, and with stand-ins for what the gate
-# runs beside them.
+# Tests that cannot run: tools/scripts.sh skips them with their reasons, and .ci/run fails then. Each case is
+# a copy of the repository, with other tests, and with stand-ins for what the gate runs in addition.
 tests=$(cd "$(dirname "$0")/.." && pwd -P)
 . "$tests/common/cases.sh"
 copy=$room/copy
@@ -14,7 +13,7 @@ for built in tpmsim/out/tpmsim tpmsim_lists/out/tpmsim_lists; do
     ln -s "$program" "$copy/crates/$built"
 done
 
-# played LABEL NAME..: what is said of tests, but for what was not built.
+# played LABEL NAME..: prints the results of tests, without those of programs that were not built.
 played() {
     echo "$1:"
     shift
@@ -24,7 +23,7 @@ played() {
     echo "    status $status"
 }
 
-# a_test NAME LINES: a test of these lines, which is to print `right`.
+# a_test NAME LINES: a test of these lines, which is expected to print `right`.
 a_test() {
     echo "$2" >"$copy/tests/$1.sh"
     echo right >"$copy/tests/$1.out"
@@ -47,8 +46,8 @@ ln -s "$program" "$copy/crates/tpmsim_lists/out/tpmsim_lists"
 played 'tests that fail, and one that cannot run' is_wrong ends_otherwise gives_no_reason \
     gives_an_empty_reason goes_on cannot_run
 
-# All that is on the path, but for one tool each time, and the tests that need it. In the place of each
-# tool that a test here needs, or the gate, stands one that does nothing: the machine may have none.
+# Everything on the path except one tool each time, and the tests that need it. A stand-in that does nothing
+# replaces each tool that a test here or the gate needs: the machine may have none.
 mkdir "$room/path"
 IFS=:
 for folder in $PATH; do
@@ -63,13 +62,13 @@ done
 rm -r "$copy/tests"
 ln -s "$tests" "$copy/tests"
 
-# on_this_path LABEL NAME..: what is said of tests by the tools that are there.
+# on_this_path LABEL NAME..: prints the results of tests with the tools that are there.
 on_this_path() {
     # shellcheck disable=SC2123 # the tools are found there
     (PATH=$room/path && played "$@")
 }
 
-# without TOOLS NAME..: what is said of tests where some tools are missing.
+# without TOOLS NAME..: prints the results of tests if some tools are missing.
 mkdir "$room/away"
 without() {
     for tool in $1; do mv "$room/path/$tool" "$room/away/"; done
@@ -79,7 +78,7 @@ without() {
     mv "$room/away"/* "$room/path/"
 }
 
-# failing TOOL NAME..: what is said of tests where a tool fails, whatever it is asked.
+# failing TOOL NAME..: prints the results of tests if a tool always fails.
 failing() {
     printf '#!/bin/sh\nexit 1\n' >"$room/path/$1"
     label="$1 fails"
@@ -95,8 +94,8 @@ without 'cc nm' starved
 failing cc torn
 failing python3 images line
 
-# The gate. Its stand-ins end well, and tools/scripts.sh says what it is told, of the shipped program and
-# of those that were built.
+# The gate. Its stand-ins succeed, and tools/scripts.sh says of the shipped program and of the built ones
+# what the case says.
 mkdir "$room/stubs"
 printf '#!/bin/sh\necho 3 passed, 0 failed\n' >"$room/stubs/rt"
 # shellcheck disable=SC2016 # the stand-in expands them
@@ -115,8 +114,8 @@ for crate in tpmsim tpmsim_lists; do
 done
 chmod +x "$room/stubs/rt" "$copy"/tools/*.sh "$copy"/tools/soak/*.sh
 
-# gate LABEL SAID STATUS [SHIPPED]: what the gate says of failures, where tools/scripts.sh says and ends
-# so of the programs that were built, and says this of the shipped one.
+# gate LABEL SAID STATUS [SHIPPED]: prints what the gate counts, if tools/scripts.sh says SAID of the built
+# programs and ends with STATUS, and says SHIPPED of the shipped one.
 gate() {
     echo "$1:"
     status=0

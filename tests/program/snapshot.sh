@@ -1,6 +1,6 @@
-# A device in a folder as a state text, and back. With an HMAC session, a policy session in the middle of
-# its policy, a transient object and a PCR, the restored device goes on as the first one does. A text that
-# is refused leaves the folder as it was. common/restored_folders.py kills a run at each of its calls.
+# A device in a folder is written as a state text, and restored. The restored device, with an HMAC session, a
+# policy session in the middle of its policy, a transient object and a PCR, continues as the first one does.
+# A refused text leaves the folder unchanged. common/restored_folders.py kills a run at each of its calls.
 tests=$(cd "$(dirname "$0")/.." && pwd -P)
 . "$tests/common/cases.sh"
 needs cc nm python3
@@ -40,7 +40,7 @@ same 'the journal after a snapshot' journal first/journal
 "$program" snapshot first >again
 same 'another snapshot' text again
 
-# Where there is no folder, one is made.
+# If there is no folder, one is made.
 run 'a new folder' restore second text
 stat -c '%n %a' second second/* | LC_ALL=C sort
 head -c 19 second/journal && echo
@@ -54,11 +54,11 @@ sed -n 's/ .* \(ok\|[GAM][0-9]*\) / \1 /p' answers
 "$program" snapshot second >again
 same 'the snapshots then' later again
 
-# The journal that begins with a state text is executed again, and told.
+# The journal that begins with a state text is executed again, and printed.
 "$program" replay second/journal >again && same 'what is answered again' answers again
 "$program" script second | sed -n '1s/\(journal 2\) .*/\1/p; 3p'
 
-# A device is replaced, for a process that holds it too.
+# A device is replaced, also for a process that holds it.
 mkfifo input
 "$program" run --state first - <input >"$room/held" &
 exec 3>input
@@ -74,13 +74,13 @@ sed '1d' "$room/held" >again
 grep -v '[^0-9a-f]' answers >told
 same 'what the process that held it answers then' told again
 
-# A power cycle, and a state text of before, which has the sessions.
+# A power cycle, and an earlier state text, which has the sessions.
 run 'a power cycle' power first
 run 'what was before' restore first text
 "$program" run --trace --state first after >again
 same 'what is answered then' answers again
 
-# bent LABEL LINE: what comes of a text that a line of Python changes. The folder stays as it was.
+# bent LABEL LINE: restores a text that a line of Python changed. The folder is unchanged.
 bent() {
     python3 -c "
 import hashlib
@@ -107,7 +107,7 @@ bent 'nothing' 'text = bytes()'
 "$program" run --image image before >"$room/output"
 run 'an image' restore first image
 
-# A journal whose head has a text of no state; the head's sums are right.
+# A journal whose head has a text that is not a state; the head's sums are right.
 python3 -c "
 def fnv(data, total=0xCBF29CE484222325):
     for byte in data:

@@ -1,6 +1,5 @@
-# A program to which memory is refused: each allocation in turn, alone and with all that follow, for
-# good and for wrong command lines, and for a device that is served. common/starved.py says how a run
-# then has to end.
+# A program to which memory is refused: at each allocation in turn, alone and with all that follow, for
+# right and wrong command lines, and for a served device. common/starved.py says how such a run has to end.
 tests=$(cd "$(dirname "$0")/.." && pwd -P)
 . "$tests/common/cases.sh"
 needs cc nm python3

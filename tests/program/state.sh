@@ -1,5 +1,5 @@
-# A device that is kept in a folder: sessions and PCRs live from one run to the next, a power cycle
-# ends them, and what happened is told as a script that is answered alike.
+# A device in a folder: sessions and PCRs live from one run to the next, a power cycle ends them, and what
+# happened is printed as a script whose responses are the same.
 tests=$(cd "$(dirname "$0")/.." && pwd -P)
 . "$tests/common/cases.sh"
 needs python3
@@ -23,8 +23,8 @@ play() {
     cat "$room/output" >>"$room/answered"
 }
 
-# replay LABEL: plays what `script` tells, on the device of the state text in its second line, and says
-# whether that is answered as it was.
+# replay LABEL: plays what `script` prints, on the device of the state text in its second line, and says
+# whether the responses are the same.
 replay() {
     "$program" script state >told.tpm || echo 'there is no script'
     sed -n '2s/^# //p' told.tpm | python3 -c '
@@ -57,12 +57,12 @@ printf 'do Startup 0\npower\ndo Startup 0\ndo GetCapability 1 02000000 8\n' >cyc
 run 'power cycles in a script' run --trace --state state cycles.tpm
 grep -c '^cmd' state/journal
 
-# A script that has a line which none may have: the lines before it happened.
+# A script with a line that no script may have: the lines before it were executed.
 printf 'do GetRandom 4\nwhat\ndo GetRandom 4\n' >bad.tpm
 run 'a bad line' run --state state bad.tpm
 grep -c '^cmd' state/journal
 
-# A script that is not there begins no device.
+# A script that is missing begins no device.
 run 'no script' run --state none none.tpm
 [ ! -e none ] || echo 'a folder was made'
 

@@ -1,5 +1,5 @@
-# A kept device whose journal has grown to 262,144 bytes: the next command begins it anew, with all that
-# the device is. It goes on as a device does that is not kept.
+# A kept device whose journal has grown to 262,144 bytes: the next command begins it again, with the whole
+# state of the device. It continues like a device that is not kept.
 tests=$(cd "$(dirname "$0")/.." && pwd -P)
 . "$tests/common/cases.sh"
 

@@ -1,5 +1,5 @@
-# What a kept device refuses: what is no folder or file of the user, a journal that is damaged, and one
-# that is gone. Nothing of it is changed.
+# What a kept device refuses: a path that is not a folder or file of the user, a damaged journal, and one
+# that is gone. It changes nothing.
 tests=$(cd "$(dirname "$0")/.." && pwd -P)
 . "$tests/common/cases.sh"
 needs python3
@@ -11,7 +11,7 @@ echo 'do GetRandom 2' >one
 run 'a device' run --state state script
 cp -R state kept
 
-# Where nothing is, `run` alone begins a device.
+# If there is nothing, only `run` begins a device.
 run 'no folder, power' power none
 run 'no folder, script' script none
 mkdir empty
@@ -19,7 +19,7 @@ run 'an empty folder, power' power empty
 run 'an empty folder, script' script empty
 ls empty
 
-# What stands at the paths.
+# What may be at the paths.
 echo elsewhere >elsewhere
 cp elsewhere elsewhere.kept
 for name in journal lock journal.new; do

@@ -1,6 +1,6 @@
-# A kept device on a disk that is full: its journal stays as it was, a command that has no room was not
-# answered, and with room again the device goes on from there. The disk is one that is mounted for this
-# test alone, by root or by a user who may be root in a namespace.
+# A kept device on a full disk: its journal is unchanged, a command that does not fit was not answered, and
+# when there is space again the device continues. The disk is mounted for this test alone, by root or by a
+# user who may be root in a namespace.
 if [ -z "${own_mounts:-}" ]; then
     for user in '' '--user --map-root-user'; do
         # shellcheck disable=SC2086 # it is two words, or none

@@ -1,4 +1,4 @@
-# A kept device whose folder or whose files belong to another user is refused, and stays as it is.
+# A kept device whose folder or files belong to another user is refused, and stays unchanged.
 tests=$(cd "$(dirname "$0")/.." && pwd -P)
 . "$tests/common/cases.sh"
 [ "$(id -u)" = 0 ] || skip 'only root can give a file to another user'

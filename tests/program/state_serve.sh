@@ -1,4 +1,4 @@
-# A kept device that is served on a socket, beside runs of the same device.
+# A kept device that is served on a socket, while runs use the same device.
 tests=$(cd "$(dirname "$0")/.." && pwd -P)
 . "$tests/common/cases.sh"
 . "$tests/common/served.sh"
@@ -11,7 +11,7 @@ begin() {
         --locality 0 --connections "$count" "$@" >"$room/served" 2>&1 &
 }
 
-# ended LABEL: how the program ended that serves the device.
+# ended LABEL: how the program that serves the device ended.
 ended() {
     status=0
     wait "$!" || status=$?
@@ -38,7 +38,7 @@ talk 'once more' 1000 "$read" 800100000000
 ended 'with each response forced to the disk'
 grep -c '^cmd' state/journal
 
-# The device is gone while it is served, and then another one stands there.
+# The device vanishes while it is served, and then another one takes its place.
 begin 2
 there
 cp -R state other

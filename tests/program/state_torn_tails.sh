@@ -1,7 +1,7 @@
-# What a crash of the host can leave at the end of a kept device's journal: the front of an entry, zeros
-# after that, and zeros alone. It is cut off by the next command or power cycle, and standard error says
-# how much that was. Anything else is damage: the journal is refused and stays as it is, until
-# `power --cut` drops what follows the last whole entry before the damage, and says how much that is.
+# What a crash of the host can leave at the end of a kept device's journal: the front of an entry, the same
+# with zeros after it, or zeros alone. The next command or power cycle cuts it off, and reports its size on
+# standard error. Anything else is damage: the journal is refused and stays as it is, until `power --cut`
+# drops what follows the last whole entry before the damage, and reports the size of that.
 tests=$(cd "$(dirname "$0")/.." && pwd -P)
 . "$tests/common/cases.sh"
 
@@ -17,8 +17,8 @@ zeros() {
     head -c "$1" /dev/zero
 }
 
-# ending WHAT BYTES COMMAND..: a journal without so many bytes of its last entry, and with what the
-# command prints after that.
+# ending WHAT BYTES COMMAND..: a journal without the last BYTES bytes, and with the command's output
+# after that.
 ending() {
     what=$1
     bytes=$2
@@ -29,7 +29,7 @@ ending() {
     cp state/journal before
 }
 
-# entries: how many entries the journal has that are told as a script.
+# entries: the number of the journal's entries, from what `script` prints.
 entries() {
     "$program" script state >told 2>"$room/error" || echo "script: status $?, $(told "$room/error")"
     echo "    entries: $(grep -c '^cmd' told)"

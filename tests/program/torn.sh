@@ -1,6 +1,5 @@
-# A program whose calls of the system fail: those by which it reaches its files, its socket and the
-# clock, each in turn. common/torn.py says what then has to come of the run, of the image and of each
-# connection.
+# A program whose system calls fail: those on its files, its socket and the clock, each in turn.
+# common/torn.py says what has to become of the run, of the image and of each connection.
 tests=$(cd "$(dirname "$0")/.." && pwd -P)
 . "$tests/common/cases.sh"
 needs cc nm python3

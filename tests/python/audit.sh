@@ -1,7 +1,7 @@
-# Logs that tools/audit.py judges: that of each script of tests/ and examples/, which agrees; that
-# of a disk's unlocking, with all that is told of it; logs that are bent, cut or too long, or begin
-# with another device; scripts with a bad line, and words that are wrong. Then devices in Python,
-# each of which is wrong in one thing: the history alone finds that.
+# Logs that tools/audit.py judges: that of each script of tests/ and examples/, which agrees; that of a disk's
+# unlocking, with the whole report; logs that are bent, cut or too long, or begin with another device; scripts
+# with a bad line, and wrong words. Then devices in Python, each of which does one thing wrong: the history
+# alone finds that.
 tests=$(cd "$(dirname "$0")/.." && pwd -P)
 . "$tests/common/cases.sh"
 needs python3
@@ -9,12 +9,12 @@ scripts=$tests/python
 audit=$tests/../tools/audit.py
 unlocking=$tests/../examples/disk_unlock.tpm
 
-# trace SCRIPT FILE: what the program prints of a script, in a file.
+# trace SCRIPT FILE: writes the program's output for a script to a file.
 trace() {
     "$program" run --trace "$1" >"$2" 2>/dev/null
 }
 
-# judge LABEL WORDS..: a case for one process to run with the others. Without words it is a heading.
+# judge LABEL WORDS..: a case that one process runs with the others. Without words it is a heading.
 judge() {
     tab=
     for word do
@@ -24,12 +24,12 @@ judge() {
     echo >>cases
 }
 
-# at N PATTERN: the number of the N-th line of the log that has a pattern.
+# at N PATTERN: the number of the N-th line of the log that matches a pattern.
 at() {
     grep -n "$2" whole | sed -n "$1s/:.*//p"
 }
 
-# bend FILE N LINE: the log with another line N, in a file.
+# bend FILE N LINE: writes the log with another line N to a file.
 bend() {
     awk -v at="$2" -v instead="$3" 'NR == at { print instead; next } { print }' whole >"$1"
 }
@@ -43,7 +43,7 @@ run_audit() {
     echo "status $status"
 }
 
-# The wrong devices are judged beside all else.
+# The wrong devices are judged at the same time as all others.
 python3 "$scripts/wrong_devices.py" >wrong_devices &
 wrong_devices=$!
 
@@ -96,7 +96,7 @@ judge 'bad_do_line' "$tests/lines/bad_do_line.tpm" bad_do
 judge 'a log that goes on after a bad line' "$tests/lines/bad_do_line.tpm" longer
 judge 'nothing of nothing' empty empty
 
-# A device that has a counter, an object that stays, and saved PCRs, and what it does next.
+# A device that has a counter, a persistent object and saved PCRs, and what it does next.
 cat >before.tpm <<'END'
 do Startup 0
 do PCR_Event 00000007 pw:- 01

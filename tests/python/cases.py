@@ -1,9 +1,9 @@
-"""Runs tools/audit.py many times, each time with other words, in one process:
+"""Runs tools/audit.py many times in one process, each time with other words:
 
     cases.py <CASES
 
-A line of CASES has a label and then the words, with a tab before each. It prints the status of each
-case, what it says on standard error, and the last line of what it prints.
+A line of CASES has a label and then the words, each after a tab. For each case it prints the
+status, standard error, and the last line of standard output.
 """
 
 import contextlib
@@ -17,12 +17,12 @@ from tpmsim.model import player
 
 
 def printed(script):
-    """What a device as it is now prints of a script."""
+    """What a device in its present state prints for a script."""
     return "".join(f"{it}\n" for _, it in player.played(script)[0]).encode()
 
 
 def audited(script, output, files=(), begin=None):
-    """The auditor of what is printed of a script, and what it finds at fault, if anything."""
+    """The auditor of what a script prints, and the fault that it finds, if any."""
     auditor = Auditor(begin or start.new(), Log(output), files)
     try:
         auditor.read(script)

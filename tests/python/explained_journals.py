@@ -2,9 +2,10 @@
 
     explained_journals.py PROGRAM
 
-Each by its journal, by what `tpmsim script` prints of it, and by its journal with what `tpmsim run`
-printed beside it. A command that was answered with a success is explained as accepted, each other one
-as refused, with its reason. It counts; the status is 1 where one is explained otherwise.
+Each is explained by its journal, by what `tpmsim script` prints of it, and by its journal together
+with what `tpmsim run` printed. A command that was answered with a success must be explained as
+accepted, each other one as refused, with its reason. It counts; the status is 1 if one is explained
+otherwise.
 """
 
 import pathlib
@@ -16,7 +17,7 @@ from tests.common.shims import ran
 
 TOP = pathlib.Path(__file__).resolve().parents[2]
 
-# Longer scripts, which are mostly of bent commands, are left to the other tests of explanations.
+# Longer scripts, mostly of bent commands, are left to the other tests of explanations.
 MOST_BYTES = 20_000
 SHOWN = 8
 
@@ -29,7 +30,7 @@ def answered_since(printed):
 
 
 def wrong_lines(log, lines, responses):
-    """The lines of commands that are explained otherwise than they were answered, or not compared."""
+    """The lines of commands whose explanation differs from their answer, or was not compared."""
     play = Play(answers="".join(f"{it}\n" for it in lines).encode() if lines else None)
     events = list(play.events(log))
     wrong = [0] if len(events) != len(responses) or play.fault or play.damages or play.cuts else []
@@ -42,7 +43,7 @@ def wrong_lines(log, lines, responses):
 
 
 def check(program, script, folder):
-    """How many commands were explained of a script, and which wrongly."""
+    """How many commands of a script were explained, and which wrongly."""
     printed = ran(program, "run", "--trace", "--state", folder, str(script)).output
     lines = answered_since(printed)
     responses = lines[1::2]

@@ -1,5 +1,5 @@
-# Journals of devices in folders, and what `tpmsim script` prints of them, are explained as the commands in
-# them were answered: no accepted one as refused, and no refused one as accepted.
+# Journals of devices in folders, and what `tpmsim script` prints of them, are explained: no accepted command
+# is explained as refused, and no refused one as accepted.
 tests=$(cd "$(dirname "$0")/.." && pwd -P)
 . "$tests/common/cases.sh"
 needs python3

@@ -1,9 +1,10 @@
-"""Devices at the other end of a connection, whose commands do not end:
+"""Devices at the other end of a connection, whose commands are interrupted:
 
     tools/python.sh tests/python/in_step.py PROGRAM
 
-Each command is interrupted at each of its lines, and one is answered too late. Then no command is given
-the answer of another one: the connection is closed, and says so. PROGRAM is the child's.
+Each command is interrupted at each of its lines, and one is answered too late. Afterwards no
+command gets the answer of another one: the connection is closed, and says so. PROGRAM is for the
+child.
 """
 
 import os
@@ -23,21 +24,22 @@ PACKAGE = str(pathlib.Path(tpmsim.device.__file__).parent)
 FIRST, SECOND, LATE = 8, 16, 24
 SECONDS, MOST_SECONDS, LEAST_LINES = 0.1, 60, 10
 
-# What LATE does to its client as it comes; and that it may be answered.
+# What LATE does to its client as it arrives; and the permission to answer it.
 coming, is_over = [lambda: None], threading.Event()
 
-# How many bytes come after the number of a request on swtpm's control channel; elsewhere there are none.
+# The size of what follows a request's number on swtpm's control channel; other channels have
+# nothing.
 ARGUMENTS = {2: 4, 5: 1}
 SESSION_END, INITIALIZE = 20, number(0x100, 4)
 
 
 def asking(count):
-    """TPM2_GetRandom of so many bytes."""
+    """TPM2_GetRandom of this many bytes."""
     return bytes.fromhex("80010000000c0000017b") + number(count, 2)
 
 
 def answer_to(command):
-    """Random bytes, as many as are asked for; LATE of them come when they may."""
+    """The random bytes that are asked for; those of LATE come when they may."""
     count = int.from_bytes(command[10:12], "big")
     if count == LATE:
         coming[0]()
@@ -49,7 +51,7 @@ def answer_to(command):
 
 class Handler(socketserver.StreamRequestHandler):
     def number(self):
-        """Where the client ends the connection, so does this."""
+        """Ends the connection if the client does."""
         text = self.rfile.read(4)
         if len(text) < 4:
             raise EOFError
@@ -121,7 +123,7 @@ def simulated():
 
 
 def interrupted(act, left):
-    """Whether an act comes to so many lines of the package's devices, where it is interrupted."""
+    """Whether an act executes this many lines of the package's devices; it is interrupted there."""
 
     def trace(frame, event, _):
         nonlocal left
@@ -144,8 +146,8 @@ def interrupted(act, left):
 
 
 def told(device, size):
-    """What a command of another size is answered, after one that did not end. A pipe answers it by
-    itself, and a device whose power is just on by INITIALIZE.
+    """What a command of another size is answered, after one that did not end. A pipe answers it
+    without more; a device whose power has just come on answers after INITIALIZE.
     """
     try:
         response = device.execute(asking(size)).response
@@ -157,7 +159,7 @@ def told(device, size):
 
 
 def at_each_line(made, act):
-    """What is told behind each interrupt."""
+    """The results after each interrupt."""
     said, count = set(), 1
     while True:
         with made() as device:
@@ -170,7 +172,7 @@ def at_each_line(made, act):
 
 
 def late(made):
-    """What is told where the answer comes too late; and then, where it has come."""
+    """The results if the answer comes too late; and then, after it has come."""
     is_over.clear()
     with made() as device:
         device.data.socket.settimeout(SECONDS)
@@ -184,7 +186,7 @@ def late(made):
 
 
 def alarmed(made):
-    """The same by a signal's handler, which raises what it likes."""
+    """The same by a signal's handler, which raises its own fault."""
 
     def raise_fault(*_):
         raise LookupError("a test's time")
@@ -203,7 +205,7 @@ def alarmed(made):
 
 
 def moved(device):
-    """A command from another locality, which is told first."""
+    """A command from another locality, which is sent first."""
     device.locality = 3
     device.execute(asking(FIRST))
 

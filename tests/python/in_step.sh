@@ -1,4 +1,4 @@
-# Devices at the other end of a connection, whose commands do not end: python/in_step.py.
+# Devices at the other end of a connection, whose commands never end: python/in_step.py.
 tests=$(cd "$(dirname "$0")/.." && pwd -P)
 . "$tests/common/cases.sh"
 needs python3

@@ -1,9 +1,8 @@
-# Policies in words, by which tools/audit.py judges logs. Their digests are compared with published
-# ones, and with those that Python's hashlib makes of the bytes that stand here. Then logs are
-# judged: that of tests/policies/written_policies.tpm with all that is told of it, that of
-# tests/sessions/lost_grounds.tpm, and one of a device that is not new. Then devices in Python, each of which
-# is wrong in one thing, and hashes that are broken, so that a use does not meet its policy. Last,
-# files that are no policy.
+# Policies in words, by which tools/audit.py judges logs. Their digests are compared with published ones, and
+# with those that Python's hashlib makes of the bytes below. Then logs are judged: that of
+# tests/policies/written_policies.tpm with its whole report, that of tests/sessions/lost_grounds.tpm, and one of
+# a device that is not new. Then come devices in Python, each of which does one thing wrong, and hashes that are
+# broken, so that a use does not meet its policy. Last come files that are not policies.
 # shellcheck disable=SC2154 # `eval` sets the hashes
 tests=$(cd "$(dirname "$0")/.." && pwd -P)
 . "$tests/common/cases.sh"
@@ -19,7 +18,7 @@ endorsement=837197674484b3f81a90cc8d46a5d724fd52d76e06520b64f2a1da1b331469aa
 index=000b000102030405060708090a0b0c0d0e0f101112131415161718191a1b1c1d1e1f
 comparisons='eq neq sgt ugt slt ult sge uge sle ule bs bc'
 
-# Hashes, by hashlib alone. A line has a name, an algorithm and bytes, joined: hex, or the name of a
+# Hashes, by hashlib alone. A line has a name, an algorithm, and bytes that are joined: hex, or the name of a
 # hash above it.
 comparison_hashes() {
     number=0
@@ -76,7 +75,7 @@ END
 )
 eval "$hashes"
 
-# digest LABEL ALGORITHM WANTED: a policy, on standard input, with the digest that it is to have.
+# digest LABEL ALGORITHM WANTED: a policy, on standard input, with its expected digest.
 mkdir digests
 : >wanted
 digest() {
@@ -85,7 +84,7 @@ digest() {
     printf '%s\t%s\t%s\t%s\n' "$file" "$1" "$2" "$3" >>wanted
 }
 
-# In use by many programs; and the authPolicy of the TCG EK Credential Profile, PolicyA_SHA256.
+# Used by many programs; and the authPolicy of the TCG EK Credential Profile, PolicyA_SHA256.
 echo PolicyAuthValue | digest 'PolicyAuthValue' sha256 "$value"
 echo PolicyPassword | digest 'PolicyPassword' sha256 "$value"
 echo 'PolicySecret ENDORSEMENT -' | digest 'PolicySecret' sha256 "$endorsement"
@@ -101,7 +100,7 @@ echo 'PolicyNvWritten 1' | digest 'written' sha256 "$written"
 echo 'PolicySecret 00000010 6469736b' | digest 'a PCR, and a policyRef' sha256 "$of_pcr"
 echo "PolicySecret $index -" | digest 'a Name' sha1 "$of_name"
 
-# The digest of two PCRs is that of 64 zeros; the others are digests of nothing.
+# The digest of two PCRs is that of 64 zeros; the others are digests of the empty text.
 printf 'PolicyPCR sha256:7,11 %s\nPolicyAuthValue\n' "$two_pcrs" |
     digest 'PCRs and the value' sha256 "$both"
 printf 'PolicyPCR sha256:7=%s,11=%s\nPolicyAuthValue\n' $zeros $zeros |
@@ -121,7 +120,7 @@ cat >two_ways <<END
 either
     PolicyPCR sha256:7,11 $two_pcrs
     PolicyAuthValue
-        # A comment stands anywhere.
+        # A comment may be anywhere.
 or
     PolicySecret ENDORSEMENT -
 END
@@ -179,13 +178,13 @@ echo 'PolicyCpHash 1111111111111111111111111111111111111111111111111111111111111
 echo 'PolicyNvWritten 0' >policies/written_policies/once
 echo 'PolicyCommandCode Unseal' >policies/written_policies/unseal
 
-# trace NAME: what the program prints of a script, in a file.
+# trace NAME: writes the program's output for a script to a file.
 trace() {
     # shellcheck disable=SC2094 # the script is another file
     "$program" run --trace "$(script "$1")" >"$1" 2>/dev/null
 }
 
-# audit_by NAME POLICY..: what a script's log tells by policies of it, and the status.
+# audit_by NAME POLICY..: prints what the audit says of a script's log with these policies, and the status.
 audit_by() {
     name=$1
     shift
@@ -256,7 +255,7 @@ awk '/^Policy/ { name = $2 } /meets it$/ { met[name]++ } /not meet/ { print }
     END { for (name in met) print name ": " met[name] }' told | sort
 sed -n '/^Each entity/,$p' told
 
-# One of tests/sessions/grounds.tpm, of which an object has the empty value: nothing is shown then.
+# A policy of tests/sessions/grounds.tpm, where an object has the empty value: nothing is shown then.
 trace grounds
 mkdir policies/grounds
 echo PolicyAuthValue >policies/grounds/value
@@ -264,7 +263,7 @@ echo 'AN EMPTY VALUE:'
 audit_by grounds value | grep 'empty'
 rm -r policies/grounds
 
-# A device that has an index with a policy already, which is used after a start.
+# A device that already has an index with a policy, which is used after a start.
 cat >before.tpm <<END
 do Startup 0
 do NV_DefineSpace OWNER pw:- - 01000001000b000800080020${write}0008
@@ -288,7 +287,7 @@ echo 'WEAK HASHES: what is told of each.'
 mkdir weak
 python3 "$scripts/weak_hashes.py" weak
 
-# judge LABEL WORDS..: a case for one process to run with the others. Without words it is a heading.
+# judge LABEL WORDS..: a case that one process runs with the others. Without words it is a heading.
 judge() {
     tab=
     for word do
@@ -311,7 +310,7 @@ head -n 20 written_policies >half
 judge 'a log that is cut' "$script" half --policy $disk
 judge 'the same policy twice' "$script" written_policies --policy $disk --policy $disk
 
-# fault LABEL LINES: a file of these lines, which is no policy.
+# fault LABEL LINES: a file of these lines, which is not a policy.
 faults=0
 fault() {
     faults=$((faults + 1))

@@ -1,5 +1,5 @@
-# The unit tests of the package under python/, which runs this program where it needs one.
-# tools/python_types.sh checks its types, and is no part of this, as that needs mypy.
+# The unit tests of the package under python/, which run this program if they need one. tools/python_types.sh
+# checks the package's types; it is not part of this test, since it needs mypy.
 tests=$(cd "$(dirname "$0")/.." && pwd -P)
 . "$tests/common/cases.sh"
 needs python3

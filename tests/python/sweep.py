@@ -1,11 +1,11 @@
-"""Audits what a program prints of scripts:
+"""Audits what a program prints for scripts:
 
     sweep.py PROGRAM COUNT [SEED]
 
-Of each script of tests/ and examples/, and of so many random ones, of which the first has this
-seed. Each random one is judged once more from the image of its device at a power cycle on, and once
-more with lines that are bent. A script that ends by a bad line is to be judged up to that line. It
-says which logs do not agree, leaves their scripts, and counts. The status is 1 where one does not.
+It audits each script of tests/ and examples/, and COUNT random ones, the first by this seed. Each
+random one is also judged from the image of its device at a power cycle on, and again with lines
+that are bent. A script that ends with a bad line has to be judged up to that line. It says which
+logs do not agree, leaves their scripts, and counts. The status is 1 if one does not agree.
 """
 
 import pathlib
@@ -27,20 +27,20 @@ COMMANDS = 400
 
 
 def traced(program, path):
-    """What the program prints of a script, and what it says on standard error."""
+    """What the program prints for a script, and its standard error."""
     ended = ran(program, "run", "--trace", path)
     return ended.output, ended.error.decode("ascii", "replace").strip()
 
 
 def wanted_of(error):
-    """The fault that is to be found where the program says so on standard error."""
+    """The fault that the audit has to find, if the program says it on standard error."""
     line = error.removeprefix("tpmsim: script line ")
     return f"script line {line} is no line of a script; up to it the log agrees" if error else None
 
 
 def from_image(script, output):
-    """What a script does from a power cycle on: the image of the device then, and the rest of the
-    script and of what was printed; or None where there is no power cycle.
+    """A script from a power cycle on: the device's image at that point, and the rest of the script
+    and of its output; None if there is no power cycle.
     """
     lines = script.splitlines()
     cycles = [at for at, line in enumerate(lines) if line == b"power"]
@@ -62,7 +62,7 @@ class Sweep:
         return f"{self.agree} agree, {self.differ} differ; {self.events} events"
 
     def judge(self, path, begin, script, output, wanted=None):
-        """Whether a log agrees, or is at fault as it is to be."""
+        """Whether a log agrees, or has the expected fault."""
         auditor, fault = audited(script, output, begin=begin)
         list(report(auditor))
         self.events += auditor.counts.events

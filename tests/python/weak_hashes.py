@@ -1,11 +1,11 @@
-"""Hashes of policies that are broken in one text each: a session comes to the digest of a policy
-that it does not meet, and the device and its history take it. The audit has to say so. By the last
-hash it meets the policy all the same.
+"""Hashes of policies that are broken for one text each: a session gets the digest of a policy that
+it does not meet, and the device and its history accept it. The audit has to say so. With the last
+hash the session meets the policy anyway.
 
     weak_hashes.py FOLDER
 
-It prints what is told by each policy, and how tools/audit.py ends, of files in a folder. The status
-is 1 where a use that does not meet its policy is taken to meet it, or the other way round.
+It prints the result of each policy, and how tools/audit.py ends on the files in a folder. The
+status is 1 if a use that does not meet its policy counts as meeting it, or the other way round.
 """
 
 import pathlib
@@ -19,7 +19,7 @@ from tpmsim.policies.policy_file import PolicyFile
 from tpmsim.standard import CC, SHA1, SHA256, digest, nv, policy, selection
 from tests.python import cases
 
-# What TPM2_PolicyLocality of locality 0 is hashed by, behind the digest of a start.
+# What TPM2_PolicyLocality of locality 0 hashes after the digest of a start.
 LOCALITY_0 = bytes.fromhex("0000016f01")
 ATTRIBUTES = nv.Attribute.POLICYREAD | nv.Attribute.POLICYWRITE
 
@@ -34,13 +34,13 @@ PLATFORM = bytes(32) + bytes.fromhex("000001514000000c")
 BY_OWNER = digest(SHA256, digest(SHA256, OWNER))
 WRITE = policy.after_command_code(SHA256, bytes(32), CC.NV_Write)
 
-# PCR 16 has zeros, and another value is written in the policy.
+# PCR 16 has zeros, and the policy contains another value.
 OTHER_VALUE = b"\x11" * 32
 BY_PCR = policy.after_pcr(SHA256, bytes(32), selection((SHA256, [16])), digest(SHA256, bytes(32)))
 
 
 def script(algorithm, auth_policy, *assertions):
-    """An index that its policy alone authorizes, and a use of it behind assertions."""
+    """An index that only its policy authorizes, and a use of it after assertions."""
     area = nv.Public(0x0100_0001, algorithm, ATTRIBUTES, auth_policy, 8).text.hex()
     name = "sha1" if algorithm == SHA1 else "sha256"
     return [
@@ -53,12 +53,13 @@ def script(algorithm, auth_policy, *assertions):
 
 
 def by_either(first, second, *branches):
-    """The same by the policy of two branches, which the session is told in pieces."""
+    """The same with a policy of two branches, which the session gets in pieces."""
     told = f"PolicyOR 03000000 {'+'.join(it.hex() for it in branches)}"
     return script(SHA1, policy.after_or(SHA1, [first, second]), "PolicyLocality 03000000 0x1", told)
 
 
-# What is broken; the texts with other hashes; the policy; a script; and whether it meets the policy.
+# What is broken; the texts with other hashes; the policy; a script; and whether it meets the
+# policy.
 WEAK = (
     (
         "two texts have one hash",
@@ -99,7 +100,7 @@ WEAK = (
 
 
 def weakly(other):
-    """Where policies are hashed, these texts have other hashes."""
+    """When policies are hashed, these texts have other hashes."""
     stack = ExitStack()
     weak = lambda algorithm, text: other.get(text) or digest(algorithm, text)
     for module in (policy, pcr_values, policy_texts, broken, written):
@@ -108,7 +109,7 @@ def weakly(other):
 
 
 def judged(lines, text):
-    """The auditor of what the device prints of a script, by a policy, and what it prints."""
+    """The auditor, by a policy, of what the device prints for a script, and its output."""
     played = "\n".join(lines).encode()
     output = cases.printed(played)
     auditor, fault = cases.audited(played, output, [PolicyFile("policy", text.encode())])
@@ -117,7 +118,7 @@ def judged(lines, text):
 
 
 def ended(folder, lines, output, text):
-    """How the audit of these ends."""
+    """How the audit of these files ends."""
     files = [folder / it for it in ("script", "output", "policy")]
     for file, data in zip(files, ("\n".join(lines).encode(), output, text.encode())):
         file.write_bytes(data)

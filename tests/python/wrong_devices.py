@@ -1,10 +1,9 @@
-"""Devices in Python that are wrong in one thing each, with a script that shows it: what such a
-device prints of the script is audited beside that same device, so that the history alone can find
-it.
+"""Python devices that are wrong in one thing each, with a script that shows it. The audit compares
+what such a device prints with that same device, so that only the history can show the error.
 
     wrong_devices.py
 
-It prints what is found of each, and status 1 where it finds nothing of one.
+It prints what is found of each; the status is 1 if nothing is found of one.
 """
 
 import functools
@@ -25,7 +24,7 @@ restore_pcrs, start_session = Model.restore_pcrs, Model.start_auth_session
 
 
 def unless(refused):
-    """A policy's use that passes over one refusal."""
+    """A use of a policy that ignores one refusal."""
 
     def checked(session, entity, use, place):
         try:
@@ -38,13 +37,13 @@ def unless(refused):
 
 
 def any_cp_hash(session, entity, use, place):
-    """A policy's use for which it does not matter which cpHash is recorded."""
+    """A use of a policy that accepts any recorded cpHash."""
     told = session.policy.cp_hash
     return check_use(session, entity, replace(use, cp_hash=told or use.cp_hash), place)
 
 
 def written_or_not(session, entity, use, place):
-    """A policy's use for which it does not matter whether an index is written."""
+    """A use of a policy that does not check whether an index is written."""
     return check_use(session, entity, replace(use, written=session.policy.nv_written), place)
 
 
@@ -76,7 +75,7 @@ def counts_from_1(self, request):
 
 
 def keeps_a_digest(self, request):
-    """A new session has the digest of one that lives."""
+    """A new session has the digest of a live one."""
     was = next((it.policy.digest for it in self.sessions.values()), None)
     answer = start_session(self, request)
     session = self.sessions[int.from_bytes(answer.handle, "big")]
@@ -145,14 +144,14 @@ def script_of(name):
 
 
 def fault_of(name):
-    """What is found of a device as it is now, by the script of a name."""
+    """What is found of a device in its present state, by the script of a name."""
     script = script_of(name)
     return audited(script, printed(script))[1]
 
 
 @functools.cache
 def check_right_device(name):
-    """Nothing is found of the device as it is."""
+    """Checks that nothing is found of the right device."""
     assert fault_of(name) is None
 
 

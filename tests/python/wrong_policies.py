@@ -1,11 +1,11 @@
-"""Devices in Python that are wrong in one thing each, whose logs are audited beside that same
-device, by policies in words:
+"""Python devices that are wrong in one thing each, whose logs are audited against that same device,
+by policies in words:
 
     wrong_policies.py POLICIES
 
-POLICIES is a folder, which has for each script a folder of its policies. Of each device it prints
-what the audit finds, and then each use that does not meet its policy where policies alone are
-judged. The status is 1 where one of the two is nothing.
+POLICIES is a folder that has a folder of policies for each script. For each device it prints what
+the audit finds, and then each use that does not meet its policy if only policies are judged. The
+status is 1 if it finds nothing in one of the two.
 """
 
 import pathlib
@@ -13,7 +13,7 @@ import sys
 from contextlib import ExitStack
 from unittest import mock
 
-import wrong_devices as wrong  # it lets the parts of the device and of the audit be found
+import wrong_devices as wrong  # it makes the parts of the device and of the audit importable
 
 from tpmsim.audit.auditor import Auditor
 from tpmsim.audit.ground import Finding
@@ -28,7 +28,7 @@ LOST, WRITTEN = "lost_grounds", "written_policies"
 
 
 def or_of_any_digest(self, request):
-    """TPM2_PolicyOR for which the digest before it does not matter."""
+    """TPM2_PolicyOR that ignores the digest before it."""
     branches = request.parameters.next().sized_list(policy.LEAST_BRANCHES, policy.MOST_BRANCHES)
     session = self.sessions[request.handles[0]]
     session.policy.digest = policy.after_or(session.algorithm, branches)

@@ -1,5 +1,5 @@
-# tools/crate.sh makes one file that has the library in it, of each machine, and a program elsewhere uses
-# what is in it: README's example. The sources are as they were.
+# tools/crate.sh makes one file that has the library for each machine, and a program elsewhere uses its
+# contents: README's example. The sources are unchanged.
 tests=$(cd "$(dirname "$0")/.." && pwd -P)
 . "$tests/common/cases.sh"
 . "$tests/common/library.sh"

@@ -1,4 +1,4 @@
-# The form of the Rust package, and what clippy says of it.
+# The layout of the Rust package, and the lints of clippy.
 tests=$(cd "$(dirname "$0")/.." && pwd -P)
 . "$tests/common/cases.sh"
 . "$tests/common/library.sh"

@@ -1,4 +1,4 @@
-# A device of a seed is the same in Rust and in Python, and draws the same; and the names of codes and of
+# A device of a seed is the same in Rust and in Python, and draws the same bytes; and the names of codes and of
 # commands are those of Python.
 tests=$(cd "$(dirname "$0")/.." && pwd -P)
 . "$tests/common/cases.sh"

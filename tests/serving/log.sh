@@ -1,5 +1,5 @@
-# The log of a device that is served with --log: what `tpmsim run` plays of it is what was answered,
-# as common/logged.py says over sessions, indices, a lockout, cuts and kills.
+# The log of a device that is served with --log: `tpmsim run` plays from it what was answered. For
+# sessions, indices, a lockout, cuts and kills, common/logged.py checks that.
 tests=$(cd "$(dirname "$0")/.." && pwd -P)
 . "$tests/common/cases.sh"
 . "$tests/common/served.sh"
@@ -8,7 +8,7 @@ startup=$(words 'Startup 0')
 random=$(words 'GetRandom 8')
 change=$(words 'HierarchyChangeAuth OWNER pw:- 6f776e')
 
-# A device of which there is no image yet. What has a part of a command only is in no log.
+# A device without an image yet. A command of which only a part came is in no log.
 umask 000
 options='--log log'
 begin 3
@@ -20,7 +20,7 @@ stat -c 'the log: %A' log
 grep -v '^# ' log | sed 's/^wait .*/wait, which is the host'"'"'s/'
 run 'the log on a new device with these random bytes' run --image anew --entropy entropy log
 
-# A start on its image has a log of its own.
+# A start on its image has its own log.
 cp image start
 cp image played
 cp image traced
@@ -38,7 +38,7 @@ for reader in audit explain; do
     cmp "$room/read" "$room/alone"
 done
 
-# What is at the path of a log stays as it was, and no device is served.
+# A file at the path of a log stays as it was, and no device is served.
 options=''
 tried() {
     run "$1" serve --socket socket --image image --entropy entropy --locality 0 --connections 1 \

@@ -1,7 +1,7 @@
-# The log of a served device on a disk that gets full: the command whose entry does not fit is not
-# answered, the program ends and says so, and the log and the image have all that was answered, as
-# common/logged.py says. The disk is one that is mounted for this test alone, by root or by a user who
-# may be root in a namespace.
+# The log of a served device on a disk that gets full. The command whose entry does not fit is not
+# answered. The program ends and says so, and the log and the image have all that was answered, as
+# common/logged.py checks. The disk is mounted for this test alone, by root or by a user who may be
+# root in a namespace.
 if [ -z "${own_mounts:-}" ]; then
     for user in '' '--user --map-root-user'; do
         # shellcheck disable=SC2086 # it is two words, or none

@@ -1,5 +1,5 @@
-# A device on a socket: how commands are cut from a stream, what stays between two runs, and how the
-# program ends.
+# A device on a socket: how commands are cut from a stream, what stays from one run to the next, and how
+# the program ends.
 tests=$(cd "$(dirname "$0")/.." && pwd -P)
 . "$tests/common/cases.sh"
 . "$tests/common/served.sh"
@@ -23,8 +23,8 @@ talk 'ten commands at once' 4096 "$startup" "$random" "$random" "$random" "$rand
     "$random" "$random" "$random" "$random"
 ended 'one connection'
 
-# A connection that ends within a command has it dropped; the device serves the next one. What the
-# first one did stays.
+# A connection that ends within a command: that command is dropped, and the device serves the next
+# connection. What the first one did stays.
 rm -f image
 begin 3
 talk 'half a command' 4096 "$startup" 80010000
@@ -32,8 +32,8 @@ talk 'nothing' 4096
 talk 'the next connection' 4096 "$startup" "$random"
 ended 'three connections'
 
-# Two connections at once, which take turns with each byte: the first is served to its end, and then
-# the second, each with the answers to its own commands.
+# Two connections at once, which send their bytes by turns. The first is served to its end, and then the
+# second, each with the answers to its own commands.
 rm -f image
 begin 2
 echo 'two connections that take turns with each byte:'
@@ -47,7 +47,7 @@ talk 'a size of 9' 4096 "$startup" 800100000009 "$random"
 talk 'a size of 4,097' 4096 800100001001 "$random"
 ended 'two connections'
 
-# What the device keeps without power is there in the next run: ownerAuth. A session would not be.
+# The next run has what the device keeps without power: ownerAuth. A session would be lost.
 rm -f image
 begin 1
 talk 'an authorization value' 4096 "$startup" "$change"
@@ -57,7 +57,7 @@ talk 'it is asked for in the next run' 4096 "$startup" "$change" \
     "$(words 'HierarchyChangeAuth OWNER pw:6f776e -')"
 ended 'one connection'
 
-# An unfinished image of a run that was killed is written anew.
+# The unfinished image of a killed run is written again.
 echo unfinished >image.new
 begin 1
 talk 'a new image left by a crash' 4096 "$startup"
@@ -70,8 +70,8 @@ begin 0
 ended 'no connection'
 [ ! -e image ] || echo 'an image is there'
 
-# A socket that was left is replaced. One that is answered is not, nor is a file. Whoever finds out
-# whether it is answered is one of its connections.
+# A socket that was left is replaced; not so one on which a process answers, nor a file. The attempt to
+# connect counts among its connections.
 begin 2
 until [ -S socket ]; do sleep 0.01; done
 run 'a socket that is answered' serve --socket socket --image other --entropy entropy \

@@ -1,5 +1,5 @@
-# Clients that break off, clients that keep the device from others, and one that goes on for long.
-# Connections are served one after another, each to its end.
+# Clients that break off, clients that keep the device from others, and a long connection. Connections
+# are served one after another, each to its end.
 tests=$(cd "$(dirname "$0")/.." && pwd -P)
 . "$tests/common/cases.sh"
 . "$tests/common/served.sh"
@@ -9,15 +9,14 @@ random=$(words 'GetRandom 4')
 rm -f entropy
 ln -s /dev/zero entropy
 
-# client_of KIND HEX: one of the clients in common/clients.py. The long one is told how long it is to
-# be before that.
+# client_of KIND HEX: one of the clients in common/clients.py. The long one gets its length before that.
 client_of() {
     python3 "$tests/common/clients.py" "$1" socket "$2" ${3:+"$3"} | sed 's/^/    /'
 }
 
-# Clients that close at once: having sent nothing, a tag, a header, and a command but for its last
-# byte. Nothing of that is done, so that a Startup behind them succeeds. Then one that has sent a
-# whole command, which is done though nobody reads the response.
+# Clients that close early, after sending nothing, a tag, a header, or a command without its last byte.
+# Nothing of that is executed, so that a Startup after them succeeds. Then a client that has sent a
+# whole command, which is executed although nobody reads the response.
 rm -f image
 begin 6
 client_of close ''

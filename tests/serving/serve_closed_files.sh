@@ -1,6 +1,6 @@
-# The files of a served device that may not be read, and its folder that may not be written to: by
-# whoever runs this, or where root does so, who may do all, by nobody. That one has a copy of the
-# program, in a folder of the sort of /tmp.
+# The files of a served device that may not be read, and its folder that may not be written to. The user
+# is the one who runs this; or nobody, if that is root, who may do everything. Nobody gets a copy of the
+# program, in a folder like /tmp.
 tests=$(cd "$(dirname "$0")/.." && pwd -P)
 . "$tests/common/cases.sh"
 . "$tests/common/served.sh"

@@ -1,5 +1,5 @@
-# The lines of docs/USING.md that serve a device and seal a key by tpm2-tools, as they are written: the last
-# tool prints the key.
+# The lines of docs/USING.md that serve a device and seal a key by tpm2-tools, exactly as written there: the
+# last tool prints the key.
 tests=$(cd "$(dirname "$0")/.." && pwd -P)
 . "$tests/common/cases.sh"
 needs tpm2 socat

@@ -1,5 +1,5 @@
-# The command lines of `tpmsim serve`, and the files that it cannot take. The faults are looked for in
-# this order: the command line, the image, the random bytes, the socket, and then each connection.
+# The command lines of `tpmsim serve`, and the files that it cannot use. It checks in this order: the
+# command line, the image, the random bytes, the socket, and then each connection.
 common=$(cd "$(dirname "$0")/.." && pwd -P)/common
 tests=$(cd "$(dirname "$0")/.." && pwd -P)
 . "$tests/common/cases.sh"
@@ -12,7 +12,7 @@ small=
 head -c 768 /dev/zero >entropy
 mkdir a_folder
 
-# serve LABEL WORDS..: with these options, and with no connection, and the others as they should be.
+# serve LABEL WORDS..: serves no connection, with these options and good values for the others.
 serve() {
     label=$1
     shift
@@ -26,14 +26,14 @@ serve() {
     [ ! -e socket ] || echo '    the socket is still there'
 }
 
-# small WORDS..: runs a program that can write no file of over 512 bytes.
+# small WORDS..: runs a program that cannot write a file of over 512 bytes.
 small() {
     trap '' XFSZ
     ulimit -f 1
     exec "$@"
 }
 
-# talk LABEL BUFFER..: serves one connection that sends these commands, and says how that ended.
+# talk LABEL BUFFER..: serves one connection that sends these commands, and says how it ended.
 talk() {
     label=$1
     shift
@@ -54,7 +54,7 @@ run 'options in another order' serve --connections 00 --locality 04 --entropy en
 run 'options with =' serve --connections=0 --locality=4 --entropy=entropy --image=image \
     --socket=socket
 
-# Command lines that are none.
+# Bad command lines.
 run 'no options' serve
 run 'no socket' serve --image image --entropy entropy --locality 0 --connections 0
 run 'no image' serve --socket socket --entropy entropy --locality 0 --connections 0
@@ -82,7 +82,7 @@ serve 'no random bytes, and no socket' --entropy missing --socket a_folder
 head -c 255 /dev/zero >few
 serve 'too few random bytes for a new device, and no socket' --entropy few --socket a_folder
 
-# Images that are read, and files that are none.
+# Images that can be read, and files that are not images.
 talk 'the image of a new device' "$startup"
 echo "    $(($(wc -c <image))) bytes"
 for kind in none '41 bytes' cut longer magic version digest body; do
@@ -94,8 +94,8 @@ serve 'an empty file' --image empty
 serve 'a folder in place of an image' --image a_folder
 serve 'a file in place of a folder' --image empty/image
 
-# Random bytes that are not there, or end: at the manufacture, or at a command. The device is saved
-# before the program ends.
+# Random bytes that are missing, or end: at the manufacture, or at a command. The device is saved before
+# the program ends.
 serve 'no random bytes' --entropy missing
 rm -f image
 serve 'too few for a new device' --entropy few

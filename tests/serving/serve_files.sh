@@ -1,4 +1,4 @@
-# The files of a served device that are links, are removed or replaced while it is served, or end.
+# The files of a served device: they are links, are removed or replaced while it is served, or end.
 tests=$(cd "$(dirname "$0")/.." && pwd -P)
 . "$tests/common/cases.sh"
 . "$tests/common/served.sh"
@@ -12,8 +12,8 @@ tried() {
     run "$1" serve --socket socket --image "$2" --entropy entropy --locality 0 --connections 0
 }
 
-# An image that is a link is read where the link leads to. A new file takes the place of the link;
-# what it led to stays as it was.
+# An image that is a link is read from the link's target. A new file replaces the link, and the target
+# stays as it was.
 begin 1
 talk 'an authorization value' 4096 "$startup" "$change"
 ended 'one connection'
@@ -40,7 +40,7 @@ ln -s itself itself
 tried 'a link to a folder' leads_to_folder
 tried 'a link to itself' itself
 
-# meanwhile LABEL LINE: a connection during which the shell's line is done.
+# meanwhile LABEL LINE: a connection during which the shell runs a line.
 meanwhile() {
     begin 1
     echo "$1:"
@@ -48,7 +48,7 @@ meanwhile() {
     ended 'one connection'
 }
 
-# The image while the device is served. One that was removed is made again. Where it cannot be, the
+# The image while the device is served. If it was removed, it is made again. If it cannot be made, the
 # program says so.
 cp kept image
 meanwhile 'the image is removed' 'rm image'
@@ -61,8 +61,8 @@ meanwhile 'the folder of the image is removed' 'rm -r state'
 [ ! -e state ] || echo 'the folder is there again'
 image=
 
-# The socket while the device is served. Whoever has connected is served, also the client that waits.
-# A folder that has taken the path stays there behind the run.
+# The socket while the device is served. Every connected client is served, also one that waits. A folder
+# that has taken the path stays there after the run.
 for kind in removed folder; do
     rm -f image
     begin 2
@@ -72,7 +72,7 @@ for kind in removed folder; do
 done
 rmdir socket
 
-# A file takes the path of the socket, or another run's socket does: it stays there.
+# A file, or another run's socket, takes the path of the socket: it stays there.
 rm -f image
 meanwhile 'a file takes the place of the socket' 'rm socket; echo taken >socket'
 cat socket
@@ -85,8 +85,8 @@ until [ ! -e socket ]; do sleep 0.01; done
 cat "$room/others"
 echo 'it has removed its socket'
 
-# Random bytes for the manufacture, two commands, and a part of a third: they end in the second
-# connection, and what was done until then is saved.
+# Random bytes for the manufacture, two commands, and a part of a third. They end in the second
+# connection, and what was done before is saved.
 mv entropy enough
 head -c 868 enough >entropy
 rm -f image

@@ -1,6 +1,6 @@
-# The image of a served device on a disk that is full: it stays as it was. With room again, the device
-# goes on from there. The disk is one that is mounted for this test alone, by root or by a user who may
-# be root in a namespace.
+# The image of a served device on a full disk: it stays as it was. With free space again, the device goes
+# on from there. The disk is mounted for this test alone, by root or by a user who may be root in a
+# namespace.
 if [ -z "${own_mounts:-}" ]; then
     for user in '' '--user --map-root-user'; do
         # shellcheck disable=SC2086 # it is two words, or none

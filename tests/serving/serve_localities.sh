@@ -1,5 +1,5 @@
-# A device that is served from localities 3 and 4, with PCR 17, which takes part there alone: it is
-# extended from localities 2 to 4 and reset from locality 4. Another run of a device may have another
+# A device that is served from localities 3 and 4, with PCR 17, which depends on them: it is extended
+# from localities 2 to 4, and reset from locality 4. Another run of a device may have another
 # locality.
 tests=$(cd "$(dirname "$0")/.." && pwd -P)
 . "$tests/common/cases.sh"

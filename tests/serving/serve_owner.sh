@@ -1,4 +1,4 @@
-# What a served device writes is its owner's alone, whatever the umask says: the image, which has the
+# What a served device writes belongs only to its owner, whatever the umask: the image, which has the
 # device's seeds and authorization values, and the socket. And where the socket may be.
 tests=$(cd "$(dirname "$0")/.." && pwd -P)
 . "$tests/common/cases.sh"
@@ -19,15 +19,15 @@ for mask in 000 022 077; do
 done
 umask 000
 
-# An image that everybody may read is so no more behind the first connection.
+# An image that everybody may read is private after the first connection.
 chmod 666 image
 begin 1
 talk 'an image that everybody may read' 4096 "$startup"
 ended 'one connection'
 stat -c %A image
 
-# A file that a killed run left at the path of the new image, and links there. What they lead to
-# stays as it is.
+# A file that a killed run left at the path of the new image, and links there. Their targets stay as they
+# are.
 echo untouched >target
 echo unfinished >image.new
 begin 1
@@ -50,7 +50,7 @@ tried() {
     run "$1" serve --socket "$2" --image image --entropy entropy --locality 0 --connections 0
 }
 
-# A link in place of a socket is no socket, and stays.
+# A link at the path is not a socket, and stays.
 ln -s nowhere link
 tried 'a link in place of a socket' link
 [ -L link ] || echo 'the link is gone'
@@ -65,12 +65,12 @@ tried 'a folder of 104 bytes' "$folder_of_103"0/sck
 tried 'no path' ''
 ls -A "$folder_of_103" "$folder_of_103"0
 
-# A run binds its socket in a folder beside it, and removes that. Folders that killed runs left stay.
+# A run binds its socket in a folder next to it, and removes that. Folders that killed runs left stay.
 mkdir .0 .1
 tried 'two folders that were left' socket
 ls -Ad .[0-9]
 
-# Of two runs that begin at once with the same socket one goes on.
+# Two runs begin at once with the same socket: one of them goes on.
 two() {
     timeout 60 "$program" serve --socket socket --image "$1" --entropy entropy --locality 0 \
         --connections 2 >"$room/$1" 2>&1

@@ -1,6 +1,6 @@
-# A client without end: a connection ends after 1,048,576 reads that gave bytes. Each read gives one
-# byte here, by the shim single.c, so that 95,325 commands of eleven bytes are answered, and the next
-# connection is served.
+# A client that never ends: a connection ends after 1,048,576 reads that returned bytes. With the shim
+# single.c each read returns one byte, so that 95,325 commands of eleven bytes are answered. Then the
+# next connection is served.
 tests=$(cd "$(dirname "$0")/.." && pwd -P)
 . "$tests/common/cases.sh"
 . "$tests/common/served.sh"

@@ -32,7 +32,7 @@ texts(
     tag=frames.SESSIONS,
 )
 texts("No handle, and three bytes of one: INSUFFICIENT/p1", b"", bytes([2, 0, 0]))
-case = "A byte behind it, also where the handle is no session's: SIZE"
+case = "A byte after it, even if the handle is no session's: SIZE"
 texts(case, *(number(it, 4) + b"\0" for it in (session.handle, RH_OWNER)))
 flushes(
     "A handle that is neither a session's nor a transient object's: PCR 2, an NV index, "
@@ -45,14 +45,14 @@ flushes(
     *(0x0200_0001, 0x0200_0010, 0x0200_0100, 0x02FF_FFFF, 0x0300_0000),
 )
 flushes("A transient object, while there is none: HANDLE/p1", 0x8000_0000, 0x80FF_FFFF)
-tpm("The session is as it was").reset(session)
+tpm("The session is unchanged").reset(session)
 
 tpm.chapter("What ends a session.")
 other = tpm.start("Another one, 02000001", algorithm=SHA1, aes=True)
 tpm.accepted("The first is flushed", tpm.flush(session))
 flushes("Once more: HANDLE/p1", session.handle)
 tpm("TPM2_PCR_Reset by it: REFERENCE_S0").reset(session)
-tpm("By the other, which is as it was").reset(other)
+tpm("By the other, which is unchanged").reset(other)
 again = tpm.start("The next session has its number, but not its key", RH_OWNER)
 assert again.handle == session.handle
 stale = tpm.reset(again)

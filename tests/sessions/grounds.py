@@ -1,5 +1,5 @@
-"""Writes grounds.tpm. By what an entity may be authorized: each ground once, and accepted. The same
-grounds are lost in tests/sessions/lost_grounds.tpm. A ground is a password, the hmac of an HMAC
+"""Writes grounds.tpm. What can authorize an entity: each ground once, and accepted. The same
+grounds are lost in tests/sessions/lost_grounds.tpm. A ground is a password, the HMAC of an HMAC
 session, or a policy session whose policy holds.
 """
 
@@ -41,7 +41,7 @@ class Entity(NamedTuple):
 
 
 def with_policy(auth_policy):
-    """A sealed object, and commands on it and on an index that this policy alone authorizes."""
+    """A sealed object and an index that only this policy authorizes, and commands on them."""
     handle = tpm.sealed_object("An object and an index with this policy", auth_policy)
     index = tpm.index("", BY_POLICY, auth_policy)
     return handle, (
@@ -52,8 +52,8 @@ def with_policy(auth_policy):
 
 
 def condition(words, auth_policy, told, *assertions, demand=None, locality=0):
-    """What a policy asks for: a session is told the assertions, of which one may be made of the
-    command that it then authorizes; and what is demanded, and from where the command comes.
+    """The demands of a policy: the assertions for a session, of which one may depend on the command
+    that it then authorizes; the demand on the entry; and the locality of the command.
     """
     tpm.chapter(words)
     handle, commands = with_policy(auth_policy)
@@ -107,9 +107,9 @@ for entity in found:
 tpm("A PCR, whose value is always empty: TPM2_PCR_Reset").reset(b"")
 tpm.flushed_new("TPM_RH_NULL, whose is too: TPM2_CreatePrimary", at_null(b""))
 for entity in found[:8]:
-    what = "With zeros behind the value, which do not count" if entity is found[0] else ""
+    what = "With zeros after the value, which do not count" if entity is found[0] else ""
     tpm.does(what, entity.prepare(tpm.auth_value(entity.handle) + bytes(2)))
-tpm("And where it is empty").reset(bytes(32))
+tpm("And if it is empty").reset(bytes(32))
 
 tpm.chapter(
     "HMAC SESSIONS. The key of the hmac is the session key, which an unbound session has not, "
@@ -145,7 +145,7 @@ tpm.flushed(openly, unbound, other)
 tpm.chapter(
     "POLICY SESSIONS, on objects and NV indices: nothing else has a policy. The session is no "
     "trial session, its hash is the nameAlg of the entity, and its policy digest the "
-    "authPolicy. What it was told holds as the command comes, and counts for one command."
+    "authPolicy. What it asserted holds when the command comes, and counts for one command."
 )
 session = tpm.policy("A policy session, which is bound to nothing and so has no key")
 bound = tpm.policy("One bound to the owner, which has a key", bind=RH_OWNER)
@@ -182,7 +182,7 @@ by_kept = lambda it: tpm.secret(session, PIN, of=KEPT, cp_hash=tpm.cp_hash(it))
 equal = tpm.comparing(session, compared, DATA, by=RH_OWNER)
 words = "TPM2_PolicyPCR: no PCR has changed between the assertion and the command."
 condition(words, AFTER_PCR_16, "TPM2_PolicyPCR of PCR 16", pcr_16)
-words = "TPM2_PolicyOR of two branches. The first one: PCR 16 is as it was."
+words = "TPM2_PolicyOR of two branches. The first one: PCR 16 is unchanged."
 condition(words, EITHER, "TPM2_PolicyPCR of PCR 16, TPM2_PolicyOR", pcr_16, either)
 words = "TPM2_PolicyOR of the same branches. The second one: the value is known."
 told = "TPM2_PolicyAuthValue, TPM2_PolicyOR"
@@ -249,7 +249,7 @@ recorded = after_code(CC.NV_ChangeAuth)
 index = tpm.index("An index whose policy is that command", BY_OWNER, recorded)
 tpm.asserts_code(session, CC.NV_ChangeAuth)
 tpm("TPM2_NV_ChangeAuth").changing_auth(index, b"new", session)
-said = tpm("One whose policy has TPM2_PolicyAuthValue or TPM2_PolicyPassword behind it")
+said = tpm("One whose policy has TPM2_PolicyAuthValue or TPM2_PolicyPassword after it")
 index = said.index(BY_OWNER, policy.after_auth_value(SHA256, recorded))
 tpm.asserts_code(session, CC.NV_ChangeAuth)
 tpm.asserts_value(session)

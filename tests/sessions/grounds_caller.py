@@ -1,5 +1,5 @@
-"""A caller of what grounds.py, lost_grounds.py and replays.py authorize: sealed objects and NV
-indices, whose value is "pin", and the policies that they have.
+"""A caller for what grounds.py, lost_grounds.py and replays.py authorize: sealed objects and NV
+indices, whose value is "pin", and their policies.
 """
 
 from tpmsim.caller import area, HERE, sealed
@@ -12,7 +12,7 @@ OWNER, PIN, SECRET, DATA = b"owner", b"pin", b"secret", b"8 bytes."
 PCR_16 = [(SHA256, [16])]
 AT_LOCALITY_1 = 0b10
 
-# The digest that a session starts with, and those behind one assertion.
+# The digest that a session starts with, and those after one assertion.
 ZEROS = bytes(32)
 AFTER_AUTH_VALUE = policy.after_auth_value(SHA256, ZEROS)
 AFTER_PCR_16 = policy.after_pcr(SHA256, ZEROS, frames.selection(*PCR_16), digest(SHA256, bytes(32)))
@@ -43,12 +43,12 @@ class GroundsCaller(PolicyTeller):
     def sealed_object(
         self, what, auth_policy=b"", attributes=HERE, algorithm=SHA256, value=PIN, by=RH_PLATFORM
     ):
-        """The handle of sealed data; the platform's outlive TPM2_Clear."""
+        """The handle of sealed data; the platform's survive TPM2_Clear."""
         template = sealed(algorithm, attributes, auth_policy=auth_policy)
         return self.create_primary(what, by, template, user_auth=value, data=SECRET)
 
     def index(self, what, attributes, auth_policy=b"", value=PIN):
-        """The handle of an index of the owner's, which is not written yet."""
+        """The handle of an index of the owner, which is not written yet."""
         public = area(next(self.free_indices), attributes, auth_policy=auth_policy)
         return self.define(what, public, auth=value)
 
@@ -59,22 +59,22 @@ class GroundsCaller(PolicyTeller):
         return index
 
     def flushed_new(self, what, primary):
-        """A primary object that must be created, and is flushed behind it."""
+        """A primary object that must be created, and is flushed afterwards."""
         handle, _ = self.accepted(what, primary)
         self.says("SUCCESS", self.flush(handle))
 
     def flushed(self, *those):
-        """Sessions, and objects by their handles."""
+        """Flushes sessions, and objects by their handles."""
         objects = [it for it in those if isinstance(it, int)]
         name = "object" if len(objects) == len(those) else "session"
         what = "They are flushed" if len(those) > 1 else f"The {name} is flushed"
         self.says(f"{what}: SUCCESS", *map(self.flush, those))
         self.forget(*objects)
 
-    # What a policy session is told.
+    # Assertions of a policy session.
 
     def asserts(self, what, *told):
-        """Assertions, in their order."""
+        """Makes assertions, in their order."""
         self.says(f"{what}: SUCCESS", *told)
 
     def asserts_code(self, session, code=CC.Unseal):
@@ -90,7 +90,7 @@ class GroundsCaller(PolicyTeller):
     # Sending.
 
     def tries_are(self, what, tries):
-        """TPM2_GetCapability of the failed tries."""
+        """TPM2_GetCapability of the number of failed tries."""
         asked = self.capability(PROPERTIES, LOCKOUT_COUNTER, 1)
         others_follow, given = b"\1", number(LOCKOUT_COUNTER, 4) + number(tries, 4)
         wanted = others_follow + number(PROPERTIES, 4) + number(1, 4) + given
@@ -104,5 +104,5 @@ class GroundsCaller(PolicyTeller):
             assert played.outcome.row.check == check, words
 
     def lost(self, words, *prepared):
-        """Refused by G9, which looks at the entries that authorize."""
+        """Commands that G9 refuses, which checks the entries that authorize."""
         self.refused_by("G9", words, *prepared)

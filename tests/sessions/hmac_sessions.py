@@ -1,6 +1,6 @@
 """Writes hmac_sessions.tpm. HMAC sessions authorize commands: unbound, bound to the entity that
-they authorize, and bound to another. Each of their hmacs was computed outside, and each line
-`entropy` gives new random bytes, so that each command has its own nonces.
+they authorize, and bound to another. Each of their HMACs was computed by another program. Each
+`entropy` line gives new random bytes, so that each command has its own nonces.
 """
 
 from tests.common.policy_teller import PolicyTeller
@@ -92,7 +92,7 @@ shown = tpm.reset(Use(unbound, shows_empty_key=True))
 case = "A wrong one, here one byte, and with a wrong bit: BAD_AUTH/s1"
 tpm.refused(case, shown.but_entry(1, hmac=b"\0"), wrong_in(shown))
 tpm.accepted("The right one", shown)
-said = tpm("With no hmac where the key is that of a session bound to TPM_RH_OWNER: BAD_AUTH/s1")
+said = tpm("With no hmac, in a session bound to TPM_RH_OWNER, which has a key: BAD_AUTH/s1")
 said.refused(tpm.reset(bound).but_entry(1, hmac=b""))
 to_pcr = tpm.start("A session bound to PCR 16, which has a key, of an empty value", 16)
 tpm.refused("With no hmac: BAD_AUTH/s1", tpm.reset(to_pcr).but_entry(1, hmac=b""))
@@ -110,7 +110,7 @@ wrong = tpm.random(4, other, unbound, bound)
 tpm.refused("The third with a wrong hmac: BAD_AUTH/s3", wrong_in(wrong, 3))
 tpm.refused("The unbound one with a wrong hmac: BAD_AUTH/s2", wrong.but_entry(2, hmac=bytes(32)))
 tpm.accepted("The right ones", wrong)
-tpm("TPM2_PCR_Reset by a password, and two sessions beside it").reset(b"", other, bound)
+tpm("TPM2_PCR_Reset by a password, and two sessions in addition").reset(b"", other, bound)
 tpm("Of three the second ends|and the others stay").random(2, other, Use(unbound, ENDS), bound)
 tpm("The second again: REFERENCE_S1").random(2, other, unbound, bound)
 tpm("The others").random(2, other, bound)
@@ -131,7 +131,7 @@ tpm.accepted("TPM2_PCR_Read of PCR 16", tpm.read_pcr(16))
 
 tpm("New random bytes, and so a new nonce").reset(trailing)
 again = tpm.reset(trailing)
-for what in ("Where they stay the same the nonce does too, and a buffer is accepted again", "", ""):
+for what in ("If they stay the same the nonce does too, and a buffer is accepted again", "", ""):
     tpm.received(again, tpm.raw(f"{what}: SUCCESS", again.buffer()))
 tpm.accepted("Once more, and the random bytes are others", again)
 tpm.refused("So it is not accepted again: BAD_AUTH/s1", again)

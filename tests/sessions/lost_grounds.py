@@ -1,6 +1,6 @@
 """Writes lost_grounds.tpm. How the grounds of tests/sessions/grounds.tpm are lost: each way is
-refused, by G9 where nothing else is said, and beside it stands the same with the condition met. How
-a session itself is lost shows tests/sessions/replays.tpm.
+refused, by G9 unless said otherwise, and next to it is the same with the condition met. How a
+session itself is lost is in tests/sessions/replays.tpm.
 """
 
 from tpmsim.standard import digests
@@ -127,7 +127,7 @@ tpm.unseal("By the session key alone", openly, SECRET, bound)
 lost("Bound to another, without the value: AUTH_FAIL/s1", by_key(other.key, openly, other))
 tpm.unseal("With it", openly, SECRET, other)
 
-tpm.chapter("An empty one, where there is a key.")
+tpm.chapter("An empty one, although there is a key.")
 for session, words in ((hmac, "the value"), (bound, "the session key")):
     lost(f"The key is {words}: AUTH_FAIL/s1", tpm.unsealing(openly, session).but_entry(1, hmac=b""))
 tpm.flushed(bound, other)
@@ -137,7 +137,7 @@ bound = tpm.start("A session bound to the owner", RH_OWNER)
 tpm("ownerAuth is another").change_auth(RH_OWNER, b"other", OWNER)
 changing = tpm.change_auth, RH_OWNER, OWNER, bound
 lost("Without the value in the key: BAD_AUTH/s1", tpm.with_key(bound.key, *changing))
-tpm("With it, and ownerAuth is as it was").change_auth(RH_OWNER, OWNER, bound)
+tpm("With it, and ownerAuth is unchanged").change_auth(RH_OWNER, OWNER, bound)
 tpm("Without it, as it holds again").change_auth(RH_OWNER, OWNER, bound)
 index = tpm.index("An index that is not written", BY_VALUE)
 to_index = tpm.start("A session bound to it", index)
@@ -180,7 +180,7 @@ for words, attributes, auth_policy, authorized in (
         else:
             lost(f"{name}: AUTH_UNAVAILABLE", prepared)
 
-tpm.chapter("A PCR was written behind TPM2_PolicyPCR (condition 3), here of PCR 16.")
+tpm.chapter("A PCR was written after TPM2_PolicyPCR (condition 3), here of PCR 16.")
 handle = tpm.sealed_object("An object whose policy is that PCR 16 is zeros", AFTER_PCR_16)
 value = SHA256, b"\1" * 32
 
@@ -196,7 +196,7 @@ told_pcr("what neither writes one nor clears")
 tpm.says("SUCCESS", extending(16), tpm.event(b"event", b"", pcr=RH_NULL))
 tpm.unseal("TPM2_Unseal", handle, SECRET, session)
 
-tpm.chapter("And behind TPM2_PolicyOR, which leaves of the branch the condition.")
+tpm.chapter("And after TPM2_PolicyOR, which leaves of the branch the condition.")
 branches = AFTER_PCR_16, AFTER_UNSEAL
 either = tpm.sealed_object("An object with its policy", policy.after_or(SHA256, branches))
 both = tpm.pcrs(session, PCR_16), tpm.branches(session, *branches)
@@ -301,11 +301,11 @@ equal, at_least = (
 )
 lost("Nothing is asserted: POLICY_FAIL/s1", use())
 for what, *told in (
-    ("PCR 23 in place of PCR 16, both zeros", pcr_23, two, secret, equal),
-    ("All localities in place of two", pcr_16, all_of_them, secret, equal),
+    ("PCR 23 instead of PCR 16, both zeros", pcr_23, two, secret, equal),
+    ("All localities instead of two", pcr_16, all_of_them, secret, equal),
     ("The value of another entity", pcr_16, two, other_value, equal),
     ("Another policyRef", pcr_16, two, other_ref, equal),
-    ("At least the data, in place of just them", pcr_16, two, secret, at_least),
+    ("At least the data, instead of just them", pcr_16, two, secret, at_least),
     ("One assertion less", pcr_16, two, secret),
     ("One more", pcr_16, two, secret, equal, all_of_them),
     ("Another order", two, pcr_16, secret, equal),
@@ -354,7 +354,7 @@ lost("The value is there in plain: AUTH_FAIL/s1", by_password())
 tpm.does("The value is in the key", by_value())
 demanding = handle
 
-# What is right, and refused, as the failed tries of this script lock.
+# Right commands that are refused, because the failed tries of this script lock.
 tpm.chapter("LOCKOUT. Who would compare the value of a protected entity is refused.")
 bound = tpm.start("A session bound to the object", openly)
 tpm.set_protection("maxTries is 1, and there were more", 1, 1000, 1)

@@ -1,6 +1,6 @@
-"""Writes order_of_session_refusals.tpm. The order of refusals of commands with sessions: of many
-faults one after the other is repaired. What is answered is the first that is left, in the order of
-docs/table/order_of_refusals.md.
+"""Writes order_of_session_refusals.tpm. The order of refusals of commands with sessions: many
+faults are repaired one after the other. The answer is always the first one that is left, in the
+order of docs/table/order_of_refusals.md.
 """
 
 from functools import partial
@@ -48,7 +48,7 @@ hmac = sized(bytes(15)) + sized(b"\1") + b"\0" + frames.symmetric(False) + numbe
 for words, text in (
     ("The first parameter, which cannot be decrypted: INSUFFICIENT/p1", cut),
     ("It is whole, and sessionType is 02: VALUE/p3", no_type),
-    ("A byte behind the parameters: SIZE", hmac + b"\0"),
+    ("A byte after the parameters: SIZE", hmac + b"\0"),
     ("A nonce of 15 bytes: SIZE/p1", hmac),
     ("A salt: VALUE/p2", frames.start_auth_session(bytes(16), salt=b"\1")[1]),
 ):
@@ -68,8 +68,8 @@ tpm.refused("The second hmac: BAD_AUTH/s2", *second_wrong)
 tpm.refused("The third hmac: BAD_AUTH/s3", wrong_in(event(b"\0", b"", first, second.decrypting), 3))
 for words, *texts in (
     ("The parameter that is cut: INSUFFICIENT/p1", b"\0", b"\xff\xff"),
-    ("One that is too long, and a byte behind it: SIZE/p1", sized(bytes(1025)) + b"\0"),
-    ("A byte behind it: SIZE", sized(bytes(1024)) + b"\0"),
+    ("One that is too long, and a byte after it: SIZE/p1", sized(bytes(1025)) + b"\0"),
+    ("A byte after it: SIZE", sized(bytes(1024)) + b"\0"),
     ("The locality: LOCALITY", sized(bytes(1024))),
 ):
     tpm.refused(words, *(event(it, first, second.decrypting) for it in texts))
@@ -81,16 +81,16 @@ tpm.locality_is(0)
 tpm.chapter("TPM2_HierarchyChangeAuth of TPM_RH_OWNER.")
 said = tpm("A wrong hmac, and a value that is too long: BAD_AUTH/s1")
 said.refused(wrong_in(change(sized(bytes(33)), first), 1))
-tpm.refused("That value, and a byte behind it: SIZE/p1", change(sized(bytes(33)) + b"\0", first))
-tpm.refused("The byte behind it: SIZE", change(sized(b"abc") + b"\0", first))
+tpm.refused("That value, and a byte after it: SIZE/p1", change(sized(bytes(33)) + b"\0", first))
+tpm.refused("The byte after it: SIZE", change(sized(b"abc") + b"\0", first))
 tpm.accepted("No fault is left", change(sized(b"abc"), first))
 
 tpm.chapter("TPM2_FlushContext of the first session.")
-case = "With sessions (tag 8002) and nothing behind the header: AUTH_CONTEXT"
+case = "With sessions (tag 8002) and nothing after the header: AUTH_CONTEXT"
 tpm.raw(case, flush(b"", frames.SESSIONS))
 for words, text in (
     ("No handle: INSUFFICIENT/p1", b""),
-    ("A byte behind a handle that is no session's: SIZE", number(RH_OWNER, 4) + b"\0"),
+    ("A byte after a handle that is no session's: SIZE", number(RH_OWNER, 4) + b"\0"),
     ("That handle: VALUE/p1", number(RH_OWNER, 4)),
     ("A session that is not there: HANDLE/p1", number(0x0200_0009, 4)),
     ("The session: SUCCESS", number(first.handle, 4)),
@@ -109,8 +109,8 @@ for words, text in (
     ("The nonce, which is cut: INSUFFICIENT/p1", cut),
     ("It has 33 bytes once it is whole: SIZE/p1", masked(WRONG_HASH, 33)),
     ("sessionType 02: VALUE/p3", masked(WRONG_HASH, kind=b"\2")),
-    ("A hash that is none, and no authHash: HASH/p4", masked(WRONG_HASH)),
-    ("A byte behind the parameters: SIZE", masked(OTHER_HASH + b"\0")),
+    ("A hash that does not exist, and no authHash: HASH/p4", masked(WRONG_HASH)),
+    ("A byte after the parameters: SIZE", masked(OTHER_HASH + b"\0")),
     ("A nonce of 15 bytes: SIZE/p1", masked(OTHER_HASH)),
     ("A salt: VALUE/p2", masked(OTHER_HASH, 16)),
     ("Another hash than authHash: HASH/p4", masked(OTHER_HASH, 16, b"")),

@@ -1,7 +1,7 @@
-"""Writes replays.tpm. Commands that were accepted, and are sent again byte for byte. The hmac of a
-session is of its nonceTPM, which each accepted command makes a new one, so that it is refused where
-the hmac is compared. Where nothing is compared, or random bytes come again, it is accepted. Each
-command of a session has random bytes of its own, where nothing else is said.
+"""Writes replays.tpm. Commands that were accepted are sent again, byte for byte. The HMAC of a
+session covers its nonceTPM, which each accepted command replaces. So the command is refused when
+the HMAC is compared. If nothing is compared, or the random bytes repeat, it is accepted. Each
+command of a session has random bytes of its own, unless said otherwise.
 """
 
 from dataclasses import replace
@@ -12,7 +12,7 @@ from tests.common.vocabulary import RH_OWNER, SE_HMAC, SE_POLICY, SHA256, STATE,
 from tests.sessions.grounds_caller import AFTER_AUTH_VALUE, DATA, GroundsCaller, OWNER, ZEROS
 
 VALUE, LOCKOUT_AUTH, OTHER_DATA = b"a", b"lockout", b"to write"
-RECOVERY = 1_000_000  # milliseconds of recoveryTime and lockoutRecovery, as they are at first
+RECOVERY = 1_000_000  # milliseconds of recoveryTime and lockoutRecovery of a new device
 
 # Random bytes that are given more than once.
 SEED, OTHER_SEED = b"\xa1", b"\xb2"
@@ -21,7 +21,7 @@ tpm = GroundsCaller(__name__, __doc__)
 
 
 def with_random(what, seed, prepared):
-    """Sends a command that must be accepted, with these random bytes; its answer."""
+    """Sends a command that must be accepted, with these random bytes; returns its answer."""
     tpm.chapter(f"{what}: SUCCESS.")
     tpm.script.entropy(seed)
     return tpm.received(prepared, tpm.raw("SUCCESS", prepared.buffer()))
@@ -48,13 +48,13 @@ class Start:
         self.again()
 
     def again(self):
-        """The session is then what it was at first."""
+        """The session is again as it was at first."""
         what = "TPM2_StartAuthSession with the same bytes, and the same random bytes"
         assert self.sent(what, SEED, self.nonce) == self.at_first
         self.session.nonce_tpm = self.at_first.nonce_tpm
 
     def otherwise(self, what, seed=SEED, nonce=None):
-        """In its place is then a session that the caller does not use."""
+        """Another session, which the caller does not use, gets its place."""
         assert self.sent(what, seed, nonce or self.nonce).handle == self.session.handle
 
 
@@ -64,7 +64,7 @@ def again(words, prepared, check="G9"):
 
 
 def accepted(what, prepared):
-    """Sends a command the first time, and gives it, to be sent again."""
+    """Sends a command the first time, and returns it, to be sent again."""
     tpm.does(what, prepared)
     return prepared
 
@@ -84,14 +84,14 @@ said = tpm('An index with AUTHWRITE and AUTHREAD, whose value is "a"')
 assert FIRST == said.index(BY_VALUE, value=VALUE)
 tpm.does("It is written, so that its Name stays from here on", write(VALUE))
 
-# An unbound session, and a command of it that was accepted.
+# An unbound session, and one of its commands that was accepted.
 tpm.chapter("A PROTECTED INDEX. It is no index with NO_DA, so each wrong entry is a try.")
 start = Start("TPM2_StartAuthSession of an HMAC session, bound to nothing")
 session = start.session
 guarded = replayed("TPM2_NV_Write by it, and it goes on", write(session), "AUTH_FAIL/s1")
 tpm.tries_are("That is a failed try", 1)
 tpm.does("A refusal has left the nonce, by which another is accepted", write(session))
-tpm.tries_are("It takes no try away", 1)
+tpm.tries_are("It forgives no try", 1)
 again("The first again, two nonces later: AUTH_FAIL/s1", guarded)
 again("And once more: AUTH_FAIL/s1", guarded)
 tpm.tries_are("Three failed tries, as many as maxTries", 3)
@@ -139,7 +139,9 @@ tpm.chapter(
 bound = tpm.start("TPM2_StartAuthSession", FIRST)
 replayed("TPM2_NV_Write of the index", write(bound), "AUTH_FAIL/s1")
 tpm.tries_are("A failed try", 1)
-replayed("TPM2_GetRandom, where it authorizes nothing", tpm.random(2, bound), "AUTH_FAIL/s1", "G10")
+replayed(
+    "TPM2_GetRandom, whose entry authorizes nothing", tpm.random(2, bound), "AUTH_FAIL/s1", "G10"
+)
 tpm.tries_are("A failed try", 2)
 tpm.unlocks()
 tpm.flushed(bound)
@@ -171,7 +173,7 @@ tpm.tries_are("And that is a failed try", 1)
 tpm.unlocks()
 tpm.flushed(aes, unbound)
 
-tpm.chapter("NOTHING IS COMPARED where key and hmac are empty, and a password has no nonce.")
+tpm.chapter("NOTHING IS COMPARED if key and hmac are empty, and a password has no nonce.")
 first = accepted("TPM2_PCR_Event by an empty hmac", tpm.event(b"event", start.session))
 tpm.does("The same again, and PCR 16 is extended twice", first)
 shown = tpm.event(b"event", Use(start.session, shows_empty_key=True))
@@ -191,7 +193,7 @@ assert len(answer) == 10 and answer[2:] not in (OTHER_DATA, DATA)
 tpm.flushed(aes)
 
 tpm.chapter(
-    "A POLICY SESSION forgets what it was told with each use. Where it is told that again, the "
+    "A POLICY SESSION forgets its assertions with each use. If it asserts them again, the "
     "hmac is compared."
 )
 zeros = tpm.index("An index whose authPolicy is 32 zeros", BY_POLICY, ZEROS)
@@ -210,23 +212,23 @@ said = tpm("An index of their policy")
 value = said.written_index(BY_POLICY | NvAttribute.OWNERWRITE, AFTER_AUTH_VALUE)
 tpm.asserts_value(bound)
 by_value = write(Use(bound, demand=AUTH_VALUE), index=value)
-first = replayed("TPM2_NV_Write", by_value, "POLICY_FAIL/s1, as nothing was told")
+first = replayed("TPM2_NV_Write", by_value, "POLICY_FAIL/s1, as nothing was asserted")
 tpm.asserts_value(bound)
 again("The same again: AUTH_FAIL/s1", first)
 tpm.tries_are("The index is protected: a failed try", 1)
 tpm.restarts(bound)
 tpm.asserts_value(bound)
-again("And behind TPM2_PolicyRestart: AUTH_FAIL/s1", first)
+again("And after TPM2_PolicyRestart: AUTH_FAIL/s1", first)
 tpm.tries_are("Another one", 2)
 tpm.restarts(bound)
 tpm.unlocks()
 tpm.asserts_password(bound)
 by_password = write(Use(bound, demand=PASSWORD), index=value)
-first = replayed("TPM2_NV_Write", by_password, "POLICY_FAIL/s1, as nothing was told")
+first = replayed("TPM2_NV_Write", by_password, "POLICY_FAIL/s1, as nothing was asserted")
 tpm.asserts_password(bound)
 tpm.does("The same again|as a password has no nonce", first)
 
-tpm.chapter("And where key and hmac are empty.")
+tpm.chapter("And if key and hmac are empty.")
 unbound = tpm.policy("A policy session, bound to nothing")
 first = accepted("TPM2_NV_Write of the first index", write(unbound, index=zeros))
 tpm.does("The same again", first)
@@ -275,7 +277,7 @@ tpm("ownerAuth is another").change_auth(RH_OWNER, b"other", OWNER)
 bound.otherwise("With the same bytes")
 again("The same again: BAD_AUTH/s1", event)
 tpm.flushed(bound.session)
-tpm("ownerAuth is as it was").change_auth(RH_OWNER, OWNER, b"other")
+tpm("ownerAuth is unchanged").change_auth(RH_OWNER, OWNER, b"other")
 bound.again()
 tpm.does("The same again", event)
 tpm.flushed(bound.session)
@@ -288,7 +290,7 @@ first = accepted("TPM2_NV_Write", write(start.session, index=index))
 start.anew()
 again("The same again: AUTH_FAIL/s1", first)
 tpm("It is undefined").undefining(index)
-tpm.define("And defined as it was", public, auth=VALUE)
+tpm.define("And defined as before", public, auth=VALUE)
 tpm.does("The same again", first)
 tpm.unlocks()
 tpm.flushed(start.session)
@@ -310,7 +312,7 @@ tpm.flushed(session)
 
 tpm.chapter("A POWER CYCLE ends all sessions.")
 start.again()
-told = tpm.policy("A policy session beside it")
+told = tpm.policy("A policy session in addition")
 for kind, words in ((CLEAR, "CLEAR"), (STATE, "STATE")):
     tpm.does("The first TPM2_NV_Write of the protected index", guarded)
     again("The same again: AUTH_FAIL/s1", guarded)

@@ -1,6 +1,6 @@
 """Writes session_encryption.tpm. Parameter encryption by AES-128 in mode CFB: a session with the
-attribute decrypt has encrypted the bytes of the first parameter, and one with encrypt those of the
-first answer.
+attribute decrypt encrypts the bytes of the first parameter, and one with encrypt those of the first
+answer.
 """
 
 from functools import partial
@@ -48,28 +48,26 @@ for count in (0, 1, 15, 16, 17, 1024):
     tpm(f"TPM2_PCR_Event of {count} bytes").event(b"e" * count, session.decrypting)
 tpm.accepted("TPM2_PCR_Read of PCR 16", tpm.read_pcr(16))
 
-tpm.chapter("A session that decrypts beside the one that authorizes.")
+tpm.chapter("A session that decrypts, next to the one that authorizes.")
 other = tpm.start("Another session, bound to TPM_RH_ENDORSEMENT", RH_ENDORSEMENT, aes=True)
 third = tpm.start("A third one, bound to nothing", aes=True, size=32)
-said = tpm(
-    "Beside a password: it authorizes nothing, and no authorization value is in any key of it"
-)
+said = tpm("With a password: it authorizes nothing, and no authorization value is in any key of it")
 said.change_auth(RH_OWNER, b"owner", b"owner", session.decrypting)
-said = tpm("Beside a password and another session")
+said = tpm("With a password and another session")
 said.change_auth(RH_OWNER, b"owner", b"owner", other, session.decrypting)
-said = tpm("Beside a session: its nonce is in the first entry's hmac")
+said = tpm("With a session: its nonce is in the first entry's hmac")
 said.change_auth(RH_OWNER, b"owner", session, other.decrypting)
 for words, *others in (
-    ("Where it is left out: BAD_AUTH/s1",),
-    ("Where it stands twice: BAD_AUTH/s1", other, other),
-    ("Where the first entry's own stands in its place: BAD_AUTH/s1", session),
+    ("If it is left out: BAD_AUTH/s1",),
+    ("If it is there twice: BAD_AUTH/s1", other, other),
+    ("If the first entry's own replaces it: BAD_AUTH/s1", session),
 ):
     changing = tpm.change_auth, RH_OWNER, b"owner", session, other.decrypting
     tpm.refused(words, tpm.with_nonces_of(others, *changing))
 tpm("As the third entry of three").change_auth(RH_OWNER, b"owner", session, third, other.decrypting)
 said = tpm("As the second entry of three, with a nonce of 32 bytes and an empty key")
 said.change_auth(RH_OWNER, b"owner", session, third.decrypting, other)
-said = tpm("Where the first entry decrypts itself no other nonce stands in any hmac")
+said = tpm("If the first entry decrypts itself no other nonce is in any hmac")
 said.change_auth(RH_OWNER, b"owner", session.decrypting, other, third)
 changing = tpm.change_auth, RH_OWNER, b"owner", session.decrypting, other
 tpm.refused("With its own nonce once more: BAD_AUTH/s1", tpm.with_nonces_of([session], *changing))
@@ -82,13 +80,13 @@ tpm.accepted("Nothing was changed by the refusals", right)
 tpm("It ends as it decrypts").change_auth(RH_OWNER, b"owner", session, Use(other, DECRYPT))
 tpm("And is no more: REFERENCE_S1").change_auth(RH_OWNER, b"owner", session, other.decrypting)
 
-tpm.chapter("Sessions that encrypt where nothing is authorized.")
+tpm.chapter("Sessions that encrypt when nothing is authorized.")
 other = tpm.start("Another session, bound to TPM_RH_ENDORSEMENT", RH_ENDORSEMENT, aes=True)
 tpm("TPM2_GetRandom: the second of two").random(32, session, other.encrypting)
 tpm("The first of three").random(32, other.encrypting, session, third)
 tpm("The third of three, which ends").random(32, session, third, Use(other, ENCRYPT))
 foreign = tpm.with_nonces_of([third], tpm.random, 32, session, third.encrypting)
-said = tpm("No other nonce stands in the first entry's hmac, as it authorizes nothing: BAD_AUTH/s1")
+said = tpm("No other nonce is in the first entry's hmac, as it authorizes nothing: BAD_AUTH/s1")
 said.refused(foreign)
 tpm("Without").random(32, session, third.encrypting)
 
@@ -124,7 +122,7 @@ tpm.refused(
 )
 said = tpm("TPM2_StartAuthSession with 33 bytes: SIZE/p1")
 said.prepare(CC.StartAuthSession, *frames.start_auth_session(bytes(33)), session.decrypting)
-said = tpm("A byte behind the first parameter, which is not encrypted: SIZE")
+said = tpm("A byte after the first parameter, which is not encrypted: SIZE")
 said.refused(set_by(sized(b"owner") + b"\0", session.decrypting))
 wrong = tpm.change_auth(RH_OWNER, b"owner", session.decrypting)
 said = tpm("One bit of the encrypted bytes, which the hmac is of: BAD_AUTH/s1")

@@ -1,5 +1,5 @@
 """Writes session_entries.tpm. Entries of sessions in an authorization area: what is refused of them
-before any hmac is looked at, entry by entry, and in each the first of these faults.
+before any HMAC is compared, entry by entry, and in each entry the first of these faults.
 """
 
 from tests.common.vocabulary import CC, CONTINUE_SESSION, DECRYPT, ENCRYPT, Entry, frames, number
@@ -42,8 +42,8 @@ password = entry(RS_PW)
 
 tpm.chapter("The entries of these sessions have no hmac, which is wrong: they have keys.")
 refused("The first on PCR 16: BAD_AUTH/s1", reset(entry(plain)))
-refused("Behind a password: BAD_AUTH/s2", reset(password, entry(plain)))
-case = "Behind a password and a right hmac: BAD_AUTH/s3"
+refused("After a password: BAD_AUTH/s2", reset(password, entry(plain)))
+case = "After a password and a right hmac: BAD_AUTH/s3"
 refused(case, tpm.prepare(CC.PCR_Reset, [16], b"", b"", aes, plain).but_entry(3, hmac=b""))
 
 tpm.chapter("A nonce or an hmac of 33 bytes, of a session too.")
@@ -65,15 +65,15 @@ refused(
     random(entry(plain), entry(aes), entry(0x0300_0000)),
 )
 
-tpm.chapter("A session that stands twice, or a password that authorizes nothing.")
+tpm.chapter("A session that occurs twice, or a password that authorizes nothing.")
 case = "In the first two entries: HANDLE/s2"
 refused(case, reset(entry(plain), entry(plain)), random(entry(plain), entry(plain)))
 case = "In the first and the third, and in the second and the third: HANDLE/s3"
 refused(
     case, reset(entry(plain), entry(aes), entry(plain)), reset(password, entry(plain), entry(plain))
 )
-refused("A password behind a session: HANDLE/s2", reset(entry(plain), password))
-case = "Behind a session where there is nothing to authorize: HANDLE/s2"
+refused("A password after a session: HANDLE/s2", reset(entry(plain), password))
+case = "After a session, with nothing to authorize: HANDLE/s2"
 refused(case, random(entry(plain), password))
 
 tpm.chapter("Attributes.")
@@ -88,23 +88,23 @@ case = "In the second entry: ATTRIBUTES/s2"
 refused(case, reset(password, entry(aes, 0x80)), random(entry(plain), entry(aes, 0x02)))
 refused("In the third: ATTRIBUTES/s3", random(entry(plain), entry(aes), entry(more, 0x04)))
 refused(
-    "decrypt (bit 5), where the first parameter is no sized buffer: TPM2_PCR_Reset, "
+    "decrypt (bit 5), but the first parameter is no sized buffer: TPM2_PCR_Reset, "
     "TPM2_PCR_Extend, TPM2_PCR_Read and TPM2_GetRandom: ATTRIBUTES/s1",
     *(command(entry(aes, DECRYPT)) for command in (reset, extend, read, random)),
 )
 refused(
-    "encrypt (bit 6), where the first answer is no sized buffer: TPM2_PCR_Reset, "
+    "encrypt (bit 6), but the first answer is no sized buffer: TPM2_PCR_Reset, "
     "TPM2_PCR_Extend, TPM2_PCR_Event, TPM2_PCR_Read and TPM2_HierarchyChangeAuth: ATTRIBUTES/s1",
     *(command(entry(aes, ENCRYPT)) for command in (reset, extend, event, read, change)),
 )
-case = "Both, where only one of them may be: TPM2_PCR_Event and TPM2_GetRandom: ATTRIBUTES/s1"
+case = "Both, but only one of them is allowed: TPM2_PCR_Event and TPM2_GetRandom: ATTRIBUTES/s1"
 refused(case, event(entry(aes, BOTH)), random(entry(aes, BOTH)))
 case = "decrypt and encrypt on a password: ATTRIBUTES/s1"
 refused(case, change(entry(RS_PW, DECRYPT)), change(entry(RS_PW, ENCRYPT)))
 case = "A second session that decrypts: ATTRIBUTES/s2"
 refused(case, event(entry(aes, DECRYPT), entry(more, DECRYPT)))
 refused(
-    "The same behind a password: ATTRIBUTES/s3",
+    "The same after a password: ATTRIBUTES/s3",
     event(password, entry(aes, DECRYPT), entry(more, DECRYPT)),
     start(entry(plain), entry(aes, BOTH), entry(more, DECRYPT)),
 )
@@ -113,7 +113,7 @@ refused(
     random(entry(aes, ENCRYPT), entry(more, ENCRYPT)),
     start(entry(aes, BOTH), entry(more, ENCRYPT)),
 )
-case = "A second that does both, where the first encrypts: ATTRIBUTES/s2"
+case = "A second that does both, while the first encrypts: ATTRIBUTES/s2"
 refused(case, start(entry(aes, ENCRYPT), entry(more, BOTH)))
 
 tpm.chapter("decrypt or encrypt in a session that cannot.")
@@ -135,7 +135,7 @@ case = "33 bytes of nonce, a handle that is no session's: SIZE/s2"
 refused(case, second(entry(0x8000_0000, 0xFF, nonce=bytes(33))))
 refused("That handle: VALUE/s2", second(entry(0x8000_0000, 0xFF)))
 refused("A session that is not there: REFERENCE_S1", second(entry(0x0200_0009, 0xFF)))
-case = "A session that stands twice, and a password: HANDLE/s2"
+case = "A session that occurs twice, and a password: HANDLE/s2"
 refused(case, second(entry(aes, 0xFF)), second(entry(RS_PW, 0xFF)))
 refused("All attributes: RESERVED_BITS/s2", second(entry(plain, 0xFF)))
 refused("All but the reserved ones: ATTRIBUTES/s2", second(entry(plain, 0xE7)))

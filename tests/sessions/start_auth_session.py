@@ -28,7 +28,7 @@ def refused(words, *choices):
 
 
 def each(words, name, *values):
-    """With each of these values of one choice."""
+    """The command with each of these values of one choice."""
     refused(words, *({name: it} for it in values))
 
 
@@ -38,17 +38,17 @@ def start_text(**changes):
 
 
 def heads(words, *texts, tag=frames.NO_SESSIONS):
-    """With these bytes behind the header."""
+    """The command with these bytes after the header."""
     tpm.raw(words, *(command(CC.StartAuthSession, it, tag) for it in texts))
 
 
 def texts(words, *those):
-    """With these parameters."""
+    """The command with these parameters."""
     tpm.raw(words, *(on(NULLS, it) for it in those))
 
 
 def ciphers(words, *those, rest=number(SHA256, 2)):
-    """With these bytes from symmetric on, of which the last are those of authHash."""
+    """The command with these bytes from symmetric on, followed by those of authHash."""
     texts(words, *(sized(NONCE) + sized(b"") + b"\0" + it + rest for it in those))
 
 
@@ -84,7 +84,7 @@ each(
 each("A transient object, while there is none: REFERENCE_H1", "bind", 0x8000_0000, 0x80FF_FFFF)
 case = "A persistent object, and an NV index, while there are none: HANDLE/h2"
 each(case, "bind", 0x8100_0000, 0x0100_0000)
-case = "With sessions (tag 8002) and no authorization area, behind the handles: AUTHSIZE"
+case = "With sessions (tag 8002) and no authorization area, after the handles: AUTHSIZE"
 heads(case, NULL * 2, tag=frames.SESSIONS)
 case = "A password, which authorizes nothing here: HANDLE/s1"
 heads(case, NULL * 2 + area(entry()), tag=frames.SESSIONS)
@@ -98,7 +98,7 @@ case = "One of more than 32 bytes, whole or cut: SIZE/p2"
 texts(case, start_text(salt=bytes(33)), sized(NONCE) + number(33, 2))
 texts("No sessionType: INSUFFICIENT/p3", sized(NONCE) + sized(b""))
 each(
-    "A sessionType that is none of the three, TPM_SE_HMAC (00), TPM_SE_POLICY (01) and "
+    "A sessionType other than the three, TPM_SE_HMAC (00), TPM_SE_POLICY (01) and "
     "TPM_SE_TRIAL (03): VALUE/p3",
     *("kind", 0x02, 0x04, 0x05, 0x80, 0xFF),
 )
@@ -121,7 +121,7 @@ NONE = numbers(ALG_NULL)
 ciphers("No authHash, and half of it: INSUFFICIENT/p5", NONE, NONE + b"\0", rest=b"")
 case = "One that is neither SHA-1 nor SHA-256, here TPM_ALG_NULL, TPM_ALG_SHA384 and TPM_ALG_HMAC"
 each(f"{case}: HASH/p5", "algorithm", ALG_NULL, 0x000C, 0x0005)
-texts("A byte behind them: SIZE", start_text() + b"\0")
+texts("A byte after them: SIZE", start_text() + b"\0")
 
 tpm.chapter("Of two faults the one that is read first.")
 XOR = numbers(frames.XOR)
@@ -131,7 +131,7 @@ case = "A sessionType of 02 with TPM_ALG_XOR: VALUE/p3"
 texts(case, sized(NONCE) + sized(b"") + b"\x02" + XOR + HASH)
 ciphers("TPM_ALG_XOR with a wrong hash, and no authHash: HASH/p4", XOR + numbers(0x000C), rest=b"")
 
-tpm.chapter("The command's own checks come behind all of these.")
+tpm.chapter("The command's own checks come after all of these.")
 both = dict(nonce=bytes(15), salt=b"\x01")
 texts("A nonce of 15 bytes and a salt, and a byte left over: SIZE", start_text(**both) + b"\0")
 refused("A nonce of 15 bytes and a salt, and a wrong hash: HASH/p5", both | {"algorithm": 0x000C})
@@ -175,12 +175,12 @@ for kind, name in ((frames.SE_POLICY, "policy"), (frames.SE_TRIAL, "trial")):
     refused("A tpmKey: VALUE/h1", dict(tpm_key=RH_OWNER, kind=kind))
     refused("A wrong hash: HASH/p5", dict(algorithm=ALG_NULL, kind=kind))
 
-tpm.chapter("Sessions beside the command, which authorize nothing.")
+tpm.chapter("Sessions for the command, which authorize nothing.")
 first = tpm.start("A session, bound to TPM_RH_OWNER", RH_OWNER)
-second = tpm.start("Another one, started with the first beside it", uses=[first])
+second = tpm.start("Another one, started with the first as an entry", uses=[first])
 assert second.handle == 0x0200_0001
 third = tpm.start(
-    "A third one, bound to TPM_RH_OWNER, with both beside it|where the new session's nonce is "
+    "A third one, bound to TPM_RH_OWNER, with both as entries|and the new session's nonce is "
     "drawn before those of the entries",
     RH_OWNER,
     uses=[second, first],
@@ -203,7 +203,7 @@ for place in range(16):
 refused("The seventeenth: SESSION_MEMORY", {}, dict(aes=True))
 refused("A salt, which is looked at before: VALUE/p2", dict(salt=b"\0"))
 refused("A nonce of 15 bytes, which is too: SIZE/p1", dict(nonce=bytes(15)))
-said = tpm("A session beside it that would end gives its place up too late: SESSION_MEMORY")
+said = tpm("Another session that would end gives its place up too late: SESSION_MEMORY")
 said.prepare(CC.StartAuthSession, *frames.start_auth_session(NONCE), Use(sessions[4], ENDS))
 tpm("It has not ended, and its nonce is the same").reset(sessions[4])
 tpm.accepted("Two are flushed, the tenth", tpm.flush(sessions[9]))
@@ -215,7 +215,7 @@ tpm("One ends as it is used").reset(Use(sessions[0], ENDS))
 assert tpm.start("And its number is free").handle == 0x0200_0000
 tpm("The others are as they were").reset(sessions[15])
 
-tpm.chapter("TPM_ALG_XOR, behind which stands the hash that makes its masks.")
+tpm.chapter("TPM_ALG_XOR, followed by the hash that makes its masks.")
 ciphers("It is cut, before its hash and within it: INSUFFICIENT/p4", XOR, XOR + b"\0", rest=b"")
 ciphers(
     "A hash that is neither SHA-1 nor SHA-256, here TPM_ALG_NULL, TPM_ALG_SHA384 and the 128 of a "
@@ -233,7 +233,7 @@ refused(
 )
 refused("And a salt: VALUE/p2", *(it | {"salt": b"\1"} for it in OTHERS))
 refused("And a nonce of 15 bytes: SIZE/p1", *(it | {"nonce": bytes(15)} for it in OTHERS))
-texts("And a byte behind it: SIZE", *(start_text(**it) + b"\0" for it in OTHERS))
+texts("And a byte after it: SIZE", *(start_text(**it) + b"\0" for it in OTHERS))
 case = "The same hash, and there is no place: SESSION_MEMORY"
 refused(case, *(dict(xor=it, algorithm=it) for it in (SHA1, SHA256)))
 tpm.accepted("The first is flushed", tpm.flush(sessions[0].handle))

@@ -1,14 +1,14 @@
-"""Writes callers_in_turn.tpm and two more scripts, of three callers of one device, of
-which each does one thing: the first measures into PCR 10 and reads it; the second has data unsealed
-by a policy on PCR 10; and the third writes an NV index in an HMAC session, and sends one command
-again. They take turns, or take them the other way round, or come one after another:
+"""Writes callers_in_turn.tpm and two more scripts, of three callers of one device. Each caller does
+one thing: the first measures into PCR 10 and reads it; the second has data unsealed by a policy on
+PCR 10; and the third writes an NV index in an HMAC session, and sends one command again. They take
+turns, or take them the other way round, or come one after another:
 
     tests/sessions/callers_in_turn.tpm
     tests/sessions/callers_in_reverse_turn.tpm
     tests/sessions/callers_one_after_another.tpm
 
-What each command is answered hangs on what was accepted before it. After each command the device is
-compared with what its history tells of it, and so is the answer to TPM2_PCR_Read.
+The answer to each command depends on what was accepted before it. After each command the device is
+compared with what its history determines, and so is the answer to TPM2_PCR_Read.
 """
 
 import copy
@@ -43,7 +43,7 @@ class Stage:
         assert not differences, differences
 
     def sends(self, caller, what, prepared):
-        """A command that may be refused."""
+        """Sends a command that may be refused."""
         device = copy.deepcopy(self.script.device)
         device.tell = lambda event: None
         refused = device.execute(prepared.buffer(), 0, self.script.random).refused
@@ -58,7 +58,7 @@ def extending(caller, handle):
 
 
 def measuring(stage, caller):
-    """PCR 10 is extended by zeros, and read; and late it is extended again."""
+    """PCR 10 is extended by zeros, and read; later it is extended again."""
     yield caller.says("The first caller extends PCR 10 by zeros: SUCCESS", extending(caller, 10))
     for _ in range(2):
         reading = caller.prepare(CC.PCR_Read, [], selection(*CHOSEN))
@@ -106,7 +106,7 @@ PLAYS = measuring, unsealing, replaying
 
 
 def interleaved(plays, is_in_turn):
-    """The plays go on by one command each, in turn; or each goes on to its end."""
+    """The callers go on by one command each, in turn; or each goes on to its end."""
     if not is_in_turn:
         for play in plays:
             yield from play

@@ -1,9 +1,9 @@
-"""Writes xor_sessions.tpm. TPM_ALG_XOR: the bytes of the first parameter, or of the first answer,
-have on them a mask of as many bytes, KDFa(authHash, sessionKey || authValue, "XOR", nonceNewer,
-nonceOlder, bits).
+"""Writes xor_sessions.tpm. TPM_ALG_XOR: the first parameter, or the first answer, is XORed with a
+mask of the same size, KDFa(authHash, sessionKey || authValue, "XOR", nonceNewer, nonceOlder,
+bits).
 
-Each mask is computed here by hashlib and hmac alone, with nothing of sessions.py: what goes in is
-masked by hand, and what comes back is compared as the bytes that are answered.
+Each mask is computed here only by hashlib and hmac, without sessions.py: parameters are masked by
+hand, and answers are compared byte for byte.
 """
 
 import hashlib
@@ -47,20 +47,20 @@ def first_buffer(text):
 
 
 def is_masked(prepared, plain, place=1, auth_value=b""):
-    """A command's first buffer is plain bytes, masked by the caller's nonce and the device's."""
+    """Checks that a command's first buffer is plain bytes, masked by both nonces."""
     use = prepared.uses[place - 1]
     wanted = mask(use, use.nonce, use.session.nonce_tpm, len(plain), auth_value)
     assert first_buffer(prepared.parameters) == exclusive_or(plain, wanted)
 
 
 def masking(what, prepared, plain, place=1, auth_value=b""):
-    """Such a command, which is accepted; its answer."""
+    """Sends such a command, which is accepted; returns its answer."""
     is_masked(prepared, plain, place, auth_value)
     return tpm.accepted(what, prepared)[1]
 
 
 def masked(what, prepared, plain, place=1, auth_value=b""):
-    """The same of an answer: the mask is that of the device's new nonce and the caller's."""
+    """The same for an answer: the mask is that of the device's new nonce and the caller's."""
     use = prepared.uses[place - 1]
     tpm.accepted(what, prepared)
     given = first_buffer(tpm.last.response[14:])
@@ -70,13 +70,13 @@ def masked(what, prepared, plain, place=1, auth_value=b""):
 
 
 def drawn(count):
-    """What TPM2_GetRandom gives: random bytes from the front, which the next seed has."""
+    """The answer of TPM2_GetRandom: the first random bytes, which the next seed has."""
     seed = hashlib.sha256(b"entropy %d" % (tpm.script.seeds + 1)).digest()[:SEED_BYTES]
     return (seed * RANDOM_BYTES)[:count]
 
 
 def both_ways(what, attributes, *more, to, back, auth_values):
-    """TPM2_HMAC, whose data and whose answer are masked by the entries of two places."""
+    """TPM2_HMAC, whose data and answer are masked by the entries of two places."""
     prepared = tpm.hmac(key, TEXT, SHA256, Use(session, attributes), *more)
     is_masked(prepared, TEXT, to, auth_values[0])
     masked(what, prepared, KNOWN, back, auth_values[1])
@@ -98,7 +98,7 @@ for algorithm, nonce_size in ((SHA1, 16), (SHA1, 20), (SHA256, 16), (SHA256, 32)
     unbound = tpm.start("Bound to nothing, and so with an empty key", **choices)
     for size in SIZES:
         data = bytes(it * 7 % 256 for it in range(size))
-        case = f"TPM2_PCR_Event of {size:,} bytes, beside the digests of them in plain"
+        case = f"TPM2_PCR_Event of {size:,} bytes, with the digests of them in plain"
         answer = masking(case, tpm.event(data, bound.decrypting), data)
         digests = number(2, 4) + number(SHA1, 2) + hashlib.sha1(data).digest()
         assert answer == digests + number(SHA256, 2) + hashlib.sha256(data).digest()
@@ -153,7 +153,7 @@ made = said.create(parent, sealed(), user_auth=b"value", data=b"s" * 128)
 handle = tpm.load("TPM2_Load", parent, made)
 case = "TPM2_Unseal through the session: the data, with the mask on them"
 masked(case, tpm.unsealing(handle, session.encrypting), b"s" * 128, auth_value=b"value")
-case = "Beside the password"
+case = "With the password"
 masked(case, tpm.unsealing(handle, b"value", other.encrypting), b"s" * 128, place=2)
 template = sealed(auth_policy=policy.after_auth_value(SHA256, bytes(32)))
 for name, made_by, demand in (
@@ -211,7 +211,7 @@ said.refused(right.but_entry(1, attributes=CONTINUE_SESSION))
 said = tpm("A second session that unmasks: ATTRIBUTES/s2")
 said.event(b"event data", session.decrypting, other.decrypting)
 resets = [tpm.reset(Use(session, it)) for it in (DECRYPTS, ENCRYPTS)]
-said = tpm("decrypt and encrypt where there is no such buffer: ATTRIBUTES/s1")
+said = tpm("decrypt and encrypt without such a buffer: ATTRIBUTES/s1")
 said.refused(*resets, tpm.event(b"event data", session.encrypting))
 masking("No refusal has changed its nonce", right, b"event data")
 plain = tpm.start("A session without a cipher", RH_OWNER)

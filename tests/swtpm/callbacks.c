@@ -23,7 +23,7 @@ unsigned char *read_file(const char *path, size_t *size) {
     must(fseek(file, 0, SEEK_END) == 0, "a file has no end");
     long end = ftell(file);
     must(end >= 0 && fseek(file, 0, SEEK_SET) == 0, "a file has no start");
-    /* A byte more than it has, for the state with a byte more. */
+    /* A byte more than the file has, for the state with a byte more. */
     unsigned char *bytes = calloc(1, (size_t)end + 1);
     must(bytes != NULL && fread(bytes, 1, (size_t)end, file) == (size_t)end, "a file is not read");
     must(fclose(file) == 0, "a file is not closed");
@@ -98,7 +98,7 @@ static struct libtpms_callbacks callbacks = {
 
 static void *handle;
 
-/* Finds a function. What dlsym gives is copied, since C has no conversion of it. */
+/* Finds a function. The result of dlsym is copied, because C has no conversion of it. */
 static void find(void *place, const char *name, const char *version) {
     void *found = dlvsym(handle, name, version);
     if (found == NULL) fprintf(stderr, "caller: %s of %s is missing\n", name, version);

@@ -1,5 +1,5 @@
-"""A device of the caller in swtpm's place (caller.c), which reads lines and answers them. Its states
-are files in the folder that the caller runs in.
+"""A device of the caller that replaces swtpm (caller.c); the caller reads lines and answers them.
+Its states are files in its working folder.
 """
 
 import pathlib
@@ -15,7 +15,7 @@ class Answered(NamedTuple):
 
 
 class Called:
-    """A caller with a library, in a folder; its environment has these variables alone."""
+    """A caller with a library, in a folder; its environment has only these variables."""
 
     def __init__(
         self, caller: str, library: str, folder: str | pathlib.Path, **variables: str
@@ -41,7 +41,7 @@ class Called:
         self.process.stdin.flush()
 
     def told(self, line: str, last: str | tuple[str, ...]) -> list[str]:
-        """What comes of a line, up to the line that begins so."""
+        """The answer to a line, up to a line that begins with `last`."""
         assert self.process.stdout
         self.say(line)
         said: list[str] = []
@@ -53,7 +53,7 @@ class Called:
         return said
 
     def number(self, line: str, name: str) -> int:
-        """The number that a call answers."""
+        """The number that a call returns."""
         return int(self.told(line, f"{name}: ")[-1].split(": ")[1].split(",")[-1])
 
     def done(self, line: str, name: str) -> None:

@@ -1,17 +1,17 @@
-/* A caller in swtpm's place. It opens the libtpms.so.0 that its argument names, reads a line for each call
- * from standard input, and says what came of it. States are files in the folder that it runs in, under the
- * names that the library gives. A line is one of these:
+/* A caller that replaces swtpm. It opens the libtpms.so.0 that its argument names, reads a line for each call
+ * from standard input, and prints the result. States are files in its working folder, with the names that the
+ * library uses. A line is one of these:
  *
  *   on, off                      TPMLIB_MainInit, TPMLIB_Terminate
- *   loc N                        what the locality is from now on; `loc none`: none is told
+ *   loc N                        the locality from now on; `loc none`: none is reported
  *   cmd HEX, head HEX            a command; the response, or its first ten bytes
- *   store works|fails, load ..   whether states are written and read from now on
- *   disk works|fills|breaks      what becomes of a record's texts from now on
+ *   store works|fails, load ..   whether states can be written and read from now on
+ *   disk works|fills|breaks      what happens to a record's texts from now on
  *   save FILE                    TPMLIB_VolatileAll_Store
  *   set|get TYPE FILE, unset TYPE, validate BITS
- *   turn|cut TYPE FILE           sets the state with each byte turned, and each shorter one
+ *   turn|cut TYPE FILE           sets the state with each byte changed, and each shorter one
  *   hash start|end|data HEX, established, reset, cancel
- *   clock S                      the file CLOCK tells so many seconds, for common/clock.c
+ *   clock S                      the file CLOCK shows this many seconds, for common/clock.c
  *   version N, profile TEXT|-, buffer N, property N, info N, blob, wasmanufactured */
 #include "caller.h"
 
@@ -32,7 +32,7 @@ static int digit(char c) {
     return (int)(found - digits);
 }
 
-/* The bytes of a word in hex, as a block of just their size, so that a sanitizer sees what is read beyond. */
+/* The bytes of a word in hex, in a block of exactly their size, so that a sanitizer sees reads beyond it. */
 static uint8_t *bytes_of(const char *hex, size_t *size) {
     *size = strlen(hex) / 2;
     uint8_t *bytes = malloc(*size == 0 ? 1 : *size);
@@ -90,13 +90,13 @@ static void get_state(const char *type, const char *path) {
     free(bytes);
 }
 
-/* Sets a state that has to be refused, and says so in a line; counts one that is not. */
+/* Sets a state that must be refused, and prints that; counts one that is not refused. */
 static void must_be_refused(const char *type, const unsigned char *bytes, size_t size, size_t *wrong) {
     if (library.set_state(type_of(type), bytes, (uint32_t)size) != TPM_FAIL) ++*wrong;
     if (logged_lines() != 1) ++*wrong;
 }
 
-/* Each byte of a state turned in its lowest bit, in its highest and in all. */
+/* Changes each byte of a state in its lowest bit, in its highest, and in all. */
 static void turn(const char *type, const char *path) {
     static const uint8_t masks[] = {0x01, 0x80, 0xff};
     size_t size, wrong = 0;
@@ -113,7 +113,7 @@ static void turn(const char *type, const char *path) {
     free(bytes);
 }
 
-/* Each beginning of a state, as a block of just its size, and the state with a byte more. */
+/* Each beginning of a state, in a block of exactly its size, and the state with a byte more. */
 static void cut(const char *type, const char *path) {
     size_t size, wrong = 0;
     unsigned char *bytes = read_file(path, &size);
@@ -148,7 +148,7 @@ static void established(void) {
     printf("TpmEstablished: %u, %u\n", result, is);
 }
 
-/* Has common/clock.c tell a time. */
+/* Sets the time of common/clock.c. */
 static void set_clock(const char *seconds) {
     char text[64];
     int size = snprintf(text, sizeof text, "%s 0\n", seconds);
@@ -203,7 +203,7 @@ static int drive(char *words[WORDS]) {
     return 1;
 }
 
-/* The lines about the hardware's part, and what is told of the TPM. */
+/* The lines about the hardware's part, and about information on the TPM. */
 static int ask(char *words[WORDS]) {
     const char *name = words[0];
     if (strcmp(name, "hash") == 0) hash(words[1], words[2]);

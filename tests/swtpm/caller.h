@@ -1,4 +1,4 @@
-/* What the caller in swtpm's place has: the library's functions, and the callbacks over files. */
+/* The parts of the caller that replaces swtpm: the library's functions, and the callbacks over files. */
 #ifndef CALLER_H
 #define CALLER_H
 
@@ -11,14 +11,14 @@
 
 enum { TYPES = 3 };
 
-/* Ends the program with a reason where a condition does not hold. */
+/* Ends the program with a reason unless a condition holds. */
 void must(int condition, const char *reason);
 
-/* A file's bytes, for the caller to free; NULL where there is no such file. */
+/* A file's bytes, for the caller to free; NULL if there is no such file. */
 unsigned char *read_file(const char *path, size_t *size);
 void write_file(const char *path, const unsigned char *bytes, size_t size);
 
-/* The descriptor of a file that a library may log to; how many lines it has, after which it is empty. */
+/* The descriptor of a file to which a library may log. The second function counts its lines, and empties it. */
 int log_to_file(void);
 size_t logged_lines(void);
 
@@ -47,16 +47,16 @@ struct library {
     TPM_BOOL (*was_manufactured)(void);
 };
 
-/* Opens a library, finds each of its functions under the version that swtpm asks for, and registers the
- * callbacks. What it logs goes to standard output. */
+/* Opens a library, finds each of its functions by the version that swtpm asks for, and registers the
+ * callbacks. The library's log goes to standard output. */
 void open_library(struct library *library, const char *path);
 
-/* What the callbacks do from now on. */
+/* Sets what the callbacks do from now on. */
 void tell_locality(const char *number);
 void let_stores_fail(int fail);
 void let_loads_fail(int fail);
 
-/* Whether a record's disk works from now on, fills as a text is written, or also breaks: nothing is cut. */
+/* Sets whether a record's disk works, fills up as a text is written, or also breaks: nothing is cut. */
 void tell_disk(const char *state);
 
 #endif

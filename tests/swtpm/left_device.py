@@ -1,5 +1,6 @@
-"""A device that is left with an HMAC session that is bound and one that is not, a policy session,
-objects, contexts of the completing layer, and a launch; and what it has to accept when it goes on.
+"""A device that is left with a bound and an unbound HMAC session, a policy session, objects,
+contexts of the completing layer, and a launch; and the commands that it has to accept when it goes
+on.
 """
 
 from tests.swtpm.called import Called
@@ -58,7 +59,7 @@ class LeftDevice:
         self.tpm.send(self.writing(data))
 
     def buffers(self) -> list[bytes]:
-        """The commands that have to succeed now, in this order."""
+        """The commands that must succeed now, in this order."""
         last = self.tpm.unsealing(self.data, self.judged), self.tpm.reset(self.free)
         writing, unsealing, resetting = (it.buffer() for it in (self.writing(b"goes on."), *last))
         return [writing, unsealing, *self.loads, resetting]

@@ -1,5 +1,5 @@
-# libtpms.so.0 in the hands of a caller in swtpm's place: power, commands, localities, what is stored when,
-# stores that fail, and what is told of the TPM. swtpm/caller.c is the caller.
+# libtpms.so.0 with a caller that replaces swtpm: power, commands, localities, what is stored when, stores that
+# fail, and the facts of the TPM. swtpm/caller.c is the caller.
 tests=$(cd "$(dirname "$0")/.." && pwd -P)
 . "$tests/common/cases.sh"
 . "$tests/common/swtpm.sh"

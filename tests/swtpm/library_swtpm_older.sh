@@ -1,6 +1,6 @@
-# The states of a device that was left as it ran, by a libtpms.so.0 whose volatile state was the journal since
+# The states of a device that an older libtpms.so.0 left while it ran. Its volatile state was the journal since
 # power came on: swtpm/journal_state, which swtpm/make_journal_state.py wrote by such a library. The device goes
-# on, with its sessions, objects, contexts of the completing layer, and a launch; what is damaged is refused.
+# on, with its sessions, objects, contexts of the completing layer, and a launch; damaged states are refused.
 tests=$(cd "$(dirname "$0")/.." && pwd -P)
 . "$tests/common/cases.sh"
 . "$tests/common/swtpm.sh"

@@ -1,11 +1,11 @@
-"""Writes tests/swtpm/journal_state: the states of a device that was left as it ran, by a library
-whose volatile state was its journal, and the commands that the device has to accept then:
+"""Writes tests/swtpm/journal_state: the states of a running device that was left by a library whose
+volatile state was its journal, and the commands that the device must accept afterwards:
 
     tools/python.sh tests/swtpm/make_journal_state.py CALLER LIBRARY SHIM
 
-CALLER is caller.c's program, LIBRARY a libtpms.so.0 of that kind, and SHIM what common/clock.c makes.
-Power came on when the clock stood at 1,000 seconds, and the last command came at 1,009. The files are
-never written anew.
+CALLER is caller.c's program, LIBRARY a libtpms.so.0 of that kind, and SHIM what is built of
+common/clock.c. Power came on when the clock showed 1,000 seconds, and the last command came at
+1,009. The files are never written again.
 """
 
 import pathlib

@@ -1,5 +1,5 @@
-"""Leaves a device as it runs, and has it go on in other processes: each of its sessions is used
-before and after, objects stay, and contexts are loaded:
+"""Leaves a running device, and continues it in other processes: each of its sessions is used before
+and after, objects stay, and contexts are loaded:
 
     resumed.py CALLER LIBRARY FOLDER
 """

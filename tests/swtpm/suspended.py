@@ -1,12 +1,13 @@
-"""Devices under swtpm that are suspended and resumed at random, beside devices that never are:
+"""Devices under swtpm that are suspended and resumed at random, compared with devices that never
+are:
 
     tools/python.sh tests/swtpm/suspended.py CALLER LIBRARY SHIM FIRST LAST COUNT
 
-CALLER is caller.c's program, LIBRARY a libtpms.so.0, and SHIM what common/host.c makes. The scripts
-of these seeds have so many commands each. Of half of them the device in Python says what comes of
-each command, and what the state text is. The other half are those of a caller that has the
-completing layer, and a device that is not suspended says so. A device that goes on is another
-process.
+CALLER is caller.c's program, LIBRARY a libtpms.so.0, and SHIM what is built of common/host.c. The
+scripts of the seeds FIRST to LAST have COUNT commands each. For half of them the Python device says
+the result of each command, and the state text. The other half come from a caller with the
+completing layer, and a device that is not suspended says the results. A device that is resumed goes
+on in another process.
 """
 
 import pathlib
@@ -74,7 +75,7 @@ class Pair:
             device.say(f"loc {number}")
 
     def cycle_power(self) -> None:
-        """Of the device as it is, and not as it was stored last: since then its Clock went on."""
+        """Cycles the power of the device as it is now; its stored Clock is older."""
         for device in self.devices:
             device.done("get permanent permanent", "GetState")
             device.say("off")
@@ -99,7 +100,7 @@ class Pair:
 
 
 def of_device(pair: Pair, chance: random.Random, count: int) -> Iterator[list[bytes]]:
-    """Each response, and that of the device in Python; and so the state text at each suspend."""
+    """Each response with that of the Python device; and the state texts at each suspend."""
     writer, played = random_script.Writer(chance.randrange(2**32)), 0
     locality, seed, elapsed = 0, b"", 0
     for _ in range(count):
@@ -128,7 +129,7 @@ def of_device(pair: Pair, chance: random.Random, count: int) -> Iterator[list[by
 
 
 def of_layer(pair: Pair, chance: random.Random, count: int) -> Iterator[list[bytes]]:
-    """Each response, and the one of a device that is never suspended."""
+    """Each response with that of a device that is never suspended."""
     scripts, buffer = Scripts(chance), command(CC.Startup, bytes(2))
     for _ in range(count):
         if chance.random() < SUSPENDED:

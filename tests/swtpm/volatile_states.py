@@ -4,8 +4,8 @@
     volatile_states.py time FILE
     volatile_states.py bend FILE FOLDER
 
-`read` says what is in one, and `time` whether it is of these minutes. `bend` writes what is none into
-a folder, and prints the files' names.
+`read` prints what is in a state, and `time` whether it is of the last few minutes. `bend` writes
+bad states into a folder, and prints the files' names.
 """
 
 import hashlib
@@ -21,7 +21,7 @@ from tpmsim.standard import number
 TIME_BYTES, TAIL_BYTES, DIGEST_BYTES = 8, 41, 32
 HEAD_BYTES = 10
 
-# How a volatile state of libtpms 0.9.2 begins.
+# The beginning of a volatile state of libtpms 0.9.2.
 LIBTPMS = bytes.fromhex("0004456378890001000000000000000000010100400000080000010001000000")
 
 

@@ -14,7 +14,7 @@ export const ALT = 1, CTRL = 2, SHIFT = 8;
 
 export const sleep = (milliseconds) => new Promise((done) => setTimeout(done, milliseconds));
 
-/** A browser of its own, in a folder of its own. */
+/** A browser with its own folder. */
 export class Browser {
   static async start(program = process.env.CHROMIUM || "chromium") {
     const folder = fs.mkdtempSync(path.join(os.tmpdir(), "page-"));
@@ -74,7 +74,7 @@ export class Browser {
   }
 }
 
-/** A page, with all that it said on its console, and each address that it asked for. */
+/** A page, with everything that it said on its console, and each address that it requested. */
 class BrowserPage {
   constructor(browser, session, target) {
     Object.assign(this, { browser, session, target, said: [], asked: [] });
@@ -106,7 +106,7 @@ class BrowserPage {
     }
   }
 
-  /** Puts the page before the others, which alone gets keys. */
+  /** Puts the page in front of the others; only the front page gets keys. */
   async front() {
     await this.send("Page.bringToFront");
     await this.until("document.hasFocus()");
@@ -129,7 +129,7 @@ class BrowserPage {
     await this.send("Input.dispatchKeyEvent", { type: "keyUp", ...it });
   }
 
-  /** Puts a script in place of the present one, as if it was typed. */
+  /** Replaces the present script by another one, as if it was typed. */
   async write(text) {
     await this.front();
     await this.value("(document.getElementById('text').focus(), document.getElementById('text').select())");

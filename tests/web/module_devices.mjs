@@ -1,4 +1,4 @@
-// What the module keeps and takes of devices, for module_devices.sh: images, state texts and journals, good and
+// What the module keeps and accepts of devices, for module_devices.sh: images, state texts and journals, good and
 // bad ones, places that are used again, the completing layer, and calls without a device.
 import { readFileSync } from 'node:fs';
 import { Module, Player, hex } from '../../web/play.mjs';
@@ -25,7 +25,7 @@ function perform(player, lines) {
     return player.printed.slice(from).join('');
 }
 
-/** What a call writes to the buffer for texts. @param {string} call @param {bigint[]} before what it takes before that */
+/** What a call writes to the buffer for texts. @param {string} call @param {bigint[]} before its arguments before that */
 function text(call, ...before) {
     const size = Number(calls[call](module.to('holder'), ...before, module.to('text'), 65536n));
     return module.front('text', size);

@@ -1,4 +1,4 @@
-# The module for web pages, in node: what it keeps and takes of devices. module_devices.mjs says what is checked.
+# The module for web pages, in node: how it keeps devices and takes them. module_devices.mjs says what is checked.
 tests=$(cd "$(dirname "$0")/.." && pwd -P)
 . "$tests/common/cases.sh"
 needs node

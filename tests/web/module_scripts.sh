@@ -1,5 +1,5 @@
-# The module for web pages, in node: it imports nothing, and plays each script of tests/ and examples/
-# as the program does: the answers, the traces, and the first bad line.
+# The module for web pages, in node: it imports nothing, and plays each script of tests/ and examples/ as the
+# program does: the responses, the traces, and the first bad line.
 tests=$(cd "$(dirname "$0")/.." && pwd -P)
 . "$tests/common/cases.sh"
 needs node

@@ -3,14 +3,14 @@
 //   node module_words.mjs MODULE bent FOLDER..   prints a script of bent lines, of the scripts in these folders
 //   node module_words.mjs MODULE lines           prints what `tpmsim lines` prints
 //   node module_words.mjs MODULE codes CODE..    prints what `tpmsim code` prints of each code in hex
-//   node module_words.mjs MODULE spelled FOLDER..
-//       spells the commands of these scripts, and assembles the lines again
+//   `node module_words.mjs MODULE spelled FOLDER..`
+//       writes the commands of these scripts as lines, and assembles the lines again
 import { readFileSync } from 'node:fs';
 import { Module, hex, linesOf, play, scriptsIn } from '../../web/play.mjs';
 
 const PLACES = ['', 'handle', 'parameter', 'session'];
 
-/** Each line with a byte or a word less or more, as its number says. @param {string} line @param {number} number */
+/** Each line with a byte or a word less or more, depending on its number. @param {string} line @param {number} number */
 function bent(line, number) {
     const words = line.split(' ');
     const place = number % Math.max(words.length, 1);

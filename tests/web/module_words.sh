@@ -7,7 +7,7 @@ top=${tests%/*}
 module=$top/dist/tpmsim.wasm
 codes='0 1e 100 12f 14a 901 921 922 98e 9a2 18b 28b 1c4 2d5 4d4 a95 b84 1000 ffff'
 
-# words TASK..: what the module says.
+# words TASK..: prints what the module says.
 words() {
     node "$tests/web/module_words.mjs" "$module" "$@"
 }

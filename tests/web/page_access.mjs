@@ -1,5 +1,5 @@
-// Whether people who use keys alone, or a screen reader, can use the page in Chromium: page_access.mjs
-// ADDRESS. It prints a line for each thing that holds or not, and the status is 1 if one does not.
+// Whether people who use only keys, or a screen reader, can use the page in Chromium: page_access.mjs
+// ADDRESS. It prints a line for each condition, and the status is 1 if one does not hold.
 
 import { Browser, CTRL, SHIFT, sleep } from "./browser.mjs";
 
@@ -23,7 +23,7 @@ const focused = (page) => page.value("document.activeElement.id || document.acti
 const REFUSED = "do Startup 0\ndo NV_DefineSpace OWNER pw:- - 01000001000b0002000200000008\ndo NV_Read OWNER 01000001 pw:- 8 0\ndo GetRandom x";
 const NO_ROLES = new Set(["generic", "none", "unknown", "presentation", undefined]);
 
-/** What can get the focus and has no role or no name. */
+/** Elements that can get the focus and have no role or no name. */
 async function nameless(page) {
   const { nodes } = await page.send("Accessibility.getFullAXTree", {});
   const canFocus = (it) => !it.ignored && it.properties?.some(({ name, value }) => name === "focusable" && value.value === true);
@@ -94,7 +94,7 @@ async function order() {
   await page.close();
 }
 
-/** The texts that are seen whose contrast is below AA, in the page. */
+/** The visible texts whose contrast is below AA, as a script for the page. */
 const FAINT = `(() => {
   const parsed = (text) => { const found = text.match(/[\\d.]+/g).map(Number); return text.startsWith("color(") ? [...found.slice(0, 3).map((it) => it * 255), found[3] ?? 1] : [...found.slice(0, 3), found[3] ?? 1]; };
   const over = (top, below) => [0, 1, 2].map((it) => top[it] * top[3] + below[it] * (1 - top[3])).concat(1);
@@ -149,7 +149,7 @@ async function contrast() {
 
 const isDone = "document.getElementById('lesson-done').innerText.includes('Done.')";
 
-/** Goes by Tab, or back, to what has this id. */
+/** Moves by Tab, forward or back, to the element with this id. */
 async function tabTo(page, id, modifiers = 0) {
   for (let count = 0; count < 30; count += 1) {
     if ((await focused(page)) === id) return;
@@ -157,7 +157,7 @@ async function tabTo(page, id, modifiers = 0) {
   }
 }
 
-/** The tutorial by keys alone: the first task is typed, with completions, and the others are shown. */
+/** The tutorial by keys alone: the first task is typed, with completions, and the solutions of the others are shown. */
 async function tutorial() {
   const page = await open();
   const wrong = [];

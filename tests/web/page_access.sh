@@ -1,4 +1,4 @@
-# The page for people who use keys alone, or a screen reader: roles and names, what is announced, the order
+# The page for people who use the keyboard alone, or a screen reader: roles and names, announcements, the order
 # of the focus, contrast, and the tutorial by keys.
 tests=$(cd "$(dirname "$0")/.." && pwd -P)
 . "$tests/common/cases.sh"

@@ -1,5 +1,5 @@
-// Tries the page in Chromium without a window: page_browser.mjs ADDRESS. It prints a line for each
-// thing that holds or not, and the status is 1 if one does not.
+// Tests the page in Chromium without a window: page_browser.mjs ADDRESS. It prints a line for each condition,
+// and the status is 1 if one does not hold.
 
 import fs from "node:fs";
 import { ALT, Browser, CTRL, sleep } from "./browser.mjs";
@@ -114,7 +114,7 @@ async function keyboard(page) {
   say(await page.value("document.getElementById('keys').open"), "a question mark shows the keys");
 }
 
-/** Home shows the start of a long line, which the numbers of lines do not hide. */
+/** Home shows the start of a long line, which the line numbers do not hide. */
 async function longLine(page) {
   const scrolled = () => page.value("document.getElementById('text').scrollLeft");
   await page.write(`do Startup 0\ncmd ${"80".repeat(400)}`);
@@ -178,7 +178,7 @@ const paste = (page, text) => page.value(`(() => {
   if (document.getElementById("text").dispatchEvent(event)) document.execCommand("insertText", false, ${JSON.stringify(text)});
 })()`);
 
-// What programs print of one command, whose end looks like hex in characters too.
+// What programs print of one command, whose end also looks like hex in characters.
 const DUMPS = {
   "hexdump -C": "00000000  80 01 00 00 00 12 00 00  01 7b 00 08 61 62 63 64  |.........{..abcd|\n00000010  65 66                                             |ef|\n00000012\n",
   xxd: "00000000: 8001 0000 0012 0000 017b 0008 6162 6364  .........{..abcd\n00000010: 6566                                     ef\n",
@@ -221,7 +221,7 @@ async function pasted(page) {
   say((await script(page)) === "cmd 80010000000c000001440000\n", "a dropped command in binary becomes a line", await script(page));
 }
 
-/** The page of a log that tools/explain.py explained, whose address is beside that of the page. */
+/** The page of a log that tools/explain.py explained, whose address is next to that of the page. */
 async function explained() {
   const page = await browser.open(process.argv[3]);
   pages.push(page);
@@ -269,7 +269,7 @@ async function lessons(page) {
   say(await page.value("document.getElementById('lesson').hidden"), "the tutorial ends");
 }
 
-/** The last task as a reader does it, and a lesson that is left and taken up. */
+/** The last task as a reader does it, and a lesson that is left and resumed. */
 async function lessonsLeft() {
   const page = await open();
   const isHidden = () => page.value("document.getElementById('lesson').hidden");
@@ -362,7 +362,7 @@ async function files(page) {
   say((await bad(page))[0]?.startsWith("no device: "), "a damaged image is said to be none", (await bad(page)).join(" "));
 }
 
-/** How many times slower this machine is, busy as it may be, than one on which times are what they should be. */
+/** How many times slower this machine is at present than one on which times are as they should be. */
 async function slowness(page) {
   const took = await page.value(`(() => {
     const begun = performance.now();
@@ -396,7 +396,7 @@ async function speed() {
   if (process.env.FIGURES) console.log(`10,000 commands ${Math.round(took)} ms, an edit of 1,000 ${Math.round(edit)} ms, of 10,000 ${Math.round(long)} ms, slowness ${slow.toFixed(1)}`);
 }
 
-/** The milliseconds of an edit in the middle of a script, the least of four. */
+/** The time of an edit in the middle of a script, in milliseconds: the least of four. */
 function edited(page, lines) {
   return page.value(`(async () => {
     const area = document.getElementById("text");

@@ -1,5 +1,6 @@
-"""Prints, as lines of JSON, commands of the scripts of tests/ and examples/ with their responses, and
-the fields of both by tpmsim.explain: what page_fields.mjs compares the page's with.
+"""Prints, as lines of JSON, the commands of the scripts of tests/ and examples/ with their
+responses, and the fields of both by tpmsim.explain. page_fields.mjs compares the page's fields with
+them.
 """
 
 import json

@@ -1,5 +1,5 @@
-# The fields of commands and responses: as the page has them in JavaScript, and tools/explain.py in
-# Python, of all scripts.
+# The fields of commands and responses: the page, in JavaScript, and tools/explain.py, in Python, have the same
+# for all scripts.
 tests=$(cd "$(dirname "$0")/.." && pwd -P)
 . "$tests/common/cases.sh"
 needs node python3

@@ -1,9 +1,9 @@
-"""Opens the page in Firefox without a window, over its Marionette protocol, and looks at it:
+"""Opens the page in Firefox without a window, over its Marionette protocol, and checks it:
 
     tests/web/page_firefox.py [PAGE]
 
-It is no part of the gate, and needs Debian's firefox-esr and python3. It prints a line for each thing
-that it looks at; the status is 1 if one of them is not as it should be.
+It is not part of the gate, and needs Debian's firefox-esr and python3. It prints a line for each
+thing that it checks; the status is 1 if one of them is wrong.
 """
 
 import contextlib
@@ -21,7 +21,7 @@ SECONDS = 120
 
 
 class Firefox:
-    """A browser that answers requests: messages of JSON with their size in front."""
+    """A browser that answers requests: JSON messages with their size before them."""
 
     def __init__(self, port: int) -> None:
         self.stream = connected(port)
@@ -48,14 +48,14 @@ class Firefox:
         return value
 
     def value(self, script: str) -> Any:
-        """What a script gives in the page, which may be a promise."""
+        """The value of a script in the page, which may be a promise."""
         words = "const done = arguments[arguments.length - 1]; Promise.resolve().then(async () => {"
         text = f"{words} {script} }}).then(done, (fault) => done(`fault: ${{fault}}`));"
         return self.asks("WebDriver:ExecuteAsyncScript", script=text, args=[])["value"]
 
 
 def connected(port: int) -> socket.socket:
-    """A connection, as soon as the browser takes one."""
+    """A connection, as soon as the browser accepts one."""
     until = time.monotonic() + SECONDS
     while True:
         try:

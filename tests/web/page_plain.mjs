@@ -1,7 +1,7 @@
 // What the page decrypts: page_plain.mjs PAGE FACTS MODULE CASES.
 //
-// Its digests, HMACs and its AES are those of published examples and of node; the parameters of scripts
-// that sessions encrypted are those that the device in Python has in plain, also in a log of another device.
+// It compares the page's digests, HMACs and AES with published examples and with node. It compares the decrypted
+// parameters of scripts whose sessions encrypt with those of the Python device, also in a log of another device.
 
 import crypto from "node:crypto";
 import fs from "node:fs";
@@ -42,7 +42,7 @@ const OF_JEFE = {
   sha384: "af45d2e376484031617f78d2b58a6b1b9c7ef464f5a01b47e42ec3736322445e8e2240ca5e69e2c78b3239ecfab21649",
   sha512: "164b7a7bfcf819e2e395fbe73b56e0a387bd64222e831fd610270cd7ea2505549758bf75c05a994a6d034f65f8f0e6fdcaeab1a34d4a6b4b636e070a38bce737",
 };
-// SP 800-38A, F.3.13 to F.3.18: the key, and the four blocks that come of those of TEXT.
+// SP 800-38A, F.3.13 to F.3.18: the key, and the four blocks that the blocks of TEXT become.
 const IV = "000102030405060708090a0b0c0d0e0f";
 const TEXT = "6bc1bee22e409f96e93d7e117393172aae2d8a571e03ac9c9eb76fac45af8e5130c81c46a35ce411e5fbc1191a0a52eff69f2445df4f9b17ad2b417be66c3710";
 const OF_CFB = [
@@ -73,10 +73,10 @@ function played(text) {
   return { run, script };
 }
 
-/** The bytes that are decrypted, or why they are not. */
+/** The decrypted bytes, or why they are not decrypted. */
 const wordsOf = (plain) => plain && (plain.reason || hexOf(plain.bytes.subarray(plain.from, plain.to)));
 
-/** What differs of the steps that a script has at lines, and how many of them there are. */
+/** The differences in the steps that a script has at lines, and how many steps there are. */
 function differing(name, { run, script }, asked, answered) {
   const found = [];
   let count = 0;
@@ -91,7 +91,7 @@ function differing(name, { run, script }, asked, answered) {
   return { found, count };
 }
 
-/** The log of another device of the same script: this one draws other random bytes, so nonces differ. */
+/** The log of another device with the same script: this one draws other random bytes, so nonces differ. */
 function elsewhere(name, { run, script }, asked, answered) {
   const log = logOf(script, run.answers).split("\n");
   const events = log.flatMap((line, number) => (/^(?:do|cmd|power)/.test(line) ? [number] : []));

@@ -1,6 +1,6 @@
-"""Prints, as lines of JSON, the scripts of tests/ and examples/ in which sessions encrypt, and the first
-parameter of each command and each response in plain, by its line, as the device in Python has them: what
-page_plain.mjs compares the page's with.
+"""Prints, as lines of JSON, the scripts of tests/ and examples/ in which sessions encrypt. For each
+it has the decrypted first parameter of each command and response, by its line, as the Python device
+sees it. page_plain.mjs compares the page's values with them.
 """
 
 import json
@@ -33,7 +33,9 @@ class Watched(Model):
 
 
 def plain_of(script):
-    """The first parameters in plain of commands and of responses, by their lines from 0."""
+    """The decrypted first parameters of commands and of responses, by their lines, which count from
+    0.
+    """
     device, asked, answered = Watched(), {}, {}
     for step in steps_of(script):
         if isinstance(step, Power):

@@ -1,4 +1,4 @@
-# What sessions encrypted in scripts, as the page decrypts it, and the device in Python.
+# What sessions encrypted in scripts: the page decrypts it as the device in Python does.
 tests=$(cd "$(dirname "$0")/.." && pwd -P)
 . "$tests/common/cases.sh"
 needs node python3

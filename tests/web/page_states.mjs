@@ -1,8 +1,8 @@
 // Plays scripts as the page does: page_states.mjs PAGE FACTS MODULE LESSONS SCRIPT..
 //
-// It compares each answer with those of the program beside the script, and an edit with playing anew;
-// and writes, as lines of JSON, the device after some steps: its state text, and what the page reads
-// from that. Of the lessons it says whether each task can be done.
+// It compares each answer with those of the program next to the script, and an edit with playing the script again.
+// It writes, as lines of JSON, the device after some steps: its state text, and what the page reads from that. For
+// each task of the lessons it says whether it can be done.
 
 import fs from "node:fs";
 import path from "node:path";
@@ -32,7 +32,7 @@ function played(text) {
   return { run, script };
 }
 
-/** An edit in the middle, and the text as it was: the same as played anew. */
+/** An edit in the middle, and then the old text again: the result equals playing the script again. */
 function isSameAfterEdit(run, script) {
   const wanted = answersOf(run).join();
   const lines = [...script.lines];
@@ -82,7 +82,7 @@ const NOT_DONE = [
   ["NV", "$", "do NV_Read OWNER 01000001 pw:- 8 0\n"], ["Lockout", "do Unseal 80000001 pw:30303030\n", ""],
   ["Power", "power\ndo Startup 0", "power\ndo Startup 1"], ["Image", "$", "do NV_DefineSpace OWNER pw:- - 01000001000b0002000200000008\n"],
 ];
-/** Edits that do it, otherwise than it is shown. */
+/** Edits that do it in another way than the lesson shows. */
 const DONE = [
   ["NV", "pw:- 8 0", "pw:- 3 0"], ["NV", "do NV_Read", "do NV_Read OWNER 01000001 pw:- 3 0\ndo NV_Read"],
   ["Policy", "do PolicyPCR", "do PolicyAuthValue 03000000\ndo PolicyPCR"], ["Lockout", "# The", "wait 2000000\n# The"],

@@ -1,4 +1,4 @@
-"""Compares what the page reads from state texts with what the device in Python is, opened from them:
+"""Compares what the page reads from state texts with the Python device that is opened from them:
 page_states.py STATES, as page_states.mjs writes them.
 """
 

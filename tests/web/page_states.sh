@@ -1,5 +1,5 @@
-# Scripts as the page plays them, in node: answers, logs, edits, the lessons' tasks; and the devices that it
-# reads, as the device in Python has them.
+# Scripts as the page plays them, in node: responses, logs, edits, the lessons' tasks; and the devices that it
+# reads, compared with the device in Python.
 tests=$(cd "$(dirname "$0")/.." && pwd -P)
 . "$tests/common/cases.sh"
 needs node python3
@@ -10,7 +10,7 @@ mkdir -p web js && cp -R "$top/web/page" web/page && cp -R "$top/js/src" js/src 
 echo '{ "type": "module" }' >package.json
 find "$tests" "$top/examples" -name '*.tpm' -size -100k | sort >names
 while read -r name; do
-    # The program ends a script with a bad line there, and the page plays on.
+    # The program ends a script with a bad line there, and the page goes on.
     [ ! -f "${name%.tpm}.out" ] || [ -f "${name%.tpm}.status" ] || echo "$name"
 done <names >scripts
 xargs node "$tests/web/page_states.mjs" web/page facts.json "$top/dist/tpmsim.wasm" \

@@ -1,15 +1,15 @@
 #!/bin/sh
-# Runs a command in the repository as on a Debian machine on ARM64: in a root of Debian's packages for
-# arm64, with the package that tools/deb.sh makes, where qemu runs what is for ARM64. Nothing of this
-# machine changes: apt works in a folder of its own, nothing is installed, and the root and the kernel's
-# note of qemu are seen in namespaces of their own alone. Not part of the gate.
+# Runs a command in the repository as on a Debian machine on ARM64: in a root of Debian's packages for arm64,
+# with the package that tools/deb.sh makes; qemu runs programs for ARM64. It changes nothing of this machine:
+# apt works in its own folder, nothing is installed, and the root and the kernel's note of qemu are visible
+# only in their own namespaces. Not part of the gate.
 #
 #   tools/interop/arm64.sh FOLDER              plays the package there (arm64_package.sh)
-#   tools/interop/arm64.sh FOLDER COMMAND..    runs this there, in a clone of the last commit, as with
+#   tools/interop/arm64.sh FOLDER COMMAND..    runs this there, in a clone of the last commit, for example
 #                                              tools/scripts.sh 'nv/*'
 #
-# FOLDER keeps the root for the next time: 700 MB, of which 180 MB are fetched. Needs what
-# tools/lib/arm64.sh does, Debian's apt, git, and what tools/deb.sh needs for ARM64.
+# FOLDER keeps the root for the next time: 700 MB, of which 180 MB are downloaded. Needs what
+# tools/lib/arm64.sh needs, Debian's apt, git, and what tools/deb.sh needs for ARM64.
 set -u
 umask 022
 [ "$#" -gt 0 ] || { echo "usage: $0 FOLDER [COMMAND..]" >&2; exit 2; }
@@ -22,19 +22,19 @@ root=$folder/root
 log=$folder/log
 : >"$log" || exit 1
 
-# What the commands of the repository need of a machine.
+# The packages of a machine that the repository's commands need.
 packages='base-files base-passwd bash binutils coreutils dash debianutils diffutils findutils g++ gcc git
     grep gzip hostname libc-bin libc6-dev libtpms-dev libtss2-dev make mawk ncurses-base pkg-config
     procps python3 sed socat swtpm tar tpm2-tools util-linux'
 
-# fail REASON: ends the script, and shows what was logged last.
+# fail REASON: ends the script, and shows the end of the log.
 fail() {
     tail -n 20 "$log" >&2
     echo "$0: $1" >&2
     exit 1
 }
 
-# foreign WORDS..: apt for ARM64, which knows of no package that is installed here.
+# foreign WORDS..: apt for ARM64, which sees no package that is installed here.
 foreign() {
     apt-get -q -y -o APT::Architecture=arm64 -o APT::Architectures::=arm64 -o APT::Sandbox::User= \
         -o Dir::State="$folder/state" -o Dir::State::status="$folder/status" \
@@ -50,7 +50,7 @@ fetch() {
         (cd "$folder" && apt-get -q download qemu-user-static) >>"$log" 2>&1
 }
 
-# Unpacks them. What their scripts would do is done here, as far as it matters.
+# Unpacks them. This does what their scripts would do, as far as it matters.
 unpack() {
     mkdir -p "$root.new" "$folder/qemu" &&
         dpkg-deb -x "$folder"/qemu-user-static_*.deb "$folder/qemu" || return 1
@@ -64,7 +64,7 @@ unpack() {
         echo 'root:x:0:' >"$root.new/etc/group" && mv "$root.new" "$root"
 }
 
-# Puts the package and a clone of the last commit into the root, in place of those of the last time.
+# Puts the package and a clone of the last commit into the root, replacing those of the last time.
 bring() {
     rm -rf "$folder/made" "$root/repository"
     tools/deb.sh --machine aarch64 "$folder/made" >>"$log" 2>&1 &&

@@ -1,7 +1,7 @@
 #!/bin/sh
-# Plays the installed package, as it is on an ARM64 machine: the program, the module for libtss2, the one
-# for swtpm, Microsoft's protocol and the package in Python; and in the repository the two commands of the
-# README. tools/interop/arm64.sh brings it there. Each line says what went as it has to.
+# Plays the installed package on an ARM64 machine: the program, the module for libtss2, the one for swtpm,
+# Microsoft's protocol and the package in Python; and in the repository the two commands of the README.
+# tools/interop/arm64.sh brings it there. Each line says what went right.
 set -u
 top=$(CDPATH='' cd "$(dirname "$0")/../.." && pwd -P) || exit 1
 work=$(mktemp -d) || exit 1
@@ -87,7 +87,7 @@ keep() {
 check 'this is ARM64' is_arm64
 check 'the program' starts tpmsim run
 
-TPM2TOOLS_TCTI=tpmsim:state=$work/kept,complete
+TPM2TOOLS_TCTI=tpmsim:state=$work/kept
 export TPM2TOOLS_TCTI
 check 'libtss2: startup' tool startup -c
 measure libtss2

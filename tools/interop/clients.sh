@@ -1,13 +1,14 @@
 #!/bin/sh
-# Has other clients of libtss2 use a kept device with its completing layer, by the module that
-# hosts/build.sh makes, and says of each whether it did what was asked: Debian's tpm2-pytss,
-# clevis with a parent of AES, and tpm2-abrmd with tpm2-tools behind it. Not part of the gate. It
-# installs nothing, and leaves nothing behind.
+# Other clients of libtss2 use a kept device with its completing layer, by the module that
+# hosts/build.sh makes: Debian's tpm2-pytss, clevis with a parent of AES, and tpm2-abrmd with tpm2-tools
+# on it. It says for each whether it did what was asked. For FAPI, whose profiles all need RSA or ECC keys,
+# it says how far tss2_provision goes. Not part of the gate. It installs nothing, and leaves nothing.
 #
 #   tools/interop/clients.sh
 #
-# Needs Debian's python3-tpm2-pytss, clevis-tpm2, tpm2-abrmd, dbus, tpm2-tools and libtss2-dev. A client
-# that is not there is told as skipped. TPMSIM_ARCHIVE names another archive of the library.
+# Needs Debian's tpm2-tools with its tss2_provision, libtss2-fapi1, python3-tpm2-pytss, clevis-tpm2,
+# tpm2-abrmd, dbus and libtss2-dev. A missing client is reported as skipped. TPMSIM_ARCHIVE names another
+# archive of the library.
 set -u
 
 top=$(CDPATH='' cd "$(dirname "$0")/../.." && pwd -P) || exit 1
@@ -18,7 +19,7 @@ passed=0
 failed=0
 skipped=0
 
-# check LABEL COMMAND..: counts a command that has to succeed.
+# check LABEL COMMAND..: counts a command that must succeed.
 check() {
     label=$1
     shift
@@ -31,7 +32,7 @@ check() {
     fi
 }
 
-# has CLIENT TOOL: whether a client is there.
+# has CLIENT TOOL: whether a client is installed.
 has() {
     command -v "$2" >found && return
     echo "skipped: $1: there is no $2"
@@ -118,12 +119,31 @@ END
     check 'tpm2-abrmd: objects and sessions of six tools' dbus-run-session -- sh abrmd.sh
 }
 
+# How far FAPI goes: the last fault of tss2_provision and of tss2_getinfo, with this folder's own keystore.
+fapi() {
+    mkdir -p fapi/user fapi/system fapi/log
+    cat >fapi/config <<END
+{"profile_name": "P_ECCP256SHA256", "profile_dir": "/etc/tpm2-tss/fapi-profiles/",
+ "user_dir": "$folder/fapi/user/", "system_dir": "$folder/fapi/system/", "log_dir": "$folder/fapi/log/",
+ "tcti": "$TPM2TOOLS_TCTI", "system_pcrs": [], "ek_cert_less": "yes"}
+END
+    for tool in 'tss2_provision' 'tss2_getinfo --info fapi/info'; do
+        # shellcheck disable=SC2086 # they are words
+        if TSS2_FAPICONF=$folder/fapi/config timeout 60 $tool >output 2>error; then
+            echo "FAPI: $tool: it goes"
+        else
+            echo "FAPI: $tool ends: $(sed -n 's/^ERROR.*c:[0-9]*:/ /p' error | head -n 1) $(tail -n 1 error)"
+        fi
+    done
+}
+
 "$top/hosts/build.sh" tcti made || exit 1
-export TPM2TOOLS_TCTI="tpmsim:state=$folder/state,complete" LD_LIBRARY_PATH="$folder/made"
+export TPM2TOOLS_TCTI="tpmsim:state=$folder/state" LD_LIBRARY_PATH="$folder/made"
 check 'tpm2-tools: startup' tpm2 startup -c
 if /usr/bin/python3 -c 'import tpm2_pytss' 2>/dev/null; then pytss; else has tpm2-pytss nothing; fi
 ! has clevis clevis-encrypt-tpm2 || clevis_by_aes
 ! has tpm2-abrmd tpm2-abrmd || abrmd
+! has FAPI tss2_provision || fapi
 counts="$passed passed, $failed failed"
 [ "$skipped" -eq 0 ] || counts="$counts, $skipped skipped"
 echo "$counts"

@@ -1,19 +1,18 @@
 #!/bin/sh
 # Boots Linux guests with QEMU on a tpmsim under swtpm: SeaBIOS and OVMF, each with tpm-tis and tpm-crb.
-# The PCRs that firmware and kernel leave must be those under swtpm with its own libtpms. The guest
-# extends a PCR, seals data to it, sleeps and wakes (S3), reboots and opens them; so does one in
-# another run of QEMU. Then a guest is saved as it runs, with its TPM, and goes on in another QEMU. Not
-# part of the gate: it takes minutes. It installs nothing, and leaves nothing but its folder, where it is
-# told one.
+# Firmware and kernel must leave the same PCRs as under swtpm with its own libtpms. The guest extends a
+# PCR, seals data to it, sleeps and wakes (S3), reboots and unseals them; so does one in another run of
+# QEMU. Then a running guest is saved with its TPM, and goes on in another QEMU. Not part of the gate: it
+# takes minutes. It installs nothing, and leaves only its folder, if it gets one.
 #
 #   tools/interop/guest.sh [FOLDER]                   all of that
 #   tools/interop/guest.sh FOLDER FIRMWARE DEVICE     one of the four, as seabios tpm-tis
-#   tools/interop/guest.sh FOLDER moves               the guest that is saved as it runs
+#   tools/interop/guest.sh FOLDER moves               the guest that is saved while it runs
 #
 # Needs Debian's qemu-system-x86, qemu-utils, ovmf, swtpm, libtpms-dev, busybox-static, tpm2-tools, socat, and a
-# kernel with the TPM's drivers built in: the file that $KERNEL names, or Debian's cloud kernel, which is
-# fetched by apt-get. The folder of `hosts/build.sh libtpms` is that of $ATTACHED, or it is made. QEMU
-# emulates the processor, unless $ACCELERATOR is kvm.
+# kernel with the TPM's drivers built in: the file that $KERNEL names, or Debian's cloud kernel, which
+# apt-get downloads. The folder of `hosts/build.sh libtpms` is that of $ATTACHED, or it is made. QEMU emulates
+# the processor, unless $ACCELERATOR is kvm.
 set -u
 
 top=$(CDPATH='' cd "$(dirname "$0")/../.." && pwd -P) || exit 1
@@ -43,7 +42,7 @@ fail() {
     failed=$((failed + 1))
 }
 
-# The kernel, and a first file system of busybox, tpm2-tools and the libraries that they want.
+# The kernel, and a first file system of busybox, tpm2-tools and the libraries that they need.
 make_guest() {
     if [ -z "${KERNEL:-}" ]; then
         mkdir -p "$folder/kernel"
@@ -87,7 +86,7 @@ begin_tpm() {
     done
 }
 
-# boot NAME TPM STATE WORDS: boots a guest, and waits until it is off; NAME is of the run's folder.
+# boot NAME TPM STATE WORDS: boots a guest, and waits until it is off; NAME is the run's folder.
 boot() {
     run=$folder/$1
     rm -rf "$run"
@@ -115,12 +114,12 @@ boot() {
     tr -d '\r' <"$run/serial" | sed -n 's/^.*RESULT //p' >"$run/results"
 }
 
-# measured NAME: what firmware and kernel left, as the guest of a run told it first.
+# measured NAME: what firmware and kernel left, as the guest of a run reported it first.
 measured() {
     awk '/^VERSION/ { boots++ } boots == 1 && /^(VERSION|PCR|LOG)/' "$folder/$1/results"
 }
 
-# check NAME BOOTS COUNT: the guest of a run booted so often, and told so many things that are right.
+# check NAME BOOTS COUNT: the guest of a run booted this often, and reported this many right results.
 check() {
     while IFS= read -r line; do
         case $line in
@@ -154,7 +153,7 @@ END
     done
 }
 
-# combination FIRMWARE DEVICE: all that is tried of one.
+# combination FIRMWARE DEVICE: all trials of one combination.
 combination() {
     firmware=$1
     device=$2
@@ -177,7 +176,7 @@ combination() {
     for run in "$name-pcrs" "$name-first" "$name-again"; do replays "$run"; done
 }
 
-# machine NAME WORDS..: begins a QEMU for a guest that moves, with its TPM on a state of its own.
+# machine NAME WORDS..: begins a QEMU for a guest that moves, whose TPM has its own state.
 machine() {
     run=$folder/$1
     shift
@@ -194,12 +193,12 @@ machine() {
     qemu=$!
 }
 
-# monitor WORDS..: tells QEMU something, and prints what it says.
+# monitor WORDS..: sends QEMU a command, and prints the output.
 monitor() {
     echo "$*" | timeout 60 socat -t 10 - "UNIX-CONNECT:$run/monitor" 2>&1 | tr -d '\r'
 }
 
-# told TEXT TIMES: waits until the guest has told a text so often.
+# `told TEXT TIMES`: waits until the guest has printed a text this often.
 told() {
     for _ in $(seq 3000); do
         times=$(grep -c "RESULT $1" "$run/serial" 2>/dev/null)
@@ -211,7 +210,7 @@ told() {
     return 1
 }
 
-# moved NAME: what the guest told last of its PCRs is what it has after two and one extends.
+# moved NAME: the PCRs that the guest printed last are those after two and one extends.
 moved() {
     tr -d '\r' <"$run/serial" | sed -n 's/^.*RESULT MOVE //p' | tail -n 2 >"$run/pcrs"
     if cmp -s "$run/pcrs" "$folder/moved_pcrs"; then ok "$1"; else fail "$1: $(cat "$run/pcrs")"; fi

@@ -1,13 +1,13 @@
 #!/bin/busybox sh
 # shellcheck shell=dash
-# What a guest of tools/interop/guest.sh does: it is the first process of its Linux. Each line that begins with
-# RESULT is read by tools/interop/guest.sh. What it does is said by `guest=` on the kernel's command line:
+# The work of a guest of tools/interop/guest.sh, whose Linux starts this as its first process. Lines that begin
+# with RESULT are for tools/interop/guest.sh. `guest=` on the kernel's command line says what to do:
 #
-#   pcrs   tells the PCRs as firmware and kernel left them
-#   move   extends PCR 20 from locality 2 and PCR 15 from locality 0, waits as its machine moves to another
+#   pcrs   prints the PCRs that firmware and kernel left
+#   move   extends PCR 20 from locality 2 and PCR 15 from locality 0, waits while its machine moves to another
 #          QEMU, and does the same again there
-#   work   tells the PCRs too; then it makes an NV index and a sealed object, and reboots. Where they are there
-#          already, it opens them. With `sleep` it sleeps between (S3)
+#   work   prints the PCRs too; then it makes an NV index and a sealed object, and reboots. If they exist
+#          already, it opens them. With `sleep` it sleeps in between (S3)
 /bin/busybox mkdir -p /proc /sys /dev /tmp /bin /sbin
 /bin/busybox --install -s /bin
 mount -t proc proc /proc
@@ -22,7 +22,7 @@ result() {
     echo "RESULT $*" >/dev/ttyS0
 }
 
-# tool LABEL WORDS..: runs a tool of tpm2-tools, and tells whether it did what was asked.
+# tool LABEL WORDS..: runs a tool of tpm2-tools, and reports whether it did what was asked.
 tool() {
     label=$1
     shift
@@ -33,7 +33,7 @@ tool() {
     fi
 }
 
-# same LABEL TEXT: what the tool before printed is this text.
+# same LABEL TEXT: the last tool printed this text.
 same() {
     if [ "$(cat output)" = "$2" ]; then
         result ok "$1"
@@ -47,8 +47,8 @@ off() {
     poweroff -f
 }
 
-# at_locality_2 HEX: a command by the registers of tpm-tis, which stays at locality 2. It tells the code of
-# the response.
+# at_locality_2 HEX: sends a command by the registers of tpm-tis, which stays at locality 2. It prints the
+# response code.
 at_locality_2() {
     base=0xFED42
     devmem ${base}000 8 2

@@ -1,9 +1,8 @@
 #!/bin/sh
-# Has libvirt begin, save, restore and end a guest, and go back to a snapshot of it, with a TPM of type
-# `emulator`, whose swtpm and swtpm_setup are those of `hosts/build.sh libtpms`, which stand first on
-# the daemon's path; and one of type `external`, whose swtpm runs already. The daemon is of a session, of the
-# user who calls this, or of nobody where that is root. Not part of the gate. It installs nothing, and leaves
-# nothing behind.
+# libvirt begins, saves, restores and ends a guest, and goes back to a snapshot of it. One guest has a TPM of
+# type `emulator`, with the swtpm and swtpm_setup of `hosts/build.sh libtpms`, which come first on the daemon's
+# path; another one has type `external`, whose swtpm runs already. The daemon belongs to a session of the present
+# user, or of nobody if that is root. Not part of the gate. It installs nothing, and leaves nothing.
 #
 #   tools/interop/libvirt.sh
 #
@@ -47,7 +46,7 @@ end() {
 trap end EXIT
 trap 'exit 1' HUP INT PIPE TERM
 
-# check LABEL COMMAND..: counts a command that has to succeed.
+# check LABEL COMMAND..: counts a command that must succeed.
 check() {
     label=$1
     shift
@@ -60,7 +59,7 @@ check() {
     fi
 }
 
-# guest NAME BACKEND [DEVICE]: a guest with this backend of its TPM, and perhaps another device.
+# guest NAME BACKEND [DEVICE]: a guest whose TPM has this backend, and perhaps another device.
 guest() {
     cat >"$folder/home/$1.xml" <<END
 <domain type='qemu'><name>$1</name><memory unit='MiB'>64</memory><vcpu>1</vcpu>
@@ -71,7 +70,7 @@ END
     virsh define "$folder/home/$1.xml"
 }
 
-# is_ours NAME: the swtpm that libvirt began for this guest has the device in it.
+# is_ours NAME: whether the swtpm that libvirt began for this guest has our device in it.
 is_ours() {
     for process in $(pgrep -x swtpm); do
         tr '\0' ' ' <"/proc/$process/cmdline" | grep -q "$folder/home" || continue
@@ -84,7 +83,7 @@ is_stored() {
     find "$folder/home" -name tpm2-00.permall | grep -q .
 }
 
-# Whether the firmware's TPM2_HierarchyChangeAuth was executed, the last of its commands before it boots.
+# Whether the firmware's TPM2_HierarchyChangeAuth was executed, its last command before it boots.
 is_used() {
     grep -q '^cmd 8002.\{8\}00000129' "$folder/home/record"/boot-*.tpm
 }

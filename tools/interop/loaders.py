@@ -1,13 +1,13 @@
 #!/usr/bin/env python3
-"""Boots loaders with QEMU on a tpmsim under swtpm, and on swtpm with its own libtpms: each extends the
-same PCRs by the same digests of SHA-1 and SHA-256 on both, and every extend is answered by success.
+"""Boots loaders with QEMU on a tpmsim under swtpm, and on swtpm with its own libtpms. On both, each
+must extend the same PCRs by the same SHA-1 and SHA-256 digests, and every extend must succeed.
 
     tools/interop/loaders.py ATTACHED [LOADER..]
 
 ATTACHED is the folder of `hosts/build.sh libtpms`. The loaders are uboot (its EFI, on arm64), aavmf
-(UEFI on arm64), ovmf (UEFI on x86-64) and grub (its module tpm, behind ovmf); else all of them. Needs
-Debian's swtpm, qemu-system-arm, qemu-system-x86, u-boot-qemu, qemu-efi-aarch64, ovmf, grub-efi-amd64-bin and
-grub-common. Not part of the gate: it takes minutes. It leaves nothing.
+(UEFI on arm64), ovmf (UEFI on x86-64) and grub (its module tpm, after ovmf); without words, all of
+them. Needs Debian's swtpm, qemu-system-arm, qemu-system-x86, u-boot-qemu, qemu-efi-aarch64, ovmf,
+grub-efi-amd64-bin and grub-common. Not part of the gate: it takes minutes. It leaves no files.
 """
 
 from __future__ import annotations
@@ -36,8 +36,9 @@ AAVMF = ("/usr/share/AAVMF/AAVMF_CODE.fd", "/usr/share/AAVMF/AAVMF_VARS.fd")
 
 @dataclass(frozen=True)
 class Loader:
-    """How a loader is booted: QEMU's words, then for each text on its console what is typed. It is done
-    where the last text is there. `refused` are texts that must not be there."""
+    """How a loader is booted: QEMU's arguments, and what is typed after each text on its console.
+    The boot is complete when the last text appears. `refused` lists texts that must not appear.
+    """
 
     machine: str
     tpm: str
@@ -70,7 +71,7 @@ LOADERS = {
 
 @dataclass
 class Boot:
-    """What came of a boot: its console, and each extend with the code of its response."""
+    """The result of a boot: its console, and each extend with its response code."""
 
     console: str = ""
     fault: str = ""
@@ -78,7 +79,7 @@ class Boot:
 
 
 def make_grub(folder: pathlib.Path) -> None:
-    """A folder from which ovmf begins GRUB, whose module tpm measures what it does."""
+    """Makes a folder from which ovmf starts GRUB, whose module tpm measures what GRUB does."""
     place = folder / "EFI/BOOT"
     place.mkdir(parents=True)
     config = folder / "grub.cfg"
@@ -102,7 +103,7 @@ def words_of(loader: Loader, folder: pathlib.Path, drive: pathlib.Path) -> list[
 
 
 def spoken_with(machine: subprocess.Popen[bytes], loader: Loader) -> Boot:
-    """Types what a loader is told, and reads until its last text is there."""
+    """Types what the loader needs, and reads until its last text appears."""
     assert machine.stdin is not None and machine.stdout is not None
     boot, at, ends = Boot(), 0, time.monotonic() + SECONDS
     for wanted, typed in loader.steps:
@@ -125,8 +126,9 @@ def spoken_with(machine: subprocess.Popen[bytes], loader: Loader) -> Boot:
 
 
 def shared_part(command: bytes) -> str:
-    """The PCR that a PCR_Extend names, and its digests by SHA-1 and SHA-256, in hex. swtpm's own libtpms
-    has banks of SHA-384 and SHA-512 too."""
+    """Returns the PCR that a PCR_Extend names, and its SHA-1 and SHA-256 digests, in hex. swtpm's
+    own libtpms also has SHA-384 and SHA-512 banks.
+    """
     pcr = command[HEAD_BYTES : HEAD_BYTES + 4]
     at = HEAD_BYTES + 8 + int.from_bytes(command[HEAD_BYTES + 4 : HEAD_BYTES + 8]) + 4
     words = [pcr.hex()]
@@ -140,7 +142,9 @@ def shared_part(command: bytes) -> str:
 
 
 def extends_of(log: str) -> list[tuple[str, str]]:
-    """Of each PCR_Extend of a log at level 20 the shared part, and the response code, in hex."""
+    """Returns the shared part and the response code, in hex, of each PCR_Extend in a level-20
+    log.
+    """
     form = r"SWTPM_IO_(Read|Write): length \d+\s*\n((?:\s*(?:[0-9A-F]{2} ?)+\s*\n)+)"
     extends, last = [], b""
     for kind, text in re.findall(form, log):
@@ -153,7 +157,9 @@ def extends_of(log: str) -> list[tuple[str, str]]:
 
 
 def booted(program: str, loader: Loader, drive: pathlib.Path) -> Boot:
-    """Boots a loader, from a drive where it has one, on the TPM of a program that takes swtpm's words."""
+    """Boots a loader, from a drive if it has one, on the TPM of a program that takes swtpm's
+    arguments.
+    """
     with tempfile.TemporaryDirectory() as room:
         folder = pathlib.Path(room)
         words = [program, "socket", "--tpm2", "--tpmstate", f"dir={folder}"]
@@ -174,7 +180,7 @@ def booted(program: str, loader: Loader, drive: pathlib.Path) -> Boot:
 
 
 def judged(ours: Boot, theirs: Boot) -> list[str]:
-    """What is wrong with a boot."""
+    """Returns what is wrong with a boot."""
     boots = (("tpmsim", ours), ("swtpm", theirs))
     faults = [f"{whose}: {boot.fault}" for whose, boot in boots if boot.fault]
     if not ours.extends:
@@ -187,7 +193,7 @@ def judged(ours: Boot, theirs: Boot) -> list[str]:
 
 
 def is_right(attached: pathlib.Path, name: str) -> bool:
-    """Boots a loader on both, and says what came of it."""
+    """Boots a loader on both TPMs, and prints the result."""
     began, loader = time.monotonic(), LOADERS[name]
     with tempfile.TemporaryDirectory() as drive:
         if loader.has_grub:

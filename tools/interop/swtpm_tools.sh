@@ -1,13 +1,13 @@
 #!/bin/sh
-# Uses a tpmsim under swtpm: with Debian's tpm2-tools, by libtss2's transport `swtpm`, policy tools
-# included, and with swtpm_ioctl; and says of each case whether it went as it should. It restarts swtpm, moves
-# the running device from one swtpm to another, kills it, fills its disk, and damages what it keeps. Not part
-# of the gate. It installs nothing, and leaves nothing.
+# Uses a tpmsim under swtpm: with Debian's tpm2-tools, by libtss2's transport `swtpm`, policy tools included,
+# and with swtpm_ioctl. It says of each case whether it went as it should. It restarts swtpm, moves the running
+# device from one swtpm to another, kills it, fills its disk, and damages what it keeps. Not part of the gate.
+# It installs nothing, and leaves nothing.
 #
 #   tools/interop/swtpm_tools.sh
 #
 # Needs Debian's swtpm, swtpm-tools, libtpms-dev, tpm2-tools, libtss2-tcti-swtpm0, socat and busybox. The folder of
-# `hosts/build.sh libtpms` is that of $ATTACHED, or it is made. A case that cannot be tried is told as
+# `hosts/build.sh libtpms` is that of $ATTACHED, or it is made. A case that cannot be tried is reported as
 # skipped, with its reason.
 set -u
 
@@ -42,7 +42,7 @@ skip() {
     skipped=$((skipped + 1))
 }
 
-# begin_tpm FOLDER WORDS..: swtpm on the state of a folder, and waits until it is there.
+# begin_tpm FOLDER WORDS..: begins swtpm on the state of a folder, and waits until it is ready.
 begin_tpm() {
     state=$1
     shift
@@ -61,12 +61,12 @@ end_tpm() {
     tpm=
 }
 
-# ioctl WORDS..: a message by the control channel; what is told is in the file output.
+# ioctl WORDS..: sends a message over the control channel; its output is in the file output.
 ioctl() {
     timeout 20 swtpm_ioctl --tcp "127.0.0.1:$((port + 1))" "$@" >output 2>error
 }
 
-# succeeds NAME COMMAND..: a command that has to succeed.
+# succeeds NAME COMMAND..: a command that must succeed.
 succeeds() {
     name=$1
     shift
@@ -89,7 +89,7 @@ run_tool() {
     timeout 20 tpm2 "$@" >output 2>error
 }
 
-# same FILE: what the tool before printed is what stands in a file.
+# same FILE: the last tool printed the content of a file.
 same() {
     cmp -s output "$1" || fail "other bytes than $1"
 }
@@ -114,7 +114,7 @@ simple() {
     tool nvundefine 0x1500016 -C o
 }
 
-# A key that is sealed to PCR 10, by contexts that one tool gives to the next.
+# A key that is sealed to PCR 10, by contexts that each tool leaves for the next.
 sealing() {
     tool createprimary -C o -G aes128cfb -g sha256 -c primary.context
     tool startauthsession -S trial.context
@@ -156,7 +156,7 @@ policies() {
     tool shutdown
 }
 
-# The PCR that a device that is moved has to have, and its policy session.
+# The PCR that a moved device must have, and its policy session.
 extended=0000000000000000000000000000000000000000000000000000000000000007
 
 # The device moves while it runs: with a PCR, a session and an object.
@@ -208,7 +208,7 @@ moves() {
     end_tpm
 }
 
-# bent FILE: the file with a byte in its middle turned.
+# bent FILE: the file with a byte in its middle changed.
 bent() {
     size=$(($(wc -c <"$1") / 2))
     { head -c "$size" "$1"; printf '\377'; tail -c "+$((size + 2))" "$1"; } >bent_file
@@ -227,7 +227,7 @@ own_state() {
     end_tpm
 }
 
-# States that are damaged are refused, and those of swtpm's own libtpms, and what is kept stays.
+# Damaged states are refused, and so are those of swtpm's own libtpms; what is kept stays.
 damage() {
     own_state own_volatile
     mkdir damaged
@@ -249,7 +249,7 @@ damage() {
     end_tpm
 }
 
-# swtpm is killed behind an answer, and the device has all that was answered.
+# swtpm is killed after an answer, and the device has everything that was answered.
 kills() {
     mkdir killed
     begin_tpm "$folder/killed" --flags not-need-init,startup-clear || return
@@ -268,7 +268,7 @@ kills() {
     if [ "$lost" -eq 0 ]; then ok '20 kills, nothing lost'; else fail "$lost of 20 kills lost a write"; fi
 }
 
-# A disk with no room: the command fails, and each that follows; when there is room again all goes on, and what
+# A full disk: the command fails, and so does each that follows. With free space again all goes on, and what
 # was written is there.
 full_disk() {
     mkdir full
@@ -294,14 +294,14 @@ full_disk() {
     umount full
 }
 
-# extend_17: TPM2_PCR_Extend of PCR 17, at the locality that was set, since tpm2-tools set their own. The
-# response code is printed.
+# extend_17: TPM2_PCR_Extend of PCR 17, at the locality that was set, because tpm2-tools set their own. It
+# prints the response code.
 extend_17() {
     printf '%s' "80020000004100000182000000110000000940000009000001000000000001000b$extended" |
         busybox xxd -r -p | socat -t 2 - "TCP:127.0.0.1:$port" | head -c 10 | busybox xxd -p | cut -c 13-20
 }
 
-# What the control channel does, beside the states.
+# What the control channel does, apart from the states.
 control() {
     mkdir control
     begin_tpm "$folder/control" || return

@@ -1,15 +1,15 @@
 #!/bin/sh
-# Uses a device with Debian's tpm2-tools, each tool a process of its own, and says of each whether
-# it did what was asked. Not part of the gate. It installs nothing, and leaves nothing behind.
+# Uses a device with Debian's tpm2-tools, each tool in its own process. It says of each whether it did what
+# was asked. Not part of the gate. It installs nothing, and leaves nothing.
 #
 #   tools/interop/tpm2_tools.sh            by each of the three ways
 #   tools/interop/tpm2_tools.sh WAY..      by these:
 #
 #   socket    a served device, which the tools reach by their `cmd` transport and socat. Needs
-#             tpm2-tools and socat, and rt where the program is not built yet
-#   module    a kept device, by the module that hosts/build.sh makes. Needs tpm2-tools and what
+#             tpm2-tools and socat, and rt if the program is not built yet
+#   module    a kept device alone, by the module that hosts/build.sh makes. Needs tpm2-tools and what
 #             that script needs; TPMSIM_ARCHIVE names another archive here too
-#   complete  the same with the completing layer, and tools that hand contexts on
+#   complete  the same with the completing layer, and with tools that pass contexts on
 set -u
 
 top=$(CDPATH='' cd "$(dirname "$0")/../.." && pwd -P)
@@ -26,18 +26,18 @@ cd "$folder" || exit 1
 tools=0
 failed=0
 
-# fail REASON: ends the script, as a way cannot be gone.
+# fail REASON: ends the script, because a way cannot be tried.
 fail() {
     echo "$0: $1" >&2
     exit 2
 }
 
-# has TOOL: ends the script where a tool of Debian's packages tpm2-tools and socat is not there.
+# has TOOL: ends the script if a tool of Debian's packages tpm2-tools and socat is missing.
 has() {
     command -v "$1" >/dev/null || fail "there is no $1; Debian has it in tpm2-tools and socat"
 }
 
-# wrong REASON: counts what is not as it has to be.
+# wrong REASON: counts a wrong result.
 wrong() {
     echo "FAILED: $1"
     failed=$((failed + 1))
@@ -59,7 +59,7 @@ tool() {
     fi
 }
 
-# refused CODE WORDS..: runs a tool that has to fail with a response code.
+# refused CODE WORDS..: runs a tool that must fail with a response code.
 refused() {
     code=$1
     shift
@@ -73,25 +73,25 @@ refused() {
     fi
 }
 
-# same FILE: the tool before has printed what stands in a file.
+# same FILE: the last tool printed the content of a file.
 same() {
     cmp -s output "$1" || wrong "other bytes than $1"
 }
 
-# said TEXT: the tool before has printed a line with a text.
+# said TEXT: the last tool printed a line with a text.
 said() {
     grep -q -- "$1" output || wrong "it does not say $1"
 }
 
-# loaded: prints the handle of the transient object that is loaded, where there is one.
+# loaded: prints the handle of the loaded transient object, if there is one.
 loaded() {
     tpm2 getcap handles-transient 2>error | sed -n 's/^- //p'
 }
 
-# PCR 10 after an extend by a digest of zeros that ends with 1, as hashlib has it.
+# PCR 10 after an extend by a digest of zeros that ends with 1, as hashlib computes it.
 extended=$(python3 -c 'import hashlib; print(hashlib.sha256(bytes(63) + b"\1").hexdigest())')
 
-# The tools that use the device alone.
+# The tools that need only the device.
 device() {
     tool startup -c
     tool selftest -f
@@ -146,9 +146,9 @@ indices() {
     done
 }
 
-# A key that is sealed to PCR 10, under persistent handles. Without the completing layer the tool
-# that loads it loads it, and then fails to save its context; the object is there under its handle.
-# The layer keeps the place of an object that was flushed and has a context, so handles are asked for.
+# A key that is sealed to PCR 10, under persistent handles. Without the completing layer the tool that
+# loads it fails to save its context afterwards; the object stays under its handle. The layer keeps the
+# place of an object that was flushed and has a context; therefore the test asks for handles.
 sealing() {
     tool createprimary -C o -G aes128cfb -g sha256
     tool evictcontrol -C o -c 0x80000000 0x81000001
@@ -171,7 +171,7 @@ sealing() {
     refused 99d unseal -c 0x81000002 -p pcr:sha256:10
 }
 
-# What a device has behind a power cycle.
+# The state of a device after a power cycle.
 power_cycle() {
     tool shutdown -c
     made/tpmsim-power state || wrong 'the power cycle'
@@ -192,7 +192,7 @@ ending() {
     tool shutdown
 }
 
-# Tools that hand on contexts, and ask for what the device alone has not.
+# Tools that pass contexts on, and ask for what the device alone does not have.
 contexts() {
     tool getrandom --hex 16
     for what in algorithms properties-fixed properties-variable handles-loaded-session; do
@@ -240,7 +240,7 @@ policies() {
     tool flushcontext session.context
 }
 
-# Serves a device on a socket, and has the tools reach it.
+# Serves a device on a socket, which the tools use.
 serve() {
     has socat
     "$top/tpmsim" serve --socket socket --image image --entropy /dev/urandom --locality 0 \
@@ -253,7 +253,7 @@ serve() {
     export TPM2TOOLS_TCTI="cmd:socat - UNIX-CONNECT:$folder/socket"
 }
 
-# keep WORDS: makes the module, and has the tools reach a new device by it, with more words.
+# keep WORDS: makes the module, by which the tools use a new device, with more words.
 keep() {
     [ -e made ] || "$top/hosts/build.sh" tcti made || exit 2
     rm -rf state
@@ -270,8 +270,8 @@ for way do
     echo "$way:"
     case $way in
     socket) serve ;;
-    module) keep '' ;;
-    complete) keep ,complete ;;
+    module) keep ,device ;;
+    complete) keep '' ;;
     *) fail "$way is no way: socket, module and complete are" ;;
     esac
     device

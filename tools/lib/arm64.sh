@@ -1,16 +1,16 @@
-# Programs for ARM64 on another machine: the kernel is told to run them by qemu, in namespaces of their own,
-# so that no other program sees that. Needs unshare, and a Linux of 6.7 or newer that lets the user make
-# namespaces. It is read by `.`.
+# Programs for ARM64 on another machine: the kernel runs them by qemu, in namespaces of their own, so that
+# no other program is affected. Needs unshare, and a Linux of 6.7 or newer that lets the user make
+# namespaces. Other scripts read this file by `.`.
 # shellcheck shell=sh
 
-# note_of_arm64 QEMU FLAGS: what the kernel is told: by which file it runs those that begin so.
+# note_of_arm64 QEMU FLAGS: the kernel's entry that names the file which runs programs for ARM64.
 note_of_arm64() {
     magic='\x7fELF\x02\x01\x01\x00\x00\x00\x00\x00\x00\x00\x00\x00\x02\x00\xb7\x00'
     mask='\xff\xff\xff\xff\xff\xff\xff\x00\xff\xff\xff\xff\xff\xff\xff\xff\xfe\xff\xff\xff'
     printf '%s\n' ":tpmsim-arm64:M::$magic:$mask:$1:$2"
 }
 
-# with_arm64 NOTE COMMAND..: runs a command there.
+# with_arm64 NOTE COMMAND..: runs a command in such namespaces.
 with_arm64() {
     # shellcheck disable=SC2016 # the shell within reads the names
     unshare --map-root-user --mount sh -c '

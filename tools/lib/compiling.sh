@@ -1,5 +1,5 @@
-# What the scripts share that compile a crate over the libraries below it, by the words that `rt` uses.
-# They read it by `.` in the repository's folder, after tools/lib/proved.sh.
+# Shared by the scripts that compile a crate with `rt`'s own tools, over the libraries below it. They read
+# this file by `.` in the repository's folder, after tools/lib/proved.sh.
 # shellcheck shell=sh
 
 # kit_folder: prints the folder of Rattle's toolchain.

@@ -1,8 +1,8 @@
-# Empty Debians, for the scripts of tools/soak, which read this file by `.`. They have `work`, a folder of their own,
-# `machine`, the folder of the machine, `mirror`, and `fail REASON`.
+# Empty Debian systems, for the scripts of tools/soak, which read this file by `.`. They set `work`, a folder of
+# their own, `machine`, the folder of the machine, and `mirror`, and define `fail REASON`.
 # shellcheck shell=sh disable=SC2154 # as above
 
-# needs_for_machines: fails if this user, or what is installed here, makes no machine.
+# needs_for_machines: fails if this user cannot make a machine, or a tool for it is missing.
 needs_for_machines() {
     [ "$(id -u)" -eq 0 ] || fail 'only root can make a machine'
     for tool in debootstrap unshare chroot; do
@@ -10,7 +10,7 @@ needs_for_machines() {
     done
 }
 
-# make_base: makes the machine that each other one is a copy of, $work/base.
+# make_base: makes $work/base, the machine of which each other one is a copy.
 make_base() {
     mkdir "$work/cache" || fail 'there is no folder for packages'
     debootstrap --cache-dir="$work/cache" --variant=minbase bookworm "$work/base" "$mirror" \
@@ -19,7 +19,7 @@ make_base() {
     apt update
 }
 
-# in_machine SHM WORDS..: runs a command in the machine, as root. What is mounted for it ends with it.
+# in_machine SHM WORDS..: runs a command in the machine, as root. Its mounts end with it.
 in_machine() {
     # shellcheck disable=SC2016 # the shell within expands them
     unshare --mount --propagation private --pid --fork --kill-child sh -c '

@@ -3,10 +3,9 @@
 #
 #   play_tests.sh WORK NUMBER..
 #
-# WORK/queue/NUMBER has a test in one line: the script or the shell test, the program, the file of
-# what standard output must be, and perhaps an option, with a tab between each two. What is to be
-# said of it is left in WORK/told/NUMBER, whose first word is `ok:`, `FAILED:` or `skipped:`. Then
-# the number is printed.
+# WORK/queue/NUMBER describes a test in one line with tabs: the script or the shell test, the program,
+# the file of the expected standard output, and perhaps an option. The result goes to WORK/told/NUMBER,
+# whose first word is `ok:`, `FAILED:` or `skipped:`. Then the number is printed.
 set -u
 
 top=$(CDPATH='' cd "$(dirname "$0")/../.." && pwd -P) || exit 1
@@ -14,9 +13,9 @@ lists=$top/crates/tpmsim_lists/out/tpmsim_lists
 work=$1
 shift
 
-# first_difference TEST WANTED: the first line of standard output that differs from what is wanted,
-# and of a script the line that it comes of. Each cmd and do line prints a line, in a trace two, and
-# there `power` prints one.
+# first_difference TEST WANTED: the first line of standard output that differs from the expected one
+# and, for a script, the line of the script that printed it. Each cmd and do line prints a line, with a
+# trace two; with a trace `power` prints one.
 first_difference() {
     awk -v test="${1#"$top/"}" -v out="${2#"$top/"}" '
         BEGIN { traces = out ~ /trace$/ }
@@ -39,7 +38,7 @@ first_difference() {
     ' "$1" "$2" "$output"
 }
 
-# name_program PATH: names the program, by its path where it is the one in dist/.
+# name_program PATH: the name of a program: its path if it is the one in dist/.
 name_program() {
     case $1 in
     */dist/*) program_name=${1#"$top/"} ;;
@@ -47,7 +46,7 @@ name_program() {
     esac
 }
 
-# is_skipped TEST STATUS: whether a test that ended so was skipped, and gave its reason.
+# is_skipped TEST STATUS: whether a test that ended with this status was skipped, and gave its reason.
 is_skipped() {
     case $1,$2 in
     *.sh,77) [ "$(grep -c . "$output")" -eq 1 ] && [ "$(wc -l <"$output")" -eq 1 ] ;;
@@ -64,7 +63,7 @@ run() {
     esac
 }
 
-# has_error FILE: whether standard error is what is in the file; nothing, where there is no file.
+# has_error FILE: whether standard error is the content of the file, or empty if there is no file.
 has_error() {
     if [ -f "$1" ]; then
         cmp -s "$1" "$error"
@@ -73,8 +72,8 @@ has_error() {
     fi
 }
 
-# tell_difference TEST WANTED STATUS WANTED_STATUS ERROR: says in what a test differs from the files of
-# what is wanted.
+# tell_difference TEST WANTED STATUS WANTED_STATUS ERROR: says in what a test differs from the expected
+# files.
 tell_difference() {
     cmp -s "$2" "$output" || first_difference "$1" "$2"
     [ "$3" = "$4" ] || echo "    status wanted: $4, given: $3"
@@ -84,8 +83,7 @@ tell_difference() {
     }
 }
 
-# check TEST PROGRAM WANTED [OPTION]: plays a test, and says what differs from the files of what is
-# wanted.
+# check TEST PROGRAM WANTED [OPTION]: plays a test, and says what differs from the expected files.
 check() {
     name_program "$2"
     named="${1#"$top/"} with $program_name${4:+ $4}"

@@ -1,7 +1,7 @@
-# Prints the path of a program that is proved of the sources as they stand: the one that was built
-# here, where no source is newer, or else the one in dist/, where dist/PROVED names it and the
-# sources. Where there is neither, tools/build.sh builds one first. It is read by `.` in the
-# repository's folder, as the launcher does at each start: so it begins few processes.
+# Prints the path of a program that is proved and made of the current sources: the one that was built
+# here, unless a source is newer, or the one in dist/, if dist/PROVED names it and the sources. If
+# there is neither, tools/build.sh builds one first. Other scripts read this file by `.` in the
+# repository's folder. The launcher does so at each start, and so it starts few processes.
 # shellcheck shell=sh
 . tools/lib/proved.sh
 stamp=crates/tpmsim/out/verified-$machine
@@ -15,7 +15,7 @@ is_served() {
 }
 
 # Whether the program of dist/ was verified, and nothing in the repository that it depends on has
-# changed since, not even by a move. Who can write the stamp can write this file too.
+# changed since, not even by a move. Whoever can write the stamp can write this file too.
 is_verified() {
     [ -f "$stamp" ] && is_served && changed=$(
         find crates.txt HANDLES dist crates -regex 'crates/[^/]*/out' -prune -o \
@@ -23,7 +23,7 @@ is_verified() {
     ) && [ -z "$changed" ]
 }
 
-# Whether the program of dist/ is proved and runs here; else `fault` says why it does not.
+# Whether the program of dist/ is proved and runs here; if not, `fault` says why.
 is_good() {
     fault='dist/ has programs for Linux on x86-64 and on ARM64 alone'
     is_served || return 1
@@ -37,8 +37,8 @@ is_good() {
     return 1
 }
 
-# Verifies the program of dist/. The stamp is as old as the start of that, so that a change made
-# meanwhile counts; where none can be written, the next start verifies again.
+# Verifies the program of dist/. The stamp has the time at which that began, so that a change made
+# meanwhile counts. If no stamp can be written, the next start verifies again.
 verify() {
     new=$stamp.$$
     mkdir -p "${stamp%/*}" 2>/dev/null

@@ -1,9 +1,10 @@
-# What the scripts share that find, build and ship the proved program. They read it by `.` in the
+# Shared by the scripts that find, build and ship the proved program. They read this file by `.` in the
 # repository's folder.
 # shellcheck shell=sh disable=SC2034 # other scripts use the names
 built=crates/tpmsim/out/tpmsim
 
-# ship MACHINE: names what is shipped for a machine: dist/aarch64 has it for ARM64, and dist/ for x86-64.
+# ship MACHINE: names the shipped files for a machine: dist/aarch64 has those for ARM64, dist/ those for
+# x86-64.
 ship() {
     distribution=dist
     [ "$1" != aarch64 ] || distribution=dist/aarch64
@@ -15,17 +16,17 @@ ship() {
     proved=$distribution/PROVED
 }
 
-# It is for this machine, or for the one that TPMSIM_MACHINE names, as a package for another is made.
+# They are for this machine, or for the one that TPMSIM_MACHINE names, as when a package for another is made.
 system=$(uname -sm)
 machine=${TPMSIM_MACHINE:-${system#Linux }}
 ship "$machine"
 
-# uses CRATE: prints the libraries that the line of a crate names.
+# uses CRATE: prints the libraries that the crate's line names.
 uses() {
     sed -n -e "s/^$1\( [^:]*\)\{0,1\}://p" crates.txt
 }
 
-# crates_below CRATE..: prints the crates of this repository that these stand on, lowest first.
+# crates_below CRATE..: prints the crates of this repository that these use, lowest first.
 crates_below() {
     awk -F: -v tops="$*" '
         function visit(crates, i, count, names) {
@@ -44,8 +45,8 @@ crates_below() {
         }' crates.txt
 }
 
-# sources [CRATE]: prints the files and folders that a program or the library is made of, by its
-# crate; else those of tpmsim.
+# sources [CRATE]: prints the files and folders from which a program or the library is made. CRATE is
+# its crate, tpmsim by default.
 sources() {
     below=$(crates_below "${1:-tpmsim}") || return 1
     echo crates.txt
@@ -57,16 +58,16 @@ sources() {
     done
 }
 
-# is_newest FILE [CRATE]: whether it is there, and no source and no folder of sources is newer.
+# is_newest FILE [CRATE]: whether the file is there, and no source or folder of sources is newer.
 is_newest() {
     # shellcheck disable=SC2086 # no name of a source has a space
     [ -e "$1" ] && sources=$(sources "${2:-tpmsim}") &&
         newer=$(find $sources -newer "$1" -print -quit 2>/dev/null) && [ -z "$newer" ]
 }
 
-# are_built CRATE..: whether each of these libraries and programs stands built here, as `rt ci` leaves
-# it, and no source of it is newer. Of a static library it leaves nothing, so all below it has to stand
-# built.
+# are_built CRATE..: whether each of these libraries and programs is built here, as `rt ci` leaves it,
+# and none of its sources is newer. `rt ci` leaves nothing of a static library: instead all crates
+# below it have to be built.
 are_built() {
     for crate do
         if grep -q "^$crate staticlib" crates.txt; then
@@ -85,44 +86,44 @@ checksum() {
     sum=$(sha256sum) && echo "${sum%% *}"
 }
 
-# sources_checksum [CRATE]: prints the SHA-256 of the sources: that of the lines which sha256sum
-# writes of the files, in the order of their paths, which are those in the repository.
+# sources_checksum [CRATE]: prints the SHA-256 of the sources: that of the lines that sha256sum writes
+# for the files, in the order of their paths in the repository.
 sources_checksum() {
     sources=$(sources "$@") || return 1
     # shellcheck disable=SC2086 # as above
     checksum_of $sources
 }
 
-# kept_sources_checksum: the same of what libtpmsim-kept.so.0 is made of.
+# kept_sources_checksum: the same for the sources of libtpmsim-kept.so.0.
 kept_sources_checksum() {
     checksum_of hosts/kept hosts/shared.sh library/tpmsim.h
 }
 
-# checksum_of PATH..: the SHA-256 of the lines which sha256sum writes of these files and those of these
-# folders.
+# checksum_of PATH..: the SHA-256 of the lines that sha256sum writes for these files and for the files of
+# these folders.
 checksum_of() {
     sums=$(find "$@" ! -type d -print0 | LC_ALL=C sort -z | xargs -0 sha256sum) || return 1
     printf '%s\n' "$sums" | checksum
 }
 
-# proved_line NAME: what the line of this name in dist/PROVED says.
+# proved_line NAME: the value of the line with this name in dist/PROVED.
 proved_line() {
     [ ! -f "$proved" ] || sed -n "s/^$1: //p" "$proved"
 }
 
-# is_proved NAME SUM: whether dist/PROVED has this checksum under a name.
+# is_proved NAME SUM: whether dist/PROVED has this checksum on the line with this name.
 is_proved() {
     [ -n "$2" ] && [ "$(proved_line "$1")" = "$2" ]
 }
 
-# What is wrong with the C host of a kept device by its checksums, a fault a line.
+# What is wrong with the checksums of the C host of a kept device, one fault a line.
 faults_of_kept() {
     [ -f "$kept_shared" ] || { echo "$kept_shared is not there" && return; }
     is_proved 'kept sources' "$(kept_sources_checksum)" || echo "$kept_shared was made of other sources than these"
     is_proved 'kept shared object' "$(checksum <"$kept_shared")" || echo "$kept_shared is not what $proved names"
 }
 
-# What is wrong with the module for web pages by its checksums, a fault a line.
+# What is wrong with the checksums of the module for web pages, one fault a line.
 faults_of_module() {
     [ -f "$module" ] || { echo "$module is not there" && return; }
     is_proved 'web sources' "$(sources_checksum tpmsim_web)" ||

@@ -1,6 +1,6 @@
-# What the scripts share that prove crates in a copy, build.sh and library.sh. They read it by `.`
-# in the repository's folder, and set `crates`, the crates to be proved, `total`, their number, `log`,
-# a file, and `top`, that folder.
+# Shared by build.sh and library.sh, which prove crates in a copy. They read this file by `.` in the
+# repository's folder, and set `crates`, the crates to be proved, `total`, their number, `log`, a file,
+# and `top`, that folder.
 # shellcheck shell=sh disable=SC2154 # the names above
 
 # copy_crates FOLDER: copies these crates to a folder, without the wrong bodies, which only the gate
@@ -15,7 +15,7 @@ copy_crates() {
     done >"$1/crates.txt"
 }
 
-# Logs what `rt` prints, and says which crates are proved.
+# Logs the output of `rt`, and says which crates are proved.
 tell() {
     number=0
     while IFS= read -r line; do
@@ -30,8 +30,8 @@ tell() {
     done
 }
 
-# Proves the crates in this folder, side by side where they do not stand on each other. What it
-# leaves says whether it could.
+# Proves the crates in this folder; crates that do not use each other are proved at the same time. The
+# result shows in the files that it leaves.
 prove_all() {
     git init --quiet && sh "$top/tools/lib/rt_ci.sh" </dev/null 2>&1 | tell
 }

@@ -1,10 +1,10 @@
 #!/bin/sh
-# rt_ci.sh [WORDS..]: runs `rt ci` in the folder where this is called, with as many proofs at a time as
-# there are processors, and one processor for each proof. By itself `rt ci` gives a proof the processors
-# that no other proof waits for, and the same proof then takes up to half more processor time. It is left
-# to do so where memory for that many proofs, 3 GB each, is not there. A proof keeps what memory it once
-# took, and does not give it back to the system and take it anew, which costs a twentieth of its time. It
-# writes thousands of files: in memory, where there is room for them too, or in TMPDIR, where that is set.
+# rt_ci.sh [WORDS..]: runs `rt ci` in the current folder, with as many proofs at a time as there are
+# processors, and one processor for each proof. By itself `rt ci` gives a proof the processors that no
+# other proof waits for, and the same proof then takes up to half more processor time. It still does so
+# if there is less memory than 3 GB for each of that many proofs. A proof keeps the memory that it once
+# took: returning it to the system and taking it again costs a twentieth of its time. `rt ci` writes
+# thousands of files: in memory, if there is enough for them too, or in TMPDIR, if that is set.
 set -u
 . "$(dirname "$0")/memory.sh"
 number=$(nproc)

@@ -3,11 +3,11 @@
 
     tools/man/documents.py ROOT FOLDER [PATH=PLACE]..
 
-FOLDER below ROOT has them then, by their paths in the repository. PATH is what else is installed of
-the repository, and PLACE where, below ROOT too. A link of a document leads to what is installed; any
-other link becomes its text. Programs have their installed names, as packaging/pages.toml has them,
-but in README.md, which speaks of the sources. Documents for developers are left out. A script does
-not say which program wrote it, as that is not installed. It needs python3 alone.
+FOLDER below ROOT then contains them, at their paths in the repository. PATH is another installed file of
+the repository, and PLACE its path below ROOT. Links between documents lead to installed files; any other
+link becomes its text. Programs have their installed names, which packaging/pages.toml lists, except in
+README.md, which is about the sources. Documents for developers are left out. A script does not name the
+program that wrote it, since that program is not installed. Needs only python3.
 """
 
 import functools
@@ -17,7 +17,7 @@ import re
 import shutil
 import sys
 
-# What Python compiles is not kept in the repository.
+# The repository contains no Python bytecode.
 sys.dont_write_bytecode = sys.pycache_prefix is None
 
 from sources import TOP, installed  # noqa: E402
@@ -36,7 +36,7 @@ PIECE = re.compile(
 )
 SITE = re.compile(r"[a-z]+:")
 WRITTEN_BY = re.compile(
-    r"\s+(# )?Written\s+(# )?by\s+(# )?\w+\.py\s+(# )?beside\s+(# )?it\.$", re.M
+    r"\s+(# )?\w+\.py,\s+(# )?next\s+(# )?to\s+(# )?it,\s+(# )?wrote\s+(# )?this\.$", re.M
 )
 README = "README.md"
 NOTE = """
@@ -47,13 +47,13 @@ tools/ are in the sources and are not installed.
 
 
 def paths(*patterns: str) -> list[str]:
-    """The files of the repository that are of these patterns."""
+    """Returns the files of the repository that match these patterns."""
     found = sorted(it for pattern in patterns for it in TOP.glob(pattern))
     return [str(it.relative_to(TOP)) for it in found if it.stem not in FOR_DEVELOPERS]
 
 
 class Documents:
-    """Where what is installed of the repository is, below the root."""
+    """The paths, below the root, at which files of the repository are installed."""
 
     def __init__(self, folder: str, others: dict[str, str]) -> None:
         ours = set(paths(*DOCUMENTS, *COPIED, SCRIPTS))
@@ -61,7 +61,7 @@ class Documents:
         self.places = {it: os.path.join(folder, it) for it in ours} | others
 
     def piece(self, document: str, found: re.Match[str]) -> str:
-        """Code as it is, and of a link what becomes of it."""
+        """Returns code unchanged, and the replacement of a link."""
         text, file = found["text"], found["file"]
         if text is None or not file or SITE.match(file):
             return found[0]
@@ -92,7 +92,7 @@ class Documents:
 
 
 def main(words: list[str]) -> int:
-    """Installs by these words, and answers the exit status."""
+    """Installs as the arguments say, and returns the exit status."""
     if len(words) < 2 or not all("=" in it for it in words[2:]):
         print("usage: tools/man/documents.py ROOT FOLDER [PATH=PLACE]..", file=sys.stderr)
         return 2

@@ -1,11 +1,11 @@
 #!/usr/bin/env python3
-"""Makes the man pages, of the documents, the header, and what the programs say of themselves.
+"""Makes the man pages from the documents, the header, and the programs' own help.
 
     tools/man/pages.py FOLDER [--program PROGRAM]
 
-packaging/pages.toml says what each page is made from. FOLDER has the pages then, as tpmsim.1; the
-program is dist/tpmsim, or PROGRAM. The status is 1, with a line on standard error, where a section
-or a program is not there. It needs python3 alone.
+packaging/pages.toml says what each page is made from. FOLDER then contains the pages, such as tpmsim.1. The
+program is dist/tpmsim, or PROGRAM. The status is 1, with a line on standard error, if a section or a
+program is missing. Needs only python3.
 """
 
 import functools
@@ -15,7 +15,7 @@ import sys
 from collections.abc import Iterator
 from dataclasses import dataclass, field
 
-# What Python compiles is not kept in the repository.
+# The repository contains no Python bytecode.
 sys.dont_write_bytecode = sys.pycache_prefix is None
 
 import roff  # noqa: E402
@@ -34,7 +34,7 @@ FLAGS = "cc PROGRAM.c $(pkg-config --cflags --libs tpmsim)"
 
 @dataclass
 class Page:
-    """What packaging/pages.toml says of a page."""
+    """The entry of a page in packaging/pages.toml."""
 
     name: str
     section: int
@@ -55,12 +55,12 @@ class Page:
 
 
 def words_of(text: str) -> str:
-    """What a program says of itself, which has no links."""
+    """Returns the help of a program, which contains no links."""
     return roff.line(roff.inline(text, lambda text, _: text))
 
 
 def option_lines(text: str) -> Iterator[str]:
-    """A help's list of options, arguments or subcommands, as paragraphs with a tag."""
+    """Yields a help's list of options, arguments or subcommands, as paragraphs with a tag."""
     for each in text.split("\n"):
         found = OPTION.match(each)
         if found and not found[1].startswith(("-h,", "-V,", "help ")):
@@ -71,11 +71,11 @@ def option_lines(text: str) -> Iterator[str]:
 
 
 class Manual:
-    """All pages, and which of them has a section of a document."""
+    """All pages, and which of them contains a section of a document."""
 
     def __init__(self, program: str) -> None:
         self.program = program
-        # A key is a page's name, followed by its section if two pages have that name.
+        # A key is a page's name, followed by its section if two pages have the same name.
         told = pages_told()["pages"].items()
         self.pages = {key: Page(key.partition(".")[0], **page) for key, page in told}
         self.version = said(["tpmsim", "--version"], program).split()[-1]
@@ -87,14 +87,16 @@ class Manual:
                 self.places |= {(part.document, anchor): page for anchor in part.anchors}
 
     def place_of(self, path: str, anchor: str) -> Page | None:
-        """The page of a section; without an anchor, the one that most of a document is in."""
+        """Returns the page of a section; without an anchor, the page with most of the document."""
         if anchor:
             return self.places.get((path, anchor))
         pages = [page for (document, _), page in self.places.items() if document == path]
         return max(pages, key=pages.count) if pages else None
 
     def link(self, page: Page, document: str, text: str, target: str) -> str:
-        """What stands in a page in the place of a link: its text, and the page that has it."""
+        """Returns what replaces a link on a page: its text, and the page that contains its
+        target.
+        """
         file, _, anchor = target.partition("#")
         if ":" in file:
             return text if text in target else f"{text} ({target})"
@@ -106,7 +108,7 @@ class Manual:
         return f"{text} ({place.title()})" if place and place is not page else text
 
     def commands(self, words: list[str]) -> Iterator[str]:
-        """The subcommands of a program, each with its options, as their --help says."""
+        """Yields the subcommands of a program, each with its options, taken from their --help."""
         told = help_parts(said([*words, "--help"], self.program))["Commands"]
         yield ".SH COMMANDS"
         for name in re.findall(r"^ {2}(\S+)", told, re.M):
@@ -121,7 +123,7 @@ class Manual:
                 yield from (".PP", "Example:", *roff.code([example.strip()]))
 
     def synopsis(self, page: Page) -> list[str]:
-        """The lines of code of a synopsis."""
+        """Returns the lines of code of a synopsis."""
         if page.header:
             return ["#include <tpmsim.h>", FLAGS, "", *declarations_of(page.header)]
         if page.commands:
@@ -134,7 +136,7 @@ class Manual:
         return page.usage
 
     def head(self, page: Page) -> Iterator[str]:
-        """The title, the name and the synopsis."""
+        """Yields the title, the name and the synopsis."""
         purpose = page.purpose or said([*page.commands, "--help"], self.program).split("\n")[0]
         names = ", ".join([page.name, *(other.partition(".")[0] for other in page.also)])
         yield f'.TH "{page.name.upper()}" "{page.section}" "" "tpmsim {self.version}" "tpmsim"'
@@ -142,7 +144,9 @@ class Manual:
         yield from roff.code(self.synopsis(page))
 
     def files(self, lines: list[str]) -> Iterator[str]:
-        """Where the folders are that lines name by their paths in the repository."""
+        """Yields where the folders are installed that lines name by their paths in the
+        repository.
+        """
         named = sorted({f"\\fB{it}\\fR" for it in FOLDER.findall(FONT.sub("", "\n".join(lines)))})
         ours = [it for it in named if INSTALLED.search(it)]
         others = [it for it in named if it not in ours]
@@ -154,14 +158,14 @@ class Manual:
             yield from (".PP", f"In the sources, and not installed: {', '.join(others)}")
 
     def lines(self, page: Page) -> Iterator[str]:
-        """The lines of roff of a page."""
+        """Yields the roff lines of a page."""
         lines = list(self.body(page))
         yield from (*lines, *self.files(lines))
         others = ", ".join(other.title() for other in self.pages.values() if other is not page)
         yield from (".SH SEE ALSO", words_of(others))
 
     def body(self, page: Page) -> Iterator[str]:
-        """The lines of all sections that are not of the page itself."""
+        """Yields the lines of all sections after the page's own front part."""
         yield from self.head(page)
         if page.commands:
             yield from self.commands(page.commands)
@@ -173,7 +177,7 @@ class Manual:
             yield from roff.code(said(words, self.program).rstrip().split("\n"))
 
     def write(self, folder: pathlib.Path) -> None:
-        """Writes all pages, and for each other name of one a page that leads to it."""
+        """Writes all pages, and for each other name of a page a page that refers to it."""
         folder.mkdir(parents=True, exist_ok=True)
         for page in self.pages.values():
             (folder / page.file()).write_text("\n".join(self.lines(page)) + "\n")
@@ -183,7 +187,7 @@ class Manual:
 
 
 def main(words: list[str]) -> int:
-    """Makes the pages by these words, and answers the exit status."""
+    """Makes the pages as the arguments say, and returns the exit status."""
     if len(words) not in (1, 3) or words[1:2] not in ([], ["--program"]):
         print("usage: tools/man/pages.py FOLDER [--program PROGRAM]", file=sys.stderr)
         return 2

@@ -1,8 +1,7 @@
-"""Markdown to roff: the part of Markdown that the documents use, for the macros of man(7).
+"""Converts the part of Markdown that the documents use to roff, with the macros of man(7).
 
-Known are headings, paragraphs, lists with `-`, tables, code that is fenced or set in, and within
-a line code, links, `**words**` and `*words*`. A table's row is a paragraph whose tag is its first
-cell.
+It reads headings, paragraphs, lists with `-`, tables, fenced or indented code, and within a line code,
+links, `**words**` and `*words*`. A table row becomes a paragraph tagged with the first cell.
 """
 
 import re
@@ -20,28 +19,28 @@ PIECE = re.compile(
     r"|\*\*(?P<strong>.+?)\*\*|(?<![\w*])\*(?P<soft>[^*\s][^*]*)\*(?![\w*])"
 )
 
-# What a link's text becomes: it is told the text and the target.
+# Makes the replacement of a link from the link's text and target.
 Link = Callable[[str, str], str]
 
 
 def escaped(text: str) -> str:
-    """Text in which no byte means anything to roff."""
+    """Returns the text with every byte escaped that has a meaning in roff."""
     return text.replace("\\", "\\e").replace("-", "\\-").replace("'", "\\(aq").replace("`", "\\(ga")
 
 
 def line(text: str) -> str:
-    """A line of text that is no request."""
+    """Returns a line of text that roff does not take as a request."""
     return "\\&" + text if text[:1] in (".", "'") else text
 
 
 def plain(text: str) -> str:
-    """Text outside of code."""
+    """Returns the roff of text outside of code."""
     unescaped = re.sub(r"\\([\\|`*_<>#])", r"\1", text)
     return escaped(unescaped).replace("\\-", "-").replace("\\(aq", "'")
 
 
 def inline(text: str, link: Link) -> str:
-    """The roff of a text that has no line breaks."""
+    """Returns the roff of a text without line breaks."""
     made, end = [], 0
     for piece in PIECE.finditer(text):
         made.append(plain(text[end : piece.start()]))
@@ -59,7 +58,7 @@ def inline(text: str, link: Link) -> str:
 
 
 def code(lines: list[str]) -> Iterator[str]:
-    """Lines of code, as they stand."""
+    """Yields lines of code, unchanged."""
     yield from (".PP", ".RS 4", ".nf")
     yield from (line(escaped(text)) for text in lines)
     yield from (".fi", ".RE")
@@ -70,8 +69,9 @@ def cells_of(text: str) -> list[str]:
 
 
 def table(rows: list[str], link: Link) -> Iterator[str]:
-    """A paragraph for each row, whose tag is the first cell. From the third cell on the heading of
-    its column stands before it."""
+    """Yields a paragraph for each row, tagged with the first cell. From the third cell on, the
+    heading of its column precedes each cell.
+    """
     heads, *body = [cells_of(row) for row in rows if not RULE.match(row)]
     for first, second, *others in body:
         yield from (".TP", line(inline(first, link)) or "\\&", line(inline(second, link)) or "\\&")
@@ -81,20 +81,20 @@ def table(rows: list[str], link: Link) -> Iterator[str]:
 
 
 def section(level: int, heading: str, link: Link) -> str:
-    """A heading: of level 1 one of the page, else one within it."""
+    """Returns a heading: a section of the page if its level is 1, otherwise a subsection."""
     words = inline(heading, link)
     return f".SH {words.upper() if words.isascii() else words}" if level <= 1 else f".SS {words}"
 
 
 def taken(lines: list[str], start: int, belongs: Callable[[str], bool]) -> int:
-    """The first line from `start` on that does not belong."""
+    """Returns the number of the first line from `start` on that does not belong."""
     while start < len(lines) and belongs(lines[start]):
         start += 1
     return start
 
 
 def goes_on(text: str) -> bool:
-    """Whether a line goes on with the paragraph before it."""
+    """Whether a line continues the paragraph before it."""
     return bool(text.strip()) and not any(form.match(text) for form in (FENCE, HEADING, ITEM, ROW))
 
 
@@ -103,8 +103,7 @@ def paragraph(lines: list[str], link: Link) -> str:
 
 
 def roff(text: str, link: Link, depth: int = 0) -> Iterator[str]:
-    """The lines of roff of a text in Markdown, whose headings have `depth` levels above them that
-    do not count."""
+    """Yields the roff lines of a Markdown text, ignoring the `depth` levels above its headings."""
     lines, at = text.split("\n"), 0
     while at < len(lines):
         here, end = lines[at], at + 1

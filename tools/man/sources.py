@@ -1,4 +1,4 @@
-"""What man pages are made from: sections of documents, what programs say, and a header."""
+"""The sources of man pages: sections of documents, the help texts of programs, and a header."""
 
 import functools
 import pathlib
@@ -16,18 +16,18 @@ DECLARATION = re.compile(r"^\w[\w *]*\([^;{}]*\);", re.M)
 
 
 class Missing(Exception):
-    """What a page is made from, and is not there."""
+    """A source of a page is missing."""
 
 
 @functools.cache
 def pages_told() -> dict[str, Any]:
-    """What packaging/pages.toml says."""
+    """Returns the content of packaging/pages.toml."""
     with open(TOP / "packaging" / "pages.toml", "rb") as file:
         return tomllib.load(file)
 
 
 def installed(text: str) -> str:
-    """A text in which programs have the names that they have where they are installed."""
+    """Returns a text with the installed names of programs."""
     for path, name in pages_told()["names"].items():
         text = re.sub(rf"(?<![\w/.]){re.escape(path)}(?![\w/])", name, text)
     return text
@@ -35,7 +35,7 @@ def installed(text: str) -> str:
 
 @dataclass
 class Part:
-    """A section: its document, its text, how many levels are above it, and the anchors in it."""
+    """A section: its document, its text, the number of levels above it, and the anchors in it."""
 
     document: str
     text: str
@@ -44,19 +44,21 @@ class Part:
 
 
 def anchor_of(heading: str) -> str:
-    """The anchor that GitHub makes of a heading."""
+    """Returns the anchor that GitHub makes for a heading."""
     words = re.sub(r"\[([^]]*)\]\([^)]*\)", r"\1", heading)
     return re.sub(r"[^\w\- ]", "", words.lower()).replace(" ", "-")
 
 
 def headings_of(text: str) -> list[tuple[int, int, str]]:
-    """Where each heading begins, its level and its anchor; code has none."""
+    """Returns the line of each heading, its level and its anchor; code contains no headings."""
     blank = FENCED.sub(lambda found: re.sub(r"[^\n]", " ", found[0]), text)
     return [(each.start(), len(each[1]), anchor_of(each[2])) for each in HEADING.finditer(blank)]
 
 
 def part_of(name: str) -> Part:
-    """The section that `DOCUMENT#anchor` names; of `DOCUMENT` what stands above its first one."""
+    """Returns the section that `DOCUMENT#anchor` names; for `DOCUMENT`, the text above all
+    sections.
+    """
     document, _, anchor = name.partition("#")
     text = (TOP / document).read_text()
     headings = headings_of(text)
@@ -73,7 +75,7 @@ def part_of(name: str) -> Part:
 
 
 def said(words: list[str], program: str) -> str:
-    """What a command prints; the word `tpmsim` is the program."""
+    """Returns the output of a command; the word `tpmsim` stands for the program."""
     told = [program if word == "tpmsim" else word for word in words]
     run = subprocess.run(told, cwd=TOP, capture_output=True, text=True, check=False, timeout=60)
     if run.returncode or not run.stdout:
@@ -82,13 +84,15 @@ def said(words: list[str], program: str) -> str:
 
 
 def help_parts(text: str) -> dict[str, str]:
-    """A help's parts by their headings; the part above the first heading has none."""
+    """Returns the parts of a help text by their headings; the part before the first one has
+    none.
+    """
     pieces = re.split(r"^(\w+):(?: |\n|$)", text, flags=re.M)
     return {"": pieces[0].strip(), **dict(zip(pieces[1::2], pieces[2::2]))}
 
 
 def usage_of(text: str) -> list[str]:
-    """The first lines of a help that are set in, which are its command lines."""
+    """Returns the first indented lines of a help text, which are its command lines."""
     found = re.search(r"^((?: {4}.*\n)+)", text, re.M)
     if not found:
         raise Missing("a help has no command line that is set in")
@@ -96,6 +100,6 @@ def usage_of(text: str) -> list[str]:
 
 
 def declarations_of(header: str) -> list[str]:
-    """The lines of the functions that a header declares."""
+    """Returns the lines of the functions that a header declares."""
     text = COMMENT.sub("", (TOP / header).read_text())
     return "\n".join(DECLARATION.findall(text)).split("\n")

@@ -1,12 +1,11 @@
 #!/bin/sh
-# Plays for ARM64 in qemu more than the gate does: each script of tests/ with the program and over both
-# files of the library, whose calls may take no more stack than tpmsim.h says; and tests of hosts/ whose
-# callers are compiled for that machine, among them 300 kills of processes that hold a device. It takes
-# some ten minutes. Needs Debian's qemu-user and gcc-aarch64-linux-gnu, and what
-# tools/lib/arm64.sh does.
+# Plays for ARM64 in qemu more than the gate does. It plays each script of tests/ with the program and over
+# both files of the library, whose calls may take no more stack than tpmsim.h says. It plays tests of hosts/
+# whose callers are compiled for that machine, among them 300 kills of processes that hold a device. It takes
+# some ten minutes. Needs Debian's qemu-user and gcc-aarch64-linux-gnu, and what tools/lib/arm64.sh needs.
 #
-# The other tests of hosts/ need what qemu 7.2 has not: sanitizers, orphans that go to a process of
-# choice, and memory that a forked child finds empty, by which the module knows of a fork.
+# The other tests of hosts/ need what qemu 7.2 does not have: sanitizers, orphans that get a chosen parent, and
+# memory that is empty in a forked child, by which the module detects a fork.
 #
 #   tools/soak/aarch64.sh           all of these
 #   tools/soak/aarch64.sh NAME..    these: scripts, library, and the tests of hosts/ by their names
@@ -23,14 +22,14 @@ for tool in qemu-aarch64 aarch64-linux-gnu-gcc unshare; do
 done
 note=$(note_of_arm64 "$(command -v qemu-aarch64)" F)
 
-# The tools for ARM64 stand before those of this machine on the path.
+# The tools for ARM64 come before those of this machine on the path.
 mkdir "$work/tools"
 for tool in nm ar strip objdump; do
     ln -s "$(command -v "aarch64-linux-gnu-$tool")" "$work/tools/$tool"
 done
 ln -s "$(command -v aarch64-linux-gnu-gcc)" "$work/tools/cc"
 
-# compare NAME TEST COMMAND..: whether a test prints what stands beside it.
+# compare NAME TEST COMMAND..: whether a test prints what the file next to it says.
 compare() {
     name=$1
     test=$2
@@ -46,7 +45,7 @@ compare() {
     failed=$((failed + 1))
 }
 
-# The library without sanitizers, whose lines are missing in what comes of it.
+# The library without sanitizers; the result lacks their lines.
 cat >"$work/library.sh" <<END
 tests=$top/tests
 . "\$tests/common/cases.sh"

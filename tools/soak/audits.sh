@@ -1,15 +1,15 @@
 #!/bin/sh
-# Judges logs by tools/audit.py: what the program prints of each script of tests/ and examples/, and
-# of random scripts, of 400 commands each. Each random one is judged once more from the image of its
-# device at a power cycle on, and once more with lines that are bent. Needs python3.
+# Judges logs by tools/audit.py: what the program prints for each script of tests/ and examples/, and for
+# random scripts of 400 commands each. Each random one is judged again from the image of its device at a
+# power cycle on, and again with lines that are bent. Needs python3.
 #
 #   tools/soak/audits.sh 1000     1,000 random ones, of the seeds from 1 on: about six minutes
 #   tools/soak/audits.sh 50 7     50, from seed 7 on
-#   tools/soak/audits.sh 0        the scripts of tests/ and examples/ alone
+#   tools/soak/audits.sh 0        only the scripts of tests/ and examples/
 #
 # It runs PROGRAM, or the one that tools/lib/program.sh names. It leaves the random scripts whose logs
-# do not agree, and says where. The last line counts logs and events, and the status is 1 where one
-# of them does not agree.
+# do not agree, and says where. The last line counts logs and events; the status is 1 if one of them
+# does not agree.
 set -u
 
 is_number() {

@@ -1,9 +1,10 @@
-"""Explains journals of commands at random with the completing layer, as python/tests/test_completion.py
-does in the gate: what the library answered is held against the layer in Python.
+"""Explains journals of random commands with the completing layer, as
+python/tests/test_completion.py does in the gate. It compares the library's responses with those of
+the layer in Python.
 
     tools/python.sh tools/soak/completed.py SECONDS [SEED]
 
-It says which seeds differ, and counts. The status is 1 where one does.
+It prints the seeds that differ, and the totals. The status is 1 if a seed differs.
 """
 
 import itertools

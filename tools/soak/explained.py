@@ -1,5 +1,5 @@
-"""Explains the journals and logs of a folder, and holds that against the sums of the answers in them; then
-each script of tests/ and examples/, which is held against what a program answers:
+"""Explains the journals and logs in a folder, and compares the explanations with the digests of the
+responses in them. Then compares each script of tests/ and examples/ with a program's output:
 
     explained.py FOLDER PROGRAM
 """
@@ -15,18 +15,20 @@ OTHERWISE = "the response is another one than was recorded, by its sum"
 
 
 def faults_of(play, events):
-    """What is wrong with a log itself, which a test has damaged."""
+    """Returns what is wrong with the log itself, which a test has damaged."""
     words = [it.words for event in events for it in event.differences if it.words != OTHERWISE]
     return [*([play.fault] if play.fault else []), *play.damages, *words]
 
 
 def others_of(events):
-    """Those that are explained otherwise than they were answered."""
+    """Returns the events whose explanation differs from their response."""
     return [it for it in events if it.differences or (it.reason is None) == bool(it.refused)]
 
 
 def logs(folder):
-    """The events of each whole log, and how many have a cut end; a damaged one is printed."""
+    """Returns the events of each complete log, and the number of logs with a cut end; prints
+    damaged ones.
+    """
     found, cuts = dict[pathlib.Path, list](), 0
     for path in sorted(pathlib.Path(folder).iterdir()):
         play = Play()
@@ -48,7 +50,7 @@ def scripts(program):
 
 
 def report(found, words):
-    """How many there are of which kind; those that are explained otherwise."""
+    """Prints the number of events of each kind; returns those whose explanation differs."""
     for path, events in found.items():
         other = others_of(events)
         if other:

@@ -1,20 +1,20 @@
 #!/bin/sh
 # Plays tools/scripts.sh, as the last commit has it, in empty Debians: with git and python3; with a C
-# compiler too; with python3-minimal; with all that packaging/debian_packages names; and without git and
+# compiler too; with python3-minimal; with everything that packaging/debian_packages names; and without git and
 # python3. No test may fail there. Then it installs what the line before the last one names, and plays again:
-# nothing is named any more. It takes half an hour or more, and is no part of the gate.
+# now that line names nothing. It takes half an hour or more, and is not part of the gate.
 #
 #   tools/soak/fresh_machines.sh           each machine of the list below
 #   tools/soak/fresh_machines.sh NAME..    these
 #
-# Needs root, Debian's debootstrap and util-linux, some 5 GB in TMPDIR, and a mirror: MIRROR, else
-# deb.debian.org. It mounts in a namespace of its own, which ends with it, and removes the folder that it made.
+# Needs root, Debian's debootstrap and util-linux, some 5 GB in TMPDIR, and a mirror: MIRROR, or else
+# deb.debian.org. It mounts in its own namespace, which ends with it, and removes the folder that it made.
 set -u
 top=$(CDPATH='' cd "$(dirname "$0")/../.." && pwd -P) || exit 1
 mirror=${MIRROR:-http://deb.debian.org/debian}
 
-# A machine: its name, what /dev/shm is (a size of a folder in memory, or none), the user who plays, and
-# the packages that it has.
+# A machine: its name, /dev/shm (the size of a folder in memory, or none), the user who plays, and the
+# packages that it has.
 machines="
 python    4g   root  git python3
 no_shm    none root  git python3
@@ -33,7 +33,7 @@ fail() {
 
 . "$top/tools/lib/machines.sh"
 
-# play SHM USER: plays the tests in the machine, and leaves what they say in `said`.
+# play SHM USER: plays the tests in the machine, and leaves their output in `said`.
 play() {
     as=
     [ "$2" = root ] || as='setpriv --reuid 1000 --regid 1000 --clear-groups env HOME=/home/user'
@@ -49,13 +49,13 @@ judge() {
     grep -v -e '^ok: ' -e '^skipped: ' "$work/said" | sed 's/^/    /'
 }
 
-# named: the packages that the tests name, which would play more of them.
+# named: the packages that the tests name, with which more of them could be played.
 named() {
     sed -n 's/^More is played after: apt-get install //p' "$work/said"
 }
 
-# play_machine NAME SHM USER PACKAGE..: plays the tests in a machine of this kind, before and after it has what
-# they name.
+# play_machine NAME SHM USER PACKAGE..: plays the tests in a machine of this kind, before and after it gets the
+# packages that they name.
 play_machine() {
     name=$1 shm=$2 user=$3
     shift 3

@@ -1,4 +1,6 @@
-"""The functions of a crate's files, by their lines and paths, and what the prover says of them."""
+"""The functions in a crate's files, with their lines and paths, and the prover's messages about
+them.
+"""
 
 from __future__ import annotations
 
@@ -7,32 +9,32 @@ import dataclasses
 import re
 
 FUNCTION = re.compile(r"\s*(pub(\([a-z ]+\))? )?(const )?(unsafe )?(?:extern \S+ )?fn (\w+)")
-# the first word of a block of functions, and its head without parameters
+# the first word of an impl or trait block, and its head without parameters
 BLOCK = re.compile(r"(?:pub(?:\([a-z ]+\))? )?(?:unsafe )?(?:impl|trait)\b")
 HEAD = re.compile(
     rf"{BLOCK.pattern} (?:(?:\w+::)*(?P<trait>\w+)(?:<(?P<arguments>\w+(?:, \w+)*)>)? for )?"
     r"(?:\w+::)*(?P<type>\w+)\b(?!.* for )"
 )
-# a line that tells of a place in a file
+# a line of a message that names a position in a file
 PLACE = re.compile(r"(?:note: )?(?:\./)?(\S+?\.(?:rt|antt)):(\d+):\d+: (.*)")
 
 
 @dataclasses.dataclass(frozen=True)
 class Function:
-    """A function, by its file, its lines (from first to before end), and its name."""
+    """A function: its file, its first line and the line after its last, and its name."""
 
     file: str
     first: int
     end: int
     name: str
-    # whether no other function of the file has this name
+    # whether the name is unique in the file
     is_alone: bool
-    # the type or the trait in whose block it stands, as the prover writes it: nothing where it stands in
-    # none, and None where that is not clear
+    # the type or the trait of its block, as the prover writes it; empty outside of a block, and
+    # None if it cannot be determined
     owner: str | None
 
     def fails_in(self, said: list[str]) -> str | None:
-        """The line that tells of a goal of this function which fails."""
+        """Returns the message line about a goal of this function that fails."""
         return next((line for line in said if self._is_told(line)), None)
 
     def _is_told(self, line: str) -> bool:
@@ -47,40 +49,43 @@ class Function:
         return self.is_alone and own and "error" in words
 
     def text_in(self, lines: list[str]) -> str:
-        """Its text, of the lines of its file."""
+        """Returns the function's text, from the lines of its file."""
         return "\n".join(lines[self.first : self.end])
 
     def module(self) -> str:
-        """The path of its file's module below the crate; nothing for the root."""
+        """Returns the path of its file's module within the crate; empty for the root."""
         return re.sub(r"src/(lib$|main$)?", "", self.file[: -len(".rt")]).replace("/", "::")
 
     def path(self) -> str:
-        """Its path below the crate, or the end of it, or else its file's module."""
+        """Returns the function's path within the crate, or the last segments of the path if the
+        rest is not clear; otherwise the module of its file.
+        """
         if self.owner is None:
             return self.module()
         return "::".join(filter(None, [self.owner or self.module(), self.name]))
 
     def told_in(self, said: list[str]) -> dict[str, str]:
-        """What is said of it, by its path below the crate; where its owner is not clear, of each
-        function of this name in this file."""
+        """Returns the messages about it, by its path within the crate. If its owner is not clear,
+        includes those about every function of this name in this file.
+        """
         paths = rf"{self.module()}\S*\b{self.name}" if self.owner is None else self.path()
         told = re.compile(rf"fn \w+::({'(?:[^ ]+::)?' if self.owner else ''}{paths}): (.*)")
         return {match[1]: match[2] for line in said if (match := told.match(line))}
 
     def is_proved_in(self, said: list[str]) -> bool:
-        """Whether all that is said of it is that it is proved."""
+        """Whether all messages about it say that it is proved."""
         words = self.told_in(said).values()
         return bool(words) and all(it == "proved" for it in words)
 
 
 def is_fault(line: str) -> bool:
-    """Whether a line tells of a place where something is refused or not proved."""
+    """Whether a line names a position at which something is refused or not proved."""
     place = PLACE.match(line)
     return place is not None and ("error" in place[3] or "not proved" in place[3])
 
 
 def functions_of(file: str, text: str) -> list[Function]:
-    """Those of a file, each with the comments and attributes above it."""
+    """Returns the functions of a file, each with the comments and attributes above it."""
     lines = text.split("\n")
     found = [(at, match[5]) for at, line in enumerate(lines) if (match := FUNCTION.match(line))]
     names = collections.Counter(name for _, name in found)
@@ -92,7 +97,9 @@ def functions_of(file: str, text: str) -> list[Function]:
 
 
 def owner_of(lines: list[str], at: int) -> str | None:
-    """The type or the trait in whose block the function of a line stands, as the prover writes it."""
+    """Returns the type or the trait of the block that contains the function at a line, as the
+    prover writes it.
+    """
     if not lines[at].startswith(" "):
         return ""
     first = next((it for it in range(at, -1, -1) if BLOCK.match(lines[it])), at)
@@ -101,12 +108,12 @@ def owner_of(lines: list[str], at: int) -> str | None:
     if not match:
         return None
     trait, arguments = match["trait"] or "", match["arguments"] or ""
-    # An argument of one letter is a parameter of the block, and is not written.
+    # A single-letter argument is a parameter of the block, which the prover does not write.
     return match["type"] + trait + "".join(it for it in arguments.split(", ") if len(it) > 1)
 
 
 def without_parameters(head: str) -> str:
-    """The head of a block without the parameters behind its first word."""
+    """Returns the head of a block without the parameters after its first word."""
     word, opened, rest = head.partition("<")
     if not opened or not BLOCK.fullmatch(word):
         return head
@@ -118,7 +125,7 @@ def without_parameters(head: str) -> str:
 
 
 def head_of(lines: list[str], at: int) -> int:
-    """The first line of the comments and attributes above a line."""
+    """Returns the first line of the comments and attributes above a line."""
     while at > 0 and lines[at - 1].lstrip().startswith(("///", "#[")):
         at -= 1
     return at

@@ -1,20 +1,19 @@
 #!/bin/sh
-# Plays at random, and compares what the program answers with what the device in plain Python under
-# python/tpmsim/model answers. Needs python3. In a round are a random script; a bent one, in which
-# commands' bytes, lines and letters are changed; and a stream: connections to a served device, in
-# runs one after another on its image, of which some bytes are missing or have wrong sizes, and
-# images that are bent. What comes in a round hangs on its seed alone.
+# Plays at random, and compares the program's answers with those of the device in plain Python under
+# python/tpmsim/model. Needs python3. A round has a random script; a bent one, in which commands' bytes,
+# lines and letters are changed; and a stream. A stream is connections to a served device in
+# consecutive runs on its image. Some of its bytes are missing or have wrong sizes, and some images
+# are bent. A round depends on its seed alone.
 #
-#   tools/soak/fuzz.sh 600             rounds for 600 seconds, from a seed by the clock on, which it says
+#   tools/soak/fuzz.sh 600             rounds for 600 seconds, from a seed by the clock on, which it prints
 #   tools/soak/fuzz.sh 600 7           from seed 7 on, then 8, and so on
 #   tools/soak/fuzz.sh --rounds 60 1   those of the seeds 1 to 60, the same each time: about a minute
-#   tools/soak/fuzz.sh --replay FILE   a script or a stream that was left
+#   tools/soak/fuzz.sh --replay FILE   a script or a stream that an earlier run left
 #
-# It runs PROGRAM, or the one that tools/lib/program.sh names. Where an answer differs it says the seed,
-# leaves the script or the stream, and says at which of its lines; the first one it leaves once
-# more, with no line that the difference does not need; tests/common/streams.py says what
-# the lines of a stream are. The last lines count what was tried, and the status is 1 where anything
-# differs.
+# It runs PROGRAM, or the one that tools/lib/program.sh names. If an answer differs, it prints the seed,
+# leaves the script or the stream, and says at which of its lines. It leaves the first one a second
+# time, with only the lines that the difference needs. tests/common/streams.py defines the lines of a
+# stream. The last lines count what was tried; the status is 1 if anything differs.
 set -u
 
 is_number() {
@@ -23,7 +22,7 @@ is_number() {
     esac
 }
 
-# are_words WORDS..: whether they are what is said above.
+# are_words WORDS..: whether they have one of the forms above.
 are_words() {
     case $#,${1:-} in
     2,--replay) [ -f "$2" ] ;;

@@ -1,12 +1,11 @@
 #!/bin/sh
-# Plays at random on the device in Python, and compares it after each event with what its history
-# alone tells of it: each PCR, counter, authorization value, session and policy. Needs python3, and
-# no program.
+# Plays random events on the Python device, and compares it after each event with what the history alone
+# determines: each PCR, counter, authorization value, session and policy. Needs python3, and no program.
 #
 #   tools/soak/histories.sh 100000     100,000 events, from seed 1 on: half a minute
 #   tools/soak/histories.sh 5000 7     5,000 events, from seed 7 on
 #
-# The last line counts them, and the status is 1 where anything differs.
+# The last line counts them; the status is 1 if anything differs.
 set -u
 
 is_number() {

@@ -1,16 +1,15 @@
 #!/bin/sh
-# Has a program open damaged images, and compares its answers with those of the device in plain
-# Python under python/tpmsim/model: every beginning of the largest image of each version, each byte
-# of that of version 2 changed in three ways or more, and bodies of a full device that are bent at
-# random, with the length and the digest that they have to have. What is opened of these is saved
-# again, too. It is no part of the gate; tests/images/images.sh is. Needs cc and python3; takes some
-# minutes.
+# Opens damaged images with a program, and compares its answers with those of the device in plain
+# Python under python/tpmsim/model: every beginning of the largest image of each version, each byte of
+# the one of version 2 changed in three ways or more, and bodies of a full device that are bent at
+# random, with the right length and digest. What is opened from these is also saved again. It is not
+# part of the gate; tests/images/images.sh is. Needs cc and python3; takes some minutes.
 #
 #   tools/soak/images.sh             ten thousand bent bodies of seed 1
 #   tools/soak/images.sh 7           those of seed 7
 #   tools/soak/images.sh 7 100       a hundred of them
 #
-# Where they differ it says so, leaves the first texts that do, and says where. Its last line is
+# If they differ it says so, leaves the first texts that differ, and says where. Its last line is
 # `N agree, M differ`.
 set -u
 

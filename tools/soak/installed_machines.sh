@@ -2,17 +2,17 @@
 # Installs each package in an empty Debian of its own, and uses it there as its documents say:
 #
 #   deb      apt-get installs it: the loader and man find it, and README's commands, the examples in words, C and
-#            Python, tpm2-tools and a program in C run. apt-get removes all of it.
+#            Python, tpm2-tools and a program in C run. apt-get removes everything again.
 #   wheel    pip installs it in a plain venv without a network, and README's first example in Python runs.
-#   crate    Debian's cargo tests what is unpacked, and README's example in Rust runs.
+#   crate    Debian's cargo tests the unpacked crate, and README's example in Rust runs.
 #   module   Debian's go tests the folder go/ of a clone, and README's example in Go runs.
 #
 #   tools/soak/installed_machines.sh           each of these
 #   tools/soak/installed_machines.sh NAME..    these
 #
 # Each check is a line, and a failed one has its output. The status is 1 if one fails. Needs root, what tools/deb.sh and
-# tools/crate.sh need, Debian's debootstrap and util-linux, 3 GB in TMPDIR, and a mirror: MIRROR, else
-# deb.debian.org. It is no part of the gate.
+# tools/crate.sh need, Debian's debootstrap and util-linux, 3 GB in TMPDIR, and a mirror: MIRROR, or else
+# deb.debian.org. It is not part of the gate.
 set -u
 top=$(CDPATH='' cd "$(dirname "$0")/../.." && pwd -P) || exit 1
 mirror=${MIRROR:-http://deb.debian.org/debian}
@@ -30,7 +30,7 @@ block() {
     awk -v fence="\`\`\`$1" '/^```/ { shown = $0 == fence && !blocks++; next } shown' "$2"
 }
 
-# check WHAT WORDS..: whether a command ends well in the machine; what it says if not.
+# check WHAT WORDS..: whether a command succeeds in the machine; prints its output if not.
 check() {
     what=$1
     shift
@@ -43,7 +43,7 @@ check() {
     fi
 }
 
-# Puts a script in the machine, from standard input.
+# Puts a script into the machine, from standard input.
 script() {
     cat >"$machine/root/$1"
 }
@@ -87,7 +87,7 @@ cd /usr/share/doc/tpmsim && find . -name '*.md' | grep -q .
 END
     check 'no link is dead' sh -e /root/links
     script tools <<'END'
-export TPM2TOOLS_TCTI=tpmsim:state=/root/tpm,complete
+export TPM2TOOLS_TCTI=tpmsim:state=/root/tpm
 tpm2_startup -c && tpm2_getrandom --hex 4 && tpmsim-power /root/tpm
 END
     check 'tpm2-tools reach a device' sh -e /root/tools

@@ -1,14 +1,14 @@
-"""Interrupts the calls of devices that Python keeps in a folder, and looks whether one is lost:
+"""Interrupts the calls of devices that Python keeps in a folder, and checks that none is lost:
 
     tools/python.sh tools/soak/kept_interrupts.py 200      200 folders, of seed 1: about two minutes
     tools/python.sh tools/soak/kept_interrupts.py 200 7    of seed 7
 
-In each folder three processes hold one device for half a second. They count in an NV index, cycle the
-power, and open the device again, while KeyboardInterrupt is raised in them: by a timer in every second
-folder, up to three times a call; by a tracer at a random line in the others. Then the folder is opened.
-A device is lost if that fails, if the index has not all increments that were answered, or more than were
-asked for, or if a process is told of damage or waits for ever. The last line counts all, and the status
-is 1 if a device is lost.
+In each folder three processes hold one device for half a second. They increment an NV index,
+power-cycle the device, and open it again. Meanwhile KeyboardInterrupt is raised in them: by a timer
+in every second folder, up to three times a call; by a tracer at a random line in the other folders.
+Then the folder is opened. A device is lost if opening fails, if the index has fewer increments than
+were answered or more than were requested, or if a process reports damage or waits forever. The last
+line gives the totals; the status is 1 if a device is lost.
 """
 
 import json
@@ -35,7 +35,7 @@ SUCCESS, INITIALIZE = number(0, 4), number(0x100, 4)
 
 @dataclass
 class Counts:
-    """What a process, or all of them, did. `unknown` are the increments that were interrupted."""
+    """The events of one process, or of all. `unknown` counts the interrupted increments."""
 
     answered: int = 0
     unknown: int = 0
@@ -50,8 +50,8 @@ class Counts:
 
 
 class Interrupts:
-    """Raises KeyboardInterrupt so often while a call is made. Nothing is called between the last line
-    of a call and the one that ends this, so there no handler runs.
+    """Raises KeyboardInterrupt, `left` times at most, during a call. Nothing is called between the
+    last line of a call and the line that ends this, so no handler runs there.
     """
 
     def __init__(self, choices, counts, is_traced):
@@ -85,7 +85,7 @@ class Interrupts:
             self.left = self.choices.randrange(MOST_INTERRUPTS + 1)
 
     def during(self, act):
-        """What an act answers; None where it is interrupted."""
+        """Returns the result of an action; None if it is interrupted."""
         self.counts.calls += 1
         try:
             try:
@@ -138,7 +138,7 @@ class Player:
 
 
 def forked(folder, increment, seed, is_traced):
-    """A process that plays, and where it leaves its counts."""
+    """Returns a process that plays, and the pipe for its counts."""
     reads, writes = os.pipe()
     child = os.fork()
     if not child:
@@ -151,7 +151,7 @@ def forked(folder, increment, seed, is_traced):
 
 
 def ended(child, reads, until):
-    """The counts of a process; one that does not end waits for ever."""
+    """Returns the counts of a process; a process that does not end counts as waiting forever."""
     while time.monotonic() < until and not os.waitid(
         os.P_PID, child, os.WEXITED | os.WNOHANG | os.WNOWAIT
     ):
@@ -164,7 +164,7 @@ def ended(child, reads, until):
 
 
 def compared(folder, caller, index, before, counts):
-    """What is wrong with a folder behind these counts; nothing where all is well."""
+    """Returns what is wrong with a folder, given these counts; empty if nothing is."""
     try:
         with KeptDevice(folder) as caller.device:
             caller.device.power_cycle()
@@ -179,7 +179,7 @@ def compared(folder, caller, index, before, counts):
 
 
 def tried(folder, seed, is_traced):
-    """One folder, from a new device to what is left of it."""
+    """Tests one folder, from a new device to the final comparison."""
     with KeptDevice(folder) as device:
         caller = Caller(device)
         caller.start_up()
@@ -192,7 +192,7 @@ def tried(folder, seed, is_traced):
     processes = [forked(folder, increment, it, is_traced) for it in seeds]
     for process in processes:
         counts.add(ended(*process, until))
-    # A process that does not end has its counts with it, and may have the lock.
+    # A process that does not end does not report its counts, and may hold the lock.
     counts.lost = counts.lost or compared(folder, caller, index, before, counts)
     return counts
 

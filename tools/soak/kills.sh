@@ -1,15 +1,15 @@
 #!/bin/sh
-# Kills a served device at random moments while connections come one after another, and looks at the
-# image that is left behind each kill, as tests/serving/killed.sh does a few times. Then it does so as often to
-# a device that is served with --save-each, straight behind a response, as tests/serving/save_each.sh does. It
-# is no part of the gate. Needs python3.
+# Kills a served device at random moments while connections come one after another, and checks the image
+# after each kill, as tests/serving/killed.sh does a few times. Then it does so as often with a device that
+# is served with --save-each, immediately after a response, as tests/serving/save_each.sh does. It is not
+# part of the gate. Needs python3.
 #
 #   tools/soak/kills.sh               1,000 kills, of seed 1
 #   tools/soak/kills.sh 5000 7        5,000 kills, of seed 7
 #
-# Its first line says that all went as it must, or what did not; then the last image is left, and it
-# says where. The second line says where the kills fell, which is not the same in each run. The others
-# are those of --save-each.
+# Its first line says that all was right, or what was not; then the last image is left, and it says where.
+# The second line says when the kills happened, which differs from run to run. The others are those of
+# --save-each.
 set -u
 
 top=$(CDPATH='' cd "$(dirname "$0")/../.." && pwd -P) || exit 1

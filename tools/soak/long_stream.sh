@@ -1,11 +1,11 @@
 #!/bin/sh
 # Sends very many commands to a served device in one connection, and reads the responses meanwhile, as
-# tests/serving/serve_clients.sh does for five million bytes. It is no part of the gate. Needs python3.
+# tests/serving/serve_clients.sh does with five million bytes. It is not part of the gate. Needs python3.
 #
 #   tools/soak/long_stream.sh          100 million bytes of commands
 #   tools/soak/long_stream.sh 500      500 million
 #
-# Each response has to be there, and SUCCESS; the last line says how the program ended.
+# Each command must get a response, and it must be SUCCESS. The last line says how the program ended.
 set -u
 
 top=$(CDPATH='' cd "$(dirname "$0")/../.." && pwd -P) || exit 1

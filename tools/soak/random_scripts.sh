@@ -1,13 +1,13 @@
 #!/bin/sh
-# Writes random scripts, runs them, and compares what the program answers with what the device in
-# plain Python under python/tpmsim/model answers. It is no part of the gate. Needs python3.
+# Writes random scripts, runs them, and compares the program's answers with those of the device in plain
+# Python under python/tpmsim/model. It is not part of the gate. Needs python3.
 #
 #   tools/soak/random_scripts.sh                 the scripts of the seeds 1 to 20, of 1,000 commands each
 #   tools/soak/random_scripts.sh 7               that of seed 7
 #   tools/soak/random_scripts.sh 1 100 2000      those of the seeds 1 to 100, of 2,000 commands each
 #
-# Where they differ it prints the first line that does, leaves the script and both texts, and says
-# where. Its last line is `N agree, M differ`.
+# If they differ it prints the first line that does, leaves the script and both texts, and says where.
+# Its last line is `N agree, M differ`.
 set -u
 
 top=$(CDPATH='' cd "$(dirname "$0")/../.." && pwd -P) || exit 1

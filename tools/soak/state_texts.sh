@@ -1,12 +1,12 @@
 #!/bin/sh
-# Plays at random on devices of the library and on the device in Python, which go on from one state text
-# behind some of the events, and compares answers and state texts, byte for byte, with a device that is
-# never taken apart. Needs python3, and the library in dist/, or the one that TPMSIM_LIBRARY names.
+# Plays random events on devices of the library and on the Python device, which go on from one state text
+# after some of the events. It compares answers and state texts, byte for byte, with a device that always
+# goes on. Needs python3, and the library in dist/, or the one that TPMSIM_LIBRARY names.
 #
 #   tools/soak/state_texts.sh 100000   100,000 events, from seed 1 on: a minute or two
 #   tools/soak/state_texts.sh 5000 7   5,000 events, from seed 7 on
 #
-# The last line counts them, and the status is 1 where anything differs.
+# The last line counts them; the status is 1 if anything differs.
 set -u
 
 is_number() {

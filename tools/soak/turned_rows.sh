@@ -1,20 +1,20 @@
 #!/bin/sh
-# Tries the patches under wrong/turned: each turns the code of a command and the definition of its
-# row together, and the proofs that spell the row. So the device does something wrong, and all crates
-# below tpm_step are proved of it; but what its history tells is something else, so a law of tpm_step,
-# or of another crate of laws, has to fail. They are run whole before a piece of work is
-# called done. Those that name different laws of one crate are tried in one copy of that crate and of
-# those below it, which `rt ci` proves: from nothing, where the kit keeps nothing. Needs rt, and git.
+# Tries the patches under wrong/turned. Each changes the code of a command together with the definition of
+# its row, and with the proofs that repeat the row. So the device does something wrong, and all crates below
+# tpm_step are proved of it. But its history determines something else, so that a law of tpm_step, or of
+# another crate of laws, has to fail. All patches are run before a piece of work is called done. Patches
+# that name different laws of one crate are tried in one copy of that crate and of those below it. `rt ci`
+# proves the copy: from nothing, if the kit keeps nothing. Needs rt, and git.
 #
 #   tools/soak/turned_rows.sh                    all of them
 #   tools/soak/turned_rows.sh pcr_16_restored    one of them, or several
 #
-# A patch begins with what the device does then, and with a line, or two:
+# A patch begins with what the device does with it, and with one or two lines:
 #
-#   law: FILE NAME       what has to be refused, in crates/tpm_step/proofs/FILE.antt
+#   law: FILE NAME       what must be refused, in crates/tpm_step/proofs/FILE.antt
 #   crate: CRATE         or in crates/CRATE/proofs/FILE.antt
 #
-# The last line is `N of M turned rows refused`, and the status is 0 where all are.
+# The last line is `N of M turned rows refused`; the status is 0 if all are.
 set -eu
 
 cd "$(dirname "$0")/../.."
@@ -30,7 +30,7 @@ fi
 room=$(mktemp -d)
 trap 'rm -rf "$room"' EXIT
 
-# said NAME PATCH: what the line of this name says in the head of a patch.
+# said NAME PATCH: the content of the line of this name in the head of a patch.
 said() {
     sed -n "/^diff /q; s/^$1: //p" "$2"
 }
@@ -47,7 +47,7 @@ crate_of() {
 }
 
 # turn NAME..: makes a copy of the crate of their laws and of those below it, without wrong bodies, and
-# turns it by these patches.
+# applies these patches to it.
 turn() {
     rm -rf "$room/copy"
     crates="$(crates_below "$(crate_of "$1")") $(crate_of "$1")"
@@ -59,17 +59,17 @@ turn() {
     done
 }
 
-# prove: `rt ci` of the copy, whose words are in the log.
+# prove: `rt ci` of the copy; its output goes to the log.
 prove() {
     (cd "$room/copy" && sh "$top/tools/lib/rt_ci.sh") </dev/null >"$room/log" 2>&1
 }
 
-# refused_crates: those that the log says are not proved.
+# refused_crates: the crates that are not proved, by the log.
 refused_crates() {
     sed -n 's/^rt: \([a-z0-9_]*\).* NOT PROVED.*/\1/p' "$room/log" | sort -u
 }
 
-# law_at CRATE FILE LINE: the law in which a line of a proof stands.
+# law_at CRATE FILE LINE: the law that a line of a proof belongs to.
 law_at() {
     awk -v at="$3" '
         NR > at { exit }
@@ -78,8 +78,8 @@ law_at() {
     ' "$room/copy/crates/$1/proofs/$2.antt"
 }
 
-# refused_laws CRATE: the laws of a crate that the log says are refused, each as FILE NAME. Those that
-# were not tried, since they stand on such a one, are left out.
+# refused_laws CRATE: the laws of a crate that are refused, by the log, each as FILE NAME. Those that were
+# not tried, because they depend on a refused one, are left out.
 refused_laws() {
     grep -E '^\./proofs/[A-Za-z]+\.antt:[0-9]+:[0-9]+: error: ' "$room/log" |
         grep -vE 'which was (rejected|not admitted)' |
@@ -103,8 +103,8 @@ fail_at_laws() {
     done
 }
 
-# try_together NAME..: turns a copy by these patches. All below the crate of laws has to be proved, and
-# its laws over rows, where it has any; the crate is to be refused at the law of each.
+# try_together NAME..: applies these patches to a copy. Everything below the crate of laws must be proved,
+# and its laws over rows, if it has any. The crate must be refused at the law of each patch.
 try_together() {
     turn "$@" || return 0
     if prove; then
@@ -121,7 +121,7 @@ try_together() {
     fi
 }
 
-# is_apart NAME OTHER..: whether the law of a patch is one of the same crate, and of none of the others.
+# is_apart NAME OTHER..: whether the law of a patch is of the same crate, and differs from all others.
 is_apart() {
     law=$(said law "$(patch_of "$1")")
     crate=$(crate_of "$1")
@@ -132,8 +132,8 @@ is_apart() {
     done
 }
 
-# group NAME..: writes which patches are tried in one copy, a line each: those of a line name different
-# laws of one crate.
+# group NAME..: writes which patches are tried in one copy, one line for each copy: those of a line name
+# different laws of one crate.
 group() {
     : >"$room/groups"
     for name do

@@ -1,26 +1,29 @@
 #!/usr/bin/env python3
-"""Tries the wrong bodies under wrong/: each turns the meaning of one function or definition, and the
-prover must refuse it. They are like those in the crates' must-fail/, which every run of the gate
-tries; these are run whole before a piece of work is called done (docs/gate.json says of which commit).
+"""Tries the wrong bodies (mutants) under wrong/: each changes the meaning of one function or
+definition, and the prover must refuse it. They are like those in the crates' must-fail/, which every
+run of the gate tries. All of these are tried before a piece of work is declared done (docs/gate.json
+names its commit).
 
     tools/soak/wrong_bodies.py                       all of them
     tools/soak/wrong_bodies.py tpm_pcr               those of one crate, or of several
     tools/soak/wrong_bodies.py --apply [CRATE..]     only whether each can be applied; needs no rt
 
-The crates stand on the libraries that `rt ci` built here, where no source is newer; else `rt ci` proves
-these first, in a copy without wrong bodies. Then those of each crate are tried, as many crates at a
-time as there are processors, or JOBS says.
+The crates need the libraries that `rt ci` built here. If a source is newer, `rt ci` first proves them
+in a copy without wrong bodies. Then the wrong bodies of each crate are tried, for as many crates at a
+time as there are processors, or as JOBS says.
 
-The prover checks each function against the contracts of those that it calls, and says which
-functions have goals of their own that fail. So wrong bodies of different functions share one check,
-of these functions alone: each is refused where a function that it turns has such a goal. A wrong
-body is tried by itself where that does not tell, and where it turns a constant or a definition: over
-the functions that name the constant, and over the whole crate where these are proved all the same.
-Each check goes on from an earlier one of its crate, and the first from what is kept in its out/.
+The prover checks each function against the contracts of its callees, and reports which functions have
+failing goals of their own. So wrong bodies of different functions share one check, over only these
+functions: a body is refused if a function that it changes has such a goal. A wrong body is tried by
+itself if that does not decide it, or if it changes a constant or a definition. It is then tried over
+the functions that name the constant and, if these are proved nevertheless, over the whole crate. Each
+check continues from an earlier one of its crate, and the first from what is stored in the crate's
+out/.
 
-It prints a line for each, and at last `N of M wrong bodies refused`. The status is 0 where all are,
-and 1 where one is not, or is bad: it cannot be applied, compiled or read, or it is refused only since a
-proof file names what it took away, which says nothing of a contract. It needs rt.
+It prints a line for each body, and at the end `N of M wrong bodies refused`. The status is 0 if all
+are refused. It is 1 if one is not refused, or if one is bad: it cannot be applied, compiled or parsed,
+or it is refused only because a proof file names something that it removed, which shows nothing about a
+contract. It needs rt.
 """
 
 from __future__ import annotations
@@ -49,13 +52,14 @@ HEADING = re.compile(r"^## (.+)\n", re.MULTILINE)
 ITEM = re.compile(
     r"\s*(?:pub(?:\([a-z ]+\))? )?(?:const|static|struct|enum|type|macro_rules!) (\w+)"
 )
-# what the prover says of a text that it cannot read, names in quotes left out
+# the prover's messages about a text that it cannot parse, without the quoted names
 UNREAD = re.compile(
     r"is not in scope|has no field|is no name|operand is missing|expected the end|cannot continue"
 )
-# A function that the borrow checker does not cover is not proved, whatever it does.
+# A function that the borrow checker does not cover is not proved, whatever its body does.
 COMPILER_ERROR = re.compile(r"\berror\[[\w-]+\]|the borrow checker does not cover this function")
-# A proof file that names what an edit took away, or what cites that proof, says nothing of a contract.
+# If a proof file names what an edit removed, or cites such a proof, the refusal shows nothing about
+# a contract.
 GONE = re.compile(
     r"(?:note: )?(?:\./)?proofs/.*(?:has no field|is not in scope|has no `|was not admitted|was rejected)"
 )
@@ -63,7 +67,7 @@ LIMIT = re.compile(r"ran out of|outgrew the memory limit|stopped at the step lim
 
 
 def said_by(folder: pathlib.Path, *words: str) -> subprocess.CompletedProcess[str]:
-    """Runs a command in a folder; what it prints is kept, as one text."""
+    """Runs a command in a folder and captures its output as one text."""
     return subprocess.run(
         words,
         cwd=folder,
@@ -78,17 +82,17 @@ def said_by(folder: pathlib.Path, *words: str) -> subprocess.CompletedProcess[st
 
 @functools.cache
 def kit() -> pathlib.Path:
-    """The folder of the toolchain: the page that `rt doc` names stands there."""
+    """Returns the folder of the toolchain, which contains the page that `rt doc` names."""
     return pathlib.Path(said_by(TOP, "rt", "doc").stdout.strip()).parent
 
 
 class BadEdit(Exception):
-    """Why a wrong body says nothing of a contract."""
+    """A wrong body that shows nothing about a contract; the message says why."""
 
 
 @dataclasses.dataclass(frozen=True)
 class Turn:
-    """One line of a file in place of another."""
+    """A line of a file, and the line that replaces it."""
 
     file: str
     old: str
@@ -97,13 +101,13 @@ class Turn:
 
 @dataclasses.dataclass(frozen=True)
 class Edit:
-    """A wrong body as it is written: under a heading that says what is then wrong."""
+    """A wrong body as written, under a heading that says what it makes wrong."""
 
     name: str
     text: str
 
     def turns(self) -> tuple[Turn, ...]:
-        """Lines `file: `, and pairs of lines `old: ` and `new: `."""
+        """The edits: lines `file: `, followed by pairs of lines `old: ` and `new: `."""
         turns, file, old = [], "", ""
         for line in self.text.split("\n"):
             word, _, rest = line.partition(":")
@@ -117,7 +121,7 @@ class Edit:
 
 
 def edits_of(crate: str) -> list[Edit]:
-    """The wrong bodies of a crate."""
+    """Returns the wrong bodies of a crate."""
     path = TOP / "wrong" / f"{crate}.edits"
     if not path.exists():
         return []
@@ -129,40 +133,43 @@ def edits_of(crate: str) -> list[Edit]:
 class WrongBody:
     name: str
     turns: tuple[Turn, ...]
-    # what it turns; none where one of its turns stands outside of functions
+    # the functions that it changes; empty if it also changes something outside of functions
     functions: frozenset[Function]
-    # then the functions that name a constant or a type that it turns
+    # in that case the functions that name a constant or a type that it changes
     naming: frozenset[Function]
 
     def to_check(self) -> frozenset[Function]:
-        """The functions over which it is tried first; none where that is the whole crate."""
+        """The functions over which it is tried first; empty for the whole crate."""
         return self.functions or self.naming
 
 
 Group = list[WrongBody]
-# how many were refused, and the groups that are left to try
+# the number of refused wrong bodies, and the groups that are still to be tried
 Tried = tuple[int, list[Group]]
 
 
 class Crate:
-    """A crate over the libraries that were proved in a copy of the repository, in a folder of its own."""
+    """A crate in its own folder, with the libraries that were proved in a copy of the
+    repository.
+    """
 
     def __init__(self, proved: pathlib.Path, name: str, room: pathlib.Path) -> None:
         self.name, self.proved, self.room = name, proved, room / name
         self.folder = proved / "crates" / name
-        # where the toolchain keeps what it checked of the crate, from one command to the next
+        # where the toolchain stores what it checked of the crate, for its next command
         self.place = TOP / "crates" / name / "out" / "incremental"
-        # what the latest check of some functions kept, from which others go on, and what the first said
+        # what the latest check of some functions stored, from which others can continue, and the
+        # messages of the first check
         self.kept = self.place
         self.said: list[str] = []
-        # what a check of the whole crate as it stands kept, once one was wanted
+        # what a check of the unchanged crate stored, once one was needed
         self.whole = self.room / "whole"
         self.is_keeping = threading.Lock()
         self.texts = self._texts_of_functions()
         self.room.mkdir()
 
     def size(self) -> int:
-        """The bytes of its text."""
+        """The size of its text, in bytes."""
         files = itertools.chain(*((self.folder / part).rglob("*.*") for part in SOURCES))
         return sum(it.stat().st_size for it in files)
 
@@ -176,7 +183,7 @@ class Crate:
         return texts
 
     def _words(self) -> list[str]:
-        """The command that checks the crate."""
+        """Returns the command that checks the crate."""
         below = [it for it in with_below([self.name]) if it != self.name]
         rlibs = {it: self.proved / "crates" / it / "out" / "rlib" for it in below}
         is_program = (self.folder / "src" / "main.rt").exists()
@@ -194,15 +201,17 @@ class Crate:
     def _checked_in(
         self, folder: pathlib.Path, kept: pathlib.Path, paths: Iterable[str]
     ) -> tuple[int, list[str]]:
-        """Checks the text of the crate that a folder has, or what some paths name of it: the status,
-        and the lines that were said."""
+        """Checks the text of the crate in a folder, or only the parts that the paths name. Returns
+        the exit status and the message lines.
+        """
         only = [word for path in sorted(set(paths)) for word in ("--only", path)]
         ran = said_by(folder, *self._words(), *only, "--incremental", str(kept))
         return ran.returncode, ran.stdout.split("\n")
 
     def _paths(self, bodies: list[WrongBody]) -> list[str]:
-        """Those of the functions over which wrong bodies are tried, as an earlier check told them where
-        one did. None is the whole crate."""
+        """Returns the paths of the functions over which wrong bodies are tried, as reported by an
+        earlier check, if there was one. None stands for the whole crate.
+        """
         functions: set[Function] = set().union(*(body.to_check() for body in bodies))
         paths = [*itertools.chain(*([*it.told_in(self.said)] or [it.path()] for it in functions))]
         return paths if all(paths) and all(body.to_check() for body in bodies) else []
@@ -225,8 +234,9 @@ class Crate:
         return WrongBody(edit.name, turns, frozenset(), frozenset(naming))
 
     def _naming(self, file: str, lines: list[str]) -> set[Function]:
-        """The functions that name, or belong to, what these first lines of a file end in: an item of
-        src/, or the definitions of a file of specs/ that are brought into clauses."""
+        """Returns the functions that name, or belong to, the item that these first lines of a file
+        end in: an item of src/, or definitions of a file of specs/ that clauses use.
+        """
         if file.startswith("src/"):
             names = [match[1] for line in lines if (match := ITEM.match(line))][-1:]
         else:
@@ -247,8 +257,9 @@ class Crate:
         }
 
     def begin(self, group: list[WrongBody], others: list[WrongBody]) -> tuple[int, list[str]]:
-        """Makes the first check, of a copy with the wrong bodies of a group, over the functions of the
-        others too: the status, and the lines that were said."""
+        """Makes the first check, on a copy with the wrong bodies of a group, over their functions
+        and those of the others. Returns the exit status and the message lines.
+        """
         every = [*group, *others]
         with self._turned(group) as folder:
             kept = self._copied(self.kept, folder.parent / "kept")
@@ -262,20 +273,21 @@ class Crate:
         return status, said
 
     def check(self, bodies: list[WrongBody], is_whole: bool) -> tuple[int, list[str]]:
-        """Checks a copy of the crate with these wrong bodies, whole or over their functions alone: the
-        status, and the lines that were said."""
+        """Checks a copy of the crate with these wrong bodies, over the whole crate or only over the
+        mutated functions. Returns the exit status and the message lines.
+        """
         start = self.keep() if is_whole else self.kept
         with self._turned(bodies) as folder:
             kept = self._copied(start, folder.parent / "kept")
             paths = [] if is_whole else self._paths(bodies)
             status, said = self._checked_in(folder, kept, paths)
             if all(body.functions for body in bodies):
-                # It may have proved functions that the check before it had turned.
+                # It may have proved functions that the previous check had mutated.
                 self._go_on_from(kept)
             return status, said
 
     def keep(self) -> pathlib.Path:
-        """Checks the whole crate as it stands, once: what that kept."""
+        """Checks the whole unchanged crate, once; returns the folder of what that check stored."""
         with self.is_keeping:
             if not self.whole.exists():
                 kept = self._copied(self.kept, self.room / "as-it-stands")
@@ -288,7 +300,7 @@ class Crate:
         return self.whole
 
     def leave(self) -> None:
-        """Leaves what the latest check kept to the commands of the toolchain, and to the next run."""
+        """Leaves what the latest check stored to the toolchain's commands, and to the next run."""
         if self.kept != self.place and self.kept.exists():
             self.place.parent.mkdir(exist_ok=True)
             made = self._copied(self.kept, self.place.with_name(f"{self.place.name}-{os.getpid()}"))
@@ -296,20 +308,20 @@ class Crate:
             made.rename(self.place)
 
     def _go_on_from(self, kept: pathlib.Path) -> None:
-        """Has the next check begin with what one kept, if it kept something."""
+        """Makes the next check start from what an earlier one stored, if it stored anything."""
         if kept.exists():
             self.kept = kept.rename(self.room / f"kept-by-{kept.parent.name}")
 
     @staticmethod
     def _copied(start: pathlib.Path, kept: pathlib.Path) -> pathlib.Path:
-        """A copy of what a check kept, if it is there."""
+        """Returns a copy of what a check stored, if there is any."""
         if start.exists():
             shutil.copytree(start, kept, copy_function=linked)
         return kept
 
     @contextlib.contextmanager
     def _turned(self, bodies: list[WrongBody]) -> Iterator[pathlib.Path]:
-        """A copy of the crate with these wrong bodies."""
+        """Yields a copy of the crate with these wrong bodies."""
         texts = self._texts_with([turn for body in bodies for turn in body.turns])
         with tempfile.TemporaryDirectory(dir=self.room) as place:
             folder = pathlib.Path(place) / "turned"
@@ -323,7 +335,7 @@ class Crate:
 
 
 def turned_texts(folder: pathlib.Path, turns: Iterable[Turn]) -> dict[str, str]:
-    """The files of a crate that these turns change, with their texts then."""
+    """Returns the files of a crate that these edits change, with their new texts."""
     texts: dict[str, str] = {}
     for turn in turns:
         text = texts.get(turn.file) or (folder / turn.file).read_text(encoding="utf-8")
@@ -336,7 +348,7 @@ def turned_texts(folder: pathlib.Path, turns: Iterable[Turn]) -> dict[str, str]:
 
 
 def copy_parts(start: pathlib.Path, folder: pathlib.Path) -> None:
-    """Copies the text of a crate, and what a program is run with."""
+    """Copies the text of a crate, and the files with which a program is run."""
     folder.mkdir(parents=True)
     for it in start.iterdir():
         if it.name in SOURCES:
@@ -346,7 +358,7 @@ def copy_parts(start: pathlib.Path, folder: pathlib.Path) -> None:
 
 
 def lent(one: str, other: str) -> None:
-    """Copies a file that nothing writes into: by a link, where one can be made."""
+    """Copies a file that nobody writes to, by a link if one can be made."""
     try:
         os.link(one, other)
     except OSError:
@@ -354,7 +366,9 @@ def lent(one: str, other: str) -> None:
 
 
 def linked(one: str, other: str) -> None:
-    """Copies a file of what a check kept: what was proved by a link, as a check replaces such a file."""
+    """Copies a file that a check stored. A proof's file is linked, because a check replaces such a
+    file instead of writing to it.
+    """
     if one.endswith(".oantt"):
         lent(one, other)
     else:
@@ -362,7 +376,7 @@ def linked(one: str, other: str) -> None:
 
 
 def unread_in(said: list[str]) -> str | None:
-    """The line that says that a text of the crate cannot be compiled or read."""
+    """Returns the message line about a text of the crate that cannot be compiled or parsed."""
     for line in said:
         place = PLACE.match(line)
         words = re.sub(r"`[^`]*`", "", place[3]) if place else ""
@@ -373,19 +387,19 @@ def unread_in(said: list[str]) -> str | None:
 
 
 def is_not_proved(status: int, said: list[str]) -> bool:
-    """Whether a check ended since something is not proved, with all texts read."""
+    """Whether a check parsed all texts, and failed because something is not proved."""
     is_told = any(it.startswith(("logic=not-proved", "only=")) for it in said)
     return status == 1 and is_told and not unread_in(said)
 
 
 def is_of_a_contract(said: list[str]) -> bool:
-    """Whether something is refused that is no name which a proof file has of what is gone."""
+    """Whether a refusal is about more than a removed name that a proof file uses."""
     told = [line for line in said if is_fault(line)]
     return not told or any(not GONE.match(line) for line in told)
 
 
 def groups_of(bodies: list[WrongBody]) -> list[Group]:
-    """The same in groups: no two of one turn the same function."""
+    """Returns these bodies in groups; no two bodies of a group change the same function."""
     groups: list[tuple[set[Function], Group]] = []
     for body in sorted(bodies, key=lambda it: not it.functions):
         open_to_it = (it for it in groups if it[0] and not it[0] & body.functions)
@@ -399,7 +413,7 @@ def groups_of(bodies: list[WrongBody]) -> list[Group]:
 
 
 def refusal_alone(crate: Crate, body: WrongBody) -> str:
-    """How a wrong body is refused that is tried by itself."""
+    """Returns how a wrong body is refused that is tried by itself."""
     status, said = crate.check([body], is_whole=not body.to_check())
     if body.to_check() and not is_not_proved(status, said):
         status, said = crate.check([body], is_whole=True)
@@ -416,10 +430,13 @@ def refusal_alone(crate: Crate, body: WrongBody) -> str:
 
 
 def refusals_told(group: Group, status: int, said: list[str]) -> dict[WrongBody, str]:
-    """Which of a group a check of all of it refuses, and how; none where it does not tell."""
+    """Returns the bodies of a group that a check of the whole group refuses, and how; none if that
+    is unclear.
+    """
     if not is_not_proved(status, said):
         return {}
-    # A function that is proved all the same may have no contract, and others may fail for it.
+    # A function that is proved nevertheless may have no contract, and then others may fail because
+    # of it.
     if any(it.is_proved_in(said) for body in group for it in body.functions):
         return {}
     counted = [line for line in said if not GONE.match(line)]
@@ -432,7 +449,7 @@ def tell(crate: Crate, body: WrongBody, line: str) -> None:
 
 
 def left_of(crate: Crate, group: Group, refused: dict[WrongBody, str]) -> Tried:
-    """Tells those of a group that one check refused, and what it leaves."""
+    """Prints the bodies of a group that one check refused, and returns those that are left."""
     for body, line in refused.items():
         tell(crate, body, line)
     left = [body for body in group if body not in refused]
@@ -441,7 +458,7 @@ def left_of(crate: Crate, group: Group, refused: dict[WrongBody, str]) -> Tried:
 
 
 def try_group(crate: Crate, group: Group) -> Tried:
-    """Tries a group by one check."""
+    """Tries a group with one check."""
     if len(group) == 1:
         return try_alone(crate, group[0])
     try:
@@ -462,24 +479,24 @@ def try_alone(crate: Crate, body: WrongBody) -> Tried:
 
 
 def name_in(line: str) -> str:
-    """The crate of a line of crates.txt, or an empty word."""
+    """Returns the crate in a line of crates.txt, or an empty word."""
     return "" if line.startswith("#") else line.partition(":")[0].partition(" ")[0]
 
 
 @functools.cache
 def rows() -> list[str]:
-    """The lines of crates.txt."""
+    """Returns the lines of crates.txt."""
     return (TOP / "crates.txt").read_text(encoding="utf-8").split("\n")
 
 
 @functools.cache
 def uses() -> dict[str, list[str]]:
-    """The crates of this repository, each with the libraries that it names."""
+    """Returns the crates of this repository, each with the libraries that it names."""
     return {name_in(line): line.partition(":")[2].split() for line in rows() if name_in(line)}
 
 
 def with_below(names: list[str]) -> list[str]:
-    """These crates and those that they stand on, in the order of crates.txt."""
+    """Returns these crates and those below them, in the order of crates.txt."""
     known, left, found = uses(), list(names), set()
     while left:
         name = left.pop()
@@ -501,13 +518,13 @@ def lay(room: pathlib.Path, names: list[str]) -> None:
 
 
 def are_built(names: list[str]) -> bool:
-    """Whether these crates stand built in this repository, of the sources as they are."""
+    """Whether these crates are built in this repository, from the present sources."""
     script = '. tools/lib/proved.sh && are_built "$@"'
     return said_by(TOP, "sh", "-c", script, "sh", *names).returncode == 0
 
 
 def take_built(room: pathlib.Path, names: list[str]) -> None:
-    """Gives a repository the libraries among these crates that stand built in this one."""
+    """Copies the built libraries of these crates from this repository to another one."""
     for name in names:
         rlib = pathlib.Path("crates", name, "out", "rlib")
         if (TOP / rlib).exists():
@@ -515,7 +532,7 @@ def take_built(room: pathlib.Path, names: list[str]) -> None:
 
 
 def prove(room: pathlib.Path) -> None:
-    """Proves all crates of a repository, or takes what a kit that keeps its proofs has of them."""
+    """Proves all crates of a repository, or takes the proofs of them that the kit has stored."""
     ran = said_by(room, "sh", str(TOP / "tools" / "lib" / "rt_ci.sh"))
     if ran.returncode:
         print(ran.stdout)
@@ -524,8 +541,9 @@ def prove(room: pathlib.Path) -> None:
 
 @contextlib.contextmanager
 def files_in_memory(number: int) -> Iterator[None]:
-    """Has this many checks at a time write their files in memory, where there is room for them, or in
-    TMPDIR, where that is set."""
+    """Lets this many checks at a time write their files to memory, if there is room for them; or to
+    TMPDIR, if that is set.
+    """
     script = f". tools/lib/memory.sh && folder_for_proofs {number}"
     made = "" if os.environ.get("TMPDIR") else said_by(TOP, "sh", "-c", script).stdout.strip()
     if not os.path.isdir(made):
@@ -547,8 +565,9 @@ def parsed() -> argparse.Namespace:
 
 
 def begin(crate: Crate, groups: list[Group]) -> Tried:
-    """Makes the first check of a crate: of its first group, where that turns functions and all wrong
-    bodies have functions over which they are tried, and else of the crate as it stands."""
+    """Makes the first check of a crate: of its first group, if that group changes functions and all
+    wrong bodies are tried over functions; otherwise of the unchanged crate.
+    """
     first, *others = groups
     has_functions = all(body.to_check() for group in groups for body in group)
     if not has_functions or not first[0].functions:
@@ -563,8 +582,9 @@ def begin(crate: Crate, groups: list[Group]) -> Tried:
 
 
 def try_crate(crate: Crate, groups: list[Group]) -> Tried:
-    """Tries the groups of a crate that turn functions one after another, as each check goes on from the
-    one before. What turns constants and definitions is left."""
+    """Tries the groups of a crate that change functions in sequence, because each check continues
+    from the previous one. Returns the groups that change constants and definitions.
+    """
     refused, left = begin(crate, groups)
     others = [group for group in left if not group[0].functions]
     left = [group for group in left if group[0].functions]
@@ -577,7 +597,7 @@ def try_crate(crate: Crate, groups: list[Group]) -> Tried:
 
 
 def tried(folder: pathlib.Path, names: list[str], jobs: int) -> int:
-    """Tries the wrong bodies of these crates, and tells how many were refused."""
+    """Tries the wrong bodies of these crates, and prints how many were refused."""
     proved, every = folder / "proved", with_below(names)
     lay(proved, every)
     if are_built(every):
@@ -588,7 +608,7 @@ def tried(folder: pathlib.Path, names: list[str], jobs: int) -> int:
     groups = {it: groups_of([it.wrong_body(edit) for edit in edits_of(it.name)]) for it in crates}
     refused = 0
     with concurrent.futures.ThreadPoolExecutor(jobs) as pool:
-        # Those with most to check are begun first, so that none is left alone at the end.
+        # The largest crates start first, so that none of them runs alone at the end.
         crates.sort(key=lambda it: it.size() * len(groups[it]), reverse=True)
         running = {pool.submit(try_crate, it, groups[it]): it for it in crates}
         while running:
@@ -621,7 +641,7 @@ def main() -> int:
         print(f"{applied} of {wanted} wrong bodies can be applied")
         return 0 if applied == wanted else 1
     jobs = int(os.environ.get("JOBS") or os.cpu_count() or 1)
-    # A check keeps the memory that it took, as those of tools/lib/rt_ci.sh do.
+    # A check does not return memory to the system, like the checks of tools/lib/rt_ci.sh.
     os.environ.setdefault("MIMALLOC_PURGE_DELAY", "-1")
     with tempfile.TemporaryDirectory() as folder, files_in_memory(jobs):
         refused = tried(pathlib.Path(folder), names, jobs)

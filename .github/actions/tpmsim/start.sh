@@ -4,15 +4,15 @@
 #   start.sh serve FOLDER       on a Unix socket: TPMSIM_SOCKET
 #   start.sh simulator FOLDER   by Microsoft's protocol: TPMSIM_HOST, TPMSIM_PORT, TPM2TOOLS_TCTI
 #
-# FOLDER is made: it has the socket, the image, the number of the process and what that says. The program is that
-# of dist/ for this machine. The simulator is compiled first, by cc and binutils.
+# The script makes FOLDER, which then has the socket, the image, the process's number and its output. The
+# program is that of dist/ for this machine. The simulator is compiled first, by cc and binutils.
 set -u
 
 top=$(CDPATH='' cd "$(dirname "$0")/../../.." && pwd -P) || exit 1
 program=$top/dist/tpmsim
 [ "$(uname -sm)" != 'Linux aarch64' ] || program=$top/dist/aarch64/tpmsim
 
-# fail REASON: ends the script, with what the device says.
+# fail REASON: ends the script, and prints what the device said.
 fail() {
     echo "$0: $1" >&2
     [ ! -s "$folder/log" ] || cat "$folder/log" >&2
@@ -26,7 +26,7 @@ start() {
     echo "$process" >"$folder/pid"
 }
 
-# waited CONDITION..: waits up to ten seconds until a condition holds, while the program runs.
+# waited CONDITION..: waits up to ten seconds, while the program runs, until a condition holds.
 waited() {
     tries=0
     until "$@"; do

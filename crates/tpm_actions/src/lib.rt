@@ -1,12 +1,13 @@
 #![tactic(auto)]
 
-//! What each command does that is not a command on NV indices: one call for each, under its name.
+//! What each command does, except commands on NV indices: one call per command, with the
+//! command's name.
 //!
-//! The crate only passes these calls on from its parts tpm_actions_device, tpm_actions_policy,
-//! tpm_actions_object and tpm_actions_capability, which have a file for each command.
-//! tpm_nvactions has the commands on NV indices. A call reads the command's plain parameters,
-//! checks them, and changes the record last; it writes the answer into a buffer that its caller
-//! passes, and is proved to be the command's row (TPM 2.0 Library, Part 3).
+//! The crate only re-exports these calls from tpm_actions_device, tpm_actions_policy,
+//! tpm_actions_object and tpm_actions_capability, which have one file per command. The commands
+//! on NV indices are in tpm_nvactions. A call decodes the command's plaintext parameters, checks
+//! them, and changes the record last. It writes the answer into the caller's buffer, and is
+//! proved to do what the command's row specifies (TPM 2.0 Library, Part 3).
 
 pub use tpm_actions_capability::get_capability::get_capability;
 pub use tpm_actions_device::clear::clear;

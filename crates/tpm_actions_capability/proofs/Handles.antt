@@ -1,4 +1,4 @@
--- The texts of handles that were listed.
+-- The encodings of listed handles.
 use Rattle.std.proofs.Common.{◌≡◌, ℕ, List, Result, Ok, Err, ap, ◌∙◌}
 use Rattle.tpm_bytes.specs.Reading.{◌>>=◌}
 use Rattle.tpm_types.specs.declared.refused.Refused.{Refused}

@@ -1,4 +1,4 @@
--- Lists of elements that grow by one element, or by one number.
+-- Lists of elements to which one element, or one number, is added.
 use Rattle.tpm_bytes.specs.Numbers.{numbers_below}
 use Rattle.std.proofs.Common.{arith, ◌≡◌, ℕ, suc, ◌+◌, ◌<◌, List, [], ◌∷◌, ◌++◌, length, map, take, get_or, refl, ap, sym, ◌∙◌, append-nil}
 use Rattle.std.proofs.lemmas.Grind.{flat_map-append}
@@ -8,7 +8,8 @@ use Rattle.std.specs.List.{flat_map}
 below_more : (n : ℕ) → numbers_below (n + 1) ≡ numbers_below n ++ n ∷ []
 below_more n = let next : n + 1 ≡ suc n = omega arith in ap numbers_below next
 
--- the elements for the numbers so far, and that for the next, are those for one number more
+-- adding the element for the next number to the elements for the numbers so far yields those for
+-- one number more
 pub mapped_more : {X : Type 0} (f : ℕ → X) (n : ℕ) (so new : List X) → so ≡ map f (numbers_below n) → new ≡ so ++ f n ∷ [] → new ≡ map f (numbers_below (n + 1))
 mapped_more f n so new is more = more ∙ ap (λ (l : List _). l ++ f n ∷ []) is ∙ sym (map-append f (numbers_below n) (n ∷ [])) ∙ sym (ap (map f) (below_more n))
 
@@ -18,7 +19,8 @@ flat_more f n so new is more = more ∙ ap (λ (l : List _). l ++ f n) is ∙ ap
     one : {X : Type 0} (f : ℕ → List X) (n : ℕ) → flat_map f (n ∷ []) ≡ f n
     one f n = append-nil (f n)
 
--- the elements for the values so far, and that for the next, are those for one value more
+-- adding the element for the next value to the elements for the values so far yields those for
+-- one value more
 pub taken_more : {A X : Type 0} (f : A → X) (xs : List A) (i : ℕ) (d : A) (so new : List X) → i < length xs → so ≡ map f (take i xs) → new ≡ so ++ f (get_or xs i d) ∷ [] → new ≡ map f (take (i + 1) xs)
 taken_more f xs i d so new below is more =
     more ∙ ap (λ (l : List _). l ++ f (get_or xs i d) ∷ []) is ∙ sym (map-append f (take i xs) (get_or xs i d ∷ [])) ∙ sym (ap (map f) (take_more xs i d below))

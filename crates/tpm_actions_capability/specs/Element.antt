@@ -7,15 +7,15 @@ use Rattle.tpm_actions_capability.specs.declared.element.Element.{Element}
 use Rattle.tpm_actions_capability.specs.declared.element.Telling.{Telling}
 use Rattle.tpm_actions_capability.specs.declared.element.Telling.TheVariants as tell
 
--- an element whose own number is listed
+-- an element that is listed as its own number
 abbrev pub by_itself : ℕ → Element
 by_itself number = record { number = number; told = number }
 
--- the list of an element, if that is there, and otherwise the empty list
+-- a list of this element if it exists, otherwise the empty list
 abbrev pub if_there : Bool → Element → List Element
 if_there is_there e = if is_there then e ∷ [] else []
 
--- the text of an element: its value alone, or its number (the property) and its value
+-- the encoding of an element: only its value, or its number (the property) and its value
 abbrev pub told_text : Telling → Element → List ℕ
 told_text tell.Value e = to_be_bytes w32 e.told
 told_text tell.NumberAndValue e = to_be_bytes w32 e.number ++ to_be_bytes w32 e.told
@@ -23,21 +23,21 @@ told_text tell.NumberAndValue e = to_be_bytes w32 e.number ++ to_be_bytes w32 e.
 abbrev pub is_from : ℕ → Element → Bool
 is_from from e = nat_le from e.number
 
--- how many elements there are from a number on, and how many of these are listed: not more than are
--- asked for, and never more than 64
+-- how many elements have at least this number, and how many of these are listed: the requested
+-- number, but at most 64
 abbrev pub found_count : ℕ → List Element → ℕ
 found_count from elements = count_by (is_from from) elements
 
 abbrev pub told_count : (from count : ℕ) → List Element → ℕ
 told_count from count elements = min (found_count from elements) (min count 64)
 
--- the text of the first elements from a number on, at most `count`
+-- the encoding of the first elements whose number is at least this one, at most `count`
 abbrev pub text_of : Telling → (from count : ℕ) → List Element → List ℕ
 text_of telling from count elements =
     flat_map (told_text telling) (take count (filter (is_from from) elements))
 
--- the text of a list: whether there are more elements than are listed (moreData), the capability,
--- how many are listed, and the elements
+-- the encoding of a list: whether more elements follow (moreData), the capability, the number of
+-- listed elements, and the elements
 abbrev pub listing : Telling → (capability from count : ℕ) → List Element → List ℕ
 listing telling capability from count elements =
     (if nat_lt (told_count from count elements) (found_count from elements) then 1 else 0)

@@ -21,7 +21,7 @@ use Rattle.tpm_record.specs.Record.{Record}
 use Rattle.tpm_actions_capability.specs.Element.{by_itself, if_there}
 use Rattle.tpm_actions_capability.specs.declared.element.Element.{Element}
 
--- ---- handles, by the highest byte of the first one that is asked for
+-- ---- handles, by the highest byte of the first requested one
 
 -- the handles of type 00: the PCRs
 abbrev pub pcr_elements : List Element
@@ -43,8 +43,8 @@ permanent_elements =
     ∷ by_itself platform_handle.number
     ∷ []
 
--- the handles of types 02 and 03: the sessions, of whatever type, in the order of their places; the
--- place is compared, and the handle is listed
+-- the handles of types 02 and 03: the sessions of every type, in the order of their slots. The
+-- slot is compared with the property, and the handle is listed
 abbrev pub session_element : Record → (place : ℕ) → List Element
 session_element r place =
     option_map_or (λ (s : Session). record { number = place; told = (handle_of s.kind place).number } ∷ [])
@@ -68,8 +68,8 @@ persistent_elements r = map (λ e. by_itself e.0) r.persistent
 
 -- ---- commands, with their attributes
 
--- the attributes of a command (TPMA_CC): its number in bits 0 to 15, how many handles it has in
--- bits 25 to 27, and whether it answers one in bit 28; the other bits are 0
+-- the attributes of a command (TPMA_CC): its number in bits 0 to 15; the number of its handles in
+-- bits 25 to 27; in bit 28, whether its response contains a handle; the other bits are 0
 abbrev pub command_attributes : CommandCode → ℕ
 command_attributes code =
     code_number code + 2 ^ 25 * length (shape_of code).handles

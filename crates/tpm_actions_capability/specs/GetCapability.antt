@@ -31,7 +31,7 @@ capability_parameters text = do
   ended ← all_read count.1
   Ok (record { capability = capability.0; property = property.0; count = count.0 })
 
--- the capability of this number. A1: it is not served
+-- the capability with this number. A1: it is not supported
 abbrev pub capability_of : ℕ → Result Capability Refused
 capability_of number =
     if number == 1 then Ok capability.Handles
@@ -40,8 +40,8 @@ capability_of number =
     else (if number == 6 then Ok capability.Properties
     else Err (parameter_refusal action.First 1 code.Value))))
 
--- the handles whose highest byte is this one; there are never saved sessions (03). A2: no handle
--- has such a highest byte
+-- the handles with this highest byte; there are never saved sessions (03). A2: no handle type has
+-- this byte
 abbrev pub handle_elements : Record → (kind : ℕ) → Result (List Element) Refused
 handle_elements r kind =
     if kind == 0x00 then Ok pcr_elements
@@ -53,11 +53,11 @@ handle_elements r kind =
     else (if kind == 0x81 then Ok (persistent_elements r)
     else Err (parameter_refusal action.Second 2 code.Handle)))))))
 
--- the number from which on handles are listed; for sessions it is a place
+-- the number where the list of handles starts; for sessions it is a slot
 abbrev pub first_handle_of : ℕ → ℕ
 first_handle_of property = if property / 2 ^ 24 == 0x02 then property % 2 ^ 24 else property
 
--- all PCRs of both banks, whatever is asked for; there are no more
+-- all PCRs of both banks, regardless of the request; there are no others
 abbrev pub all_banks : List BankSelection
 all_banks =
     record { hash = alg.Sha1; select = 0xff_ffff }
@@ -67,7 +67,7 @@ all_banks =
 abbrev pub pcrs_text : List ℕ
 pcrs_text = 0 ∷ to_be_bytes w32 5 ++ selection_text all_banks
 
--- what TPM2_GetCapability answers: moreData, and the capability with its elements
+-- the answer of TPM2_GetCapability: moreData, and the capability with its elements
 abbrev pub told_of : Record → CapabilityParameters → Capability → Result (List ℕ) Refused
 told_of r p capability.Handles = do
   elements ← handle_elements r (p.property / 2 ^ 24)
@@ -84,8 +84,7 @@ get_capability_row r q = do
   text ← told_of r p capability
   Ok (unchanged r (answer_of (Plain text)))
 
--- The code wrote the text or the elements that the definition gives, or refused as the definition
--- does.
+-- The code wrote the text or the elements of the definition, or refused as the definition does.
 abbrev pub Tells : {X : Type 0} → Result X Refused → Result (Unit {0}) Refused → X → Type 0
 Tells (Ok wanted) (Ok done) new = new ≡ wanted
 Tells (Ok wanted) (Err e) new = ⊥

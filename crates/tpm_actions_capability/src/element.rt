@@ -1,5 +1,5 @@
-//! An element of a capability's list, and how a list is answered: from a number on, as many
-//! elements as are asked for (TPM 2.0 Library, Part 3, section 30.2).
+//! An element of a capability's list, and how part of a list is returned: the requested number of
+//! elements, starting at a given number (TPM 2.0 Library, Part 3, section 30.2).
 
 ghost use Rattle.std.specs.Prelude.{◌≡◌, ◌≤◌, ◌+◌, ◌*◌, ◌++◌, List, [], ◌∷◌, length};
 ghost use Rattle.tpm_types.specs.Limits.{answer_limit};
@@ -9,7 +9,7 @@ ghost use Rattle.tpm_actions_capability.specs.declared.element.Element.{Element 
 use arrayvec::ArrayVec;
 use tpm_record::rows::answer::Parameters;
 
-/// The most elements of one answer; no capability ever lists more.
+/// The maximum number of elements in one answer; no capability lists more.
 pub(crate) const ELEMENT_LIMIT: usize = 64;
 
 /// All elements that a capability lists.
@@ -18,12 +18,12 @@ pub(crate) type Elements = ArrayVec<Element, ELEMENT_LIMIT>;
 /// An element that a capability lists.
 #[derive(Clone, Copy, PartialEq, Eq, Default)]
 pub struct Element {
-    /// The number that is compared with the property from which on elements are asked for.
+    /// The number that is compared with the requested property, to find the start of the list.
     pub number: u32,
     pub told: u32,
 }
 
-/// The form in which an element is listed.
+/// How an element is listed.
 #[derive(Clone, Copy, PartialEq, Eq)]
 pub enum Telling {
     Value,
@@ -31,7 +31,7 @@ pub enum Telling {
 }
 
 impl Element {
-    /// An element whose own number is listed.
+    /// An element that is listed as its own number.
     pub(crate) fn by_itself(number: u32) -> Element
         ensures { result ≡ by_itself number }
     {
@@ -59,15 +59,15 @@ impl Element {
     }
 }
 
-/// How many elements of a list there are from a number on.
+/// The number of elements of a list whose number is at least this one.
 fn found_count(elements: &[Element], from: u32) -> usize
     ensures { result ≡ found_count from elements.now }
 {
     elements.iter().filter(|e| e.is_from(from)).count()
 }
 
-/// Writes an element, if its number is not below this one and any is left to be written; gives how
-/// many are left then.
+/// Writes an element if its number is at least this one and the limit is not reached; returns how
+/// many more may be written after it.
 #[tactic(auto, using(crate::proofs::Telling::telling_one))]
 fn tell_if(e: &Element, telling: Telling, from: u32, left: usize, text: &mut Parameters) -> usize
     requires { length text.old + 8 * left ≤ answer_limit }
@@ -83,7 +83,7 @@ fn tell_if(e: &Element, telling: Telling, from: u32, left: usize, text: &mut Par
     left - 1
 }
 
-/// Writes the first elements from a number on, as many as are left to be written.
+/// Writes the first elements whose number is at least this one, up to the limit.
 fn tell_elements(
     elements: &[Element],
     telling: Telling,
@@ -100,7 +100,7 @@ fn tell_elements(
     }
 }
 
-/// Lists the elements of a capability from a number on, as many as are asked for.
+/// Lists the requested number of elements of a capability, starting at a number.
 pub(crate) fn list(
     elements: &[Element],
     telling: Telling,

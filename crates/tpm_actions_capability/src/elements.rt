@@ -28,7 +28,7 @@ pub(crate) fn pcrs(elements: &mut Elements)
     }
 }
 
-/// Lists the handles that always name something.
+/// Lists the permanent handles, which always name something.
 pub(crate) fn permanent(elements: &mut Elements)
     requires { elements.old.items ≡ [] }
     ensures { elements.new.items ≡ permanent_elements }
@@ -41,7 +41,7 @@ pub(crate) fn permanent(elements: &mut Elements)
     elements.push(Element::by_itself(Handle::PLATFORM.number));
 }
 
-/// Lists the session in a place, if there is one.
+/// Lists the session in this slot, if there is one.
 fn session<K: Keep>(keep: &K, place: u32, elements: &mut Elements)
     requires place { place < session_limit }
     requires room { length elements.old.items < 64 }
@@ -57,7 +57,7 @@ fn session<K: Keep>(keep: &K, place: u32, elements: &mut Elements)
     }
 }
 
-/// Lists the sessions, in the order of their places.
+/// Lists the sessions, in the order of their slots.
 #[tactic(auto, using(crate::proofs::Listing::one_more))]
 pub(crate) fn sessions<K: Keep>(keep: &K, elements: &mut Elements)
     requires { elements.old.items ≡ [] }
@@ -68,7 +68,7 @@ pub(crate) fn sessions<K: Keep>(keep: &K, elements: &mut Elements)
     }
 }
 
-/// Lists the transient object in a place, if there is one.
+/// Lists the transient object in this slot, if there is one.
 fn object<K: Keep>(keep: &K, place: u32, elements: &mut Elements)
     requires place { place < object_limit }
     requires room { length elements.old.items < 64 }
@@ -95,7 +95,7 @@ pub(crate) fn objects<K: Keep>(keep: &K, elements: &mut Elements)
     }
 }
 
-/// Lists the handles of things that are kept under ascending handles.
+/// Lists the handles of a container, which is sorted by handle in ascending order.
 #[tactic(auto, using(crate::proofs::Listing::one_more))]
 fn kept<T>(things: &[(u32, T)], elements: &mut Elements)
     requires empty { elements.old.items ≡ [] }
@@ -156,7 +156,7 @@ fn list_commands(codes: &[CommandCode], elements: &mut Elements)
     }
 }
 
-/// Lists the commands that are served.
+/// Lists the implemented commands.
 pub(crate) fn commands(elements: &mut Elements)
     requires { elements.old.items ≡ [] }
     ensures { elements.new.items ≡ command_elements }

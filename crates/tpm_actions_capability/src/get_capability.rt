@@ -1,4 +1,5 @@
-//! TPM2_GetCapability: answers what the device has and is, by its row in `specs/GetCapability`.
+//! TPM2_GetCapability: returns what the device supports and contains, as specified by its row in
+//! `specs/GetCapability`.
 
 ghost use Rattle.std.specs.Prelude.{◌≡◌, []};
 ghost use Rattle.tpm_record.specs.rows.Answer.{IsEmpty};
@@ -33,7 +34,7 @@ pub struct CapabilityParameters {
     count: u32,
 }
 
-/// The capabilities that are served: TPM_CAP of TPM 2.0 Library, Part 2, section 6.12.
+/// The supported capabilities: TPM_CAP of TPM 2.0 Library, Part 2, section 6.12.
 #[derive(Clone, Copy, PartialEq, Eq)]
 pub enum Capability {
     Handles,
@@ -59,7 +60,7 @@ fn read_parameters(parameters: &[u8]) -> Result<CapabilityParameters, Refused>
 }
 
 impl Capability {
-    /// The capability of this number; VALUE where it is not served.
+    /// The capability with this number; VALUE if it is not supported.
     fn of(number: u32) -> Result<Capability, Refused>
         ensures { result ≡ capability_of number }
     {
@@ -73,7 +74,7 @@ impl Capability {
     }
 }
 
-/// Lists the handles with this first byte; HANDLE where no handle has it.
+/// Lists the handles with this highest byte; HANDLE if no handle type has this byte.
 fn handles<K: Keep>(keep: &K, kind: u32, elements: &mut Elements) -> Result<(), Refused>
     requires { elements.old.items ≡ [] }
     ensures { Tells (handle_elements (K.record_of keep.now) kind) result elements.new.items }
@@ -91,7 +92,7 @@ fn handles<K: Keep>(keep: &K, kind: u32, elements: &mut Elements) -> Result<(), 
     Ok(())
 }
 
-/// The number from which on handles are listed; for sessions it is a place.
+/// The number where the list of handles starts; for sessions it is a slot.
 fn first_handle_of(property: u32) -> u32
     ensures { result ≡ first_handle_of property }
 {
@@ -177,7 +178,7 @@ fn tell_properties<K: Keep>(keep: &K, asked: CapabilityParameters, text: &mut Pa
     );
 }
 
-/// TPM2_GetCapability: what the device has and is.
+/// TPM2_GetCapability: returns what the device supports and contains.
 #[tactic(auto, unfolding(crate::specs::GetCapability::get_capability_row))]
 pub fn get_capability<K: Keep>(
     keep: &mut K,

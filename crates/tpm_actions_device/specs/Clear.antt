@@ -1,4 +1,4 @@
--- TPM2_Clear. TPM 2.0 Library, Part 3, section 24.6. After it the computer has another owner.
+-- TPM2_Clear. TPM 2.0 Library, Part 3, section 24.6. It prepares the computer for a new owner.
 use Rattle.tpm_types.specs.declared.action_check.ActionCheck.TheVariants as action
 use Rattle.std.specs.Prelude.{ℕ, false, List, Result, Ok}
 use Rattle.tpm_bytes.specs.Reading.{◌>>=◌, refused_if}
@@ -20,14 +20,14 @@ use Rattle.tpm_record.specs.rows.Refusals.{action_refusal, or_refusal}
 use Rattle.tpm_record.specs.rows.Request.{Request}
 use Rattle.tpm_record.specs.rows.Rows.{Success, all_read}
 
--- lockout after TPM2_Clear: lockoutAuth is open, and no failed try is left; the parameters and the
--- times stay
+-- lockout after TPM2_Clear: lockoutAuth is enabled, and the number of failed tries is 0; the
+-- parameters and the times are unchanged
 abbrev pub cleared_lockout : LockoutState → LockoutState
 cleared_lockout s = with_closed false (with_tries 0 s)
 
--- the fixed part of the record after TPM2_Clear: the hierarchies and lockout are cleared, Clock and
--- the counts begin at 0, and an update of the PCRs is counted; Time and whether TPM2_Clear is
--- refused stay
+-- the fixed part of the record after TPM2_Clear: the hierarchies and lockout are cleared, Clock
+-- and the counts start at 0, and an update of the PCRs is counted; Time is unchanged, and so is
+-- whether TPM2_Clear is disabled
 abbrev pub cleared_fixed : BankValues → List ℕ → Fixed → Fixed
 cleared_fixed banks random f = record f {
   hierarchies = cleared_hierarchies f.hierarchies random;
@@ -39,9 +39,9 @@ cleared_fixed banks random f = record f {
 }
 
 -- authHandle (lockout or the platform) is authorized; no parameters. A1: TPM2_Clear is disabled,
--- for both of these; A2: the update of the PCRs could not be counted. The owner's objects and
--- indices are gone, and so are the endorsement hierarchy's objects; sessions stay, and what is the
--- platform's
+-- for both handles. A2: the update of the PCRs cannot be counted. Effect: removes the owner's
+-- objects and indices, and the endorsement hierarchy's objects; sessions and everything that
+-- belongs to the platform are unchanged
 unfoldable pub clear_row : Record → Request → Result Success Refused
 clear_row r q = do
   ended ← all_read q.parameters

@@ -14,16 +14,16 @@ use Rattle.tpm_record.specs.rows.Refusals.{action_refusal}
 use Rattle.tpm_record.specs.rows.Request.{Request, first_handle}
 use Rattle.tpm_record.specs.rows.Rows.{Success, only}
 
--- the record in which TPM2_Clear is disabled, or is not
+-- the record with TPM2_Clear disabled, or enabled
 abbrev pub with_disable_clear : Record → Bool → Record
 with_disable_clear r disables = record r { fixed = record r.fixed { disable_clear = disables } }
 
--- whether lockout asks that TPM2_Clear be enabled, which only the platform may do
+-- whether lockout tries to enable TPM2_Clear, which only the platform may do
 abbrev pub is_enabled_by_lockout : Handle → (disables : Bool) → Bool
 is_enabled_by_lockout handle disables = handle.number == lockout_handle.number && not disables
 
--- authHandle (lockout or the platform) is authorized; parameter disable. A1: lockout may not enable
--- TPM2_Clear; this refusal is no failed try
+-- authHandle (lockout or the platform) is authorized; parameter disable. A1: lockout tries to
+-- enable TPM2_Clear. This refusal does not count as a failed try
 unfoldable pub clear_control_row : Record → Request → Result Success Refused
 clear_control_row r q = do
   handle ← first_handle q.handles

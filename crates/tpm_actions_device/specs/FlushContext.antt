@@ -16,8 +16,7 @@ use Rattle.tpm_record.specs.rows.Answer.{nothing}
 use Rattle.tpm_record.specs.rows.Refusals.{parameter_refusal}
 use Rattle.tpm_record.specs.rows.Rows.{Success, only}
 
--- whether a handle has the type of something that can be flushed: a session (02, 03) or a transient
--- object (80)
+-- whether a handle has a type that can be flushed: a session (02, 03) or a transient object (80)
 abbrev pub can_be_flushed : Handle → Bool
 can_be_flushed handle = is_session handle || is_transient handle
 
@@ -25,7 +24,7 @@ can_be_flushed handle = is_session handle || is_transient handle
 abbrev pub is_loaded : Record → Handle → Bool
 is_loaded r handle = is_some (session_at r.sessions handle) || is_some (object_at r.objects handle)
 
--- the record without the session of a handle, or without the transient object of a handle
+-- the record without the session, or without the transient object, with this handle
 abbrev pub flushed_from : Record → Handle → (of_session : Bool) → Record
 flushed_from r handle true = record r { sessions = flushed r.sessions handle }
 flushed_from r handle false = record r { objects = without_object r.objects handle }
@@ -36,8 +35,8 @@ flushed_handle text = do
   number ← only (or_fault (number_at w32 text) (plain code.Insufficient))
   Ok (numbered number)
 
--- parameter flushHandle. A1: it is the handle of neither a session nor a transient object; A2:
--- nothing that is loaded has this handle
+-- parameter flushHandle. A1: it is not the handle of a session or a transient object. A2: no
+-- session or object with this handle is loaded
 unfoldable pub flush_context_row : Record → Request → Result Success Refused
 flush_context_row r q = do
   handle ← flushed_handle q.parameters

@@ -1,5 +1,5 @@
--- What the commands that change PCRs share: a PCR is changed, and on TPM_RH_NULL nothing is checked
--- or changed.
+-- What the commands that change PCRs have in common: they change a PCR; with TPM_RH_NULL they
+-- check and change nothing.
 use Rattle.tpm_types.specs.declared.action_check.ActionCheck.TheVariants as action
 use Rattle.std.specs.Prelude.{ℕ, Option, Some, None, Result, Ok, Err}
 use Rattle.tpm_pcr.specs.Values.{BankValues}
@@ -11,8 +11,8 @@ use Rattle.tpm_record.specs.Record.{Record}
 use Rattle.tpm_types.specs.declared.refused.Refused.{Refused}
 use Rattle.tpm_record.specs.rows.Refusals.{action_refusal}
 
--- the refusal of a change of a PCR. A1: the PCR does not allow this change from this locality; A2:
--- the updates could not be counted
+-- the refusal to change a PCR. A1: the PCR does not allow this change from this locality. A2: the
+-- updates cannot be counted
 abbrev pub change_refusal : ChangeFault → Refused
 change_refusal Locality = action_refusal action.First (plain code.Locality)
 change_refusal Failure = action_refusal action.Second (plain code.Failure)
@@ -26,6 +26,6 @@ abbrev pub on_pcr : Option ℕ → (ℕ → BankValues → Result BankValues Cha
 on_pcr None change banks = Ok banks
 on_pcr (Some pcr) change banks = change_row (change pcr banks)
 
--- the record with other banks
+-- the record with its banks replaced
 abbrev pub with_banks : Record → BankValues → Record
 with_banks r banks = record r { fixed = record r.fixed { banks = banks } }

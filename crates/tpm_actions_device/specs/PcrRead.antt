@@ -13,16 +13,16 @@ use Rattle.tpm_record.specs.rows.Request.{Request}
 use Rattle.tpm_record.specs.rows.Answer.{Plain, answer_of}
 use Rattle.tpm_record.specs.rows.Rows.{Success, only, unchanged}
 
--- the text of the update counter modulo 2^32, and of the first eight selected values with the
--- selection of just these
+-- the encoded update counter modulo 2^32, a selection of the first eight selected PCRs, and their
+-- values
 abbrev pub reading_text : BankValues → List BankSelection → List ℕ
 reading_text banks selection =
     to_be_bytes w32 (banks.update_count % 2 ^ 32)
     ++ selection_text (answer_selection 8 selection)
     ++ digest_list_text (read_values banks 8 selection)
 
--- parameter pcrSelectionIn; answered: the update counter, the selection of what is read, and its
--- values
+-- parameter pcrSelectionIn; returned: the update counter, the selection of the PCRs that are
+-- read, and their values
 unfoldable pub pcr_read_row : Record → Request → Result Success Refused
 pcr_read_row r q = do
   selection ← only (selection_at q.parameters)

@@ -12,7 +12,7 @@ use Rattle.tpm_actions_device.specs.PcrChange.{on_pcr, with_banks}
 use Rattle.tpm_record.specs.rows.Answer.{nothing}
 use Rattle.tpm_record.specs.rows.Rows.{Success, all_read}
 
--- the banks after a PCR was reset to zeros from this locality
+-- the banks after a PCR is reset to zeros from this locality
 abbrev pub made_zeros : Handle → (locality : ℕ) → BankValues → Result BankValues Refused
 made_zeros handle locality = on_pcr (pcr_of handle) (λ pcr. reset_of pcr locality)
 

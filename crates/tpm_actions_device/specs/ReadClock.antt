@@ -10,7 +10,7 @@ use Rattle.tpm_record.specs.rows.Answer.{Plain, answer_of}
 use Rattle.tpm_record.specs.rows.Request.{Request}
 use Rattle.tpm_record.specs.rows.Rows.{Success, all_read, unchanged}
 
--- what TPM2_ReadClock answers: Time; Clock, the counts of resets and of restarts; and that Clock
+-- the answer of TPM2_ReadClock: Time; Clock; the numbers of resets and restarts; and that Clock
 -- never went back (yes)
 abbrev pub time_text : Fixed → List ℕ
 time_text f =
@@ -20,7 +20,7 @@ time_text f =
     ++ to_be_bytes w32 f.restart_count
     ++ 1 ∷ []
 
--- no parameters; answered: Time and the clock's values
+-- no parameters; returned: Time and the clock's values
 unfoldable pub read_clock_row : Record → Request → Result Success Refused
 read_clock_row r q = do
   ended ← all_read q.parameters

@@ -8,7 +8,7 @@ use Rattle.tpm_record.specs.rows.Answer.{nothing}
 use Rattle.tpm_record.specs.rows.Request.{Request}
 use Rattle.tpm_record.specs.rows.Rows.{Success, only, unchanged}
 
--- parameter fullTest. All tests have passed already, so there is nothing to do
+-- parameter fullTest. All tests have already passed, so there is nothing to do
 unfoldable pub self_test_row : Record → Request → Result Success Refused
 self_test_row r q = do
   full_test ← only (yes_no_at q.parameters)

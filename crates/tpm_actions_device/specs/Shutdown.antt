@@ -9,7 +9,7 @@ use Rattle.tpm_record.specs.rows.Answer.{nothing}
 use Rattle.tpm_record.specs.rows.Request.{Request}
 use Rattle.tpm_record.specs.rows.Rows.{Success, only}
 
--- parameter shutdownType; what the command saves takes the place of what was saved before
+-- parameter shutdownType; the newly saved state replaces what was saved before
 unfoldable pub shutdown_row : Record → Request → Result Success Refused
 shutdown_row r q = do
   type ← only (startup_type_at q.parameters)

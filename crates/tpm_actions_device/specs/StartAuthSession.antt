@@ -61,13 +61,14 @@ parameters_in text = do
     hash = hash.0;
   })
 
--- whether a session that encrypts by XOR would make its masks by another hash than its own
+-- whether the session encrypts by XOR and would compute its masks with a hash other than its own
 abbrev pub has_other_mask : SymmetricDefinition → HashAlg → Bool
 has_other_mask (symmetric.Xor mask) hash = not (hash_number mask == hash_number hash)
 has_other_mask other hash = false
 
--- the command's own checks of its parameters. A1: nonceCaller has fewer than 16 bytes, or more than
--- a digest; A2: there is a salt, and no key to decrypt it; A3: the hash of XOR is not authHash
+-- the command's own checks of its parameters. A1: nonceCaller is shorter than 16 bytes, or longer
+-- than a digest. A2: there is a salt, but no key to decrypt it. A3: the hash of XOR is not
+-- authHash
 unfoldable pub parameters_pass : Parameters → Result (Unit {0}) Refused
 parameters_pass p = do
   a1 ← refused_if (not (is_nonce_size p.hash (length p.nonce_caller)))
@@ -75,7 +76,7 @@ parameters_pass p = do
   a2 ← refused_if (not (length p.salt == 0)) (parameter_refusal action.Second 2 code.Value)
   refused_if (has_other_mask p.symmetric p.hash) (parameter_refusal action.Third 4 code.Hash)
 
--- what a session is bound to: the entity as it is now, or nothing where bind is TPM_RH_NULL
+-- the binding of a session: the entity in its current state, or nothing if bind is TPM_RH_NULL
 unfoldable pub binding_of : Record → Handle → Option Binding
 binding_of r bind =
     if bind.number == null_handle.number then None
@@ -85,16 +86,17 @@ binding_of r bind =
       protection = protection_of r bind;
     })
 
--- the session that is started with this binding and this nonceTPM
+-- the new session with this binding and this nonceTPM
 abbrev pub session_with : Parameters → Option Binding → List ℕ → Session
 session_with p binding nonce = new_session p.kind p.hash p.symmetric binding nonce p.nonce_caller
 
--- the place that a new session takes. A4: no place is free
+-- the slot of a new session. A4: no slot is free
 abbrev pub session_place : List (Option Session) → Result ℕ Refused
 session_place sessions =
     ok_or (lowest_free sessions) (action_refusal action.Fourth (plain code.SessionMemory))
 
--- the answer: the handle of the new session in its place, and its nonceTPM, which was drawn
+-- the answer: the handle of the new session in its slot, and its nonceTPM, drawn from the random
+-- bytes
 abbrev pub start_answer : Parameters → Session → ℕ → AnswerParts
 start_answer p s place = record {
   handle = Some (handle_of s.kind place);
@@ -102,8 +104,8 @@ start_answer p s place = record {
   drawn = length p.nonce_caller;
 }
 
--- handles tpmKey, which is TPM_RH_NULL, and bind; the session takes the lowest free place, and its
--- nonceTPM, of the size of nonceCaller, is the front of the random bytes
+-- handles tpmKey, which is TPM_RH_NULL, and bind. The session takes the lowest free slot. Its
+-- nonceTPM is as long as nonceCaller, and consists of the first random bytes
 unfoldable pub start_auth_session_row : Record → Request → Result Success Refused
 start_auth_session_row r q = do
   bind ← second_handle q.handles

@@ -26,8 +26,8 @@ use Rattle.tpm_record.specs.rows.Rows.{Success, only}
 use Rattle.tpm_actions_device.specs.declared.startup.Start.{Start}
 use Rattle.tpm_actions_device.specs.declared.startup.Start.TheVariants.{Reset, Restart, Resume}
 
--- what a startup is: with CLEAR it is a TPM Restart where a state was saved, and otherwise a TPM
--- Reset; with STATE it is a TPM Resume where a state was saved. A1: no state was saved
+-- the kind of a startup. If a state was saved, CLEAR is a TPM Restart, and STATE is a TPM Resume;
+-- otherwise CLEAR is a TPM Reset. A1: STATE, and no state was saved
 abbrev pub start_of : StartupType → SavedKind → Result Start Refused
 start_of type.Clear saved.Nothing = Ok Reset
 start_of type.Clear saved.Clear = Ok Reset
@@ -38,12 +38,12 @@ start_of type.State saved.State = Ok Resume
 
 -- ---- what every startup does
 
--- a count of startups rises to 2^32 - 1, and no further
+-- a count of startups increases up to 2^32 - 1, and then stays there
 abbrev pub counted_up : ℕ → ℕ
 counted_up count = min (count + 1) (2 ^ 32 - 1)
 
--- the fixed part after every startup: the device is started, and its updates of PCRs are counted
--- from 0
+-- the fixed part after every startup: the device is started, and its PCR updates are counted from
+-- 0
 abbrev pub begun_with : BankValues → Fixed → Fixed
 begun_with banks f = record f { started = true; banks = record banks { update_count = 0 } }
 
@@ -53,18 +53,20 @@ begun_with banks f = record f { started = true; banks = record banks { update_co
 abbrev pub without_platform_auth : Hierarchies → Hierarchies
 without_platform_auth h = with_hierarchy_auth h auth.Platform []
 
--- the hierarchies after a TPM Reset: the null hierarchy, too, has a new seed and a new proof, the
--- first 64 random bytes (Part 1, sections 14.3 and 14.4)
+-- the hierarchies after a TPM Reset: platformAuth is empty, and the null hierarchy has a new seed
+-- and a new proof, taken from the first 64 random bytes (Part 1, sections 14.3 and 14.4)
 abbrev pub reset_hierarchies : Hierarchies → List ℕ → Hierarchies
 reset_hierarchies h random = record (without_platform_auth h) {
   null = record { seed = take 32 random; proof = take 32 (drop 32 random) };
 }
 
--- lockout after a TPM Reset: lockoutAuth is open where a lockoutRecovery of 0 lets no time open it
+-- lockout after a TPM Reset: lockoutAuth is enabled if lockoutRecovery is 0, because then no
+-- elapsed time would enable it
 abbrev pub reset_lockout : LockoutState → LockoutState
 reset_lockout s = if s.fields.lockout_recovery == 0 then with_closed false s else s
 
--- the fixed part after a TPM Reset: one reset more is counted, and no restart or resume since
+-- the fixed part after a TPM Reset: the reset count is incremented, and the count of restarts
+-- since is 0
 abbrev pub reset_fixed : Fixed → List ℕ → Fixed
 reset_fixed f random = record (begun_with f.banks f) {
   hierarchies = reset_hierarchies f.hierarchies random;
@@ -73,14 +75,14 @@ reset_fixed f random = record (begun_with f.banks f) {
   restart_count = 0;
 }
 
--- the fixed part after a TPM Restart: one restart more is counted
+-- the fixed part after a TPM Restart: the restart count is incremented
 abbrev pub restart_fixed : Fixed → Fixed
 restart_fixed f = record (begun_with f.banks f) {
   hierarchies = without_platform_auth f.hierarchies;
   restart_count = counted_up f.restart_count;
 }
 
--- the fixed part after a TPM Resume, which counts as a restart: the PCRs are those that were saved
+-- the fixed part after a TPM Resume, which counts as a restart: the PCRs have their saved values
 abbrev pub resume_fixed : Fixed → Fixed
 resume_fixed f = record (begun_with (restored_from f.saved f.banks) f) {
   restart_count = counted_up f.restart_count;
@@ -88,21 +90,21 @@ resume_fixed f = record (begun_with (restored_from f.saved f.banks) f) {
 
 -- ---- the row of TPM2_Startup
 
--- the record after a startup: one with CLEAR has its effects on NV indices, and a resume has none
+-- the record after a startup: CLEAR changes NV indices, and a resume does not
 abbrev pub started_record : Start → Record → List ℕ → Record
 started_record Reset r random =
     record r { fixed = reset_fixed r.fixed random; nv = started r.nv }
 started_record Restart r random = record r { fixed = restart_fixed r.fixed; nv = started r.nv }
 started_record Resume r random = record r { fixed = resume_fixed r.fixed }
 
--- how many random bytes a startup draws: a reset draws a seed and a proof
+-- the number of random bytes that a startup draws: a reset draws a seed and a proof
 abbrev pub start_draws : Start → ℕ
 start_draws Reset = 64
 start_draws Restart = 0
 start_draws Resume = 0
 
--- parameter startupType, from whatever locality. A1: there is no state to be restored. What was
--- saved is cancelled, as by any success that does not keep it
+-- parameter startupType, from any locality. A1: there is no state to restore. The saved state is
+-- discarded, as by any other successful command that does not preserve it
 unfoldable pub startup_row : Record → Request → Result Success Refused
 startup_row r q = do
   type ← only (startup_type_at q.parameters)

@@ -1,5 +1,5 @@
-//! TPM2_Clear: removes what is the owner's and the endorsement hierarchy's, by its row in
-//! `specs/Clear`.
+//! TPM2_Clear: removes what belongs to the owner and the endorsement hierarchy, as specified by
+//! its row in `specs/Clear`.
 
 ghost use Rattle.std.specs.Prelude.{◌≡◌};
 ghost use Rattle.tpm_record.specs.rows.Answer.{IsEmpty};
@@ -16,12 +16,12 @@ use tpm_record::rows::refusals::action_refusal;
 use tpm_record::{Fixed, Keep, PersistentObjects};
 use tpm_types::{ActionCheck, Refused, ResponseCode};
 
-/// How many random bytes TPM2_Clear draws: the owner's seed and proof, and the endorsement
-/// hierarchy's proof.
+/// The number of random bytes that TPM2_Clear draws: the owner's seed and proof, and the
+/// endorsement hierarchy's proof.
 const CLEAR_DRAWS: usize = 3 * 32;
 
-/// Does to the part of the state that does not grow what TPM2_Clear does, once it is counted as an
-/// update of the PCRs.
+/// Clears the part of the state that has a fixed size, after counting the clear as an update of
+/// the PCRs.
 fn clear_fixed(fixed: &mut Fixed, random: &[u8; 256])
     ensures { fixed.new ≡ cleared_fixed fixed.old.banks random.now fixed.old }
 {
@@ -33,8 +33,8 @@ fn clear_fixed(fixed: &mut Fixed, random: &[u8; 256])
     fixed.restart_count = 0;
 }
 
-/// TPM2_Clear: removes what is the owner's and the endorsement hierarchy's; DISABLED where
-/// TPM2_ClearControl refused it, FAILURE where the update of the PCRs could not be counted.
+/// TPM2_Clear: removes what belongs to the owner and the endorsement hierarchy. Returns DISABLED
+/// if TPM2_ClearControl disabled it, and FAILURE if the update of the PCRs cannot be counted.
 #[tactic(auto, unfolding(crate::specs::Clear::clear_row))]
 pub fn clear<K: Keep>(keep: &mut K, call: &Call, answer: &mut Answer) -> Result<(), Refused>
     requires { IsEmpty answer.old }

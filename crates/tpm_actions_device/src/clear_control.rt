@@ -1,4 +1,5 @@
-//! TPM2_ClearControl: disables TPM2_Clear or enables it again, by its row in `specs/ClearControl`.
+//! TPM2_ClearControl: disables or enables TPM2_Clear, as specified by its row in
+//! `specs/ClearControl`.
 
 ghost use Rattle.std.specs.Prelude.{◌≡◌};
 ghost use Rattle.tpm_record.specs.rows.Answer.{IsEmpty};
@@ -14,7 +15,7 @@ use tpm_record::rows::reading::{end, parameter};
 use tpm_record::rows::refusals::action_refusal;
 use tpm_types::{ActionCheck, Handle, Refused, ResponseCode, read_yes_no};
 
-/// TPM2_ClearControl: disables TPM2_Clear, or enables it again; AUTH_FAIL where lockout asks to
+/// TPM2_ClearControl: disables or enables TPM2_Clear. Returns AUTH_FAIL if lockout tries to
 /// enable it.
 #[tactic(auto, unfolding(crate::specs::ClearControl::clear_control_row))]
 pub fn clear_control<K: Keep>(

@@ -1,4 +1,4 @@
-//! TPM2_DictionaryAttackLockReset: forgets all failed tries, by its row in
+//! TPM2_DictionaryAttackLockReset: resets the number of failed tries, as specified by its row in
 //! `specs/DictionaryAttackLockReset`.
 
 ghost use Rattle.tpm_record.specs.rows.Answer.{IsEmpty};
@@ -13,7 +13,7 @@ use tpm_record::rows::call::Call;
 use tpm_record::rows::reading::end;
 use tpm_types::Refused;
 
-/// TPM2_DictionaryAttackLockReset: forgets all failed tries.
+/// TPM2_DictionaryAttackLockReset: resets the number of failed tries.
 #[tactic(auto, unfolding(crate::specs::DictionaryAttackLockReset::dictionary_attack_lock_reset_row))]
 pub fn dictionary_attack_lock_reset<K: Keep>(
     keep: &mut K,

@@ -1,5 +1,5 @@
-//! TPM2_DictionaryAttackParameters: sets how many failed tries lock, and the two times, by its row
-//! in `specs/DictionaryAttackParameters`.
+//! TPM2_DictionaryAttackParameters: sets the number of failed tries before lockout, and the two
+//! times, as specified by its row in `specs/DictionaryAttackParameters`.
 
 ghost use Rattle.std.specs.Prelude.{◌≡◌};
 ghost use Rattle.tpm_record.specs.rows.Answer.{IsEmpty};
@@ -38,8 +38,8 @@ fn read_parameters(parameters: &[u8]) -> Result<AttackParameters, Refused>
     })
 }
 
-/// TPM2_DictionaryAttackParameters: how many failed tries lock, how soon one is forgiven, and how
-/// long a failed try closes lockoutAuth.
+/// TPM2_DictionaryAttackParameters: sets how many failed tries cause lockout, after how long one
+/// is forgiven, and for how long a failed try disables lockoutAuth.
 #[tactic(auto, unfolding(crate::specs::DictionaryAttackParameters::dictionary_attack_parameters_row))]
 pub fn dictionary_attack_parameters<K: Keep>(
     keep: &mut K,

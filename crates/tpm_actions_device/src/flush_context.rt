@@ -1,4 +1,4 @@
-//! TPM2_FlushContext: ends a session or removes a transient object, by its row in
+//! TPM2_FlushContext: ends a session or removes a transient object, as specified by its row in
 //! `specs/FlushContext`.
 
 ghost use Rattle.std.specs.Prelude.{◌≡◌};
@@ -22,7 +22,7 @@ fn can_be_flushed(handle: Handle) -> bool
     handle.is_session() || handle.is_transient()
 }
 
-/// Ends the session of a handle, or removes its transient object.
+/// Ends the session, or removes the transient object, with this handle.
 fn flush<K: Keep>(keep: &mut K, handle: Handle)
     ensures { K.record_of keep.new
         ≡ flushed_from (K.record_of keep.old) handle (is_session handle) }

@@ -1,4 +1,5 @@
-//! TPM2_GetRandom: answers random bytes, at most 32, by its row in `specs/GetRandom`.
+//! TPM2_GetRandom: returns random bytes, at most 32, as specified by its row in
+//! `specs/GetRandom`.
 
 ghost use Rattle.tpm_record.specs.rows.Answer.{IsEmpty};
 ghost use Rattle.tpm_actions_device.specs.GetRandom.{get_random_row};
@@ -12,10 +13,10 @@ use tpm_record::rows::call::Call;
 use tpm_record::rows::reading::{end, number};
 use tpm_types::Refused;
 
-/// The most bytes that one TPM2_GetRandom answers.
+/// The maximum number of bytes that one TPM2_GetRandom returns.
 const RANDOM_LIMIT: usize = 32;
 
-/// TPM2_GetRandom: as many random bytes as are asked for, at most 32.
+/// TPM2_GetRandom: returns the requested number of random bytes, at most 32.
 #[tactic(auto, unfolding(crate::specs::GetRandom::get_random_row))]
 pub fn get_random<K: Keep>(_keep: &mut K, call: &Call, answer: &mut Answer) -> Result<(), Refused>
     requires { IsEmpty answer.old }

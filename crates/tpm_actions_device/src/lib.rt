@@ -1,12 +1,13 @@
 #![tactic(auto)]
 
 //! What each command on the device itself does: startup and shutdown, random bytes, the clock,
-//! PCRs, sessions, hierarchies and lockout. A file has one command, with one public call that reads
-//! its plain parameters, checks them, and changes the record last (TPM 2.0 Library, Part 3).
+//! PCRs, sessions, hierarchies and lockout. Each file contains one command with one public call.
+//! The call decodes the plaintext parameters, checks them, and changes the record last (TPM 2.0
+//! Library, Part 3).
 //!
-//! The crate uses `tpm_record::rows`. `specs/` has a row for each command under the same name; each
-//! call is proved to be its row, for each way of keeping the record, and a refusal leaves the
-//! record.
+//! The crate uses `tpm_record::rows`. `specs/` contains a row for each command, with the same
+//! name. Each call is proved to do what its row specifies, for every implementation of the
+//! record. A refusal leaves the record unchanged.
 
 pub mod clear;
 pub mod clear_control;

@@ -1,5 +1,5 @@
-//! TPM2_PCR_Read: answers the update counter and the values of the first eight selected PCRs, by
-//! its row in `specs/PcrRead`.
+//! TPM2_PCR_Read: returns the update counter and the values of the first eight selected PCRs, as
+//! specified by its row in `specs/PcrRead`.
 
 ghost use Rattle.std.specs.Prelude.{◌≡◌, ◌++◌, ◌%◌, ◌^◌, []};
 ghost use Rattle.std.specs.Int.{w32, to_be_bytes};
@@ -30,8 +30,8 @@ fn write_reading(update_count: u64, reading: &PcrReading, answer: &mut Parameter
     reading.values.append_to(answer);
 }
 
-/// TPM2_PCR_Read: the update counter, and the values of the first eight PCRs of a selection, with
-/// the selection of just these.
+/// TPM2_PCR_Read: returns the update counter, the values of the first eight selected PCRs, and a
+/// selection of exactly these PCRs.
 #[tactic(auto, unfolding(crate::specs::PcrRead::pcr_read_row))]
 pub fn pcr_read<K: Keep>(keep: &mut K, call: &Call, answer: &mut Answer) -> Result<(), Refused>
     requires { IsEmpty answer.old }

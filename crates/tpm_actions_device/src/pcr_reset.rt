@@ -1,4 +1,5 @@
-//! TPM2_PCR_Reset: makes a PCR zeros in both banks, by its row in `specs/PcrReset`.
+//! TPM2_PCR_Reset: resets a PCR to zeros in both banks, as specified by its row in
+//! `specs/PcrReset`.
 
 ghost use Rattle.std.specs.Prelude.{◌≡◌};
 ghost use Rattle.tpm_actions_device.specs.PcrReset.{pcr_reset_row};
@@ -14,7 +15,7 @@ use tpm_record::rows::call::Call;
 use tpm_record::rows::reading::end;
 use tpm_types::Refused;
 
-/// TPM2_PCR_Reset: makes a PCR zeros in both banks.
+/// TPM2_PCR_Reset: resets a PCR to zeros in both banks.
 #[tactic(auto, unfolding(crate::specs::PcrReset::pcr_reset_row))]
 pub fn pcr_reset<K: Keep>(keep: &mut K, call: &Call, _answer: &mut Answer) -> Result<(), Refused>
     requires { IsEmpty _answer.old }

@@ -1,5 +1,5 @@
-//! TPM2_ReadClock: answers Time, Clock, and the counts of resets and restarts, by its row in
-//! `specs/ReadClock`.
+//! TPM2_ReadClock: returns Time, Clock, and the numbers of resets and restarts, as specified by
+//! its row in `specs/ReadClock`.
 
 ghost use Rattle.std.specs.Prelude.{◌≡◌};
 ghost use Rattle.tpm_record.specs.rows.Answer.{IsEmpty};
@@ -14,7 +14,8 @@ use tpm_record::rows::call::Call;
 use tpm_record::rows::reading::end;
 use tpm_types::Refused;
 
-/// TPM2_ReadClock: Time, Clock, and the counts of resets and of restarts. Clock never goes back.
+/// TPM2_ReadClock: returns Time, Clock, and the numbers of resets and restarts. Clock never goes
+/// back.
 #[tactic(auto, unfolding(crate::specs::ReadClock::read_clock_row))]
 pub fn read_clock<K: Keep>(keep: &mut K, call: &Call, answer: &mut Answer) -> Result<(), Refused>
     requires { IsEmpty answer.old }

@@ -1,4 +1,5 @@
-//! TPM2_SelfTest: does nothing, as all tests have passed already, by its row in `specs/SelfTest`.
+//! TPM2_SelfTest: does nothing, as specified by its row in `specs/SelfTest`, because all tests
+//! have already passed.
 
 ghost use Rattle.std.specs.Prelude.{◌≡◌};
 ghost use Rattle.tpm_record.specs.rows.Answer.{IsEmpty};
@@ -13,7 +14,7 @@ use tpm_record::rows::call::Call;
 use tpm_record::rows::reading::{end, parameter};
 use tpm_types::{Refused, read_yes_no};
 
-/// TPM2_SelfTest: all tests have passed already.
+/// TPM2_SelfTest: does nothing, because all tests have already passed.
 #[tactic(auto, unfolding(crate::specs::SelfTest::self_test_row))]
 pub fn self_test<K: Keep>(_keep: &mut K, call: &Call, _answer: &mut Answer) -> Result<(), Refused>
     requires { IsEmpty _answer.old }

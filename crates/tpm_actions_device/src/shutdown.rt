@@ -1,4 +1,5 @@
-//! TPM2_Shutdown: saves what the next TPM2_Startup takes up, by its row in `specs/Shutdown`.
+//! TPM2_Shutdown: saves the state that the next TPM2_Startup uses, as specified by its row in
+//! `specs/Shutdown`.
 
 ghost use Rattle.std.specs.Prelude.{◌≡◌};
 ghost use Rattle.tpm_record.specs.rows.Answer.{IsEmpty};
@@ -13,8 +14,8 @@ use tpm_record::rows::call::Call;
 use tpm_record::rows::reading::{end, parameter};
 use tpm_types::{Refused, StartupType};
 
-/// TPM2_Shutdown: saves what the next TPM2_Startup takes up, with STATE the values of the PCRs 0 to
-/// 15.
+/// TPM2_Shutdown: saves the state that the next TPM2_Startup uses; with STATE, it includes the
+/// values of PCRs 0 to 15.
 #[tactic(auto, unfolding(crate::specs::Shutdown::shutdown_row))]
 pub fn shutdown<K: Keep>(keep: &mut K, call: &Call, _answer: &mut Answer) -> Result<(), Refused>
     requires { IsEmpty _answer.old }

@@ -1,5 +1,5 @@
-//! TPM2_StartAuthSession: starts a session, bound to an entity or unbound, by its row in
-//! `specs/StartAuthSession`.
+//! TPM2_StartAuthSession: starts a session, bound to an entity or unbound, as specified by its
+//! row in `specs/StartAuthSession`.
 
 ghost use Rattle.tpm_bytes.specs.Reading.{Gives};
 ghost use Rattle.std.specs.Prelude.{◌≡◌, ◌≤◌, true, length, IfOk, OnOk};
@@ -53,7 +53,8 @@ fn read_parameters(parameters: &[u8]) -> Result<SessionParameters, Refused>
     })
 }
 
-/// Whether a session that encrypts by XOR would make its masks by another hash than its own.
+/// Whether the session encrypts by XOR and would compute its masks with a hash other than its
+/// own.
 fn has_other_mask(symmetric: SymmetricDefinition, hash: HashAlg) -> bool
     ensures { result ≡ has_other_mask symmetric hash }
 {

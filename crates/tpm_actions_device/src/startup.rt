@@ -1,5 +1,5 @@
-//! TPM2_Startup: starts the device by a TPM Reset, a TPM Restart or a TPM Resume, by its row in
-//! `specs/Startup`.
+//! TPM2_Startup: starts the device by a TPM Reset, a TPM Restart or a TPM Resume, as specified by
+//! its row in `specs/Startup`.
 
 ghost use Rattle.std.specs.Prelude.{◌≡◌};
 ghost use Rattle.tpm_record.specs.rows.Answer.{IsEmpty};
@@ -18,7 +18,7 @@ use tpm_record::rows::refusals::parameter_refusal;
 use tpm_record::{Fixed, Hierarchies, Keep, SavedKind, Secrets};
 use tpm_types::{ActionCheck, AuthValue, HierarchyAuth, Refused, ResponseCode, StartupType};
 
-/// How many random bytes a TPM Reset draws: a seed and a proof.
+/// The number of random bytes that a TPM Reset draws: a seed and a proof.
 const RESET_DRAWS: usize = 64;
 
 /// Empties platformAuth.
@@ -28,7 +28,7 @@ fn empty_platform_auth(hierarchies: &mut Hierarchies)
     hierarchies.set_auth_value(HierarchyAuth::Platform, AuthValue::empty());
 }
 
-/// Empties platformAuth, and gives the null hierarchy a new seed and a new proof.
+/// Empties platformAuth, and draws a new seed and a new proof for the null hierarchy.
 fn reset_hierarchies(hierarchies: &mut Hierarchies, random: &[u8; 256])
     ensures { hierarchies.new ≡ reset_hierarchies hierarchies.old random.now }
 {
@@ -39,7 +39,7 @@ fn reset_hierarchies(hierarchies: &mut Hierarchies, random: &[u8; 256])
     hierarchies.null = Secrets { seed, proof };
 }
 
-/// Opens lockoutAuth where a lockoutRecovery of 0 lets no time open it.
+/// Enables lockoutAuth if lockoutRecovery is 0, because then no elapsed time would enable it.
 fn reset_lockout(lockout: &mut Lockout)
     ensures { lockout.new ≡ reset_lockout lockout.old }
 {
@@ -48,19 +48,20 @@ fn reset_lockout(lockout: &mut Lockout)
     }
 }
 
-/// What a startup is (TPM 2.0 Library, Part 1, section 12.2.3).
+/// The kind of a startup (TPM 2.0 Library, Part 1, section 12.2.3).
 #[derive(Clone, Copy, PartialEq, Eq)]
 pub enum Start {
-    /// TPM Reset: a startup with CLEAR, where no state was saved.
+    /// TPM Reset: a startup with CLEAR, if no state was saved.
     Reset,
-    /// TPM Restart: a startup with CLEAR, where a state was saved.
+    /// TPM Restart: a startup with CLEAR, if a state was saved.
     Restart,
-    /// TPM Resume: a startup with STATE, where a state was saved.
+    /// TPM Resume: a startup with STATE, if a state was saved.
     Resume,
 }
 
 impl Start {
-    /// The kind of a startup of this type; VALUE where it asks for a saved state and none is saved.
+    /// The kind of a startup with this type. Returns VALUE if it requests a saved state and none
+    /// is saved.
     fn of(kind: StartupType, saved: SavedKind) -> Result<Start, Refused>
         ensures { result ≡ start_of kind saved }
     {
@@ -106,7 +107,7 @@ fn resume(fixed: &mut Fixed)
     fixed.restart_count = fixed.restart_count.saturating_add(1);
 }
 
-/// Starts the device, and tells how many random bytes that draws.
+/// Starts the device; returns the number of random bytes drawn.
 fn begin<K: Keep>(keep: &mut K, start: Start, random: &[u8; 256]) -> usize
     ensures after { K.record_of keep.new
         ≡ started_record start (K.record_of keep.old) random.now }
@@ -130,8 +131,8 @@ fn begin<K: Keep>(keep: &mut K, start: Start, random: &[u8; 256]) -> usize
     }
 }
 
-/// TPM2_Startup: a TPM Reset, a TPM Restart or a TPM Resume; VALUE where it asks for a saved state
-/// and none is saved.
+/// TPM2_Startup: a TPM Reset, a TPM Restart or a TPM Resume. Returns VALUE if it requests a saved
+/// state and none is saved.
 #[tactic(auto, unfolding(crate::specs::Startup::startup_row))]
 pub fn startup<K: Keep>(keep: &mut K, call: &Call, answer: &mut Answer) -> Result<(), Refused>
     requires { IsEmpty answer.old }

@@ -16,11 +16,11 @@ use Rattle.tpm_actions_object.specs.Checks.{given_passes, public_passes}
 use Rattle.tpm_actions_object.specs.Creation.{Parameters, creation_text, object_parent, parameters_in}
 use Rattle.tpm_actions_object.specs.Loaded.{is_fixed, parent_passes, loaded_at}
 
--- the IV of the private area: the sixteen random bytes after those of the object
+-- the IV of the private area: the sixteen random bytes that follow those for the object
 abbrev pub initial_vector : Parameters → List ℕ → List ℕ
 initial_vector p random = take 16 (drop (drawn_by p.template p.given) random)
 
--- what TPM2_Create answers: the new object, wrapped by its parent, and not kept by the device
+-- the answer of TPM2_Create: the new object, wrapped by its parent; the device does not store it
 abbrev pub create_answer : Record → Request → Object → Parameters → Created → AnswerParts
 create_answer r q parent p new = record {
   handle = None;
@@ -30,7 +30,8 @@ create_answer r q parent p new = record {
   drawn = drawn_by p.template p.given + 16;
 }
 
--- parentHandle. A1: it is no storage parent; A2 to A4: the template; A5 to A7: what is given
+-- parentHandle. A1: it is not a storage parent; A2 to A4: the checks of the template; A5 to A7:
+-- the checks of the other input
 unfoldable pub create_row : Record → Request → Result Success Refused
 create_row r q = do
   handle ← first_handle q.handles

@@ -22,17 +22,17 @@ use Rattle.tpm_actions_object.specs.Checks.{given_passes, public_passes}
 use Rattle.tpm_actions_object.specs.Creation.{Parameters, creation_rest, hierarchy_parent, parameters_in}
 use Rattle.tpm_actions_object.specs.Loaded.{place_for}
 
--- the hierarchy that a handle names; the general checks have found that it names one
+-- the hierarchy that a handle names; the general checks ensure that it names one
 abbrev pub named_hierarchy : Handle → Result HierarchyHandle Refused
 named_hierarchy handle = ok_or (hierarchy_of handle) handle_refusal
 
--- the primary object that is derived from the hierarchy's seed
+-- the primary object, derived from the hierarchy's seed
 abbrev pub derived : Record → HierarchyHandle → Parameters → Object
 derived r hierarchy p =
     primary_object hierarchy (secrets_of r.fixed.hierarchies hierarchy).seed p.template p.given
 
--- what TPM2_CreatePrimary answers: the object's handle, what there is to say of its creation, and
--- its Name
+-- the answer of TPM2_CreatePrimary: the object's handle, the data about its creation, and its
+-- Name
 abbrev pub primary_answer : Record → Request → HierarchyHandle → Parameters → ℕ → Object
     → AnswerParts
 primary_answer r q hierarchy p place object = record {
@@ -43,7 +43,8 @@ primary_answer r q hierarchy p place object = record {
   drawn = 0;
 }
 
--- primaryHandle. A1 to A3: the template; A4 to A6: what is given; A7: there is no place
+-- primaryHandle. A1 to A3: the checks of the template; A4 to A6: the checks of the other input;
+-- A7: no slot is free
 unfoldable pub create_primary_row : Record → Request → Result Success Refused
 create_primary_row r q = do
   handle ← first_handle q.handles

@@ -1,6 +1,6 @@
--- What TPM2_CreatePrimary and TPM2_Create share: their parameters, and what they answer about the
--- creation. TPM 2.0 Library, Part 3, sections 12.1 and 24.1, and Part 2, sections 15.1
--- (TPMS_CREATION_DATA) and 10.7.3 (TPMT_TK_CREATION).
+-- What TPM2_CreatePrimary and TPM2_Create have in common: their parameters, and the part of their
+-- answer that describes the creation. TPM 2.0 Library, Part 3, sections 12.1 and 24.1, and Part
+-- 2, sections 15.1 (TPMS_CREATION_DATA) and 10.7.3 (TPMT_TK_CREATION).
 use Rattle.std.specs.Prelude.{◌≡◌, ℕ, ◌^◌, List, ◌++◌, Some, None, Result, Ok, Err}
 use Rattle.std.specs.Int.{w16, w32, to_be_bytes}
 use Rattle.tpm_bytes.specs.Reading.{◌>>=◌}
@@ -59,7 +59,8 @@ parameters_of asked = record {
   selection = asked.selection.banks.items;
 }
 
--- a hierarchy as the parent of a new object: it has no nameAlg, and both its Names are its handle
+-- a hierarchy as the parent of a new object: it has no nameAlg; its handle serves as its Name and
+-- its qualified Name
 abbrev pub hierarchy_parent : HierarchyHandle → Parent
 hierarchy_parent hierarchy = record {
   name_alg = None;
@@ -77,8 +78,8 @@ object_parent o = record {
   hierarchy = o.hierarchy;
 }
 
--- the circumstances in which an object was created: the digest of the selected PCRs is by the new
--- object's nameAlg, and bit n of the locality stands for locality n
+-- the circumstances of an object's creation: the digest of the selected PCRs is computed with the
+-- new object's nameAlg, and bit n of the locality means locality n
 abbrev pub creation_data : Record → (locality : ℕ) → Parent → Parameters → Public → CreationData
 creation_data r locality parent p public = record {
   pcr_select = record { banks = record { items = p.selection } };
@@ -90,7 +91,7 @@ creation_data r locality parent p public = record {
   outside_info = p.outside_info;
 }
 
--- the hash of creation data, without the size that stands before them
+-- the hash of creation data, without their size field
 abbrev pub creation_hash : Public → CreationData → List ℕ
 creation_hash public creation = hash_of public.name_alg (creation_data_text creation)
 
@@ -98,14 +99,15 @@ creation_hash public creation = hash_of public.name_alg (creation_data_text crea
 abbrev pub creation_tag : List ℕ
 creation_tag = to_be_bytes w16 0x8021
 
--- the creation ticket: its tag, the hierarchy, and the HMAC by the hierarchy's proof, with SHA-256
--- (which is this device's own choice), of the tag, the object's Name and the creation hash
+-- the creation ticket: its tag, the hierarchy, and an HMAC over the tag, the object's Name and
+-- the creation hash. The HMAC's key is the hierarchy's proof; its hash is SHA-256 (this device's
+-- own choice)
 unfoldable pub ticket_text : HierarchyHandle → (proof name hash : List ℕ) → List ℕ
 ticket_text hierarchy proof name hash =
     creation_tag ++ to_be_bytes w32 (hierarchy_handle hierarchy).number
     ++ sized_text (hmac_of Sha256 proof (creation_tag ++ name ++ hash))
 
--- what is answered about a creation after the public area: the creation data, their hash, and the
+-- the part of a creation's answer after the public area: the creation data, their hash, and the
 -- ticket
 unfoldable pub creation_rest : Record → (locality : ℕ) → Parent → Parameters → Public → List ℕ
 creation_rest r locality parent p public =
@@ -115,7 +117,7 @@ creation_rest r locality parent p public =
     sized_text (creation_data_text creation) ++ sized_text hash
     ++ ticket_text parent.hierarchy proof (object_name public) hash
 
--- what is answered about a creation from the public area on: that, and the rest
+-- the part of a creation's answer that starts with the public area: that area, and the rest
 abbrev pub creation_text : Record → (locality : ℕ) → Parent → Parameters → Public → List ℕ
 creation_text r locality parent p public =
     sized_text (public_text public) ++ creation_rest r locality parent p public

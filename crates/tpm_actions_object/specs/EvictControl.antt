@@ -1,5 +1,5 @@
 -- TPM2_EvictControl. TPM 2.0 Library, Part 3, section 28.5, and Part 2, section 7.5 (TPM_HC: the
--- persistent handles of the platform begin with 81800000).
+-- persistent handles of the platform start at 81800000).
 use Rattle.tpm_types.specs.Limits.{persistent_limit}
 use Rattle.tpm_types.specs.declared.action_check.ActionCheck.TheVariants as action
 use Rattle.std.specs.Prelude.{◌≡◌, ◌==◌, nat_le, not, Bool, true, false, length, is_some, if◌then◌else◌, Result, Ok, Err}
@@ -25,34 +25,35 @@ use Rattle.tpm_record.specs.rows.Request.{Request, first_handle, second_handle}
 use Rattle.tpm_record.specs.rows.Rows.{Success, only}
 use Rattle.tpm_actions_object.specs.Loaded.{loaded_at}
 
--- whether the owner, or the platform, may make an object of this hierarchy persistent: the objects
--- of the endorsement hierarchy are the owner's, and those of the null hierarchy nobody's
+-- whether the owner, or the platform, may make an object of this hierarchy persistent. The
+-- objects of the endorsement hierarchy belong to the owner; objects of the null hierarchy cannot
+-- be made persistent
 abbrev pub is_of : (by_platform : Bool) → HierarchyHandle → Bool
 is_of false hierarchy.Owner = true
 is_of false hierarchy.Endorsement = true
 is_of true hierarchy.Platform = true
 is_of _ _ = false
 
--- whether the platform, or the owner, may evict an object: each may evict its own, and the platform
--- may remove any persistent object
+-- whether the platform, or the owner, may evict an object: each may evict its own, and the
+-- platform may also remove any persistent object
 abbrev pub may_evict : (by_platform removes : Bool) → HierarchyHandle → Bool
 may_evict true true h = true
 may_evict true false h = is_of true h
 may_evict false removes h = is_of false h
 
--- whether a handle is one of the platform's persistent objects
+-- whether a handle is reserved for the platform's persistent objects
 abbrev pub is_of_platform : Handle → Bool
 is_of_platform handle = nat_le 0x81800000 handle.number
 
--- whether the platform, or the owner, may name this persistent handle: the owner may name none of
--- the platform's, and the platform only its own for a new persistent object
+-- whether the platform, or the owner, may use this persistent handle. The owner may not use the
+-- platform's handles; for a new persistent object the platform may use only its own
 abbrev pub may_name : (by_platform removes : Bool) → Handle → Bool
 may_name true true wanted = true
 may_name true false wanted = is_of_platform wanted
 may_name false removes wanted = not (is_of_platform wanted)
 
--- the checks of an eviction by the platform, or by the owner. A1: the object is not theirs to
--- evict; A2: it has stClear; A3: the handle is not theirs
+-- the checks of an eviction by the platform, or by the owner. A1: it may not evict the object;
+-- A2: the object has stClear; A3: it may not use the handle
 abbrev pub eviction_passes : (by_platform removes : Bool)
     → Object → Handle → Result (Unit {0}) Refused
 eviction_passes by_platform removes object wanted = do
@@ -62,22 +63,24 @@ eviction_passes by_platform removes object wanted = do
       (action_refusal action.Second (at (place.Handle 2) (plain code.Attributes)))
   refused_if (not (may_name by_platform removes wanted)) (parameter_refusal action.Third 1 code.Range)
 
--- the persistent objects without the one of a handle. A4: persistentHandle is another handle
+-- the persistent objects without the one with this handle. A4: persistentHandle is a different
+-- handle
 abbrev pub removed : Entries Object → Handle → Handle → Result (Entries Object) Refused
 removed objects handle wanted = do
   a4 ← refused_if (not (wanted.number == handle.number))
       (action_refusal action.Fourth (at (place.Handle 2) (plain code.Handle)))
   Ok (without_persistent objects handle)
 
--- the persistent objects with a copy of a transient object under a handle. A5: the handle is taken;
--- A6: there is no room for one more
+-- the persistent objects after a transient object is copied to this handle. A5: the handle is
+-- taken; A6: there is no room for another object
 abbrev pub copied : Entries Object → Object → Handle → Result (Entries Object) Refused
 copied objects object wanted = do
   a5 ← refused_if (is_some (persistent_at objects wanted)) (action_refusal action.Fifth (plain code.NvDefined))
   a6 ← refused_if (nat_le persistent_limit (length objects)) (action_refusal action.Sixth (plain code.NvSpace))
   Ok (with_persistent objects wanted object)
 
--- the persistent objects after an eviction: a persistent object is removed, a transient one copied
+-- the persistent objects after an eviction, which removes a persistent object or copies a
+-- transient one
 abbrev pub evicted : Entries Object → Handle → Object → Handle → Result (Entries Object) Refused
 evicted objects handle object wanted =
     if is_persistent handle then removed objects handle wanted else copied objects object wanted
@@ -94,8 +97,8 @@ evict_control_row r q = do
   persistent ← evicted r.persistent handle object wanted
   Ok (record { answer = nothing; after = record r { persistent = persistent } })
 
--- The code changed the persistent objects as the definition does, or was refused memory, where it
--- can be; or it refused as the definition does. A refusal changes nothing.
+-- The code changed the persistent objects as defined, or ran out of memory, if that can happen;
+-- or it refused as the definition does. A refusal changes nothing.
 abbrev pub Evicts : Bool → Result (Entries Object) Refused
     → Record → Result (Unit {0}) Refused → Record → Type 0
 Evicts can (Ok persistent) old (Ok done) new = new ≡ record old { persistent = persistent }

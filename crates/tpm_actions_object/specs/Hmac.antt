@@ -24,19 +24,19 @@ use Rattle.tpm_record.specs.rows.Rows.{Success, all_read, parameter, unchanged}
 use Rattle.tpm_record.specs.rows.Refusals.{action_refusal}
 use Rattle.tpm_actions_object.specs.Loaded.{loaded_at}
 
--- the scheme of a KEYEDHASH. A1: the object is no KEYEDHASH
+-- the scheme of a KEYEDHASH object. A1: the object is not a KEYEDHASH
 abbrev pub scheme_of : PublicParameters → Result KeyedHashScheme Refused
 scheme_of (KeyedHash scheme) = Ok scheme
 scheme_of SymCipher = Err (action_refusal action.First (at (place.Handle 1) (plain code.Type)))
 
--- the hash for a key whose scheme names one: that hash, which may be asked for by name or by NULL;
--- none where another is asked for
+-- the hash for a key whose scheme names one: that hash, if the command requests it or NULL; none
+-- if the command requests a different one
 abbrev pub own_hash : HashAlg → Option HashAlg → Option HashAlg
 own_hash own None = Some own
 own_hash own (Some asked) = if hash_number own == hash_number asked then Some own else None
 
--- the hash by which an HMAC is computed, if there is one: a key whose scheme is NULL takes the hash
--- that is asked for
+-- the hash with which an HMAC is computed, if there is one; if a key's scheme is NULL, it is the
+-- hash that the command requests
 abbrev pub chosen_hash : KeyedHashScheme → Option HashAlg → Option HashAlg
 chosen_hash scheme.Null asked = asked
 chosen_hash (scheme.Hmac own) asked = own_hash own asked
@@ -53,8 +53,8 @@ parameters_in text = do
   ended ← all_read hash.1
   Ok (record { buffer = buffer.0; hash = hash.0 })
 
--- answered: the HMAC. A1: the object is no KEYEDHASH; A2: it is restricted; A3: it is no key that
--- signs; A4: another hash is asked for than the scheme's, or there is none at all
+-- returned: the HMAC. A1: the object is not a KEYEDHASH; A2: it is restricted; A3: it is not a
+-- signing key; A4: the command requests a hash other than the scheme's, or neither names a hash
 unfoldable pub hmac_row : Record → Request → Result Success Refused
 hmac_row r q = do
   handle ← first_handle q.handles

@@ -22,18 +22,18 @@ use Rattle.tpm_record.specs.rows.Refusals.{parameter_refusal}
 use Rattle.tpm_actions_object.specs.Checks.{public_passes}
 use Rattle.tpm_actions_object.specs.Loaded.{is_fixed, parent_passes, loaded_at, place_for}
 
--- the sensitive area that a private area wraps. A5: the parent wrapped no such private area for
--- this public area
+-- the sensitive area that a private area wraps. A5: the private area was not wrapped by this
+-- parent for this public area
 abbrev pub sensitive_of : Object → Public → List ℕ → Result Sensitive Refused
 sensitive_of parent public private =
     or_fault (unwrapped parent public private) (parameter_refusal action.Fifth 1 code.Integrity)
 
--- the loaded object: it is below its parent, and in the parent's hierarchy
+-- the loaded object: it is under its parent, and in the parent's hierarchy
 abbrev pub loaded_below : Object → Public → Sensitive → Object
 loaded_below parent public sensitive =
     loaded_object parent.hierarchy public sensitive parent.qualified_name
 
--- what TPM2_Load answers: the object's handle and its Name
+-- the answer of TPM2_Load: the object's handle and its Name
 abbrev pub load_answer : ℕ → Object → AnswerParts
 load_answer place object = record {
   handle = Some (object_handle place);
@@ -41,7 +41,7 @@ load_answer place object = record {
   drawn = 0;
 }
 
--- the parameters inPrivate, of at most 256 bytes, where the longest private area has 254, and
+-- the parameters inPrivate, at most 256 bytes (the longest private area is 254 bytes), and
 -- inPublic
 pub record Parameters : Type 0 where
   pub private : List ℕ
@@ -54,8 +54,8 @@ parameters_in text = do
   ended ← all_read public.1
   Ok (record { private = private.0; public = public.0 })
 
--- parentHandle. A1: it is no storage parent; A2 to A4: the public area; A5: the private area; A6:
--- there is no place
+-- parentHandle. A1: it is not a storage parent; A2 to A4: the checks of the public area; A5: the
+-- check of the private area; A6: no slot is free
 unfoldable pub load_row : Record → Request → Result Success Refused
 load_row r q = do
   handle ← first_handle q.handles

@@ -1,4 +1,4 @@
--- The object that a command's handle names, and what is asked of a parent.
+-- The object that a command's handle names, and the conditions that a parent must meet.
 use Rattle.tpm_types.specs.declared.action_check.ActionCheck.{ActionCheck}
 use Rattle.tpm_types.specs.declared.action_check.ActionCheck.TheVariants as action
 use Rattle.std.specs.Prelude.{◌≡◌, ℕ, not, Bool, true, Result, Ok, Err, ok_or}
@@ -19,31 +19,31 @@ use Rattle.tpm_record.specs.Record.{Record}
 use Rattle.tpm_types.specs.declared.refused.Refused.{Refused}
 use Rattle.tpm_record.specs.rows.Refusals.{action_refusal, handle_refusal, memory_refusal}
 
--- the object of a handle; the general checks have found that it is there
+-- the object with this handle; the general checks ensure that it exists
 abbrev pub loaded_at : Record → Handle → Result Object Refused
 loaded_at r handle = ok_or (object_of r handle) handle_refusal
 
--- A1: the first handle names no storage parent
+-- A1: the object of the first handle is not a storage parent
 abbrev pub parent_passes : Object → Result (Unit {0}) Refused
 parent_passes parent =
     refused_if (not (is_storage_parent parent.public))
     (action_refusal action.First (at (place.Handle 1) (plain code.Type)))
 
--- whether an object has fixedTPM: an object below it then has fixedTPM exactly where it has
+-- whether an object has fixedTPM; if so, an object under it has fixedTPM exactly if it has
 -- fixedParent
 abbrev pub is_fixed : Object → Bool
 is_fixed parent = has parent.public.attributes attribute.FixedTpm
 
--- the refusal, by this check, where all places for objects are taken
+-- the refusal, by this check, if all object slots are taken
 abbrev pub no_place : ActionCheck → Refused
 no_place action = action_refusal action (plain code.ObjectMemory)
 
--- the place that a new object takes, or the refusal by this check where no place is free
+-- the slot for a new object, or the refusal by this check if no slot is free
 abbrev pub place_for : ActionCheck → Record → Result ℕ Refused
 place_for action r = ok_or (lowest_free r.objects) (no_place action)
 
--- The code loaded an object into the place that it takes, or was refused memory, where it can be;
--- or there is no place. A refusal changes nothing.
+-- The code loaded an object into its slot, or ran out of memory, if that can happen; or no slot
+-- is free. A refusal changes nothing.
 abbrev pub Loads : Bool → Result ℕ Refused → Record → Object → Result Handle Refused → Record
     → Type 0
 Loads can (Ok place) old object (Ok handle) new =

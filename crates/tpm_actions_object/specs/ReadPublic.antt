@@ -12,13 +12,13 @@ use Rattle.tpm_record.specs.rows.Answer.{Body, SizedFirst, answer_of}
 use Rattle.tpm_record.specs.rows.Rows.{Success, all_read, unchanged}
 use Rattle.tpm_actions_object.specs.Loaded.{loaded_at}
 
--- what TPM2_ReadPublic answers: an object's public area, its Name and its qualified Name
+-- the answer of TPM2_ReadPublic: an object's public area, its Name and its qualified Name
 abbrev pub public_body : Object → Body
 public_body object =
     SizedFirst (public_text object.public)
     (sized_text (object_name object.public) ++ sized_text object.qualified_name)
 
--- no parameters; answered: the object's public area and Names
+-- no parameters; returned: the object's public area and its two Names
 unfoldable pub read_public_row : Record → Request → Result Success Refused
 read_public_row r q = do
   handle ← first_handle q.handles

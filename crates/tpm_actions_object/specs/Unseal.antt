@@ -16,8 +16,8 @@ use Rattle.tpm_record.specs.rows.Rows.{Success, all_read, unchanged}
 use Rattle.tpm_record.specs.rows.Refusals.{action_refusal}
 use Rattle.tpm_actions_object.specs.Loaded.{loaded_at}
 
--- answered: the sealed data; no parameters. A1: the object is no KEYEDHASH; A2: it is a key that
--- signs
+-- no parameters; returned: the sealed data. A1: the object is not a KEYEDHASH; A2: it is a
+-- signing key
 unfoldable pub unseal_row : Record → Request → Result Success Refused
 unseal_row r q = do
   handle ← first_handle q.handles

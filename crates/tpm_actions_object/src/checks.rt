@@ -1,5 +1,5 @@
-//! The checks of a template and of what is given beside it, as refusals of the command that makes
-//! or loads an object.
+//! The checks of a template and of the other input of a creation, with the refusals of the
+//! command that makes or loads an object.
 
 ghost use Rattle.std.specs.Prelude.{◌≡◌, ◌≤◌};
 ghost use Rattle.tpm_types_object.specs.SensitiveCreate.{sensitive_values_of};
@@ -10,7 +10,8 @@ use tpm_record::rows::refusals::parameter_refusal;
 use tpm_types::{ActionCheck, Refused, ResponseCode};
 use tpm_types_object::{Public, SensitiveCreate};
 
-/// The refusal of a template by its checks; this many of the command's checks come before them.
+/// The refusal if a check of a template fails. `before` is the number of the command's own checks
+/// that precede it.
 fn template_refusal(before: u8, fault: TemplateFault) -> Refused
     requires { before ≤ 4 }
     ensures { result ≡ template_refusal before fault }
@@ -34,8 +35,8 @@ fn template_refusal(before: u8, fault: TemplateFault) -> Refused
     }
 }
 
-/// The refusal of what is given beside a template; this many of the command's checks come before
-/// it.
+/// The refusal if a check of the other input fails. `before` is the number of the command's own
+/// checks that precede it.
 fn creation_refusal(before: u8, fault: CreationFault) -> Refused
     requires { before ≤ 4 }
     ensures { result ≡ creation_refusal before fault }
@@ -59,7 +60,8 @@ fn creation_refusal(before: u8, fault: CreationFault) -> Refused
     }
 }
 
-/// Checks a template, or a public area to be loaded, after this many of the command's checks.
+/// Checks a template, or a public area to be loaded. `before` is the number of the command's own
+/// checks that precede these.
 pub fn public_passes(before: u8, public: &Public, parent_is_fixed: bool) -> Result<(), Refused>
     requires { before ≤ 4 }
     ensures { result ≡ public_passes before parent_is_fixed public.now }
@@ -70,7 +72,7 @@ pub fn public_passes(before: u8, public: &Public, parent_is_fixed: bool) -> Resu
     }
 }
 
-/// Checks what is given beside a template.
+/// Checks the input that accompanies a template.
 pub fn given_passes(before: u8, given: &SensitiveCreate, template: &Public) -> Result<(), Refused>
     requires { before ≤ 4 }
     ensures { result ≡ given_passes before (sensitive_values_of given.now) template.now }

@@ -1,5 +1,5 @@
-//! TPM2_Create: makes an object below a storage parent and answers its private area, by its row in
-//! `specs/Create`.
+//! TPM2_Create: makes an object under a storage parent and returns its private area, as specified
+//! by its row in `specs/Create`.
 
 ghost use Rattle.std.specs.Prelude.{◌≡◌, ◌≤◌, drop, take};
 ghost use Rattle.tpm_record.specs.rows.Answer.{IsEmpty};
@@ -17,10 +17,10 @@ use tpm_record::rows::answer::Answer;
 use tpm_record::rows::call::Call;
 use tpm_types::Refused;
 
-/// How many random bytes the IV of a private area takes.
+/// The number of random bytes in the IV of a private area.
 const VECTOR_SIZE: usize = 16;
 
-/// The random bytes of a private area's IV, which stand after those of the object.
+/// The random bytes for a private area's IV, which follow those for the object.
 fn initial_vector(random: &[u8; 256], drawn: usize) -> [u8; 16]
     requires { drawn ≤ 64 }
     ensures { result ≡ take 16 (drop drawn random.now) }
@@ -30,7 +30,7 @@ fn initial_vector(random: &[u8; 256], drawn: usize) -> [u8; 16]
     iv
 }
 
-/// TPM2_Create: makes an object below a storage parent, and answers it wrapped.
+/// TPM2_Create: makes an object under a storage parent, and returns it wrapped.
 #[tactic(auto, unfolding(crate::specs::Create::create_row))]
 pub fn create<K: Keep>(keep: &mut K, call: &Call, answer: &mut Answer) -> Result<(), Refused>
     requires { IsEmpty answer.old }

@@ -1,5 +1,5 @@
-//! TPM2_CreatePrimary: derives an object from the seed of a hierarchy and loads it, by its row in
-//! `specs/CreatePrimary`.
+//! TPM2_CreatePrimary: derives an object from the seed of a hierarchy and loads it, as specified
+//! by its row in `specs/CreatePrimary`.
 
 ghost use Rattle.std.specs.Prelude.{◌≡◌, ◌++◌, []};
 ghost use Rattle.tpm_bytes.specs.Writing.{sized_text};
@@ -31,8 +31,8 @@ fn named_hierarchy(handle: Handle) -> Result<HierarchyHandle, Refused>
     }
 }
 
-/// Writes what is answered: what there is to say of the creation of an object below a hierarchy,
-/// and the object's Name.
+/// Writes the answer: the data about the creation of an object under a hierarchy, and the
+/// object's Name.
 fn put_primary<K: Keep>(
     keep: &K,
     locality: Locality,

@@ -1,5 +1,5 @@
-//! What TPM2_Create and TPM2_CreatePrimary share: their parameters, and their answer with creation
-//! data and the ticket of the creation.
+//! What TPM2_Create and TPM2_CreatePrimary have in common: their parameters, and the creation
+//! data and creation ticket in their answer.
 
 ghost use Rattle.tpm_bytes.specs.Reading.{Gives};
 ghost use Rattle.std.specs.Prelude.{◌≡◌, ◌+◌, ◌≤◌, ◌++◌, length};
@@ -30,10 +30,10 @@ pub struct CreationParameters<'a> {
     pub selection: PcrSelection,
 }
 
-/// The parent below which an object is created: a hierarchy or an object.
+/// The parent under which an object is created: a hierarchy or an object.
 #[derive(Drop)]
 pub struct Parent {
-    /// The nameAlg of an object; None for a hierarchy.
+    /// The nameAlg of the parent object; None for a hierarchy.
     pub name_alg: Option<HashAlg>,
     pub name: Name,
     pub qualified_name: Name,
@@ -41,7 +41,7 @@ pub struct Parent {
 }
 
 impl Parent {
-    /// A hierarchy as a parent: both its Names are its handle.
+    /// A hierarchy as a parent: its handle serves as its Name and its qualified Name.
     pub fn of_hierarchy(hierarchy: HierarchyHandle) -> Parent
         ensures { result ≡ hierarchy_parent hierarchy }
     {
@@ -66,7 +66,7 @@ impl Parent {
     }
 }
 
-/// Reads the parameters of TPM2_CreatePrimary or TPM2_Create.
+/// Decodes the parameters of TPM2_CreatePrimary or TPM2_Create.
 #[tactic(auto, unfolding(crate::specs::Creation::parameters_in))]
 pub fn read_parameters(parameters: &[u8]) -> Result<CreationParameters, Refused>
     ensures read { Gives parameters_of (parameters_in parameters.now) result }
@@ -85,7 +85,7 @@ pub fn read_parameters(parameters: &[u8]) -> Result<CreationParameters, Refused>
     })
 }
 
-/// The creation data of an object with this nameAlg: the circumstances in which it is created.
+/// The creation data of an object with this nameAlg: the circumstances of its creation.
 fn creation_data<K: Keep>(
     keep: &K,
     locality: Locality,
@@ -109,8 +109,8 @@ fn creation_data<K: Keep>(
     }
 }
 
-/// The ticket by which the device recognizes that it created an object of this Name, with creation
-/// data of this hash.
+/// The ticket by which the device recognizes that it created an object with this Name and with
+/// creation data that have this hash.
 #[tactic(auto, unfolding(crate::specs::Creation::ticket_text))]
 fn ticket(hierarchy: HierarchyHandle, proof: &[u8; 32], name: &Name, hash: &[u8]) -> Sink<40>
     ensures { result ≡ ticket_text hierarchy proof.now name.now hash.now }
@@ -124,7 +124,7 @@ fn ticket(hierarchy: HierarchyHandle, proof: &[u8; 32], name: &Name, hash: &[u8]
     text
 }
 
-/// Writes a public area, creation data, their hash and a ticket after what was written before.
+/// Appends a public area, creation data, their hash and a ticket.
 fn write_creation(area: &[u8], creation: &[u8], hash: &[u8], ticket: &[u8], text: &mut Parameters)
     requires room { length text.old ≤ 256 }
     requires area { length area.now ≤ 82 }
@@ -142,7 +142,7 @@ fn write_creation(area: &[u8], creation: &[u8], hash: &[u8], ticket: &[u8], text
     text.append(ticket);
 }
 
-/// Writes what is answered about the creation of an object of this Name.
+/// Writes the part of the answer that describes the creation of an object with this Name.
 #[tactic(auto, unfolding(crate::specs::Creation::creation_rest))]
 pub fn put_creation<K: Keep>(
     keep: &K,

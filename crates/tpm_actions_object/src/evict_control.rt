@@ -1,5 +1,5 @@
-//! TPM2_EvictControl: makes a transient object persistent or removes a persistent one, by its row
-//! in `specs/EvictControl`.
+//! TPM2_EvictControl: makes a transient object persistent or removes a persistent one, as
+//! specified by its row in `specs/EvictControl`.
 
 ghost use Rattle.std.specs.Prelude.{◌≡◌, IfOk, OnOk, false, true};
 ghost use Rattle.tpm_record.specs.Persistent.{can_persist};
@@ -72,7 +72,8 @@ fn may_name(by_platform: bool, removes: bool, wanted: Handle) -> bool
     }
 }
 
-/// Refuses an object, or a handle, that the owner, or the platform, may not evict.
+/// Refuses an object that the owner or the platform may not evict, or a handle that it may not
+/// use.
 fn check_eviction(
     by_platform: bool,
     removes: bool,
@@ -100,7 +101,7 @@ fn check_eviction(
     Ok(())
 }
 
-/// Removes a persistent object, whose handle is given twice.
+/// Removes a persistent object, whose handle the command must contain twice.
 fn remove<K: Keep>(keep: &mut K, handle: Handle, wanted: Handle) -> Result<(), Refused>
     ensures { Evicts false (removed (K.record_of keep.old).persistent handle wanted)
         (K.record_of keep.old) result (K.record_of keep.new) }
@@ -115,7 +116,7 @@ fn remove<K: Keep>(keep: &mut K, handle: Handle, wanted: Handle) -> Result<(), R
     Ok(())
 }
 
-/// Puts an object under a persistent handle.
+/// Stores an object with a persistent handle.
 fn put<K: Keep>(keep: &mut K, object: Object, wanted: Handle) -> Result<(), Refused>
     requires named { is_persistent wanted ≡ true }
     requires owned { can_persist object.hierarchy ≡ true }
@@ -136,8 +137,7 @@ fn put<K: Keep>(keep: &mut K, object: Object, wanted: Handle) -> Result<(), Refu
     }
 }
 
-/// TPM2_EvictControl: makes a transient object persistent by a copy of it, or removes a persistent
-/// one.
+/// TPM2_EvictControl: makes a copy of a transient object persistent, or removes a persistent one.
 #[tactic(auto, unfolding(crate::specs::EvictControl::evict_control_row))]
 pub fn evict_control<K: Keep>(
     keep: &mut K,
@@ -148,7 +148,7 @@ pub fn evict_control<K: Keep>(
     ensures acts { ActsIfRoom K.can_refuse
         (evict_control_row (K.record_of keep.old) (request_of call.now))
         (K.record_of keep.old) result _answer.new (K.record_of keep.new) }
-    // What removes a persistent object is never refused memory.
+    // Removing a persistent object never runs out of memory.
     ensures removes { IfOk (second_handle (request_of call.now).handles) (λ handle.
         is_persistent handle ≡ true
         → Acts (evict_control_row (K.record_of keep.old) (request_of call.now))

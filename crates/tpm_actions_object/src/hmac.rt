@@ -1,4 +1,5 @@
-//! TPM2_HMAC: answers the HMAC of a buffer by a key, by its row in `specs/Hmac`.
+//! TPM2_HMAC: returns the HMAC of a buffer, computed with a key, as specified by its row in
+//! `specs/Hmac`.
 
 ghost use Rattle.std.specs.Prelude.{◌≡◌};
 ghost use Rattle.tpm_record.specs.rows.Answer.{IsEmpty};
@@ -19,7 +20,7 @@ use tpm_types::{
 };
 use tpm_types_object::{KeyedHashScheme, ObjectAttribute, PublicParameters};
 
-/// The scheme of a KEYEDHASH.
+/// The scheme of a KEYEDHASH object.
 fn scheme_of(parameters: PublicParameters) -> Result<KeyedHashScheme, Refused>
     ensures { result ≡ scheme_of parameters }
 {
@@ -34,7 +35,7 @@ fn scheme_of(parameters: PublicParameters) -> Result<KeyedHashScheme, Refused>
     }
 }
 
-/// The hash for a key whose scheme names one, which may be asked for by name or by NULL.
+/// The hash for a key whose scheme names one; the command may request the same hash, or NULL.
 fn own_hash(own: HashAlg, asked: Option<HashAlg>) -> Option<HashAlg>
     ensures { result ≡ own_hash own asked }
 {
@@ -44,7 +45,7 @@ fn own_hash(own: HashAlg, asked: Option<HashAlg>) -> Option<HashAlg>
     }
 }
 
-/// The hash by which an HMAC is computed.
+/// The hash with which an HMAC is computed.
 fn chosen_hash(scheme: KeyedHashScheme, asked: Option<HashAlg>) -> Option<HashAlg>
     ensures { result ≡ chosen_hash scheme asked }
 {
@@ -54,7 +55,7 @@ fn chosen_hash(scheme: KeyedHashScheme, asked: Option<HashAlg>) -> Option<HashAl
     }
 }
 
-/// TPM2_HMAC: the HMAC of a buffer by a key.
+/// TPM2_HMAC: returns the HMAC of a buffer, computed with a key.
 #[tactic(auto, unfolding(crate::specs::Hmac::hmac_row, crate::specs::Hmac::parameters_in))]
 pub fn hmac<K: Keep>(keep: &mut K, call: &Call, answer: &mut Answer) -> Result<(), Refused>
     requires { IsEmpty answer.old }

@@ -1,15 +1,16 @@
 #![tactic(auto)]
 
-//! What each command on objects does, with a file for each command (TPM 2.0 Library, Part 3,
-//! sections 12, 15, 24 and 28).
+//! What each command on objects does, one file per command (TPM 2.0 Library, Part 3, sections 12,
+//! 15, 24 and 28).
 //!
-//! A command reads its parameters, checks them, and has `tpm_object` compute what is to be made or
-//! opened. What the commands share is in `checks`, `loaded` and `creation`.
+//! A command decodes its parameters, checks them, and calls `tpm_object` to compute the object
+//! that it makes or opens. `checks`, `loaded` and `creation` contain what several commands have
+//! in common.
 //!
-//! The crate uses `tpm_record::rows` and `tpm_object`. `specs/` has a row for each command under
-//! the same name; each call is proved to be its row, for each way of keeping the record, and a
-//! refusal leaves the record. Only TPM2_CreatePrimary, TPM2_Load and TPM2_EvictControl may be
-//! refused memory.
+//! The crate uses `tpm_record::rows` and `tpm_object`. `specs/` contains a row for each command,
+//! with the same name. Each call is proved to do what its row specifies, for every implementation
+//! of the record. A refusal leaves the record unchanged. Only TPM2_CreatePrimary, TPM2_Load and
+//! TPM2_EvictControl can run out of memory.
 
 mod checks;
 pub mod create;

@@ -1,5 +1,5 @@
-//! TPM2_Load: opens the private area of an object below its parent and loads it, by its row in
-//! `specs/Load`.
+//! TPM2_Load: unwraps the private area of an object under its parent and loads the object, as
+//! specified by its row in `specs/Load`.
 
 ghost use Rattle.std.specs.Prelude.{◌≡◌};
 ghost use Rattle.tpm_record.specs.rows.Answer.{IsEmpty};
@@ -21,10 +21,10 @@ use tpm_record::rows::refusals::parameter_refusal;
 use tpm_types::{ActionCheck, Refused, ResponseCode, read_buffer, read_filled};
 use tpm_types_object::{Public, Sensitive};
 
-/// The most bytes of inPrivate.
+/// The maximum size of inPrivate, in bytes.
 const PRIVATE_LIMIT: usize = 256;
 
-/// The sensitive area that a private area wraps for the object of this Name.
+/// The sensitive area that a private area wraps for the object with this Name.
 fn sensitive_of(
     parent: &Object,
     public: &Public,
@@ -40,7 +40,7 @@ fn sensitive_of(
     }
 }
 
-/// TPM2_Load: opens the private area of an object below its parent, and loads it.
+/// TPM2_Load: unwraps the private area of an object under its parent, and loads the object.
 #[tactic(auto, unfolding(crate::specs::Load::load_row, crate::specs::Load::parameters_in))]
 pub fn load<K: Keep>(keep: &mut K, call: &Call, answer: &mut Answer) -> Result<(), Refused>
     requires { IsEmpty answer.old }

@@ -1,5 +1,5 @@
-//! What the commands on objects share: the object that a handle names, whether it can be a parent,
-//! and the loading of a new one.
+//! What the commands on objects have in common: the object that a handle names, whether it can be
+//! a parent, and how a new object is loaded.
 
 ghost use Rattle.tpm_bytes.specs.Reading.{Gives};
 ghost use Rattle.std.specs.Prelude.{◌≡◌};
@@ -12,7 +12,7 @@ use tpm_record::{Keep, object_of};
 use tpm_types::{ActionCheck, Handle, Refused, ResponseCode};
 use tpm_types_object::ObjectAttribute;
 
-/// The object of a handle, transient or persistent.
+/// The object with this handle, transient or persistent.
 pub fn loaded<K: Keep>(keep: &K, handle: Handle) -> Result<&Object, Refused>
     ensures { Gives (λ object. object.now) (loaded_at (K.record_of keep.now) handle) result }
 {
@@ -22,7 +22,7 @@ pub fn loaded<K: Keep>(keep: &K, handle: Handle) -> Result<&Object, Refused>
     }
 }
 
-/// Refuses an object, which the first handle names, that is not a storage parent.
+/// Refuses the first handle if its object is not a storage parent.
 pub fn check_parent(parent: &Object) -> Result<(), Refused>
     ensures { result ≡ parent_passes parent.now }
 {
@@ -36,21 +36,21 @@ pub fn check_parent(parent: &Object) -> Result<(), Refused>
     }
 }
 
-/// Whether an object has fixedTPM.
+/// Whether an object has the attribute fixedTPM.
 pub fn is_fixed(parent: &Object) -> bool
     ensures { result ≡ is_fixed parent.now }
 {
     parent.public.attributes.has(ObjectAttribute::FixedTpm)
 }
 
-/// The refusal, by one of a command's own checks, where all places for objects are taken.
+/// The refusal, by one of a command's own checks, if all object slots are taken.
 fn no_place(check: ActionCheck) -> Refused
     ensures { result ≡ no_place check }
 {
     action_refusal(check, ResponseCode::ObjectMemory.anywhere())
 }
 
-/// Loads a new object; this check refuses it where all places are taken.
+/// Loads a new object; this check refuses it if all slots are taken.
 pub fn load_object<K: Keep>(
     keep: &mut K,
     object: Object,

@@ -1,5 +1,5 @@
-//! TPM2_ReadPublic: answers the public area of an object and its two Names, by its row in
-//! `specs/ReadPublic`.
+//! TPM2_ReadPublic: returns the public area of an object and its two Names, as specified by its
+//! row in `specs/ReadPublic`.
 
 ghost use Rattle.std.specs.Prelude.{◌≡◌};
 ghost use Rattle.tpm_record.specs.rows.Answer.{IsEmpty};
@@ -15,7 +15,7 @@ use tpm_record::rows::call::Call;
 use tpm_record::rows::reading::end;
 use tpm_types::Refused;
 
-/// TPM2_ReadPublic: the public area of an object, its Name and its qualified Name.
+/// TPM2_ReadPublic: returns the public area of an object, its Name and its qualified Name.
 #[tactic(auto, unfolding(crate::specs::ReadPublic::read_public_row))]
 pub fn read_public<K: Keep>(keep: &mut K, call: &Call, answer: &mut Answer) -> Result<(), Refused>
     requires { IsEmpty answer.old }

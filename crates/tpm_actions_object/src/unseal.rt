@@ -1,4 +1,4 @@
-//! TPM2_Unseal: answers the data that an object seals, by its row in `specs/Unseal`.
+//! TPM2_Unseal: returns the data that an object seals, as specified by its row in `specs/Unseal`.
 
 ghost use Rattle.std.specs.Prelude.{◌≡◌};
 ghost use Rattle.tpm_record.specs.rows.Answer.{IsEmpty};
@@ -17,7 +17,7 @@ use tpm_record::rows::refusals::action_refusal;
 use tpm_types::{ActionCheck, Refused, ResponseCode};
 use tpm_types_object::ObjectAttribute;
 
-/// TPM2_Unseal: the data that an object seals.
+/// TPM2_Unseal: returns the data that an object seals.
 #[tactic(auto, unfolding(crate::specs::Unseal::unseal_row))]
 pub fn unseal<K: Keep>(keep: &mut K, call: &Call, answer: &mut Answer) -> Result<(), Refused>
     requires { IsEmpty answer.old }

@@ -1,4 +1,4 @@
--- The bytes that TPM2_PolicyNV compares with its operand have the operand's size.
+-- TPM2_PolicyNV compares exactly as many bytes as its operand has.
 use Rattle.std.proofs.Common.{◌≡◌, ℕ, ◌+◌, ◌≤◌, Bool, true, false, List, [], ◌∷◌, length, take, drop, Option, Some, Result, Ok, Err, IfOk, ap, arith, refl, subst, ◌∙◌}
 use Rattle.std.specs.Prelude.{◌==◌, nat_lt, not, if◌then◌else◌}
 use Rattle.std.proofs.lemmas.Bool.{ltb-false}
@@ -18,7 +18,7 @@ use Rattle.tpm_record.specs.rows.Target.{reading_passes}
 use Rattle.tpm_record.specs.declared.rows.target.Target.{Target}
 use Rattle.tpm_actions_policy.specs.PolicyNv.{Parameters, compared}
 
--- an index that is written has as many bytes of data as its public area says
+-- the data of a written index has the size stated in its public area
 abbrev HasItsSize : NvIndex → Type 0
 HasItsSize index =
     length index.bytes ≡ (if has index.public.attributes attribute.Written then index.public.data_size else 0)

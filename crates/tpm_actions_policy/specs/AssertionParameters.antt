@@ -1,4 +1,4 @@
--- What the code asks to be asserted, wherever its bytes lie in memory.
+-- The assertion that the code requests, as values.
 use Rattle.std.specs.Prelude.{◌≡◌, Result, Ok, Err}
 use Rattle.tpm_policy.specs.Assertion as assertion
 use Rattle.tpm_policy.specs.Assertion.{Assertion}
@@ -36,7 +36,7 @@ nv_asked index = record {
   operation = index.operation;
 }
 
--- the assertion that is asked for, on a session of this record
+-- the assertion that the code requests, on a session of this record
 abbrev pub assertion_of : Record → AssertionParameters → Session → Assertion
 assertion_of r (asked.Pcr pcrs) s = assertion.Pcr (pcr_parts_of r (pcrs_of pcrs) s)
 assertion_of r (asked.Or digests) s = assertion.Or (digests_of digests.now.digests.items)

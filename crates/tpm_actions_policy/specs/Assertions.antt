@@ -1,5 +1,5 @@
--- The commands that assert something on the policy of a session: on which session, what, and the
--- row that all of them have. TPM 2.0 Library, Part 3, section 23.
+-- The commands that make an assertion on a session's policy: the session, the assertion, and the
+-- row that all of them share. TPM 2.0 Library, Part 3, section 23.
 use Rattle.std.specs.Prelude.{◌≡◌, Bool, true, false, List, [], Option, Result, Ok, Err, ok_or}
 use Rattle.std.specs.Borrow.{Bor}
 use Rattle.tpm_bytes.specs.Reading.{◌>>=◌}
@@ -28,7 +28,7 @@ use Rattle.tpm_actions_policy.specs.PolicyPassword.{password_assertion}
 use Rattle.tpm_actions_policy.specs.PolicyPcr.{pcr_assertion}
 use Rattle.tpm_actions_policy.specs.PolicySecret.{no_ticket, secret_assertion}
 
--- whether a command asserts something
+-- whether a command makes an assertion
 abbrev pub asserts : CommandCode → Bool
 asserts command.PolicyPcr = true
 asserts command.PolicyOr = true
@@ -42,14 +42,14 @@ asserts command.PolicySecret = true
 asserts command.PolicyNv = true
 asserts _ = false
 
--- the handle of the session on which a command asserts: it stands after the handles of the entity
--- that the command authorizes, and of the index that it compares
+-- the handle of the session for a command's assertion; it follows the handles of the entity that
+-- the command authorizes and of the index that it compares
 abbrev pub session_handle : CommandCode → List Handle → Result Handle Refused
 session_handle command.PolicySecret handles = second_handle handles
 session_handle command.PolicyNv handles = third_handle handles
 session_handle _ handles = first_handle handles
 
--- what a command asserts on a session; a command that asserts nothing has another row
+-- the assertion of a command on a session; a command that makes no assertion has a different row
 abbrev pub assertion_in : CommandCode
     → Record → Request → Result (Session → Assertion) Refused
 assertion_in command.PolicyPcr r q = pcr_assertion r q
@@ -64,22 +64,23 @@ assertion_in command.PolicySecret r q = secret_assertion r q
 assertion_in command.PolicyNv r q = nv_assertion r q
 assertion_in _ r q = Err handle_refusal
 
--- what a command that asserts something answers
+-- the response parameters of a command that makes an assertion
 abbrev pub body_of : CommandCode → Body
 body_of command.PolicySecret = no_ticket
 body_of _ = Plain []
 
--- the session of a handle; the general checks accept there a policy or trial session alone
+-- the session with this handle; the general checks accept only a policy or trial session here
 abbrev pub policy_session : List (Option Session) → Handle → Result Session Refused
 policy_session sessions handle = ok_or (session_at sessions handle) handle_refusal
 
--- the policy of a session after an assertion; an assertion that is refused refuses its command, by
--- the same check
+-- a session's policy after an assertion; if the assertion is refused, the same check refuses its
+-- command
 abbrev pub policy_after : (Session → Assertion) → Session → Result Policy Refused
 policy_after assertion s =
     or_refusal fault_refusal (asserted s.hash (is_trial s.kind) (assertion s) s.policy)
 
--- the sessions after an assertion on the session of a handle: that session has the policy after it
+-- the sessions after an assertion on the session with this handle; only this session's policy
+-- changes
 abbrev pub with_assertion : List (Option Session) → Handle → (Session → Assertion)
     → Result (List (Option Session)) Refused
 with_assertion sessions handle assertion = do
@@ -87,7 +88,7 @@ with_assertion sessions handle assertion = do
   policy ← policy_after assertion s
   Ok (with_session_policy sessions handle policy)
 
--- the row of a command that asserts something
+-- the row of a command that makes an assertion
 unfoldable pub assertion_row : CommandCode → Record → Request → Result Success Refused
 assertion_row code r q = do
   handle ← session_handle code q.handles
@@ -95,7 +96,7 @@ assertion_row code r q = do
   sessions ← with_assertion r.sessions handle assertion
   Ok (record { answer = answer_of (body_of code); after = record r { sessions = sessions } })
 
--- An assertion was made, and changed the sessions alone; or it was refused, and changed nothing.
+-- The assertion was made, and changed only the sessions; or it was refused, and changed nothing.
 abbrev pub IsMade : Result (List (Option Session)) Refused
     → Record → Result (Unit {0}) Refused → Record → Type 0
 IsMade change old (Ok made) new =

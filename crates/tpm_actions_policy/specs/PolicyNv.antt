@@ -36,16 +36,17 @@ nv_parameters text = do
   ended ← all_read operation.1
   Ok (record { operand = operand.0; offset = offset.0; operation = operation.0 })
 
--- what is compared with the operand: as many bytes of the index as the operand has, from the offset
--- on. A1 to A3: the checks of every command that reads an index; A4: the bytes reach past the data,
--- which is all that then refuses the reading (reading_laws of tpm_record)
+-- the bytes that are compared with the operand: the index's data from the offset on, of the same
+-- size as the operand. A1 to A3: the checks of every command that reads an index. A4: the bytes
+-- extend past the end of the data. After A3 the read can fail for no other reason (reading_laws
+-- of tpm_record)
 abbrev pub compared : Record → Target → Parameters → Result (List ℕ) ActionFault
 compared r target p = do
   readable ← reading_passes target
   or_fault (read_at r.nv target.handle p.offset (length p.operand))
       (plain_fault action.Fourth code.NvRange)
 
--- what is asserted of an index, which is named by its Name
+-- the data of the assertion on an index, which is identified by its Name
 abbrev pub nv_parts_of : Record → Target → Parameters → NvParts
 nv_parts_of r target p = record {
   name = name_of r target.handle;
@@ -55,10 +56,10 @@ nv_parts_of r target p = record {
   compared = compared r target p;
 }
 
--- handles authHandle, nvIndex and policySession. The checks A1 to A5 are made with the assertion,
--- and not on a trial session. A1: authHandle may not read the index; A2: the index is locked; A3:
--- it is not written; A4: the bytes reach past its data; A5: the comparison with the operand does
--- not hold
+-- handles authHandle, nvIndex and policySession. The checks A1 to A5 are part of the assertion,
+-- and are skipped on a trial session. A1: authHandle may not read the index. A2: the index is
+-- locked. A3: it is not written. A4: the bytes extend past the end of its data. A5: the
+-- comparison with the operand does not hold
 abbrev pub nv_assertion : Record → Request → Result (Session → Assertion) Refused
 nv_assertion r q = do
   target ← target_of r q

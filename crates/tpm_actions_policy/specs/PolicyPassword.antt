@@ -6,7 +6,7 @@ use Rattle.tpm_session.specs.declared.session.Session.{Session}
 use Rattle.tpm_types.specs.declared.refused.Refused.{Refused}
 use Rattle.tpm_record.specs.rows.Rows.{all_read}
 
--- the assertion that the entity's authorization value is demanded as a password; no parameters
+-- the assertion that demands the entity's authorization value as a password; no parameters
 abbrev pub password_assertion : List ℕ → Result (Session → Assertion) Refused
 password_assertion text = do
   ended ← all_read text

@@ -24,7 +24,7 @@ pcr_parameters text = do
   ended ← all_read selection.1
   Ok (record { given = given.0; selection = selection.0 })
 
--- the selected PCRs with the digest of their values now, by the session's hash
+-- the selected PCRs and the digest of their current values, computed with the session's hash
 abbrev pub pcr_parts_of : Record → Parameters → Session → PcrParts
 pcr_parts_of r p s = record {
   given = p.given;
@@ -33,7 +33,8 @@ pcr_parts_of r p s = record {
   update_count = r.fixed.banks.update_count;
 }
 
--- the assertion that the selected PCRs have these values, and that no PCR changes until the use
+-- the assertion that the selected PCRs have these values, and that no PCR changes until the
+-- session authorizes
 abbrev pub pcr_assertion : Record → Request → Result (Session → Assertion) Refused
 pcr_assertion r q = do
   p ← pcr_parameters q.parameters

@@ -10,7 +10,7 @@ use Rattle.tpm_record.specs.rows.Request.{Request, first_handle}
 use Rattle.tpm_record.specs.rows.Rows.{Success, all_read}
 use Rattle.tpm_actions_policy.specs.Assertions.{policy_session}
 
--- the session's policy becomes what it was at the start; no parameters
+-- resets the session's policy to its initial state; no parameters
 unfoldable pub policy_restart_row : Record → Request → Result Success Refused
 policy_restart_row r q = do
   handle ← first_handle q.handles

@@ -37,7 +37,7 @@ secret_parameters text = do
     expiration = expiration.0;
   })
 
--- what is asserted of the entity with this Name
+-- the data of the assertion about the entity with this Name
 abbrev pub secret_of : Parameters → (name : List ℕ) → Session → SecretParts
 secret_of p name s = record {
   name = name;
@@ -48,7 +48,7 @@ secret_of p name s = record {
   expiration = p.expiration;
 }
 
--- the assertion that the secret was shown of the entity that the command's first handle names, and
+-- the assertion that an entity was authorized: the one that the command's first handle names and
 -- authorizes
 abbrev pub secret_assertion : Record → Request → Result (Session → Assertion) Refused
 secret_assertion r q = do
@@ -60,6 +60,6 @@ secret_assertion r q = do
 abbrev pub null_ticket : List ℕ
 null_ticket = to_be_bytes w16 0x8023 ++ to_be_bytes w32 null_handle.number ++ to_be_bytes w16 0
 
--- answered: an empty timeout, and a null ticket
+-- returned: an empty timeout, and a null ticket
 abbrev pub no_ticket : Body
 no_ticket = SizedFirst [] null_ticket

@@ -1,5 +1,5 @@
-//! What the assertion commands share: an assertion is made on a copy of the session's policy, which
-//! the session takes only where nothing refuses it.
+//! What the assertion commands have in common: each assertion is made on a copy of the session's
+//! policy, which replaces the policy only if the assertion is not refused.
 
 ghost use Rattle.tpm_bytes.specs.Reading.{Gives};
 ghost use Rattle.std.specs.Prelude.{◌≡◌, Err};
@@ -18,7 +18,7 @@ use tpm_record::rows::refusals::{fault_refusal, handle_refusal};
 use tpm_session::Session;
 use tpm_types::{ActionFault, DigestList, Handle, Refused};
 
-/// What a command asks to be asserted.
+/// The assertion that a command requests.
 #[derive(Clone, Copy)]
 pub enum AssertionParameters<'a> {
     Pcr(ComparedPcrs<'a>),
@@ -34,7 +34,7 @@ pub enum AssertionParameters<'a> {
 }
 
 impl AssertionParameters<'_> {
-    /// Asserts what a command asks for on the policy of a session.
+    /// Makes the assertion that a command requests on a session's policy.
     fn assert_on<K: Keep>(
         &self,
         keep: &K,
@@ -68,7 +68,7 @@ impl AssertionParameters<'_> {
     }
 }
 
-/// The policy or trial session of a handle.
+/// The policy session or trial session with this handle.
 pub fn policy_session<K: Keep>(keep: &K, handle: Handle) -> Result<&Session, Refused>
     ensures { Gives (λ session. session.now)
         (policy_session (K.record_of keep.now).sessions handle) result }
@@ -79,8 +79,8 @@ pub fn policy_session<K: Keep>(keep: &K, handle: Handle) -> Result<&Session, Ref
     }
 }
 
-/// Asserts what is asked for on a copy of the policy of a handle's session, which the session
-/// takes if the assertion is not refused.
+/// Makes the assertion on a copy of the policy of this handle's session; the copy becomes the
+/// session's policy unless the assertion is refused.
 #[tactic(auto, using(tpm_policy::proofs::Sizes::made_sized))]
 pub fn make_assertion<K: Keep>(
     keep: &mut K,

@@ -14,7 +14,7 @@ use tpm_record::{Keep, name_of};
 use tpm_session::Session;
 use tpm_types::{ActionCheck, ActionFault, Operation, ResponseCode};
 
-/// The index whose data are compared, with an operand, an offset and an operation.
+/// The index whose data is compared, with an operand, an offset and an operation.
 #[derive(Clone, Copy)]
 pub struct ComparedIndex<'a> {
     pub(crate) target: Target,
@@ -27,8 +27,8 @@ pub struct ComparedIndex<'a> {
 impl ComparedIndex<'_> {
     ghost use Rattle.tpm_actions_policy.specs.AssertionParameters.{nv_asked};
 
-    /// The bytes of the index that are compared, as many as the operand has, or why they cannot be
-    /// read.
+    /// The bytes of the index to compare, of the same size as the operand, or the reason why they
+    /// cannot be read.
     fn compared<'k, K: Keep>(&self, keep: &'k K) -> Result<&'k [u8], ActionFault>
         ensures { compared_bytes result
             ≡ compared (K.record_of keep.now) self.now.target (nv_asked self.now) }
@@ -41,7 +41,8 @@ impl ComparedIndex<'_> {
         }
     }
 
-    /// Asserts the comparison of the index, as it is now, in the policy of a session.
+    /// Makes the assertion of the comparison on a session's policy, with the current data of the
+    /// index.
     pub fn assert_on<K: Keep>(
         &self,
         keep: &K,

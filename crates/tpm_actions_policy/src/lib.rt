@@ -1,15 +1,14 @@
 #![tactic(auto)]
 
-//! What each policy command does, with a file for each command (TPM 2.0 Library, Part 3, section
-//! 23).
+//! What each policy command does, one file per command (TPM 2.0 Library, Part 3, section 23).
 //!
-//! Ten commands assert something. Each reads what, and `assertions::make_assertion` asserts it on a
-//! copy of the session's policy, which the session takes where the assertion is not refused.
-//! Assertions are defined in `tpm_policy`.
+//! Ten commands make an assertion. Each decodes its parameters, then `assertions::make_assertion`
+//! makes the assertion on a copy of the session's policy. If the assertion is not refused, the
+//! copy becomes the session's policy. `tpm_policy` defines the assertions.
 //!
-//! The crate uses `tpm_record::rows` and `tpm_policy`. `specs/` has a row for each command under
-//! the same name; each call is proved to be its row, for each way of keeping the record, and a
-//! refusal leaves the record.
+//! The crate uses `tpm_record::rows` and `tpm_policy`. `specs/` contains a row for each command,
+//! with the same name. Each call is proved to do what its row specifies, for every implementation
+//! of the record. A refusal leaves the record unchanged.
 
 mod assertions;
 mod compared_index;

@@ -1,4 +1,5 @@
-//! TPM2_PolicyCommandCode: allows one command alone, by its row in `specs/PolicyCommandCode`.
+//! TPM2_PolicyCommandCode: allows only one command, as specified by its row in
+//! `specs/PolicyCommandCode`.
 
 ghost use Rattle.std.specs.Prelude.{◌≡◌};
 ghost use Rattle.tpm_commands.specs.declared.command_code.CommandCode.TheVariants as command;
@@ -15,7 +16,7 @@ use tpm_record::rows::call::Call;
 use tpm_record::rows::reading::{end, number};
 use tpm_types::Refused;
 
-/// TPM2_PolicyCommandCode: allows one command alone.
+/// TPM2_PolicyCommandCode: allows only one command.
 #[tactic(auto, unfolding(crate::specs::Assertions::assertion_row))]
 pub fn policy_command_code<K: Keep>(
     keep: &mut K,

@@ -1,4 +1,5 @@
-//! TPM2_PolicyCpHash: allows the command with one cpHash alone, by its row in `specs/PolicyCpHash`.
+//! TPM2_PolicyCpHash: allows only the command with this cpHash, as specified by its row in
+//! `specs/PolicyCpHash`.
 
 ghost use Rattle.std.specs.Prelude.{◌≡◌};
 ghost use Rattle.tpm_commands.specs.declared.command_code.CommandCode.TheVariants as command;
@@ -15,7 +16,7 @@ use tpm_record::rows::call::Call;
 use tpm_record::rows::reading::{end, parameter};
 use tpm_types::{DIGEST_LIMIT, Refused, read_buffer};
 
-/// TPM2_PolicyCpHash: allows the command with one cpHash alone.
+/// TPM2_PolicyCpHash: allows only the command with this cpHash.
 #[tactic(auto, unfolding(crate::specs::Assertions::assertion_row))]
 pub fn policy_cp_hash<K: Keep>(
     keep: &mut K,

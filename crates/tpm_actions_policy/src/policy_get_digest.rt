@@ -1,4 +1,4 @@
-//! TPM2_PolicyGetDigest: answers the policy digest of a session, by its row in
+//! TPM2_PolicyGetDigest: returns the policy digest of a session, as specified by its row in
 //! `specs/PolicyGetDigest`.
 
 ghost use Rattle.std.specs.Prelude.{◌≡◌};
@@ -15,7 +15,7 @@ use tpm_record::rows::call::Call;
 use tpm_record::rows::reading::end;
 use tpm_types::Refused;
 
-/// TPM2_PolicyGetDigest: the policy digest of a session.
+/// TPM2_PolicyGetDigest: returns the policy digest of a session.
 #[tactic(auto, unfolding(crate::specs::PolicyGetDigest::policy_get_digest_row))]
 pub fn policy_get_digest<K: Keep>(
     keep: &mut K,

@@ -1,4 +1,4 @@
-//! TPM2_PolicyLocality: narrows the localities that a policy allows, by its row in
+//! TPM2_PolicyLocality: restricts the localities that a policy allows, as specified by its row in
 //! `specs/PolicyLocality`.
 
 ghost use Rattle.std.specs.Prelude.{◌≡◌};
@@ -16,7 +16,7 @@ use tpm_record::rows::call::Call;
 use tpm_record::rows::reading::{end, number};
 use tpm_types::Refused;
 
-/// TPM2_PolicyLocality: allows some of the localities that are left.
+/// TPM2_PolicyLocality: restricts the session to a subset of the localities that it still allows.
 #[tactic(auto, unfolding(crate::specs::Assertions::assertion_row))]
 pub fn policy_locality<K: Keep>(
     keep: &mut K,

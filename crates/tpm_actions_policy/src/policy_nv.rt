@@ -1,4 +1,5 @@
-//! TPM2_PolicyNV: compares data of an NV index with an operand, by its row in `specs/PolicyNv`.
+//! TPM2_PolicyNV: compares data of an NV index with an operand, as specified by its row in
+//! `specs/PolicyNv`.
 
 ghost use Rattle.tpm_bytes.specs.Reading.{Gives};
 ghost use Rattle.std.specs.Prelude.{◌≡◌, IfOk, length};
@@ -41,7 +42,7 @@ fn read_compared<'a>(target: Target, parameters: &'a [u8]) -> Result<ComparedInd
     })
 }
 
-/// TPM2_PolicyNV: compares data of an NV index.
+/// TPM2_PolicyNV: compares data of an NV index with an operand.
 #[tactic(auto, unfolding(crate::specs::Assertions::assertion_row))]
 pub fn policy_nv<K: Keep>(keep: &mut K, call: &Call, _answer: &mut Answer) -> Result<(), Refused>
     requires { IsEmpty _answer.old }
@@ -53,9 +54,9 @@ pub fn policy_nv<K: Keep>(keep: &mut K, call: &Call, _answer: &mut Answer) -> Re
     make_assertion(keep, handle, &AssertionParameters::Nv(index))
 }
 
-/// The bytes that TPM2_PolicyNV compares have the size of the operand, where the NV indices have
-/// the sizes that they say, as those of every device have: so no comparison fails for its sizes.
-/// The function does nothing.
+/// TPM2_PolicyNV compares exactly as many bytes as its operand has, provided that the data of
+/// each NV index has the size stated in its public area, as it does on every device. So no
+/// comparison fails because of sizes. A proof only: it has no effect at run time.
 #[inline(always)]
 #[tactic(auto, using(crate::proofs::ComparedSizes::compared_whole))]
 pub fn compared_size_laws()

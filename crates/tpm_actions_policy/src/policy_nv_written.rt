@@ -1,5 +1,5 @@
-//! TPM2_PolicyNvWritten: allows an NV index that is written, or one that is not, by its row in
-//! `specs/PolicyNvWritten`.
+//! TPM2_PolicyNvWritten: allows only a written NV index, or only an unwritten one, as specified
+//! by its row in `specs/PolicyNvWritten`.
 
 ghost use Rattle.std.specs.Prelude.{◌≡◌};
 ghost use Rattle.tpm_commands.specs.declared.command_code.CommandCode.TheVariants as command;
@@ -16,7 +16,7 @@ use tpm_record::rows::call::Call;
 use tpm_record::rows::reading::{end, parameter};
 use tpm_types::{Refused, read_yes_no};
 
-/// TPM2_PolicyNvWritten: allows an NV index that is written, or one that is not.
+/// TPM2_PolicyNvWritten: allows only a written NV index, or only an unwritten one.
 #[tactic(auto, unfolding(crate::specs::Assertions::assertion_row))]
 pub fn policy_nv_written<K: Keep>(
     keep: &mut K,

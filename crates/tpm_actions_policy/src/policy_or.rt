@@ -1,4 +1,5 @@
-//! TPM2_PolicyOR: goes on from any of several branches of a policy, by its row in `specs/PolicyOr`.
+//! TPM2_PolicyOR: continues from any of several branches of a policy, as specified by its row in
+//! `specs/PolicyOr`.
 
 ghost use Rattle.std.specs.Prelude.{◌≡◌};
 ghost use Rattle.tpm_commands.specs.declared.command_code.CommandCode.TheVariants as command;
@@ -15,7 +16,7 @@ use tpm_record::rows::call::Call;
 use tpm_record::rows::reading::{end, parameter};
 use tpm_types::{DigestList, Refused};
 
-/// TPM2_PolicyOR: goes on from any of several branches.
+/// TPM2_PolicyOR: continues from any of several branches.
 #[tactic(auto, unfolding(crate::specs::Assertions::assertion_row))]
 pub fn policy_or<K: Keep>(keep: &mut K, call: &Call, _answer: &mut Answer) -> Result<(), Refused>
     requires { IsEmpty _answer.old }

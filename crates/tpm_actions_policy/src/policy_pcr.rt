@@ -1,5 +1,5 @@
-//! TPM2_PolicyPCR: compares the values of PCRs, and allows no change of any after it, by its row in
-//! `specs/PolicyPcr`.
+//! TPM2_PolicyPCR: compares the values of PCRs, and requires that no PCR changes afterwards, as
+//! specified by its row in `specs/PolicyPcr`.
 
 ghost use Rattle.std.specs.Prelude.{◌≡◌};
 ghost use Rattle.tpm_commands.specs.declared.command_code.CommandCode.TheVariants as command;
@@ -23,7 +23,7 @@ use tpm_record::rows::reading::{end, parameter};
 use tpm_session::Session;
 use tpm_types::{ActionFault, DIGEST_LIMIT, PcrSelection, Refused, read_buffer};
 
-/// The PCRs that are to be compared, with the given digest of their values.
+/// The PCRs to compare, and the digest of their values from the command.
 #[derive(Clone, Copy)]
 pub struct ComparedPcrs<'a> {
     given: &'a [u8],
@@ -31,7 +31,7 @@ pub struct ComparedPcrs<'a> {
 }
 
 impl ComparedPcrs<'_> {
-    /// Asserts the values of the PCRs, as they are now, in the policy of a session.
+    /// Makes the assertion of the current PCR values on a session's policy.
     pub(crate) fn assert_on<K: Keep>(
         &self,
         keep: &K,
@@ -56,7 +56,7 @@ impl ComparedPcrs<'_> {
     }
 }
 
-/// TPM2_PolicyPCR: compares the values of PCRs, and allows no change of any PCR after it.
+/// TPM2_PolicyPCR: compares the values of PCRs, and requires that no PCR changes afterwards.
 #[tactic(auto, unfolding(crate::specs::Assertions::assertion_row))]
 pub fn policy_pcr<K: Keep>(keep: &mut K, call: &Call, _answer: &mut Answer) -> Result<(), Refused>
     requires { IsEmpty _answer.old }

@@ -1,5 +1,5 @@
-//! TPM2_PolicyRestart: returns the policy of a session to its start, by its row in
-//! `specs/PolicyRestart`.
+//! TPM2_PolicyRestart: resets the policy of a session to its initial state, as specified by its
+//! row in `specs/PolicyRestart`.
 
 ghost use Rattle.std.specs.Prelude.{◌≡◌};
 ghost use Rattle.tpm_record.specs.rows.Answer.{IsEmpty};
@@ -16,7 +16,7 @@ use tpm_record::rows::call::Call;
 use tpm_record::rows::reading::end;
 use tpm_types::Refused;
 
-/// TPM2_PolicyRestart: returns the policy of a session to its start.
+/// TPM2_PolicyRestart: resets the policy of a session to its initial state.
 #[tactic(auto, unfolding(crate::specs::PolicyRestart::policy_restart_row), using(tpm_policy::proofs::Sizes::starting_sized))]
 pub fn policy_restart<K: Keep>(
     keep: &mut K,

@@ -10,12 +10,12 @@ use Rattle.tpm_aes.specs.Field.{times_power}
 use Rattle.tpm_aes.specs.Words.{bytes_of}
 use Rattle.tpm_aes.specs.declared.key_schedule.TheConstants.{ROUND_CONSTANTS}
 
--- the column that takes a byte from each of four columns
+-- the column that takes one byte from each of four columns
 abbrev pub shifted_column : (a b c d : List ℕ) → List ℕ
 shifted_column a b c d =
     slice_index_or a 0 0 ∷ slice_index_or b 1 0 ∷ slice_index_or c 2 0 ∷ slice_index_or d 3 0 ∷ []
 
--- columns that a function makes of those of the state, substituted and shifted
+-- columns that a function computes from the columns of the substituted and shifted state
 abbrev columns_by : (g : List ℕ → List ℕ) (state : List ℕ) → List ℕ
 columns_by g state =
     g (word_of state 0) ++ (g (word_of state 1) ++ (g (word_of state 2) ++ g (word_of state 3)))
@@ -29,7 +29,8 @@ columns_made : (g : List ℕ → List ℕ) (p q r s : ℕ)
 unfolding shift_rows
 columns_made g p q r s = refl
 
--- the words of four columns that a function makes of those of the state, substituted and shifted
+-- the words of four columns that a function computes from the columns of the substituted and
+-- shifted state
 columns_words : (g : List ℕ → List ℕ) (state a b c d : List ℕ) (v w x y : ℕ) → length state ≡ 4
     → a ≡ to_le_bytes w32 (slice_index_or state 0 0) → b ≡ to_le_bytes w32 (slice_index_or state 1 0)
     → c ≡ to_le_bytes w32 (slice_index_or state 2 0) → d ≡ to_le_bytes w32 (slice_index_or state 3 0)
@@ -49,7 +50,7 @@ columns_words g state a b c d v w x y size is_a is_b is_c is_d is_v is_w is_x is
     ∙ sym (ap (λ (words : List ℕ). columns_by g (shift_rows (sub_bytes (bytes_of words))))
     (four_words state size))
 
--- the words of columns that are mixed
+-- the words of mixed columns
 pub mixed_words : (state a b c d : List ℕ) (v w x y : ℕ) → length state ≡ 4
     → a ≡ to_le_bytes w32 (slice_index_or state 0 0) → b ≡ to_le_bytes w32 (slice_index_or state 1 0)
     → c ≡ to_le_bytes w32 (slice_index_or state 2 0) → d ≡ to_le_bytes w32 (slice_index_or state 3 0)
@@ -66,7 +67,7 @@ words_shifted : (state : List ℕ) → columns_by (λ column. column) (shift_row
 unfolding shift_rows
 words_shifted state = refl
 
--- the words of columns that are not mixed
+-- the words of columns that are not mixed, as in the last round
 pub shifted_words : (state a b c d : List ℕ) (v w x y : ℕ) → length state ≡ 4
     → a ≡ to_le_bytes w32 (slice_index_or state 0 0) → b ≡ to_le_bytes w32 (slice_index_or state 1 0)
     → c ≡ to_le_bytes w32 (slice_index_or state 2 0) → d ≡ to_le_bytes w32 (slice_index_or state 3 0)
@@ -90,13 +91,13 @@ constant_at n low high =
     ap (λ (t : List ℕ). slice_index_or t (n - 1) 0) constant_values
     ∙ get_or-map-range_with_len (times_power 1) 0 10 (n - 1) (n - 1) 0 (omega arith) (omega arith)
 
--- the bytes of a word, turned and substituted
+-- the bytes of a word, rotated and substituted
 abbrev turned : List ℕ → List ℕ
 turned bytes =
     sub_bytes (slice_index_or bytes 1 0 ∷ slice_index_or bytes 2 0 ∷ slice_index_or bytes 3 0
     ∷ slice_index_or bytes 0 0 ∷ [])
 
--- the scheduled word, from the sum of its bytes substituted and the constant
+-- the scheduled word, computed from its substituted bytes and the constant
 pub scheduled_sum : (n word sum constant added : ℕ) (bytes : List ℕ) → bytes ≡ to_le_bytes w32 word
     → to_le_bytes w32 sum ≡ turned bytes → added ≡ constant → constant < 256 → constant ≡ times_power 1 (n - 1)
     → to_le_bytes w32 (bit_xor sum added) ≡ scheduled_word n (to_le_bytes w32 word)
@@ -122,7 +123,7 @@ next_of_four n p q r s added is_added =
     let w3 = bytes-xor s third ∙ ap (xor_of (to_le_bytes w32 s)) w2 in
     λ i. w0 i ++ (w1 i ++ (w2 i ++ w3 i))
 
--- the words of the next round key are those that the standard gives
+-- the words of the next round key match the standard
 pub next_words : (n added : ℕ) (key : List ℕ) → length key ≡ 4
     → to_le_bytes w32 added ≡ scheduled_word n (to_le_bytes w32 (slice_index_or key 3 0))
     → let first = bit_xor (slice_index_or key 0 0) added in

@@ -21,7 +21,8 @@ s_box_at i a same byte =
     ap (λ (t : List ℕ). slice_index_or t i 0) s_box_values
     ∙ get_or-map-range_with_len sub_byte 0 256 i a 0 (omega arith) (omega arith)
 
--- an entry of a table whose words have the bytes that a function makes of the S-box's entries
+-- an entry of a table whose words consist of the bytes that a function computes from the S-box
+-- entries
 word_at : (f : ℕ → List ℕ) (table : List ℕ) → length table ≡ 256
     → map (to_le_bytes w32) table ≡ map f S_BOX
     → (i a : ℕ) → i ≡ a → a < 256 → to_le_bytes w32 (slice_index_or table i 0) ≡ f (sub_byte a)
@@ -31,11 +32,11 @@ word_at f table size values i a same byte =
     ∙ get_or-map f S_BOX i 0 [] (omega arith)
     ∙ ap f (s_box_at i a same byte)
 
--- the round table of a row
+-- the lookup table for a row
 abbrev mixed_table : ℕ → List ℕ
 mixed_table r = slice_index_or MIXED r []
 
--- the column of one byte and zeros, mixed
+-- the mixed column of one byte and zeros
 abbrev mixed_0 : ℕ → List ℕ
 mixed_0 s = mix_column (s ∷ 0 ∷ 0 ∷ 0 ∷ [])
 
@@ -64,7 +65,7 @@ mixed_3_values : map (to_le_bytes w32) (mixed_table 3) ≡ map mixed_3 S_BOX
 unfolding mix_column times_power times_terms
 mixed_3_values = refl
 
--- an entry of each round table
+-- an entry of each lookup table
 pub mixed_0_at : (i a : ℕ) → i ≡ a → a < 256
     → to_le_bytes w32 (slice_index_or (mixed_table 0) i 0) ≡ mixed_0 (sub_byte a)
 mixed_0_at = word_at mixed_0 (mixed_table 0) refl mixed_0_values
@@ -81,7 +82,7 @@ pub mixed_3_at : (i a : ℕ) → i ≡ a → a < 256
     → to_le_bytes w32 (slice_index_or (mixed_table 3) i 0) ≡ mixed_3 (sub_byte a)
 mixed_3_at = word_at mixed_3 (mixed_table 3) refl mixed_3_values
 
--- every entry of the S-box, and of the four round tables
+-- every entry of the S-box, and of the four lookup tables
 pub s_box_entries : IsSBox S_BOX
 s_box_entries a byte = s_box_at a a refl byte
 
@@ -100,14 +101,14 @@ times_zero_three : times 0 3 ≡ 0
 unfolding times_power times_terms
 times_zero_three = refl
 
--- a column is the sum of those of its bytes
+-- a mixed column is the sum of the mixed columns of its bytes
 pub mixed_sum : (a b c d : ℕ)
     → xor_of (xor_of (xor_of (mixed_0 a) (mixed_1 b)) (mixed_2 c)) (mixed_3 d)
     ≡ mix_column (a ∷ b ∷ c ∷ d ∷ [])
 unfolding mix_column
 mixed_sum a b c d = simp (times_zero_two, times_zero_three, xor_zero_r) refl
 
--- the sum of the words of four columns of one byte
+-- the sum of the words of four mixed columns, each of one byte
 pub mixed_word : (v w x y a b c d : ℕ) → to_le_bytes w32 v ≡ mixed_0 a → to_le_bytes w32 w ≡ mixed_1 b
     → to_le_bytes w32 x ≡ mixed_2 c → to_le_bytes w32 y ≡ mixed_3 d
     → to_le_bytes w32 (bit_xor (bit_xor (bit_xor v w) x) y) ≡ mix_column (a ∷ b ∷ c ∷ d ∷ [])

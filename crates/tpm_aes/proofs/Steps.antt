@@ -11,17 +11,17 @@ pub words_mixed : (state : List ℕ) → mix_columns state
 unfolding mix_columns
 words_mixed state = rw (append-nil (mix_column (word_of state 3))) refl
 
--- the key of the first round is the key
+-- the key for the first round is the cipher key itself
 pub round_key_first : (key : List ℕ) → round_key key 0 ≡ key
 unfolding round_key
 round_key_first key = refl
 
--- the key of the next round
+-- the key for the next round
 pub round_key_more : (key : List ℕ) (n : ℕ) → round_key key (n + 1) ≡ next_round_key (n + 1) (round_key key n)
 unfolding round_key
 round_key_more key n = rw (add-one n) refl
 
--- the state before the first round has the first round key added
+-- before the first round, the state is the block with the first round key added
 pub state_after_none : (key block : List ℕ) → state_after key block 0 ≡ xor_of block (round_key key 0)
 unfolding state_after
 state_after_none key block = refl
@@ -38,7 +38,7 @@ get_or-expanded_key : (key : List ℕ) (n : ℕ) → n < 11
 unfolding expanded_key
 get_or-expanded_key key n within = get_or-map-range_with_len (round_key key) 0 11 n n [] within (omega arith)
 
--- keys whose bytes are those of all rounds
+-- a list of keys whose bytes are those of the keys for all rounds
 pub expanded_key_from : (keys : List (List ℕ)) (key : List ℕ) → length keys ≡ 11
     → ((k : ℕ) → k < 11 → bytes_of (slice_index_or keys k []) ≡ round_key key k)
     → map bytes_of keys ≡ expanded_key (bytes_of (slice_index_or keys 0 []))
@@ -49,12 +49,12 @@ expanded_key_from keys key size each =
     λ k low. get_or-map bytes_of keys k [] [] (omega arith) ∙ each k low in
     rw first (fill_by_all (round_key key) (map bytes_of keys) 11 [] (simp length-map size) all)
 
--- The keys of the rounds below n are in their places.
+-- The keys for the rounds below n are at their indices.
 pub record HasKeysBelow (keys : List (List ℕ)) (key : List ℕ) (n : ℕ) : Type 0 where
   pub size : length keys ≡ 11
   pub each : (k : ℕ) → k < n → bytes_of (slice_index_or keys k []) ≡ round_key key k
 
--- the list of round keys with one more
+-- the list of round keys with one key added
 pub round_keys_more : (keys : List (List ℕ)) (key next : List ℕ) (n : ℕ) → 1 ≤ n → n < length keys
     → ((k : ℕ) → k < n → bytes_of (slice_index_or keys k []) ≡ round_key key k)
     → bytes_of next ≡ next_round_key n (bytes_of (slice_index_or keys (n - 1) []))
@@ -68,7 +68,7 @@ round_keys_more keys key next n low within so_far is_next =
     (λ k h. let other : k ≢ n = omega arith in rw get_or-set_other (so_far k h))
     (rw get_or-set_same value)
 
--- a round key of a cipher whose first round key is the key
+-- a round key of a cipher whose first round key is the cipher key
 pub round_key_at : (keys : List (List ℕ)) (key : List ℕ) → length keys ≡ 11
     → bytes_of (slice_index_or keys 0 []) ≡ key
     → map bytes_of keys ≡ expanded_key (bytes_of (slice_index_or keys 0 [])) → (n : ℕ) → n < 11

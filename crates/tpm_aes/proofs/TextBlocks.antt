@@ -1,4 +1,4 @@
--- Texts that are changed block by block, from the front.
+-- Texts that are replaced block by block, from the start.
 use Rattle.std.proofs.Common.{◌≡◌, ℕ, zero, suc, ◌+◌, ◌-◌, ◌*◌, ◌<◌, ◌≤◌, List, [], ◌∷◌, ◌++◌, add-one, add-zero, ap, append_assoc, arith, drop, length, length-append, length-drop, min, refl, sym, take, ◌∙◌, inl, inr}
 use Rattle.std.proofs.lemmas.Bool.{cases_lt}
 use Rattle.std.proofs.lemmas.Grind.{div_ceil_times, flat_map-append}
@@ -6,7 +6,7 @@ use Rattle.std.proofs.lemmas.List.{append-nil, drop-drop, drop_all, drop_at, len
 use Rattle.std.specs.List.{flat_map, range_with_len}
 use Rattle.tpm_aes.specs.Cfb.{block_at, block_count}
 
--- a range with one more number at the end
+-- a range with one number added at the end
 range_with_len-suc : (a n : ℕ) → range_with_len a (suc n) ≡ range_with_len a n ++ (a + n) ∷ []
 range_with_len-suc a zero = rw (add-zero a) refl
 range_with_len-suc a (suc n) =
@@ -14,16 +14,16 @@ range_with_len-suc a (suc n) =
     ap (λ (xs : List ℕ). a ∷ xs)
     (range_with_len-suc (a + 1) n ∙ ap (λ (k : ℕ). range_with_len (a + 1) n ++ k ∷ []) last)
 
--- the first n pieces, joined
+-- the concatenation of the first n pieces
 unfoldable pub pieces_to : (ℕ → List ℕ) → ℕ → List ℕ
 pieces_to piece n = flat_map piece (range_with_len 0 n)
 
--- no piece, joined, is empty
+-- the concatenation of no pieces is empty
 pub pieces_to-zero : (piece : ℕ → List ℕ) → pieces_to piece 0 ≡ []
 unfolding pieces_to
 pieces_to-zero piece = refl
 
--- the first pieces, and one more, joined
+-- the concatenation of the first pieces, with one more added
 pub pieces_to-suc : (piece : ℕ → List ℕ) (n : ℕ) → pieces_to piece (suc n) ≡ pieces_to piece n ++ piece n
 unfolding pieces_to
 pieces_to-suc piece n =
@@ -32,11 +32,11 @@ pieces_to-suc piece n =
     ∙ flat_map-append piece (range_with_len 0 n) ((0 + n) ∷ [])
     ∙ ap (λ (xs : List ℕ). pieces_to piece n ++ xs) (append-nil (piece (0 + n)) ∙ ap piece number)
 
--- the first pieces, and one more, joined (with n + 1)
+-- the concatenation of the first pieces, with one more added (with n + 1)
 pub pieces_to-add-one : (piece : ℕ → List ℕ) (n : ℕ) → pieces_to piece (n + 1) ≡ pieces_to piece n ++ piece n
 pieces_to-add-one piece n = ap (pieces_to piece) (add-one n) ∙ pieces_to-suc piece n
 
--- The blocks of a text below i have become pieces of as many bytes.
+-- The blocks of a text below i were replaced by pieces of the same sizes.
 pub record IsDoneTo (piece : ℕ → List ℕ) (old now : List ℕ) (i : ℕ) : Type 0 where
   pub size : length now ≡ length old
   pub value : now ≡ pieces_to piece i ++ drop (16 * i) old
@@ -51,14 +51,14 @@ length-done : (piece : ℕ → List ℕ) (old now : List ℕ) (i : ℕ) → IsDo
 length-done piece old now i done within =
     omega (arith, done.size, simp (length-append, length-drop) at (ap length done.value))
 
--- what is left after the blocks so far is as in the old text
+-- the bytes after the blocks so far are unchanged
 rest_left : (piece : ℕ → List ℕ) (old now : List ℕ) (i start : ℕ) → IsDoneTo piece old now i
     → start ≡ 16 * i → start ≤ length old → drop start now ≡ drop (16 * i) old
 rest_left piece old now i start done at within =
     ap (drop start) done.value
     ∙ drop_at (pieces_to piece i) (drop (16 * i) old) start (length-done piece old now i done (omega arith) ∙ sym at)
 
--- what is left of a text after the next block
+-- the bytes of a text after the next block
 drop_block : (old : List ℕ) (i size : ℕ) → 16 * i ≤ length old → size ≡ min 16 (length old - 16 * i)
     → drop size (drop (16 * i) old) ≡ drop (16 * (i + 1)) old
 drop_block old i size within is_size =
@@ -72,7 +72,7 @@ drop_block old i size within is_size =
           rw (sixteen, ← whole) (drop-drop 16 (16 * i) old)
     ]
 
--- the next block is still that of the old text
+-- the next block is unchanged
 pub block_left : (piece : ℕ → List ℕ) (old now : List ℕ) (i start end : ℕ) → IsDoneTo piece old now i
     → start ≡ 16 * i → start ≤ length old → end ≡ start + min 16 (length old - start)
     → take (end - start) (drop start now) ≡ block_at old i
@@ -82,7 +82,7 @@ block_left piece old now i start end done at within stop =
     let size : end - start ≡ min 16 (length rest) = omega (arith, length-drop (16 * i) old) in
     ap (take (end - start)) left ∙ ap (λ (k : ℕ). take k rest) size ∙ take_min 16 rest
 
--- after one more block, one more has become its piece
+-- after the next block is replaced, one more block is a piece
 pub done_to_more : (piece : ℕ → List ℕ) (old now new part : List ℕ) (i start end : ℕ) → IsDoneTo piece old now i
     → start ≡ 16 * i → start ≤ length old → end ≡ start + min 16 (length old - start)
     → part ≡ piece i → length part ≡ end - start
@@ -111,11 +111,11 @@ done_to_more piece old now new part i start end done at within stop is_piece siz
           ∙ ap (λ (xs : List ℕ). xs ++ drop (16 * (i + 1)) old) (sym (pieces_to-add-one piece i));
     }
 
--- a block before the last is inside the text
+-- every counted block starts inside the text
 pub block_count-inside : (text : List ℕ) (i : ℕ) → i < block_count text → 16 * i < length text
 block_count-inside text i low = omega arith
 
--- a block is short only where the text ends
+-- a block is short only at the end of the text
 pub length-block_at : (text : List ℕ) (i : ℕ) → length (block_at text i) ≡ min 16 (length text - 16 * i)
 length-block_at text i = length-take 16 (drop (16 * i) text) ∙ ap (min 16) (length-drop (16 * i) text)
 
@@ -123,7 +123,7 @@ length-block_at text i = length-take 16 (drop (16 * i) text) ∙ ap (min 16) (le
 pub block_count-covers : (text : List ℕ) → length text ≤ 16 * block_count text
 block_count-covers text = omega (arith, (div_ceil_times (length text) 16 (omega arith)).0)
 
--- after the last block, the text is all pieces
+-- after the last block, the whole text consists of pieces
 pub done_to_all : (piece : ℕ → List ℕ) (old now : List ℕ) (i : ℕ) → IsDoneTo piece old now i
     → i ≡ block_count old → now ≡ pieces_to piece (block_count old)
 done_to_all piece old now i done last =

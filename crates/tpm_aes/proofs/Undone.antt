@@ -10,7 +10,7 @@ use Rattle.tpm_aes.specs.Cipher.{aes_of, next_round_key, round_key, scheduled_wo
 
 -- ---- lengths
 
--- an exclusive or has as many bytes as the first list, where the second has no fewer
+-- an XOR is as long as the first list, if the second is not shorter
 length-xor_of-whole : (xs ys : List ℕ) → length xs ≤ length ys → length (xor_of xs ys) ≡ length xs
 length-xor_of-whole [] ys fits = refl
 length-xor_of-whole (x ∷ xs) [] fits = absurd (omega arith)
@@ -28,7 +28,7 @@ length-shift_rows : (state : List ℕ) → length (shift_rows state) ≡ 16
 unfolding shift_rows
 length-shift_rows state = refl
 
--- an encrypted block has sixteen bytes
+-- an encrypted block is sixteen bytes long
 length-aes_of : (key block : List ℕ) → length (aes_of key block) ≡ 16
 unfolding aes_of
 length-aes_of key block =
@@ -36,13 +36,13 @@ length-aes_of key block =
     length-xor_of-whole state (round_key key 10) (omega (arith, length-shift_rows (sub_bytes (state_after key block 9)), length-round_key key 9))
     ∙ length-shift_rows (sub_bytes (state_after key block 9))
 
--- a block under the key stream of another has as many bytes as before
+-- XORing a block with a key stream preserves its size
 length-streamed : (key feedback text : List ℕ) (i : ℕ) → length (xor_of (block_at text i) (aes_of key feedback)) ≡ length (block_at text i)
 length-streamed key feedback text i =
     length-xor_of-whole (block_at text i) (aes_of key feedback)
     (omega (arith, length-block_at text i, length-aes_of key feedback))
 
--- pieces that are as long as a text's blocks
+-- pieces with the sizes of a text's blocks
 abbrev AreLikeBlocks : (ℕ → List ℕ) → List ℕ → Type 0
 AreLikeBlocks piece text = (i : ℕ) → length (piece i) ≡ length (block_at text i)
 
@@ -60,7 +60,7 @@ length-joined piece text like =
 
 -- ---- pieces and their blocks
 
--- bytes that are added twice, by exclusive or, leave the text as it was
+-- XORing twice leaves the text unchanged
 xor_of-twice : (xs ys : List ℕ) → length (xor_of xs ys) ≡ length xs → xor_of (xor_of xs ys) ys ≡ xs
 xor_of-twice [] ys whole = refl
 xor_of-twice (x ∷ xs) [] whole = absurd (omega arith)
@@ -68,7 +68,7 @@ xor_of-twice (x ∷ xs) (y ∷ ys) whole =
     let byte : bit_xor (bit_xor x y) y ≡ x = xor_assoc x y y ∙ ap (bit_xor x) (xor_self y) ∙ xor_zero_r x in
     ap (λ (k : ℕ). k ∷ xor_of (xor_of xs ys) ys) byte ∙ ap (λ (t : List ℕ). x ∷ t) (xor_of-twice xs ys (omega arith))
 
--- block i of pieces that are whole blocks but for the last
+-- block i of pieces that are all full blocks, except perhaps the last
 block_at-pieces_to : (piece : ℕ → List ℕ) (n : ℕ) → ((i : ℕ) → i < n → length (pieces_to piece i) ≡ 16 * i)
     → ((i : ℕ) → length (piece i) ≤ 16) → (i : ℕ) → i < n → block_at (pieces_to piece n) i ≡ piece i
 block_at-pieces_to piece zero whole short i low = absurd (omega arith)
@@ -87,7 +87,7 @@ block_at-pieces_to piece (suc n) whole short i low =
           ∙ take_all 16 (piece n) (short n) ∙ ap piece same
     ]
 
--- block i of pieces that are as long as a text's blocks
+-- block i of pieces with the sizes of a text's blocks
 block_at-joined : (piece : ℕ → List ℕ) (text : List ℕ) → AreLikeBlocks piece text
     → (i : ℕ) → i < block_count text → block_at (pieces_to piece (block_count text)) i ≡ piece i
 block_at-joined piece text like =
@@ -102,7 +102,7 @@ pieces_to-same f g (suc n) each =
     pieces_to-suc f n ∙ ap (λ (xs : List ℕ). xs ++ f n) (pieces_to-same f g n (λ i h. each i (omega arith)))
     ∙ ap (λ (xs : List ℕ). pieces_to g n ++ xs) (each n (omega arith)) ∙ sym (pieces_to-suc g n)
 
--- the blocks of a text, joined
+-- the concatenated blocks of a text
 pieces_to-block_at : (text : List ℕ) (n : ℕ) → pieces_to (block_at text) n ≡ take (16 * n) text
 pieces_to-block_at text zero = pieces_to-zero (block_at text)
 pieces_to-block_at text (suc n) =
@@ -110,7 +110,7 @@ pieces_to-block_at text (suc n) =
     pieces_to-suc (block_at text) n ∙ ap (λ (xs : List ℕ). xs ++ block_at text n) (pieces_to-block_at text n)
     ∙ sym (take-add (16 * n) 16 text) ∙ ap (λ (k : ℕ). take k text) more
 
--- pieces that are a text's blocks are the text
+-- if the pieces are a text's blocks, their concatenation is the text
 joined_again : (piece : ℕ → List ℕ) (text other : List ℕ) → length other ≡ length text
     → ((i : ℕ) → i < block_count text → piece i ≡ block_at text i)
     → pieces_to piece (block_count other) ≡ text
@@ -121,7 +121,7 @@ joined_again piece text other whole each =
 
 -- ---- encryption
 
--- C(i + 1) by C(i)
+-- C(i + 1), computed from C(i)
 pub cipher_block_more : (key iv text : List ℕ) (i : ℕ) → cipher_block key iv text (i + 1)
     ≡ xor_of (block_at text i) (aes_of key (cipher_block key iv text i))
 unfolding cipher_block
@@ -132,11 +132,11 @@ pub cipher_block_none : (key iv text : List ℕ) → cipher_block key iv text 0 
 unfolding cipher_block
 cipher_block_none key iv text = refl
 
--- piece i of a cipher text: C(i + 1)
+-- piece i of a ciphertext: C(i + 1)
 abbrev pub cipher_piece : (key iv text : List ℕ) → ℕ → List ℕ
 cipher_piece key iv text i = cipher_block key iv text (i + 1)
 
--- the block before block i of a cipher text whose blocks are C(1), C(2) and so on
+-- the block before block i of a ciphertext whose blocks are C(1), C(2) and so on
 block_before-cipher : (key iv text cipher : List ℕ) (i : ℕ)
     → ((j : ℕ) → j < i → block_at cipher j ≡ cipher_block key iv text (j + 1))
     → block_before iv cipher i ≡ cipher_block key iv text i
@@ -148,7 +148,7 @@ length-cipher_piece : (key iv text : List ℕ) → AreLikeBlocks (cipher_piece k
 length-cipher_piece key iv text i =
     ap length (cipher_block_more key iv text i) ∙ length-streamed key (cipher_block key iv text i) text i
 
--- a cipher text is as long as its text
+-- a ciphertext is as long as its plaintext
 pub length-cfb_encrypt_of : (key iv text : List ℕ) → length (cfb_encrypt_of key iv text) ≡ length text
 unfolding pieces_to
 length-cfb_encrypt_of key iv text = length-joined (cipher_piece key iv text) text (length-cipher_piece key iv text)
@@ -174,13 +174,12 @@ cfb_undone key iv text =
 length-plain_block : (key iv cipher : List ℕ) → AreLikeBlocks (plain_block key iv cipher) cipher
 length-plain_block key iv cipher i = length-streamed key (block_before iv cipher i) cipher i
 
--- a decrypted text is as long as the cipher text
+-- a decrypted text is as long as its ciphertext
 pub length-cfb_decrypt_of : (key iv cipher : List ℕ) → length (cfb_decrypt_of key iv cipher) ≡ length cipher
 unfolding pieces_to
 length-cfb_decrypt_of key iv cipher = length-joined (plain_block key iv cipher) cipher (length-plain_block key iv cipher)
 
--- encryption gives the blocks of a cipher text back, where the plain blocks are those that the
--- cipher text was decrypted to
+-- encryption yields the blocks of a ciphertext, if the plaintext blocks are its decryption
 encrypted_again : (key iv cipher text : List ℕ) (n : ℕ)
     → ((i : ℕ) → i < n → block_at text i ≡ plain_block key iv cipher i)
     → (i : ℕ) → i ≤ n → cipher_block key iv text i ≡ block_before iv cipher i

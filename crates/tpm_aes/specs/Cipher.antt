@@ -1,12 +1,11 @@
--- AES-128 (FIPS 197) in the direction of encryption. A block, a state and a round key are lists of
--- sixteen bytes, column after column: row r of column c is byte r + 4 * c (3.4). A word is a
--- column.
+-- AES-128 encryption (FIPS 197). A block, a state and a round key are lists of sixteen bytes,
+-- column by column: row r of column c is byte r + 4 * c (3.4). A word is a column.
 use Rattle.std.specs.Prelude.{ℕ, zero, suc, ◌+◌, ◌-◌, ◌*◌, ◌/◌, ◌%◌, bit_xor}
 use Rattle.std.specs.Prelude.{List, [], ◌∷◌, ◌++◌, map, slice_index}
 use Rattle.std.specs.List.{flat_map, range_with_len}
 use Rattle.tpm_aes.specs.Field.{sub_byte, times, times_power}
 
--- the bytes of one list xor those of another, as many as the shorter has (5.1.4, AddRoundKey)
+-- the bytewise XOR of two lists, up to the shorter size (5.1.4, AddRoundKey)
 abbrev pub xor_of : List ℕ → List ℕ → List ℕ
 xor_of [] ys = []
 xor_of (x ∷ xs) [] = []
@@ -16,11 +15,11 @@ xor_of (x ∷ xs) (y ∷ ys) = bit_xor x y ∷ xor_of xs ys
 abbrev pub word_of : List ℕ → ℕ → List ℕ
 word_of block c = map (λ r. slice_index block (r + 4 * c)) (range_with_len 0 4)
 
--- each byte through the S-box (5.1.1)
+-- each byte replaced using the S-box (5.1.1)
 abbrev pub sub_bytes : List ℕ → List ℕ
 sub_bytes state = map sub_byte state
 
--- each row r turned left by r places: its column c is what was its column c + r (5.1.2)
+-- each row r rotated left by r columns: its new column c is its old column c + r (5.1.2)
 unfoldable pub shift_rows : List ℕ → List ℕ
 shift_rows state =
     map (λ i. slice_index state (i % 4 + 4 * ((i / 4 + i % 4) % 4))) (range_with_len 0 16)
@@ -41,7 +40,7 @@ mix_column s =
 unfoldable pub mix_columns : List ℕ → List ℕ
 mix_columns state = flat_map (λ c. mix_column (word_of state c)) (range_with_len 0 4)
 
--- RotWord: the word turned left by a byte (5.2)
+-- RotWord: the word rotated left by a byte (5.2)
 abbrev pub rot_word : List ℕ → List ℕ
 rot_word word =
     slice_index word 1 ∷ slice_index word 2 ∷ slice_index word 3 ∷ slice_index word 0 ∷ []
@@ -51,7 +50,7 @@ unfoldable pub scheduled_word : ℕ → List ℕ → List ℕ
 scheduled_word n word =
     xor_of (map sub_byte (rot_word word)) (times_power 1 (n - 1) ∷ 0 ∷ 0 ∷ 0 ∷ [])
 
--- the key of round n from that of the round before (5.2)
+-- the key for round n, computed from the previous round's key (5.2)
 unfoldable pub next_round_key : ℕ → List ℕ → List ℕ
 next_round_key n key =
     let w0 : List ℕ = xor_of (word_of key 0) (scheduled_word n (word_of key 3)) in
@@ -60,7 +59,7 @@ next_round_key n key =
     let w3 : List ℕ = xor_of (word_of key 3) w2 in
     w0 ++ (w1 ++ (w2 ++ w3))
 
--- the key of round n (5.2)
+-- the key for round n (5.2)
 unfoldable pub round_key : List ℕ → ℕ → List ℕ
 round_key key zero = key
 round_key key (suc n) = next_round_key (suc n) (round_key key n)
@@ -75,7 +74,7 @@ state_after key block zero = xor_of block (round_key key 0)
 state_after key block (suc n) =
     xor_of (mix_columns (shift_rows (sub_bytes (state_after key block n)))) (round_key key (suc n))
 
--- the block encrypted: ten rounds, of which the last mixes no columns (5.1)
+-- the encrypted block, after ten rounds; the last round does not mix columns (5.1)
 unfoldable pub aes_of : (key block : List ℕ) → List ℕ
 aes_of key block =
     xor_of (shift_rows (sub_bytes (state_after key block 9))) (round_key key 10)

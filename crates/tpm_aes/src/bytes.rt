@@ -5,11 +5,11 @@ ghost use Rattle.std.specs.Int.{to_le_bytes, w32};
 ghost use Rattle.tpm_aes.specs.Cipher.{word_of, xor_of};
 ghost use Rattle.tpm_aes.specs.Words.{bytes_of};
 
-/// Sixteen bytes, column after column: row r of column c is byte r + 4 c (FIPS 197, 3.4).
+/// Sixteen bytes, column by column: row r of column c is byte r + 4 c (FIPS 197, 3.4).
 pub(crate) type Block = [u8; 16];
 
-/// The four words of a block, a state's columns or a round key's words: byte r of a word, the
-/// lowest first, is row r of its column.
+/// The four words of a block: a state's columns, or a round key's words. Byte r of a word,
+/// counted from the lowest, is row r of its column.
 pub(crate) type Words = [u32; 4];
 
 /// The words of a block.
@@ -52,7 +52,7 @@ pub(crate) fn block_of(words: Words) -> Block
     ]
 }
 
-/// Combines the bytes with the front of `other` by exclusive or.
+/// XORs the bytes with the first bytes of `other`.
 pub fn xor_with(bytes: &mut [u8], other: &[u8])
     requires { length bytes.old ≤ length other.now }
     ensures { bytes.new ≡ xor_of bytes.old other.now }

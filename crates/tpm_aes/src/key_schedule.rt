@@ -8,10 +8,10 @@ ghost use Rattle.tpm_aes.specs.Words.{bytes_of};
 use crate::bytes::Words;
 use crate::tables::substituted_word;
 
-/// The constants of the rounds 1 to 10 (FIPS 197, 5.2, Rcon): powers of x, from 1 on.
+/// The constants for rounds 1 to 10 (FIPS 197, 5.2, Rcon): the powers of x, starting with 1.
 static ROUND_CONSTANTS: [u8; 10] = [0x01, 0x02, 0x04, 0x08, 0x10, 0x20, 0x40, 0x80, 0x1b, 0x36];
 
-/// The key of a round, from that of the round before.
+/// The key for a round, computed from the previous round's key.
 pub(crate) fn next_round_key(round: usize, key: Words) -> Words
     requires after_first { 1 ≤ round }
     requires to_last { round ≤ 10 }
@@ -24,8 +24,8 @@ pub(crate) fn next_round_key(round: usize, key: Words) -> Words
     [first, second, third, d ^ third]
 }
 
-/// The word turned left by a byte, each byte through the S-box, and the constant of the round
-/// added.
+/// Rotates the word left by a byte, replaces each byte using the S-box, and adds the round's
+/// constant.
 fn scheduled_word(round: usize, word: u32) -> u32
     requires after_first { 1 ≤ round }
     requires to_last { round ≤ 10 }

@@ -1,10 +1,10 @@
-//! AES-128 in the direction of encryption (FIPS 197), and its cipher feedback mode with segments of
-//! 128 bits (SP 800-38A, 6.3).
+//! AES-128 block encryption (FIPS 197), and the cipher feedback mode with segments of 128 bits
+//! (SP 800-38A, 6.3).
 //!
-//! The crate uses no other. Each call equals its definition in `specs/` for every length of its
-//! data, and decryption and encryption undo each other. No call takes memory or refuses. Rounds
-//! read tables, each entry of which is proved (`table_laws`), at places that depend on the key and
-//! the text: nothing is said of the time that a call takes.
+//! The crate has no dependencies. Each call equals its definition in `specs/` for data of any
+//! length; encryption and decryption undo each other. No call allocates memory or fails. The
+//! rounds use lookup tables, and every table entry is proved correct (`table_laws`). Which
+//! entries are read depends on the key and the text, and the time of a call is unspecified.
 
 #![tactic(auto)]
 

@@ -1,5 +1,5 @@
-//! The steps of a round (FIPS 197, 5.1) on a state of four words: SubBytes, ShiftRows and, but for
-//! the last round, MixColumns at once, and then AddRoundKey.
+//! The steps of a round (FIPS 197, 5.1) on a state of four words: SubBytes, ShiftRows and, except
+//! in the last round, MixColumns, all in one pass; then AddRoundKey.
 
 ghost use Rattle.std.specs.Prelude.{◌≡◌};
 ghost use Rattle.tpm_aes.specs.Cipher.{mix_columns, shift_rows, sub_bytes, xor_of};
@@ -8,7 +8,7 @@ ghost use Rattle.tpm_aes.specs.Words.{bytes_of};
 use crate::bytes::Words;
 use crate::tables::{mixed_column, substituted_word};
 
-/// The state substituted, its rows shifted, and its columns mixed.
+/// The state after the bytes are substituted, the rows shifted, and the columns mixed.
 pub(crate) fn mixed_state(state: Words) -> Words
     ensures { bytes_of result ≡ mix_columns (shift_rows (sub_bytes (bytes_of state))) }
 {
@@ -25,7 +25,7 @@ pub(crate) fn mixed_state(state: Words) -> Words
     ]
 }
 
-/// The state substituted, and its rows shifted, as in the last round.
+/// The state after the bytes are substituted and the rows shifted, as in the last round.
 pub(crate) fn shifted_state(state: Words) -> Words
     ensures { bytes_of result ≡ shift_rows (sub_bytes (bytes_of state)) }
 {
@@ -42,9 +42,9 @@ pub(crate) fn shifted_state(state: Words) -> Words
     ]
 }
 
-/// The state with a round key added (FIPS 197, 5.1.4). The key comes first, so that its words are
-/// read before those of the state are made: otherwise the compiler packs the state into one
-/// register at each round and takes its words out again.
+/// The state with a round key added (FIPS 197, 5.1.4). The key is the first parameter, so that
+/// its words are read before those of the state are computed. Otherwise the compiler packs the
+/// state into one register in each round and then extracts its words again.
 pub(crate) fn add_round_key(key: Words, state: Words) -> Words
     ensures { bytes_of result ≡ xor_of (bytes_of state) (bytes_of key) }
 {

@@ -1,4 +1,4 @@
-//! Words from tables: the S-box (FIPS 197, 5.1.1), and the columns that MixColumns makes of its
+//! Table lookups: the S-box (FIPS 197, 5.1.1), and the columns that MixColumns computes from its
 //! bytes (5.1.3).
 
 ghost use Rattle.std.specs.Prelude.{◌≡◌};
@@ -7,7 +7,7 @@ ghost use Rattle.tpm_aes.specs.Cipher.{mix_column, sub_bytes};
 ghost use Rattle.tpm_aes.specs.Field.{sub_byte};
 ghost use Rattle.tpm_aes.specs.Tables.{AreMixed, IsSBox};
 
-/// The column that MixColumns makes of the bytes that the S-box gives.
+/// The column that MixColumns computes from the S-box values of these bytes.
 pub(crate) fn mixed_column(bytes: [u8; 4]) -> u32
     ensures { to_le_bytes w32 result ≡ mix_column (sub_bytes bytes) }
 {
@@ -18,7 +18,7 @@ pub(crate) fn mixed_column(bytes: [u8; 4]) -> u32
         ^ MIXED[3][usize::from(d)]
 }
 
-/// The word of the bytes that the S-box gives (FIPS 197, 5.2, SubWord).
+/// The word of the S-box values of these bytes (FIPS 197, 5.2, SubWord).
 pub(crate) fn substituted_word(bytes: [u8; 4]) -> u32
     ensures { to_le_bytes w32 result ≡ sub_bytes bytes }
 {
@@ -26,16 +26,16 @@ pub(crate) fn substituted_word(bytes: [u8; 4]) -> u32
     u32::from_le_bytes([sub_byte(a), sub_byte(b), sub_byte(c), sub_byte(d)])
 }
 
-/// The byte that the S-box gives.
+/// The S-box value of this byte.
 fn sub_byte(a: u8) -> u8
     ensures { result ≡ sub_byte a }
 {
     S_BOX[usize::from(a)]
 }
 
-/// Every entry of the tables is what the standard says, and not only the sum of those that a column
-/// takes; the S-box, as defined, gives two of the bytes that the standard prints (FIPS 197, 5.1.1,
-/// figure 7). The function does nothing.
+/// Every table entry matches the standard on its own, not only the sum of the entries for a
+/// column. The definition of the S-box is checked against two values that the standard prints
+/// (FIPS 197, 5.1.1, figure 7). A proof only: it has no effect at run time.
 #[inline(always)]
 #[tactic(auto, using(crate::proofs::Entries::s_box_entries, crate::proofs::Entries::mixed_entries, crate::proofs::Vectors::published_bytes))]
 pub fn table_laws()
@@ -44,7 +44,7 @@ pub fn table_laws()
     ensures published { (sub_byte 0x00 ≡ 0x63) × (sub_byte 0x53 ≡ 0xed) }
 {}
 
-/// The S-box: entry a is what the S-box gives for a.
+/// The S-box: entry a is the value for byte a.
 static S_BOX: [u8; 256] = [
     0x63, 0x7c, 0x77, 0x7b, 0xf2, 0x6b, 0x6f, 0xc5, 0x30, 0x01, 0x67, 0x2b, 0xfe, 0xd7, 0xab, 0x76,
     0xca, 0x82, 0xc9, 0x7d, 0xfa, 0x59, 0x47, 0xf0, 0xad, 0xd4, 0xa2, 0xaf, 0x9c, 0xa4, 0x72, 0xc0,
@@ -64,9 +64,9 @@ static S_BOX: [u8; 256] = [
     0x8c, 0xa1, 0x89, 0x0d, 0xbf, 0xe6, 0x42, 0x68, 0x41, 0x99, 0x2d, 0x0f, 0xb0, 0x54, 0xbb, 0x16,
 ];
 
-/// Entry a of table r is what MixColumns makes of the column with `S_BOX[a]` in row r and 0 in the
-/// others. A column is the sum of four such columns, and its mixed column the sum of their mixed
-/// columns.
+/// Entry a of table r is the result of MixColumns for the column with `S_BOX[a]` in row r and 0
+/// elsewhere. A column is the sum of four such columns, and its mixed column is the sum of their
+/// mixed columns.
 static MIXED: [[u32; 256]; 4] = [
     [
         0xa56363c6, 0x847c7cf8, 0x997777ee, 0x8d7b7bf6, 0x0df2f2ff, 0xbd6b6bd6, 0xb16f6fde,

@@ -1,4 +1,4 @@
--- An accepted entry with an empty HMAC had an empty key, or a password was demanded.
+-- If an entry with an empty HMAC is accepted, its key was empty, or a password was demanded.
 use Rattle.std.proofs.Common.{◌≡◌, ◌⊎◌, ℕ, ◌<◌, Bool, true, false, List, [], ◌∷◌, length, Option, Some, None, Ok, refl, sym, ap, subst, ◌∙◌, arith, inl, inr}
 use Rattle.std.specs.Prelude.{◌==◌, ◌&&◌, ◌||◌, if◌then◌else◌, not}
 use Rattle.std.specs.Str.{bytes_eq}
@@ -24,7 +24,7 @@ not_false : (b : Bool) → not b ≡ false → b ≡ true
 not_false true is = refl
 not_false false is = absurd cc
 
--- ---- no HMAC that is computed is empty
+-- ---- no computed HMAC is empty
 
 digest_some : (alg : HashAlg) → 0 < digest_size alg
 digest_some Sha1 = omega arith
@@ -38,7 +38,7 @@ mac_some s value parts is =
     let some = digest_some s.hash in
     absurd (omega (arith, size, none, some))
 
--- the test of an entry's HMAC, where that is empty
+-- the test of an entry's HMAC, if the HMAC is empty
 by_test : (key hmac mac : List ℕ) → (length key == 0 && length hmac == 0 || bytes_eq hmac mac) ≡ true → hmac ≡ [] → (mac ≡ [] → ⊥) → key ≡ []
 by_test [] hmac mac is empty some = refl
 by_test (byte ∷ key) hmac mac is empty some =
@@ -52,12 +52,12 @@ authentic r c n grant e s is empty =
     let value : List ℕ = used_auth_value r s grant in
     by_test (entry_key s value) e.hmac (command_mac_of s value (entry_parts r c n e s)) is empty (mac_some s value (entry_parts r c n e s))
 
--- ---- an entry that is accepted
+-- ---- an accepted entry
 
 abbrev HasNoKey : Record → Session → Option Grant → Type 0
 HasNoKey r s accepted = (entry_key s (used_auth_value r s accepted) ≡ []) ⊎ ((demands_password accepted ≡ true) × (trimmed (granted_value r accepted) ≡ []))
 
--- an empty password is right only for an empty value
+-- an empty password is right only for an empty authorization value
 no_value : (value password : List ℕ) → is_password_of value password ≡ true → password ≡ [] → trimmed value ≡ []
 unfolding trimmed
 no_value value password is empty = sym ((bytes_eq-Decides (trimmed password) (trimmed value)).0 is) ∙ ap trimmed empty

@@ -17,12 +17,12 @@ use Rattle.tpm_types.specs.declared.refused.Counted.TheVariants as counted
 use Rattle.tpm_types.specs.declared.refused.Refused.{Refused}
 use Rattle.tpm_auth.specs.declared.session_grant.Grant.{Grant}
 
--- a password is an authorization value where they are the same without their trailing zeros
+-- a password is an authorization value if the two are equal without their trailing zeros
 abbrev pub is_password_of : List ℕ → List ℕ → Bool
 is_password_of value password = bytes_eq (trimmed password) (trimmed value)
 
--- a comparison that failed in entry n: AUTH_FAIL where a protected entity is touched, which counts,
--- and otherwise BAD_AUTH
+-- the refusal if the comparison for entry n fails: AUTH_FAIL, which counts as a failed try, if a
+-- protected entity is involved; otherwise BAD_AUTH
 abbrev pub failure : Check → ℕ → Protection → Refused
 failure check n protection.None = refusal check (entry_fault n code.BadAuth)
 failure check n protection.Tries =
@@ -30,21 +30,21 @@ failure check n protection.Tries =
 failure check n protection.Lockout =
     record { rc = entry_fault n code.AuthFail; check = check; counted = counted.Lockout }
 
--- the check by which a comparison fails: G9 for an entry that authorizes a handle, G10 for the
--- others
+-- the check that fails if a comparison fails: G9 for an entry that authorizes a handle, otherwise
+-- G10
 abbrev pub check_of : Option Grant → Check
 check_of (Some grant) = check.Authorization
 check_of None = check.Others
 
--- whether an entity with this protection is locked out: by too many failed tries, or as lockoutAuth
--- is closed
+-- whether an entity with this protection is locked out: after too many failed tries, or because
+-- lockoutAuth is disabled
 abbrev pub is_locked_out : LockoutState → Protection → Bool
 is_locked_out lockout protection.None = false
 is_locked_out lockout protection.Tries = is_locked lockout.fields
 is_locked_out lockout protection.Lockout = lockout.fields.closed
 
--- the check that an entity is not locked out (TPM_RC_LOCKOUT): then nothing is compared, and no
--- failed try is counted
+-- the check that an entity is not locked out (TPM_RC_LOCKOUT); if it is, nothing is compared, and
+-- no failed try is counted
 abbrev pub may_be_tried : LockoutState → Option Grant → Protection → Result (Unit {0}) Refused
 may_be_tried lockout grant protection =
     refused_if (is_locked_out lockout protection) (refusal (check_of grant) (plain code.Lockout))

@@ -1,5 +1,5 @@
--- Entries of sessions whose HMAC is empty. TPM 2.0 Library, Part 1, section 19.6.5 (HMAC
--- computation: where the key is empty, the HMAC may be), and section 19.7 (policies that demand a
+-- Session entries with an empty HMAC. TPM 2.0 Library, Part 1, section 19.6.5 (HMAC computation:
+-- if the key is empty, the HMAC may be empty), and section 19.7 (policies that demand a
 -- password).
 use Rattle.std.specs.Prelude.{◌≡◌, ◌⊎◌, ℕ, true, [], Option, Ok}
 use Rattle.tpm_session.specs.EntryText.{entry_key}
@@ -12,9 +12,9 @@ use Rattle.tpm_types.specs.AuthValue.{trimmed}
 use Rattle.tpm_auth.specs.SessionGrant.{demands_password, granted_value, session_grant, used_auth_value}
 use Rattle.tpm_auth.specs.declared.session_grant.Grant.{Grant}
 
--- A session's entry that is accepted with an empty HMAC has an empty key, with neither a session
--- key nor an authorization value in it; or it authorizes, by a policy that demands a password, an
--- entity that has no authorization value.
+-- If a session's entry is accepted with an empty HMAC, its key is empty: there is neither a
+-- session key nor an authorization value in it. Otherwise it authorizes an entity without an
+-- authorization value, under a policy that demands a password.
 abbrev pub EmptyHmacHasNoKey : Type 0
 EmptyHmacHasNoKey =
     (r : Record) (c : Whole) (locality n : ℕ) (used : Option Handle) (e : Entry) (s : Session)

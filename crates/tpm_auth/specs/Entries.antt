@@ -1,4 +1,4 @@
--- The entries of an authorization area, each checked for itself. TPM 2.0 Library, Part 3, section
+-- The entries of an authorization area, each checked on its own. TPM 2.0 Library, Part 3, section
 -- 5.5 (session area validation), and Part 1, section 21 (which sessions encrypt).
 use Rattle.std.specs.Prelude.{ℕ, ◌+◌, ◌==◌, ◌||◌, ◌&&◌, not, nat_lt, Bool, false, List, [], ◌∷◌, ◌++◌, length, if◌then◌else◌, Option, is_none, Result, Ok, Err}
 use Rattle.std.specs.List.{list_any}
@@ -34,13 +34,13 @@ decrypts e = of_session.decrypts e.attributes
 abbrev pub encrypts : Entry → Bool
 encrypts e = of_session.encrypts e.attributes
 
--- the response code where the session of entry n is not there
+-- the response code if the session of entry n does not exist
 abbrev pub reference_of : ℕ → Rc
 reference_of n =
     plain (if n == 1 then code.ReferenceS0
     else (if n == 2 then code.ReferenceS1 else code.ReferenceS2))
 
--- the check that what an entry's handle names is there: a password always is
+-- the check that the session named by an entry's handle exists; a password always passes
 abbrev pub kind_passes : Record → ℕ → Entry → SessionKind → Result (Unit {0}) Rc
 kind_passes r n e kind.Other = Err (entry_fault n code.Value)
 kind_passes r n e kind.Session = refused_if (is_none (session_of r e)) (reference_of n)
@@ -53,9 +53,9 @@ is_misplaced c n before e =
     if is_password e then nat_lt (authorized_handles c) n
     else list_any (λ earlier. earlier.session.number == e.session.number) before
 
--- whether an entry asks for an audit session, which is not served; or for decrypt or encrypt on a
--- password, where an earlier entry asks for the same, or where the first parameter of the command
--- or of its answer is no sized buffer
+-- whether an entry requests an audit session, which is not supported; or requests decrypt or
+-- encrypt with a password, or after an earlier entry requested the same, or if the first
+-- parameter of the command or of its response is not a sized buffer
 abbrev pub has_wrong_attributes : CommandCode → List Entry → Entry → Bool
 has_wrong_attributes c before e =
     audits e.attributes
@@ -63,13 +63,13 @@ has_wrong_attributes c before e =
     || decrypts e && (list_any decrypts before || not (has_sized_parameter c))
     || encrypts e && (list_any encrypts before || not (shape_of c).sized_answer)
 
--- whether an entry asks for decrypt or encrypt by a session that has no symmetric algorithm
+-- whether an entry requests decrypt or encrypt, and its session has no symmetric algorithm
 abbrev pub lacks_cipher : Record → Entry → Bool
 lacks_cipher r e =
     uses_cipher e.attributes
     && option_map_or (λ (s : Session). is_null s.symmetric) (session_of r e) false
 
--- the checks of an entry after these others of its command: the sizes of its nonce and HMAC, its
+-- the checks of an entry that follows these other entries: the sizes of its nonce and HMAC, its
 -- session, the reserved bits 3 and 4, the other attributes, the session's algorithm
 unfoldable pub entry_passes : Record → CommandCode → List Entry → Entry → Result (Unit {0}) Rc
 entry_passes r c before e = do

@@ -32,22 +32,23 @@ use Rattle.tpm_auth.specs.declared.grant.Grants.{Grants}
 use Rattle.tpm_types.specs.declared.refused.Refused.{Refused}
 use Rattle.tpm_auth.specs.declared.session_grant.Grant.{Grant}
 
--- the grant of a handle that no policy authorizes, and for which nothing is demanded
+-- the grant of a handle that is authorized without a policy and without a demand
 abbrev pub undemanding : Handle → Grant
 undemanding handle = record { handle = handle; demand = demand.None }
 
--- whether the handle that entry n is to authorize cannot be authorized by its authorization value
+-- whether the handle that entry n has to authorize cannot be authorized with its authorization
+-- value
 abbrev pub is_unavailable : Record → CommandCode → (n : ℕ) → Option Handle → Bool
 is_unavailable r c n used =
     option_map_or (λ handle. not (is_available r handle means.AuthValue (nv_use_at c (n - 1))))
     used false
 
--- the protection of the entity that entry n is to authorize
+-- the protection of the entity that entry n has to authorize
 abbrev pub used_protection : Record → Option Handle → Protection
 used_protection r used = option_map_or (protection_of r) used protection.None
 
--- the grant of a password, entry n: what it authorizes must be available by its authorization
--- value, and not locked out
+-- the grant of entry n, a password: its entity must allow authorization with its authorization
+-- value, and must not be locked out
 unfoldable pub password_grant : Record
     → CommandCode → (n : ℕ) → Option Handle → Entry → Result (Option Grant) Refused
 password_grant r c n used e = do
@@ -71,17 +72,19 @@ grant_by kind.Session r c locality n used e =
     session_grant_if r c locality n used e (session_of r e)
 grant_by kind.Other r c locality n used e = Err (refusal check.Entries (entry_fault n code.Value))
 
--- the grant of entry n of a command from this locality, which is to authorize this handle or none
+-- the grant of entry n, in a command from this locality; the entry has to authorize this handle
+-- or none
 unfoldable pub grant : Record
     → Whole → (locality n : ℕ) → Option Handle → Entry → Result (Option Grant) Refused
 grant r c locality n used e = grant_by (session_kind e.session) r c locality n used e
 
--- the handles of a command that need authorization, which are its first
+-- the handles of a command that need authorization, which are the first ones
 abbrev pub authorized : Whole → List Handle
 authorized c = take (authorized_handles c.code) c.handles
 
--- the grants of all entries, in order, after these grants of the entries before them: the n-th
--- entry is to authorize the n-th of the handles that need it, and an entry after those nothing
+-- the grants of all entries, in order, after the grants of the entries before them. Entry n has
+-- to authorize the nth handle that needs authorization; the entries after these have nothing to
+-- authorize
 abbrev pub grants_pass : Record → Whole → (locality : ℕ)
     → (before : List (Option Grant)) → List Entry → Result (List (Option Grant)) Refused
 grants_pass r c locality before [] = Ok before
@@ -89,10 +92,10 @@ grants_pass r c locality before (e ∷ es) = do
   this ← grant r c locality (length before + 1) (slice_get (authorized c) (length before)) e
   grants_pass r c locality (before ++ this ∷ []) es
 
--- the whole authorization of a command. G8 after the sizes of the area: each entry's own checks,
--- then that there is an entry for each handle that needs authorization; then G9, each of these
--- handles, and G10, the other entries, and that what a session decrypts is there. The result is
--- what each entry authorizes
+-- the whole authorization of a command, after the check of the area's size. G8: each entry's own
+-- checks, then whether there is an entry for each handle that needs authorization. G9: each of
+-- these handles. G10: the other entries, and whether the parameter that a session decrypts is
+-- complete. The result is what each entry authorizes
 unfoldable pub authorize : Record → Whole → (locality : ℕ) → Result (List (Option Grant)) Refused
 authorize r c locality = do
   own ← checked check.Entries (entries_pass r c.code [] c.entries)
@@ -103,13 +106,13 @@ authorize r c locality = do
       (refusal check.Others (at (place.Parameter 1) (plain code.Insufficient)))
   Ok grants
 
--- The code's result of checking entries, and its grants of these and of the entries before them,
--- are the definition's.
+-- The code's result, and its grants for these entries and for those before them, match the
+-- definition.
 abbrev pub AreGranted : Result (List (Option Grant)) Refused
     → Result (Unit {0}) Refused → List (Option Grant) → Type 0
 AreGranted granted (Ok u) grants = granted ≡ Ok grants
 AreGranted granted (Err e) grants = granted ≡ Err e
 
--- the grants that the code has listed
+-- the grants in the code's list
 abbrev pub granted_by : Grants → List (Option Grant)
 granted_by grants = grants.grants.items

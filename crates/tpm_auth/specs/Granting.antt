@@ -1,5 +1,5 @@
--- What an accepted authorization says of a command's entries. TPM 2.0 Library, Part 1, section 19
--- (authorizations), and Part 3, sections 5.5 (session area validation) and 5.6 (authorization
+-- What an accepted authorization means for a command's entries. TPM 2.0 Library, Part 1, section
+-- 19 (authorizations), and Part 3, sections 5.5 (session area validation) and 5.6 (authorization
 -- checks).
 use Rattle.std.specs.Prelude.{◌≡◌, ◌≤◌, ℕ, ◌+◌, true, List, [], length, Option, Some, slice_get, Ok}
 use Rattle.std.specs.List.{list_any}
@@ -12,17 +12,16 @@ use Rattle.tpm_auth.specs.Entries.{decrypts, entries_pass}
 use Rattle.tpm_auth.specs.Grant.{authorized, grant}
 use Rattle.tpm_auth.specs.declared.session_grant.Grant.{Grant}
 
--- The entry in a place, from 0, is accepted and granted this: it is to authorize the handle in the
--- same place among those that need authorization, or no handle where none is there. Entries are
--- numbered from 1.
+-- The entry at a position, counted from 0, is accepted with this grant. It has to authorize the
+-- handle at the same position among those that need authorization, or nothing if there is none.
+-- Entries are numbered from 1.
 abbrev pub IsGranted : Record → Whole → (locality place : ℕ) → Entry → Option Grant → Type 0
 IsGranted r c locality place e granted =
     grant r c locality (place + 1) (slice_get (authorized c) place) e ≡ Ok granted
 
 -- These grants are what the entries of a command authorize. Each entry passes its own checks, and
--- there is an entry for each handle that needs authorization. There are as many grants as entries,
--- and each entry is granted what stands in its place. The parameter that a session decrypts is
--- there.
+-- there is an entry for each handle that needs authorization. Each entry has one grant, at its
+-- position. The parameter that a session decrypts is complete.
 pub record IsGranting
     (r : Record) (c : Whole) (locality : ℕ) (grants : List (Option Grant)) : Type 0 where
   pub own : entries_pass r c.code [] c.entries ≡ Ok tt

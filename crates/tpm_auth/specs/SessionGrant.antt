@@ -1,5 +1,5 @@
--- What the entry of a session authorizes. TPM 2.0 Library, Part 1, sections 19.6 (HMAC sessions),
--- 19.7 (policies) and 19.8 (dictionary attacks), and Part 3, section 5.6 (authorization checks).
+-- What a session's entry authorizes. TPM 2.0 Library, Part 1, sections 19.6 (HMAC sessions), 19.7
+-- (policies) and 19.8 (dictionary attacks), and Part 3, section 5.6 (authorization checks).
 use Rattle.std.specs.Prelude.{ℕ, ◌-◌, ◌==◌, ◌&&◌, ◌||◌, not, nat_lt, Bool, true, false, List, [], length, map, drop, if◌then◌else◌, Option, Some, None, Result, Ok}
 use Rattle.std.specs.List.{find}
 use Rattle.std.specs.Option.{option_map_or}
@@ -32,15 +32,15 @@ use Rattle.tpm_types.specs.declared.check.Check.TheVariants as check
 use Rattle.tpm_types.specs.declared.refused.Refused.{Refused}
 use Rattle.tpm_auth.specs.declared.session_grant.Grant.{Grant}
 
--- a session is bound to an entity as long as that has the Name and the authorization value of the
--- session's start
+-- a session is bound to an entity as long as the entity has the Name and the authorization value
+-- that it had when the session started
 unfoldable pub is_bound_to : Record → Session → Handle → Bool
 is_bound_to r s handle =
     option_map_or (λ (b : Binding).
     bytes_eq b.name (name_of r handle) && bytes_eq b.auth_value (auth_value_of r handle))
     s.binding false
 
--- whether a policy demands the authorization value in the key of the HMAC, or as a password
+-- whether the policy demands the authorization value in the HMAC key; or as a password
 abbrev pub is_in_key : Demand → Bool
 is_in_key demand.None = false
 is_in_key demand.AuthValue = true
@@ -51,9 +51,9 @@ is_password_demand demand.None = false
 is_password_demand demand.AuthValue = false
 is_password_demand demand.Password = true
 
--- whether the HMAC's key has the authorization value of the handle that an entry authorizes. For an
--- HMAC session it has, unless the session is bound to the handle; for a policy session only where
--- the policy demands it, although the session may be bound
+-- whether the HMAC key includes the authorization value of the handle that an entry authorizes.
+-- In an HMAC session it does, unless the session is bound to the handle. In a policy session it
+-- does only if the policy demands it, even if the session is bound
 abbrev pub has_value_in_key : SessionType → (bound : Bool) → Demand → Bool
 has_value_in_key type.Hmac bound demand = not bound
 has_value_in_key type.Policy bound demand = is_in_key demand
@@ -76,8 +76,8 @@ entry_nonce r e = option_map_or (λ (s : Session). s.nonce_tpm) (session_of r e)
 unfoldable pub nonce_where : Record → (Entry → Bool) → List Entry → List ℕ
 nonce_where r test entries = option_map_or (entry_nonce r) (find test entries) []
 
--- the entries whose sessions' nonces may stand in the HMAC text of entry n: those after it where it
--- is the first and authorizes a handle, and otherwise none
+-- the entries whose sessions' nonces may be part of the HMAC text of entry n: the later entries,
+-- if entry n is the first and authorizes a handle; otherwise none
 abbrev pub other_entries : Whole → ℕ → List Entry
 other_entries c n = if n == 1 && nat_lt 0 (authorized_handles c.code) then drop 1 c.entries else []
 
@@ -85,12 +85,12 @@ other_entries c n = if n == 1 && nat_lt 0 (authorized_handles c.code) then drop 
 abbrev pub only_encrypts : Entry → Bool
 only_encrypts e = encrypts e && not (decrypts e)
 
--- what the hash of a command is taken of: its code, the Names of its handles, its parameters as
--- they were sent
+-- the data covered by a command's hash: its code, the Names of its handles, and its parameters as
+-- sent
 abbrev pub hashed_command : Record → Whole → HashedParts
 hashed_command r c = OfCommand (code_number c.code) (map (name_of r) c.handles) c.parameters
 
--- what entry n of a command authenticates by its session's hash: the command as it was sent
+-- the data that entry n of a command authenticates, with its session's hash: the command as sent
 unfoldable pub entry_parts : Record → Whole → ℕ → Entry → Session → EntryParts
 entry_parts r c n e s = record {
   hash = parameter_hash_of s.hash (hashed_command r c);
@@ -100,8 +100,8 @@ entry_parts r c n e s = record {
   attributes = e.attributes;
 }
 
--- whether the HMAC of an entry is right: it is that of its key and text, or key and HMAC are both
--- empty
+-- whether the HMAC of an entry is right: it is computed from the key and the text, or both key
+-- and HMAC are empty
 unfoldable pub is_authentic : Record → Whole → ℕ → Option Grant → Entry → Session → Bool
 is_authentic r c n grant e s =
     let value = used_auth_value r s grant in
@@ -118,14 +118,14 @@ abbrev pub granted_value : Record → Option Grant → List ℕ
 granted_value r None = []
 granted_value r (Some grant) = auth_value_of r grant.handle
 
--- whether the comparison of entry n holds: where its policy demands a password, its HMAC field is
--- the authorization value
+-- whether the comparison for entry n succeeds: if the policy demands a password, the HMAC field
+-- must contain the authorization value
 unfoldable pub comparison_holds : Record → Whole → ℕ → Option Grant → Entry → Session → Bool
 comparison_holds r c n grant e s =
     if demands_password grant then is_password_of (granted_value r grant) e.hmac
     else is_authentic r c n grant e s
 
--- how what a session was bound to was protected at its start
+-- the protection that the bound entity had when the session started
 abbrev pub binding_protection : Session → Protection
 binding_protection s = option_map_or (λ (b : Binding). b.protection) s.binding protection.None
 
@@ -134,9 +134,9 @@ or_protection protection.None other = other
 or_protection protection.Tries other = protection.Tries
 or_protection protection.Lockout other = protection.Lockout
 
--- the protection that a wrong entry of a session meets: that of the entity whose authorization
--- value is compared, in a key or as a password, if it is protected; else that of what its session
--- was bound to
+-- the protection that applies to a wrong entry of a session: that of the entity whose
+-- authorization value is compared, in a key or as a password, if that entity is protected;
+-- otherwise that of the entity to which the session was bound
 unfoldable pub entry_protection : Record → Session → Option Grant → Protection
 entry_protection r s None = binding_protection s
 entry_protection r s (Some grant) =
@@ -144,7 +144,7 @@ entry_protection r s (Some grant) =
     then or_protection (protection_of r grant.handle) (binding_protection s)
     else binding_protection s
 
--- the use that entry n of a policy session is to authorize
+-- the use that entry n of a policy session has to authorize
 unfoldable pub use_of : Record → Whole → (locality n : ℕ) → Handle → Session → UseParts
 use_of r c locality n handle s = record {
   entry = n;
@@ -160,15 +160,15 @@ use_of r c locality n handle s = record {
   entity = policy_of r handle;
 }
 
--- what an HMAC session demands of the entry that authorizes a handle, which has to be available by
--- its authorization value: nothing more
+-- what an HMAC session demands of an entry in addition to its comparison: nothing, but the
+-- entry's handle must allow authorization with its authorization value
 abbrev by_value : Record → Whole → (n : ℕ) → Handle → Result Demand Refused
 by_value r c n handle = do
   available ← refused_if (not (is_available r handle means.AuthValue (nv_use_at c.code (n - 1))))
       (refusal check.Authorization (plain code.AuthUnavailable))
   Ok demand.None
 
--- what a policy session demands of the entry that authorizes a handle, where the policy allows the
+-- what a policy session demands of the entry that authorizes a handle, if the policy allows the
 -- use; a trial session authorizes nothing
 abbrev pub by_policy : Record → Whole → (locality n : ℕ) → Handle → Session → Result Demand Refused
 by_policy r c locality n handle s =
@@ -184,7 +184,7 @@ unfoldable pub demanded : Record
     → Whole → (locality n : ℕ) → Handle → Session → Result Demand Refused
 demanded r c locality n handle s = demand_by s.kind r c locality n handle s
 
--- the comparison of entry n, which is made unless the entity whose value it uses is locked out
+-- the comparison for entry n, which is skipped if the entity whose value it uses is locked out
 abbrev pub comparison : Record
     → Whole → ℕ → Option Grant → Entry → Session → Result (Option Grant) Refused
 comparison r c n grant e s = do
@@ -193,8 +193,9 @@ comparison r c n grant e s = do
       (failure (check_of grant) n (entry_protection r s grant))
   Ok grant
 
--- the grant of entry n, which names a session, and is to authorize this handle or none; a trial
--- session may authorize none, and be there to encrypt (this device's own)
+-- the grant of entry n, whose handle names a session; the entry has to authorize this handle or
+-- none. A trial session may accompany a command without authorizing a handle, only to encrypt
+-- (this device's own choice)
 unfoldable pub session_grant : Record
     → Whole → (locality n : ℕ) → Option Handle → Entry → Session → Result (Option Grant) Refused
 session_grant r c locality n None e s = comparison r c n None e s

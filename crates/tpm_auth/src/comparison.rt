@@ -1,4 +1,4 @@
-//! Whether a password is right, and how an entry is refused whose comparison fails, or whose entity
+//! Whether a password is right, and how an entry is refused if its comparison fails or its entity
 //! is locked out (TPM 2.0 Library, Part 1, section 19.4).
 
 ghost use Rattle.std.specs.Prelude.{◌≡◌};
@@ -12,15 +12,15 @@ use tpm_lockout::Lockout;
 use tpm_session::Protection;
 use tpm_types::{Check, Counted, Refused, ResponseCode, trimmed};
 
-/// Whether a password is an authorization value: zeros at the end of either do not count (TPM 2.0
-/// Library, Part 1, section 19.4).
+/// Whether a password equals this authorization value. Trailing zeros of both are ignored (TPM
+/// 2.0 Library, Part 1, section 19.4).
 pub fn is_password_of(value: &[u8], password: &[u8]) -> bool
     ensures { result ≡ is_password_of value.now password.now }
 {
     trimmed(password) == trimmed(value)
 }
 
-/// The refusal of a comparison that failed in the entry of this number.
+/// The refusal if the comparison for the entry with this number fails.
 pub fn failure(check: Check, number: u8, protection: Protection) -> Refused
     ensures { result ≡ failure check number protection }
 {
@@ -47,14 +47,14 @@ pub fn is_locked_out(lockout: &Lockout, protection: Protection) -> bool
     }
 }
 
-/// The refusal of an entry with or without a grant, where the entity is locked out.
+/// The refusal of an entry, with or without a grant, whose entity is locked out.
 pub fn lockout_refusal(grant: Option<Grant>) -> Refused
     ensures { result ≡ refusal (check_of grant) (plain code.Lockout) }
 {
     Refused::by(check_of(grant), ResponseCode::Lockout.anywhere())
 }
 
-/// The check by which the comparison of an entry fails: G9 with a grant, and otherwise G10.
+/// The check that fails if an entry's comparison fails: G9 with a grant, otherwise G10.
 pub fn check_of(grant: Option<Grant>) -> Check
     ensures { result ≡ check_of grant }
 {

@@ -1,5 +1,5 @@
-//! The checks of each authorization entry for itself, before it is known what the entry authorizes:
-//! session, attributes, sizes, cipher.
+//! The checks of each authorization entry on its own (session, attributes, sizes, cipher), made
+//! before it is known what the entry authorizes.
 
 ghost use Rattle.std.specs.Prelude.{◌≡◌, ◌+◌, ◌≤◌, ◌==◌, [], length, map};
 ghost use Rattle.std.specs.List.{list_any};
@@ -26,7 +26,7 @@ pub fn encrypts(entry: &AuthEntry) -> bool
     entry.attributes.encrypts()
 }
 
-/// The code for an absent session in the entry of this number.
+/// The response code if the session named by the entry with this number does not exist.
 pub fn reference_of(number: u8) -> Rc
     ensures { result ≡ reference_of number }
 {
@@ -64,7 +64,7 @@ fn is_named_in(entries: &[AuthEntry], session: Handle) -> bool
     }
 }
 
-/// Whether one of these entries asks for decrypt.
+/// Whether one of these entries sets the decrypt attribute.
 pub fn any_decrypts(entries: &[AuthEntry]) -> bool
     ensures { result ≡ list_any decrypts (map entry_of entries.now) }
 {
@@ -146,7 +146,7 @@ fn check_entry<K: Keep>(
     Ok(())
 }
 
-/// Checks each entry of a command for itself; the first fault is answered.
+/// Checks each entry of a command on its own; returns the first error.
 pub fn check_entries<K: Keep>(keep: &K, code: CommandCode, entries: &[AuthEntry]) -> Result<(), Rc>
     requires { length entries.now ≤ 3 }
     ensures { result ≡ entries_pass (K.record_of keep.now) code [] (map entry_of entries.now) }

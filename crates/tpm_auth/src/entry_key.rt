@@ -1,5 +1,5 @@
-//! The HMAC of an entry of a session: the authorization value in its key, the nonces in its text,
-//! and whether the HMAC is right.
+//! The HMAC of a session's entry: the authorization value in its key, the nonces in its text, and
+//! whether the HMAC is right.
 
 ghost use Rattle.std.specs.Prelude.{◌≡◌, ◌≤◌, length, map, option_map};
 ghost use Rattle.std.specs.Option.{ForSome};
@@ -20,8 +20,8 @@ use tpm_session::{CommandText, ParameterHashes, Session};
 use tpm_types::SessionType;
 use tpm_types_command::{AuthEntry, Command};
 
-/// Whether a session is bound to an entity as the entity is now. The Name is not asked for where
-/// the authorization value has changed.
+/// Whether a session is bound to an entity in the entity's current state. If the authorization
+/// value has changed, the Name is not looked up.
 #[tactic(auto, unfolding(crate::specs::SessionGrant::is_bound_to, tpm_record::specs::Entity::auth_value_of))]
 fn is_bound_to<K: Keep>(keep: &K, session: &Session, used: &Used) -> bool
     requires { IsUsed (K.record_of keep.now) used.now }
@@ -36,7 +36,8 @@ fn is_bound_to<K: Keep>(keep: &K, session: &Session, used: &Used) -> bool
     }
 }
 
-/// Whether the HMAC key of an entry has the authorization value of what the entry authorizes.
+/// Whether the HMAC key of an entry includes the authorization value of the entity that the entry
+/// authorizes.
 #[tactic(auto, unfolding(crate::specs::SessionGrant::takes_value))]
 pub fn takes_value<K: Keep>(keep: &K, session: &Session, granted: &Granted) -> bool
     requires { IsToGrant (K.record_of keep.now) granted.now }
@@ -48,8 +49,8 @@ pub fn takes_value<K: Keep>(keep: &K, session: &Session, granted: &Granted) -> b
     }
 }
 
-/// The authorization value in the HMAC key of an entry that authorizes this handle. An empty value
-/// changes no key.
+/// The authorization value in the HMAC key of an entry that authorizes this handle. An empty
+/// value leaves the key unchanged.
 #[tactic(auto, unfolding(crate::specs::SessionGrant::used_auth_value, tpm_record::specs::Entity::auth_value_of))]
 fn key_value<'a, K: Keep>(keep: &'a K, session: &Session, granted: &Granted<'a>) -> &'a [u8]
     requires { IsToGrant (K.record_of keep.now) granted.now }
@@ -90,7 +91,7 @@ pub fn used_auth_value<'a, K: Keep>(
     }
 }
 
-/// The nonceTPM of an entry's session, if there is one.
+/// The nonceTPM of an entry's session, or empty if there is no session.
 fn nonce_of<'a, K: Keep>(keep: &'a K, entry: &AuthEntry) -> &'a [u8]
     ensures { result.now ≡ entry_nonce (K.record_of keep.now) (entry_of entry.now) }
 {
@@ -100,7 +101,7 @@ fn nonce_of<'a, K: Keep>(keep: &'a K, entry: &AuthEntry) -> &'a [u8]
     }
 }
 
-/// The nonceTPM of the first entry that decrypts; empty where none does.
+/// The nonceTPM of the first entry that decrypts, or empty if there is none.
 #[tactic(auto, unfolding(crate::specs::SessionGrant::nonce_where))]
 fn decrypting_nonce<'a, K: Keep>(keep: &'a K, entries: &[AuthEntry]) -> &'a [u8]
     ensures { result.now ≡ nonce_where (K.record_of keep.now) decrypts (map entry_of entries.now) }
@@ -112,7 +113,7 @@ fn decrypting_nonce<'a, K: Keep>(keep: &'a K, entries: &[AuthEntry]) -> &'a [u8]
     }
 }
 
-/// The nonceTPM of the first entry that encrypts and does not decrypt; empty where none does.
+/// The nonceTPM of the first entry that encrypts and does not decrypt, or empty if there is none.
 #[tactic(auto, unfolding(crate::specs::SessionGrant::nonce_where))]
 fn encrypting_nonce<'a, K: Keep>(keep: &'a K, entries: &[AuthEntry]) -> &'a [u8]
     ensures { result.now
@@ -125,8 +126,8 @@ fn encrypting_nonce<'a, K: Keep>(keep: &'a K, entries: &[AuthEntry]) -> &'a [u8]
     }
 }
 
-/// The entries whose sessions' nonces stand in the HMAC text of this entry: where it is the first
-/// and authorizes a handle, those after it.
+/// The entries whose sessions' nonces are part of this entry's HMAC text: the later entries, if
+/// this is the first entry and authorizes a handle; otherwise none.
 fn other_entries<'a, 'b>(command: &'a Command<'b>, number: u8) -> &'a [AuthEntry<'b>]
     ensures { map entry_of result.now ≡ other_entries (whole_of command.now) number }
 {
@@ -140,7 +141,8 @@ fn other_entries<'a, 'b>(command: &'a Command<'b>, number: u8) -> &'a [AuthEntry
     &entries[first..]
 }
 
-/// The authorization value in the HMAC key of an entry that is to authorize this handle or none.
+/// The authorization value in the HMAC key of an entry that has to authorize this handle, or no
+/// handle.
 #[tactic(auto, unfolding(crate::specs::SessionGrant::used_auth_value))]
 fn value_in_key<'a, K: Keep>(
     keep: &'a K,
@@ -158,7 +160,7 @@ fn value_in_key<'a, K: Keep>(
     }
 }
 
-/// Whether the HMAC of an entry is right that is to authorize this handle or none.
+/// Whether an entry that has to authorize this handle, or no handle, has the right HMAC.
 #[tactic(auto, unfolding(crate::specs::SessionGrant::is_authentic, crate::specs::SessionGrant::entry_parts))]
 pub fn is_authentic<K: Keep>(
     keep: &K,

@@ -1,5 +1,5 @@
-//! The authorization of a whole command: its entries are checked in order, each for the handle of
-//! its place, and [`Grants`] says what each authorizes.
+//! The authorization of a whole command. Its entries are checked in order, each for the handle at
+//! the same position; [`Grants`] lists what each authorizes.
 
 ghost use Rattle.tpm_bytes.specs.Reading.{Gives};
 ghost use Rattle.std.specs.Prelude.{◌≡◌, ◌+◌, ◌<◌, ◌≤◌, ℕ, [], ◌∷◌, length, map, not, option_map, slice_get, take};
@@ -37,7 +37,7 @@ pub struct Grants {
     pub grants: ArrayVec<Option<Grant>, 3>,
 }
 
-/// Checks that the entry of this number is a password for what this handle names.
+/// Checks that the entry with this number is a password for the entity of this handle.
 #[tactic(auto, unfolding(crate::specs::Grant::password_grant, tpm_record::specs::Entity::auth_value_of, tpm_record::specs::Entity::is_available, tpm_record::specs::Entity::protection_of))]
 fn check_value<K: Keep>(
     keep: &K,
@@ -71,8 +71,8 @@ fn check_value<K: Keep>(
     }
 }
 
-/// Checks that the entry of this number is a password for what it is to authorize; where that is
-/// nothing, an empty password.
+/// Checks that the entry with this number is a password for the entity that it has to authorize;
+/// if it has nothing to authorize, the password must be empty.
 #[tactic(auto, unfolding(crate::specs::Grant::password_grant))]
 fn check_password<K: Keep>(
     keep: &K,
@@ -93,7 +93,7 @@ fn check_password<K: Keep>(
     }
 }
 
-/// Checks the entry of this number, which is to authorize this handle or nothing, and tells what it
+/// Checks the entry with this number, which has to authorize this handle or none; returns what it
 /// authorizes.
 #[tactic(auto, unfolding(crate::specs::Grant::grant))]
 fn check_grant<K: Keep>(
@@ -127,8 +127,8 @@ fn check_grant<K: Keep>(
     }
 }
 
-/// Checks these entries, after those that were granted so far, and adds what each authorizes; the
-/// fault is that of the first that fails.
+/// Checks these entries, which follow those already granted, and adds what each authorizes.
+/// Returns the error of the first entry that fails.
 fn check_grants<K: Keep>(
     keep: &K,
     sent: &Sent,
@@ -155,14 +155,14 @@ fn check_grants<K: Keep>(
     check_grants(keep, sent, hashes, keyed, entries, grants)
 }
 
-/// Whether the sized buffer that is the first parameter is not all there.
+/// Whether the first parameter, a sized buffer, is incomplete.
 fn is_cut(parameters: &[u8]) -> bool
     ensures { result ≡ not (has_first_buffer parameters.now) }
 {
     first_size(parameters).is_none()
 }
 
-/// The handle in a place, with what it names.
+/// The handle at a position, with its entity.
 #[tactic(auto, using(std::proofs::lemmas::Option::slice_get_read))]
 fn resolved_at<'a>(resolved: &[Resolved<'a>], place: usize) -> Resolved<'a>
     requires { place < length resolved.now }
@@ -171,8 +171,8 @@ fn resolved_at<'a>(resolved: &[Resolved<'a>], place: usize) -> Resolved<'a>
     resolved[place]
 }
 
-/// The Name of the handle after those with these Names: where the command has the handle a second
-/// time, its Name is copied.
+/// The Name of the next handle, after those with these Names. If the command names the same
+/// handle twice, the first Name is copied.
 fn next_name<K: Keep>(keep: &K, sent: &Sent, names: &[Name]) -> Name
     requires resolved { IsResolved (K.record_of keep.now) sent.now }
     requires named { names.now ≡ map (name_of (K.record_of keep.now))
@@ -189,7 +189,7 @@ fn next_name<K: Keep>(keep: &K, sent: &Sent, names: &[Name]) -> Name
     }
 }
 
-/// Makes the Names of a command's handles.
+/// Computes the Names of a command's handles.
 #[tactic(auto, using(crate::proofs::Resolving::one_more_named, crate::proofs::Resolving::as_many))]
 fn make_names<K: Keep>(keep: &K, sent: &Sent, names: &mut ArrayVec<Name, 3>)
     requires resolved { IsResolved (K.record_of keep.now) sent.now }
@@ -203,8 +203,8 @@ fn make_names<K: Keep>(keep: &K, sent: &Sent, names: &mut ArrayVec<Name, 3>)
     }
 }
 
-/// Checks each handle by the entry in its place, and the other entries, and tells what each
-/// authorizes.
+/// Checks each handle against the entry at its position, then the remaining entries; returns what
+/// each authorizes.
 fn check_resolved<K: Keep>(keep: &K, sent: &Sent, keyed: &mut KeyedMac) -> Result<Grants, Refused>
     requires { IsResolved (K.record_of keep.now) sent.now }
     ensures { Gives granted_by (grants_pass (K.record_of keep.now) (whole_of sent.now.command.now)
@@ -232,7 +232,7 @@ fn check_resolved<K: Keep>(keep: &K, sent: &Sent, keyed: &mut KeyedMac) -> Resul
     Ok(Grants { grants: entries })
 }
 
-/// Looks up what the handles of a command name.
+/// Looks up the entities of a command's handles.
 fn resolve_all<'a, K: Keep>(keep: &'a K, handles: &[Handle], all: &mut ArrayVec<Resolved<'a>, 3>)
     requires few { length handles.now ≤ 3 }
     requires empty { all.old.items ≡ [] }
@@ -243,7 +243,7 @@ fn resolve_all<'a, K: Keep>(keep: &'a K, handles: &[Handle], all: &mut ArrayVec<
     }
 }
 
-/// Looks up what each handle of a command names, and checks its entries.
+/// Looks up the entity of each handle of a command, and checks the command's entries.
 #[tactic(auto, using(crate::proofs::Resolving::none_named))]
 fn check_sessions<K: Keep>(
     keep: &K,
@@ -265,7 +265,7 @@ fn check_sessions<K: Keep>(
     check_resolved(keep, sent, keyed)
 }
 
-/// What the first entry of a command is to authorize, or nothing.
+/// What the first entry of a command has to authorize, if anything.
 fn first_used<'a, K: Keep>(keep: &'a K, command: &Command) -> Option<Used<'a>>
     ensures handle { option_map used_handle result
         ≡ slice_get (authorized (whole_of command.now)) 0 }
@@ -281,7 +281,7 @@ fn first_used<'a, K: Keep>(keep: &'a K, command: &Command) -> Option<Used<'a>>
     }
 }
 
-/// Checks a handle by the only entry of its command, which is a password.
+/// Checks a handle against its command's only entry, a password.
 #[tactic(auto, unfolding(crate::specs::Grant::grant))]
 fn check_one_password<K: Keep>(
     keep: &K,
@@ -299,8 +299,8 @@ fn check_one_password<K: Keep>(
     Ok(Grants { grants: entries })
 }
 
-/// Checks all entries in order. Nothing is hashed where there are none, or where there is a
-/// password alone.
+/// Checks all entries in order. Nothing is hashed if there is no entry, or if the only one is a
+/// password.
 fn check_all<K: Keep>(
     keep: &K,
     command: &Command,
@@ -321,9 +321,9 @@ fn check_all<K: Keep>(
     }
 }
 
-/// Checks the entries of a command, and by them the handles that need authorization: first each
-/// entry for itself, then that there are enough entries, then each handle and each other entry, and
-/// last that the parameter is there that a session decrypts.
+/// Checks the entries of a command, and whether they authorize the handles that need
+/// authorization. It checks in this order: each entry on its own; the number of entries; each
+/// handle; each remaining entry; and whether the parameter that a session decrypts is complete.
 pub fn authorize<K: Keep>(
     keep: &K,
     command: &Command,
@@ -335,8 +335,8 @@ pub fn authorize<K: Keep>(
     authorize_keyed(keep, command, locality, &mut KeyedMac::new())
 }
 
-/// Checks the entries of a command as [`authorize`] does, where the key of the latest HMAC is kept
-/// for the next one.
+/// Checks the entries of a command as [`authorize`] does, and keeps the key of the last HMAC for
+/// the next one.
 #[tactic(auto, unfolding(crate::specs::Grant::authorize))]
 pub fn authorize_keyed<K: Keep>(
     keep: &K,

@@ -6,8 +6,8 @@ ghost use Rattle.tpm_record.specs.Record.{Record};
 ghost use Rattle.tpm_auth.specs.Grant.{authorize};
 ghost use Rattle.tpm_auth.specs.Granting.{IsGranting};
 
-/// An authorization that is accepted has passed each of its checks, and each entry is granted what
-/// it authorizes. The function does nothing.
+/// An accepted authorization has passed every check, and each entry has a grant for what it
+/// authorizes. A proof only: it has no effect at run time.
 #[inline(always)]
 #[tactic(auto, using(crate::proofs::Granting::granting))]
 pub fn granting_laws()

@@ -3,9 +3,10 @@
 //! Authorization: whether a command's entries authorize its handles (TPM 2.0 Library, Part 1,
 //! section 19, and Part 3, sections 5.5 and 5.6).
 //!
-//! [`authorize`] first checks each entry for itself, then each handle that needs authorization by
-//! the entry of its place, and says in [`Grants`] what each entry authorizes. The crate uses
-//! tpm_record, and promises the definitions of `specs/` for each way of keeping the record.
+//! [`authorize`] first checks each entry on its own. Then it checks each handle that needs
+//! authorization against the entry at the same position, and returns in [`Grants`] what each
+//! entry authorizes. The crate uses tpm_record, and meets the definitions of `specs/` for every
+//! implementation of the record.
 
 mod comparison;
 mod entries;

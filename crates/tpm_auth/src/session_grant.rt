@@ -1,5 +1,5 @@
-//! What the entry of a session authorizes, by its HMAC or by its policy: whether it may, whether
-//! the entity whose value it uses is locked out, and whether its comparison holds.
+//! What a session's entry authorizes, by its HMAC or by its policy: whether it is allowed to,
+//! whether the entity whose value it uses is locked out, and whether its comparison succeeds.
 
 ghost use Rattle.std.specs.Prelude.{◌≡◌, ◌≤◌, length, option_map};
 ghost use Rattle.std.specs.Option.{ForSome};
@@ -25,7 +25,7 @@ use tpm_session::{ParameterHashes, Protection, Session};
 use tpm_types::{Check, Handle, Refused, ResponseCode, SessionType};
 use tpm_types_command::{AuthEntry, Command};
 
-/// What an entry authorizes: a handle, with what the session's policy demanded for it.
+/// What an entry authorizes: a handle, with the policy's demand for it.
 #[derive(Clone, Copy, PartialEq, Eq)]
 pub struct Grant {
     pub handle: Handle,
@@ -51,8 +51,8 @@ fn or_protection(protection: Protection, other: Protection) -> Protection
     }
 }
 
-/// The protection of the entity whose authorization value the entry of a session uses, where the
-/// entry is to authorize this handle.
+/// The protection of the entity whose authorization value a session's entry uses, if the entry
+/// has to authorize this handle.
 #[tactic(auto, unfolding(crate::specs::SessionGrant::entry_protection, tpm_record::specs::Entity::protection_of))]
 fn granted_protection<K: Keep>(keep: &K, session: &Session, granted: &Granted) -> Protection
     requires { IsToGrant (K.record_of keep.now) granted.now }
@@ -67,7 +67,7 @@ fn granted_protection<K: Keep>(keep: &K, session: &Session, granted: &Granted) -
     }
 }
 
-/// The protection of the entity whose authorization value the entry of a session uses.
+/// The protection of the entity whose authorization value a session's entry uses.
 #[tactic(auto, unfolding(crate::specs::SessionGrant::entry_protection))]
 fn entry_protection<K: Keep>(keep: &K, session: &Session, granted: Option<Granted>) -> Protection
     requires { ForSome granted (IsToGrant (K.record_of keep.now)) }
@@ -80,8 +80,8 @@ fn entry_protection<K: Keep>(keep: &K, session: &Session, granted: Option<Grante
     }
 }
 
-/// Whether the entity whose authorization value the entry of a session uses is locked out. Where
-/// nothing is locked out, the entity is not looked up.
+/// Whether the entity whose authorization value a session's entry uses is locked out. The entity
+/// is looked up only if something is locked out.
 fn comes_up_against_lockout<K: Keep>(keep: &K, session: &Session, granted: Option<Granted>) -> bool
     requires { ForSome granted (IsToGrant (K.record_of keep.now)) }
     ensures { result ≡ is_locked_out (K.record_of keep.now).fixed.lockout
@@ -92,7 +92,7 @@ fn comes_up_against_lockout<K: Keep>(keep: &K, session: &Session, granted: Optio
         && is_locked_out(lockout, entry_protection(keep, session, granted))
 }
 
-/// The policy of what a handle names, lent no longer than what the code found.
+/// The policy of a handle's entity, borrowed from the entity that the code found.
 fn policy_of<'a>(resolved: &'a Resolved) -> Option<EntityPolicy<'a>>
     ensures { option_map entity_parts result
         ≡ entity_policy (entity_seen resolved.now.entity) }
@@ -104,7 +104,7 @@ fn policy_of<'a>(resolved: &'a Resolved) -> Option<EntityPolicy<'a>>
     })
 }
 
-/// The use that the entry of this number, of a policy session, is to authorize.
+/// The use that a policy session's entry with this number has to authorize.
 #[tactic(auto, unfolding(crate::specs::SessionGrant::use_of, tpm_record::specs::Entity::is_available, tpm_record::specs::Entity::written_of, tpm_record::specs::Entity::policy_of))]
 fn use_of<'a, K: Keep>(
     keep: &K,
@@ -138,7 +138,7 @@ fn use_of<'a, K: Keep>(
     }
 }
 
-/// What the policy of a session demands for this handle, if it authorizes the use.
+/// What a session's policy demands for this handle, if the policy authorizes the use.
 fn policy_demand<K: Keep>(
     keep: &K,
     sent: &Sent,
@@ -163,7 +163,8 @@ fn policy_demand<K: Keep>(
     }
 }
 
-/// What a session demands for this handle besides its comparison, if it can authorize the handle.
+/// What a session demands for this handle in addition to the comparison, if it can authorize the
+/// handle.
 #[tactic(auto, unfolding(crate::specs::SessionGrant::demanded, tpm_record::specs::Entity::is_available))]
 fn demand_of<K: Keep>(
     keep: &K,
@@ -194,7 +195,7 @@ fn demand_of<K: Keep>(
     }
 }
 
-/// The authorization value of the entity that an entry authorizes; empty where there is none.
+/// The authorization value of the entity that an entry authorizes, or empty if there is none.
 pub fn granted_value<'a, K: Keep>(keep: &'a K, grant: Option<Grant>) -> &'a [u8]
     ensures value { result.now ≡ granted_value (K.record_of keep.now) grant }
     ensures fits { length result.now ≤ 32 }
@@ -205,8 +206,8 @@ pub fn granted_value<'a, K: Keep>(keep: &'a K, grant: Option<Grant>) -> &'a [u8]
     }
 }
 
-/// Whether the comparison of an entry holds: of a password, where its session's policy demands one,
-/// else of an HMAC.
+/// Whether the comparison of an entry succeeds: a password comparison if the session's policy
+/// demands a password, otherwise an HMAC comparison.
 #[tactic(auto, unfolding(crate::specs::SessionGrant::comparison_holds, tpm_record::specs::Entity::auth_value_of))]
 fn comparison_holds<K: Keep>(
     keep: &K,
@@ -234,7 +235,7 @@ fn comparison_holds<K: Keep>(
     }
 }
 
-/// What an entry authorizes: its handle and the demand, without what the handle names.
+/// What an entry authorizes: its handle and the demand, without the handle's entity.
 fn grant_of(granted: Option<Granted>) -> Option<Grant>
     ensures { result ≡ option_map grant_by granted.entry }
 {
@@ -244,8 +245,8 @@ fn grant_of(granted: Option<Granted>) -> Option<Grant>
     }
 }
 
-/// The grant of a session's entry that is to authorize this handle or none, if its comparison
-/// holds.
+/// The grant of a session's entry that has to authorize this handle or none, if its comparison
+/// succeeds.
 #[inline(always)]
 fn compare<K: Keep>(
     keep: &K,
@@ -276,8 +277,8 @@ fn compare<K: Keep>(
     Err(failure(check_of(grant), number, protection))
 }
 
-/// The grant of the entry of a session, for this handle or for none, if the session can authorize
-/// it and the comparison holds.
+/// The grant of a session's entry for this handle or for none, if the session can authorize it
+/// and the comparison succeeds.
 #[tactic(auto, unfolding(crate::specs::SessionGrant::session_grant))]
 pub fn check_session<K: Keep>(
     keep: &K,
@@ -324,8 +325,8 @@ pub fn check_session<K: Keep>(
     )
 }
 
-/// An entry of a session that is accepted with an empty HMAC had an empty key, or a policy demanded
-/// a password. The function does nothing.
+/// If a session's entry is accepted with an empty HMAC, its key was empty, or a policy demanded a
+/// password. A proof only: it has no effect at run time.
 #[inline(always)]
 #[tactic(auto, using(crate::proofs::EmptyHmac::no_key))]
 pub fn empty_hmac_laws()

@@ -1,5 +1,5 @@
-//! What an entry is to authorize: a handle of its command, with what that names, which was looked
-//! up once.
+//! What an entry has to authorize: a handle of its command, with the handle's entity, which is
+//! looked up only once.
 
 ghost use Rattle.std.specs.Prelude.{◌≡◌, ◌≤◌, length, map, slice_get, take};
 ghost use Rattle.std.specs.Str.{bytes_eq};
@@ -17,24 +17,24 @@ use tpm_types::Locality;
 use tpm_types_command::Command;
 use tpm_types_name::Name;
 
-/// A command with what its handles name, and where it comes from.
+/// A command with its locality and the entities of its handles.
 #[derive(Clone, Copy)]
 pub struct Sent<'a, 'b> {
     pub command: &'a Command<'b>,
     pub resolved: &'a [Resolved<'a>],
-    /// The Names of the command's handles; no Names where nothing asks for them.
+    /// The Names of the command's handles; empty if they are not needed.
     pub names: &'a [Name],
     pub locality: Locality,
 }
 
-/// What an entry is to authorize, with its Name where that was made.
+/// What an entry has to authorize, with its Name if it has been computed.
 #[derive(Clone, Copy)]
 pub struct Used<'a> {
     pub resolved: Resolved<'a>,
     pub name: Option<&'a Name>,
 }
 
-/// What an entry authorizes, with what the session's policy demanded for it.
+/// What an entry authorizes, with the policy's demand for it.
 #[derive(Clone, Copy)]
 pub struct Granted<'a> {
     pub used: Used<'a>,
@@ -42,7 +42,7 @@ pub struct Granted<'a> {
 }
 
 impl Granted<'_> {
-    /// What an entry authorizes: its handle and the demand, without what the handle names.
+    /// What an entry authorizes: its handle and the demand, without the handle's entity.
     pub fn grant(&self) -> Grant
         ensures { result ≡ grant_by self.now }
     {
@@ -54,7 +54,7 @@ impl Granted<'_> {
 }
 
 impl Used<'_> {
-    /// Whether this is the entity's Name, which is made here where it was not made before.
+    /// Whether this is the entity's Name, which is computed now unless it was computed before.
     #[tactic(auto, unfolding(tpm_record::specs::Entity::name_of))]
     pub fn is_named(&self, name: &Name) -> bool
         ensures { (r : Record) → IsUsed r self.now
@@ -67,7 +67,7 @@ impl Used<'_> {
     }
 }
 
-/// The handles of a command that need authorization, with what they name.
+/// The handles of a command that need authorization, with their entities.
 fn authorized<'a>(sent: &Sent<'a, '_>) -> &'a [Resolved<'a>]
     requires { length sent.now.resolved.now ≡ length (whole_of sent.now.command.now).handles }
     ensures { result.now ≡ take (authorized_handles (whole_of sent.now.command.now).code)
@@ -76,7 +76,7 @@ fn authorized<'a>(sent: &Sent<'a, '_>) -> &'a [Resolved<'a>]
     &sent.resolved[..sent.command.code.authorized_handles()]
 }
 
-/// What the entry in a place is to authorize, or nothing.
+/// What the entry at a position has to authorize, if anything.
 #[tactic(auto, using(crate::proofs::Resolving::used_in, crate::proofs::Resolving::nothing_in))]
 pub fn used_at<'a>(sent: &Sent<'a, '_>, place: usize) -> Option<Used<'a>>
     requires { length sent.now.resolved.now ≡ length (whole_of sent.now.command.now).handles }

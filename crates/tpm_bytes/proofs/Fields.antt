@@ -1,4 +1,4 @@
--- Fields in front of a text: a field is read only from its text, and from every such text.
+-- Fields at the front of a text: each field is read from its own text, and from no other.
 use Rattle.std.proofs.Common.{◌≡◌, ℕ, ◌+◌, ◌^◌, ◌<◌, ◌≤◌, Bool, true, false, cond, ltb, List, [], ◌∷◌, ◌++◌, length, take, drop, Option, Some, None, Result, Ok, Err, refl, sym, ap, subst, ◌∙◌, append_assoc, arith, inl, inr}
 use Rattle.std.specs.Prelude.{ok_or}
 use Rattle.std.specs.Int.{Width, w8, w16, w32, byte_len, from_be_bytes, to_be_bytes}
@@ -49,7 +49,7 @@ guard_passed false d r y e = (refl, e)
 pub ok_is : {A E : Type 0} (x y : A) → (let done : Result A E = Ok x in done ≡ Ok y) → x ≡ y
 ok_is x y e = cc
 
--- A reader took this text from the front of the bytes, and left the rest.
+-- A reader took this text from the front of the bytes and left the rest.
 pub record Takes (bytes text rest : List ℕ) : Type 0 where
   pub parts : bytes ≡ text ++ rest
   pub rest_fits : AreBytes rest
@@ -124,7 +124,8 @@ number_again w limit wide n rest lt =
     let long : ltb (length (to_be_bytes w n ++ rest)) (byte_len w) ≡ false = le-ltb _ _ (omega (arith, length-append (to_be_bytes w n) rest)) in
     rw (long, take_at (to_be_bytes w n) rest (byte_len w) len, drop_at (to_be_bytes w n) rest (byte_len w) len, wide.again n lt) refl
 
--- a number that is read was taken from the front, where a cut number is another fault
+-- a number that was read had been taken from the front, for any choice of fault for truncated
+-- numbers
 pub number_or_takes : {F : Type 0} (w : Width) (limit : ℕ) (wide : IsWide w limit) (f : F) (bytes : List ℕ) (x : ℕ × List ℕ) → AreBytes bytes → or_fault (number_at w bytes) f ≡ Ok x → Takes bytes (to_be_bytes w x.0) x.1 × (x.0 < limit)
 number_or_takes w limit wide f bytes x fits e = number_takes w limit wide bytes x.0 x.1 fits (or_fault_ok (number_at w bytes) f x e)
 

@@ -1,16 +1,16 @@
--- Lists of things that each have a text: a list is read only from its text, and from every such
--- text.
+-- Lists of items that can each be encoded: the encoding of each list, and nothing else, decodes to
+-- that list.
 use Rattle.std.proofs.Common.{◌≡◌, ℕ, zero, suc, List, [], ◌∷◌, ◌++◌, length, Result, Ok, refl, ap, subst, ◌∙◌, append_assoc}
 use Rattle.std.specs.List.{flat_map, AllByRecursion}
 use Rattle.tpm_bytes.specs.Many.{many_at}
 use Rattle.tpm_bytes.specs.Reading.{◌>>=◌}
 use Rattle.tpm_bytes.proofs.Fields.{AreBytes, Takes, Takes-then, bind_ok, ok_is}
 
--- A property holds of each thing that is read, and its text stood in front.
+-- Each item that is read has the property, and its encoding was at the front.
 abbrev pub IsTaken : {A E : Type 0} → (A → List ℕ) → (A → Type 0) → (List ℕ → Result (A × List ℕ) E) → Type 0
 IsTaken {A} text Is at = (bytes : List ℕ) (x : A × List ℕ) → AreBytes bytes → at bytes ≡ Ok x → Takes bytes (text x.0) x.1 × Is x.0
 
--- A thing of which this holds is read from its text.
+-- The encoding of an item with this property decodes to the item again.
 abbrev pub IsAgain : {A E : Type 0} → (A → List ℕ) → (A → Type 0) → (List ℕ → Result (A × List ℕ) E) → Type 0
 IsAgain {A} text Is at = (x : A) (rest : List ℕ) → Is x → at (text x ++ rest) ≡ Ok (x, rest)
 

@@ -1,9 +1,9 @@
--- Things one after another in a text. TPM 2.0 Library, Part 2, section 10.9 (a TPML: how many, and
--- these), and Part 1, section 18 (the handles of a command, each at its place).
+-- Several items in sequence in a text. TPM 2.0 Library, Part 2, section 10.9 (a TPML: a count,
+-- then the items), and Part 1, section 18 (the handles of a command, in order).
 use Rattle.std.specs.Prelude.{ℕ, zero, suc, ◌+◌, List, [], ◌∷◌, Result, Ok}
 use Rattle.tpm_bytes.specs.Reading.{◌>>=◌}
 
--- a number of things in a text, each read where the one before it ended
+-- a number of items in a text; each starts at the end of the previous one
 abbrev pub many_at : {A E : Type 0}
     → (List ℕ → Result (A × List ℕ) E)
     → ℕ → List ℕ → Result (List A × List ℕ) E
@@ -13,7 +13,7 @@ many_at at (suc count) text = do
   others ← many_at at count first.1
   Ok (first.0 ∷ others.0, others.1)
 
--- a thing in a text for each key, read one after another; keys are numbered from n on
+-- one item in a text for each key, read in sequence; the keys are numbered from n
 abbrev pub each_at : {K A E : Type 0}
     → (ℕ → K → List ℕ → Result (A × List ℕ) E)
     → ℕ → List K → List ℕ → Result (List A × List ℕ) E

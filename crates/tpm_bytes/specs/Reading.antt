@@ -1,6 +1,6 @@
--- What stands at the front of a text: some bytes, a number, a sized buffer. TPM 2.0 Library, Part 1
--- (numbers on the wire are big-endian), and Part 2, section 10.4 (TPM2B: a size of two bytes, and
--- that many bytes). A reading gives the value and what is after it.
+-- Reads what is at the front of a text: some bytes, a number, or a sized buffer. TPM 2.0 Library,
+-- Part 1 (numbers on the wire are big-endian), and Part 2, section 10.4 (TPM2B: a size of two
+-- bytes, and that many bytes). A read returns the value and the rest of the text.
 use Rattle.std.specs.Prelude.{◌≡◌, ℕ, ◌<◌, nat_lt, Bool, true, false, if◌then◌else◌}
 use Rattle.std.specs.Prelude.{List, length, get_or, take, drop, Result, Ok, Err}
 use Rattle.std.specs.Int.{Width, w16, byte_len, from_be_bytes}
@@ -13,50 +13,50 @@ abbrev pub ◌>>=◌ : {A B E : Type 0} → Result A E → (A → Result B E) �
 (Ok x) >>= f = f x
 (Err e) >>= f = Err e
 
--- a result with this fault in place of its own
+-- a result in which this fault replaces any other fault
 abbrev pub or_fault : {A E F : Type 0} → Result A E → F → Result A F
 or_fault (Ok x) fault = Ok x
 or_fault (Err e) fault = Err fault
 
--- a step that refuses with this fault where the test holds
+-- a step that fails with this fault if the test holds
 abbrev pub refused_if : {E : Type 0} → Bool → E → Result (Unit {0}) E
 refused_if true fault = Err fault
 refused_if false fault = Ok tt
 
--- Each number of a list is below 256.
+-- Each number in a list is below 256.
 abbrev pub AreBytes : List ℕ → Type 0
 AreBytes bytes = (i : ℕ) → get_or bytes i 0 < 256
 
 abbrev pub too_short : Short
 too_short = record {}
 
--- the first bytes of a text, and what is after them
+-- the first bytes of a text, and the rest of it
 abbrev pub bytes_at : ℕ → List ℕ → Result (List ℕ × List ℕ) Short
 bytes_at count text =
     if nat_lt (length text) count then Err too_short
     else Ok (take count text, drop count text)
 
--- the number at the front of a text, and what is after it
+-- the number at the front of a text, and the rest of it
 abbrev pub number_at : Width → List ℕ → Result (ℕ × List ℕ) Short
 number_at width text =
     if nat_lt (length text) (byte_len width) then Err too_short
     else Ok (from_be_bytes width (take (byte_len width) text), drop (byte_len width) text)
 
--- the bytes of the sized buffer at the front of a text, and what is after it. The fault is "too
--- long" where its size is over the limit, whether its bytes are there or not, and otherwise "short"
--- where they are not
+-- the content of the sized buffer at the front of a text, and the rest of it. The fault is TooLong
+-- if the size is over the limit, even if bytes are missing; otherwise it is Short if bytes are
+-- missing
 abbrev pub sized_at : ℕ → List ℕ → Result (List ℕ × List ℕ) SizedFault
 sized_at limit text = do
   size ← or_fault (number_at w16 text) fault.Short
   if nat_lt limit size.0 then Err fault.TooLong else or_fault (bytes_at size.0 size.1) fault.Short
 
--- The code gave what the definition gives, as `view` sees it, or its fault.
+-- The code returned what is defined: the value, seen through `view`, or the fault.
 abbrev pub Gives : {X Y E : Type 0} → (X → Y) → Result Y E → Result X E → Type 0
 Gives view defined (Ok x) = defined ≡ Ok (view x)
 Gives view defined (Err e) = defined ≡ Err e
 
--- A read of old gave result and left new: the value and the rest that the definition gives, or its
--- fault and old.
+-- A read of `old` returned `result` and left `new`, as defined: either the value and the rest of
+-- the text, or the fault and the text unchanged.
 abbrev pub Reads : {X Y E : Type 0}
     → (X → Y) → Result (Y × List ℕ) E
     → List ℕ → Result X E → List ℕ → Type 0

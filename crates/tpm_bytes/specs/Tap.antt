@@ -1,18 +1,18 @@
--- What a tap tells of its device: the reader or writer that it wraps.
+-- What a tap records about its device, the reader or writer that it wraps.
 use Rattle.std.specs.Prelude.{◌≡◌, ℕ, ◌+◌, ◌-◌, ◌^◌, ◌==◌, min, List, ◌++◌}
 use Rattle.std.specs.Prelude.{Bool, true, false, Option, Result, Ok, Err, if◌then◌else◌}
 use Rattle.std.specs.Io.KnownBytes.{Appends}
 use Rattle.tpm_bytes.specs.declared.tap.Tap.{Tap}
 
--- the marks of a device: whether it failed or ended, how many of its reads gave bytes, and for how
--- many bytes the last read had room
+-- the marks of a device: whether it failed, whether it ended, the number of its reads that
+-- returned bytes, and the buffer size of the last read
 pub record Marks : Type 0 where
   pub failed : Bool
   pub ended : Bool
   pub reads : ℕ
   pub room : ℕ
 
--- the marks of a device of which nothing was asked yet
+-- the marks of a device before its first read or write
 abbrev pub unmarked : Marks
 unmarked = record { failed = false; ended = false; reads = 0; room = 0 }
 
@@ -27,7 +27,7 @@ marks_of tap = record {
 abbrev pub device_of : {D : Type 0} → Tap D → D
 device_of tap = tap.device
 
--- the marks after a read into a buffer of this length; the reads that gave bytes are counted up to
+-- the marks after a read into a buffer of this length. Reads that returned bytes are counted up to
 -- 2^64 - 1
 abbrev pub after_read : {E : Type 0} → Marks → Result ℕ E → ℕ → Marks
 after_read marks (Err e) room = record marks { failed = true; room = room }
@@ -37,13 +37,14 @@ after_read marks (Ok count) room =
     else record marks { ended = true; room = room }
     ) else record marks { reads = min (marks.reads + 1) (2 ^ 64 - 1); room = room }
 
--- the marks after a write of a piece of this length; a write that took a part of it leaves them
+-- the marks after a write of a piece of this length. A write that accepted only part of the piece
+-- does not change them
 abbrev pub after_write : {E : Type 0} → Marks → Result ℕ E → ℕ → Marks
 after_write marks (Err e) size = record marks { failed = true }
 after_write marks (Ok count) size =
     if count == 0 then (if size == 0 then marks else record marks { failed = true }) else marks
 
--- A part of a text from its front was appended, perhaps none of it and perhaps all.
+-- A prefix of the text, possibly empty or the whole text, was appended.
 abbrev pub AppendsFront : Option (List ℕ) → Option (List ℕ) → List ℕ → Type 0
 AppendsFront old new text =
     (front : List ℕ) × (rest : List ℕ) × (text ≡ front ++ rest) × Appends old new front

@@ -1,4 +1,4 @@
--- What a write to a buffer of fixed capacity does: all of a text at the end, or nothing.
+-- Writes to a buffer of fixed capacity: a write appends the whole text or nothing.
 use Rattle.std.specs.Prelude.{◌≡◌, ℕ, ◌+◌, ◌≤◌, ◌<◌, ◌^◌, ◌↔◌, List, ◌++◌, length}
 use Rattle.std.specs.Prelude.{Result, IsOk, OnOk, OnErr}
 use Rattle.std.specs.Int.{w16, to_be_bytes}
@@ -7,15 +7,15 @@ use Rattle.std.specs.Int.{w16, to_be_bytes}
 abbrev pub sized_text : List ℕ → List ℕ
 sized_text bytes = to_be_bytes w16 (length bytes) ++ bytes
 
--- A write of text into a buffer of this capacity: all of it at the end exactly where it fits, else
--- nothing.
+-- A write of a text to a buffer of this capacity appends all of it if it fits, and nothing
+-- otherwise.
 abbrev pub Puts : {E : Type 0} → ℕ → List ℕ → List ℕ → Result (Unit {0}) E → List ℕ → Type 0
 Puts capacity text old result new =
     (IsOk result ↔ (length old + length text ≤ capacity))
     × OnOk result (new ≡ old ++ text)
     × OnErr result (new ≡ old)
 
--- A write of bytes as a sized buffer, whose size has two bytes: all of it exactly where it fits.
+-- A write of bytes as a sized buffer, with a two-byte size, appends all of it exactly if it fits.
 abbrev pub PutsSized : {E : Type 0} → ℕ → List ℕ → List ℕ → Result (Unit {0}) E → List ℕ → Type 0
 PutsSized capacity bytes old result new =
     (IsOk result ↔ ((length bytes < 2 ^ 16) × (length old + (2 + length bytes) ≤ capacity)))

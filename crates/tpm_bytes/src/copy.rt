@@ -1,10 +1,10 @@
-//! Bytes copied into a buffer of fixed capacity.
+//! Copies bytes into a buffer of fixed capacity.
 
 ghost use Rattle.std.specs.Prelude.{◌≡◌, ◌+◌, ◌≤◌, ◌++◌, length};
 
 use arrayvec::ArrayVec;
 
-/// Puts these bytes at the end of a buffer, which has room for them.
+/// Appends these bytes to a buffer that must have room for them.
 pub fn append<const N: usize>(buffer: &mut ArrayVec<u8, N>, bytes: &[u8])
     requires { length buffer.old.items + length bytes.now ≤ N }
     ensures { buffer.new.items ≡ buffer.old.items ++ bytes.now }
@@ -12,7 +12,7 @@ pub fn append<const N: usize>(buffer: &mut ArrayVec<u8, N>, bytes: &[u8])
     let _ = buffer.try_extend_from_slice(bytes);
 }
 
-/// A buffer with a copy of these bytes.
+/// A buffer that contains a copy of these bytes.
 pub fn copied<const N: usize>(bytes: &[u8]) -> ArrayVec<u8, N>
     requires { length bytes.now ≤ N }
     ensures value { result.items ≡ bytes.now }

@@ -1,5 +1,5 @@
-//! Reading of bytes from the front of a text: fixed counts, big-endian numbers, and sized buffers
-//! (TPM2B). A refused read leaves the text as it was.
+//! Reads bytes from the front of a text: a given number of bytes, big-endian numbers, and sized
+//! buffers (TPM2B). A read that fails leaves the text unchanged.
 
 ghost use Rattle.std.specs.Prelude.{◌≡◌, ℕ, ◌==◌, List, length};
 ghost use Rattle.std.specs.Int.{w8, w16, w32, w64};
@@ -7,20 +7,20 @@ ghost use Rattle.tpm_bytes.specs.Reading.{AreBytes, Reads, bytes_at, number_at, 
 
 use std::marker::Model;
 
-/// The fault that fewer bytes are left than were asked for.
+/// The fault of a read that needs more bytes than are left.
 #[derive(Clone, Copy, PartialEq, Eq)]
 pub struct Short;
 
 /// Why a sized buffer was not read.
 #[derive(Clone, Copy, PartialEq, Eq)]
 pub enum SizedFault {
-    /// The size of the buffer is over the limit, whether its bytes are there or not.
+    /// The size of the buffer is over the limit, even if bytes are missing.
     TooLong,
-    /// The size of the buffer or some of its bytes are missing.
+    /// The size of the buffer is truncated, or some of its bytes are missing.
     Short,
 }
 
-/// What is left to read of a text. Contracts see it as the bytes that are left.
+/// The unread rest of a text. In contracts it is the bytes that are left.
 #[derive(Drop)]
 pub struct Cursor<'a> {
     left: &'a [u8],
@@ -40,7 +40,7 @@ impl<'a> Cursor<'a> {
         Cursor { left: text }
     }
 
-    /// All bytes that are left; they stay to be read.
+    /// All bytes that are left. They remain unread.
     pub fn rest(&self) -> &'a [u8]
         ensures { result.now ≡ self.now }
     {
@@ -101,7 +101,7 @@ impl<'a> Cursor<'a> {
         ]))
     }
 
-    /// A sized buffer of at most `limit` bytes (TPM2B: a size of two bytes, and that many bytes).
+    /// A sized buffer (TPM2B) of at most `limit` bytes: a two-byte size, then that many bytes.
     pub fn sized(&mut self, limit: usize) -> Result<&'a [u8], SizedFault>
         ensures { Reads (λ bytes. bytes.now) (sized_at limit self.old) self.old result self.new }
     {

@@ -1,13 +1,13 @@
 #![tactic(auto)]
 
-//! The bytes of a text: a [`cursor::Cursor`] reads them, [`many`] has the readers of things that
-//! stand one after another, a [`sink::Sink`] of fixed capacity takes bytes, and a [`tap::Tap`]
-//! tells what a reader or a writer of them did.
+//! The bytes of a text. A [`cursor::Cursor`] reads them, and the readers in [`many`] read several
+//! items in sequence. Bytes are written to a [`sink::Sink`] of fixed capacity. A [`tap::Tap`]
+//! wraps a reader or a writer and records what it did.
 //!
-//! The crate uses `arrayvec` for texts of fixed capacity, and no part of a TPM. Numbers are
-//! big-endian, as everywhere in a TPM's buffers (TPM 2.0 Library, Part 2, section 3.2). Each call
-//! equals its definition in `specs/`; a cursor and a sink that refuse are left as they were, and no
-//! call here takes memory.
+//! The crate uses `arrayvec` for texts of fixed capacity, and does not depend on anything of a
+//! TPM. Numbers are big-endian, as everywhere in a TPM's buffers (TPM 2.0 Library, Part 2, section
+//! 3.2). Each call equals its definition in `specs/`. A read or write that fails leaves the cursor
+//! or sink unchanged, and no call here allocates memory.
 
 pub mod copy;
 pub mod cursor;

@@ -1,5 +1,5 @@
-//! Readers of several things that stand one after another: a given count of them, or one for each
-//! key of a list. A refused read leaves the text as it was.
+//! Reads several items in sequence: a given number of them, or one for each key in a list. A read
+//! that fails leaves the text unchanged.
 
 ghost use Rattle.std.specs.Prelude.{◌≡◌, ◌≤◌, ◌<◌, ℕ, List, Result, IfOk, length, map};
 ghost use Rattle.tpm_bytes.specs.Many.{each_at, many_at};
@@ -8,23 +8,23 @@ ghost use Rattle.tpm_bytes.specs.Reading.{Reads};
 use crate::cursor::Cursor;
 use arrayvec::ArrayVec;
 
-/// A thing that a text spells.
+/// An item that can be read from a text.
 pub trait Readable<'a>: Sized {
     type Fault;
 
-    /// The thing as contracts see it.
+    /// The item as it appears in contracts.
     ghost Seen: { Type 0 };
 
     ghost seen: { Self → Seen };
 
-    /// The thing at the front of a text, and what is after it.
+    /// The item at the front of a text, and the rest of the text.
     ghost at: { List ℕ → Result (Seen × List ℕ) Self.Fault };
 
     fn read(text: &mut Cursor<'a>) -> Result<Self, Self::Fault>
         ensures { Reads seen (at text.old) text.old result text.new };
 }
 
-/// Reads `count` things, one after another.
+/// Reads `count` items in sequence.
 pub fn read_many<'a, T: Readable<'a> + Default + Drop, const N: usize>(
     text: &mut Cursor<'a>,
     count: usize,
@@ -42,24 +42,24 @@ pub fn read_many<'a, T: Readable<'a> + Default + Drop, const N: usize>(
     Ok(things)
 }
 
-/// A thing that a text spells, where a key says what may stand there, and a number in which place a
-/// fault is.
+/// An item that can be read from a text, given a key and a number. The key determines which items
+/// are allowed, and the number identifies the item in its fault.
 pub trait ReadableBy<'a, K>: Sized {
     type Fault;
 
-    /// The thing as contracts see it.
+    /// The item as it appears in contracts.
     ghost Seen: { Type 0 };
 
     ghost seen: { Self → Seen };
 
-    /// The thing of this number at the front of a text, and what is after it.
+    /// The item with this number at the front of a text, and the rest of the text.
     ghost at: { ℕ → K → List ℕ → Result (Seen × List ℕ) Self.Fault };
 
     fn read(number: u8, key: &K, text: &mut Cursor<'a>) -> Result<Self, Self::Fault>
         ensures { Reads seen (at number key.now text.old) text.old result text.new };
 }
 
-/// Reads a thing for each key, numbered from 1.
+/// Reads one item for each key. The items are numbered from 1.
 pub fn read_each<'a, K, T: ReadableBy<'a, K> + Default + Drop, const N: usize>(
     keys: &[K],
     text: &mut Cursor<'a>,

@@ -1,5 +1,5 @@
-//! The fault [`NoMemory`], by which the crates of the device say that memory was refused.
+//! The fault [`NoMemory`], which the crates of the device return when an allocation fails.
 
-/// Memory was refused, and what was asked for did not happen.
+/// An allocation failed, and the requested change did not happen.
 #[derive(Clone, Copy, Debug, PartialEq, Eq)]
 pub struct NoMemory;

@@ -1,6 +1,6 @@
-//! Writing of bytes to a text of fixed capacity: big-endian numbers, and sized buffers (TPM2B).
-//! What does not fit is refused by `put` and its like, and nothing is written; `append` and its
-//! like are for a caller who knows that there is room.
+//! Writes bytes to a text of fixed capacity: big-endian numbers, and sized buffers (TPM2B). `put`
+//! and its variants return an error and write nothing if the bytes do not fit. `append` and its
+//! variants require that the bytes fit.
 
 ghost use Rattle.std.specs.Prelude.{◌≡◌, ℕ, ◌+◌, ◌≤◌, ◌<◌, ◌^◌, List, [], ◌++◌, length};
 ghost use Rattle.std.specs.Borrow.{sem};
@@ -11,11 +11,11 @@ use crate::copy::append;
 use arrayvec::ArrayVec;
 use std::marker::Model;
 
-/// The fault that a text does not fit.
+/// The fault of a write that does not fit.
 #[derive(Clone, Copy, PartialEq, Eq)]
 pub struct Full;
 
-/// A text of at most `N` bytes that is being written. Contracts see it as the bytes so far.
+/// A text of at most `N` bytes that is being written. In contracts it is the bytes written so far.
 #[derive(Drop)]
 pub struct Sink<const N: usize> {
     bytes: ArrayVec<u8, N>,
@@ -52,7 +52,7 @@ impl<const N: usize> Sink<N> {
         self.bytes.as_slice()
     }
 
-    /// The bytes so far, to be changed.
+    /// Write access to the bytes written so far.
     pub fn as_mut_slice(&mut self) -> &mut [u8]
         ensures* writes_back { sem 𝓛 (lends_bytes N.row self.entry result) }
         ensures value { result.now ≡ self.old }
@@ -61,7 +61,7 @@ impl<const N: usize> Sink<N> {
         self.bytes.as_mut_slice()
     }
 
-    /// Drops the bytes that were written so far.
+    /// Removes all bytes written so far.
     pub fn clear(&mut self)
         ensures { self.new ≡ [] }
     {
@@ -108,8 +108,8 @@ impl<const N: usize> Sink<N> {
         self.put(&number.to_be_bytes())
     }
 
-    /// Writes a sized buffer: the size of `bytes` in two bytes, then `bytes`. Over 65,535 bytes
-    /// never fit.
+    /// Writes a sized buffer: the size of `bytes` as two bytes, then `bytes`. More than 65,535
+    /// bytes never fit.
     pub fn put_sized(&mut self, bytes: &[u8]) -> Result<(), Full>
         ensures { PutsSized N bytes.now self.old result self.new }
     {
@@ -120,7 +120,7 @@ impl<const N: usize> Sink<N> {
         self.put(bytes)
     }
 
-    /// Writes these bytes at the end, where there is room for them.
+    /// Appends these bytes; the sink must have room for them.
     pub fn append(&mut self, bytes: &[u8])
         requires { length self.old + length bytes.now ≤ N }
         ensures { self.new ≡ self.old ++ bytes.now }
@@ -156,8 +156,8 @@ impl<const N: usize> Sink<N> {
         self.append(&number.to_be_bytes());
     }
 
-    /// Writes a sized buffer of these bytes, where there is room for it: their size in two bytes,
-    /// then the bytes.
+    /// Appends a sized buffer: the size of `bytes` as two bytes, then `bytes`. The sink must have
+    /// room for it.
     pub fn append_sized(&mut self, bytes: &[u8])
         requires short { length bytes.now < 2 ^ 16 }
         requires room { length self.old + (2 + length bytes.now) ≤ N }

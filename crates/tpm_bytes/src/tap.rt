@@ -1,5 +1,5 @@
-//! A reader or a writer together with marks of what it did, so that a caller can ask afterwards
-//! whether it failed or ended.
+//! Wraps a reader or a writer and marks what it did, so that its user can check afterwards whether
+//! it failed or ended.
 
 ghost use Rattle.std.specs.Prelude.{◌≡◌, OnErr, OnOk, length, true};
 ghost use Rattle.std.specs.Io.{ReadsAtMost, WritesAtMost};
@@ -9,12 +9,12 @@ ghost use Rattle.tpm_bytes.specs.Tap.{AppendsFront, after_read, after_write, dev
 use std::io;
 use std::io::{Read, Write};
 
-/// The reader or the writer of a tap failed, as the tap's marks say.
+/// The reader or writer inside a tap failed, as the tap's marks show.
 #[derive(Clone, Copy, PartialEq, Eq)]
 pub struct Failed;
 
-/// A reader or a writer, and what it did: whether it failed, whether it ended, how many of its
-/// reads gave bytes, and for how many bytes the last one had room.
+/// A reader or a writer and its marks: whether it failed, whether it ended, the number of its
+/// reads that returned bytes, and the buffer size of the last read.
 #[derive(Drop)]
 pub struct Tap<D> {
     device: D,
@@ -38,28 +38,28 @@ impl<D> Tap<D> {
         }
     }
 
-    /// Whether the device answered an error, or took nothing of a piece that was not empty.
+    /// Whether the device returned an error, or accepted no bytes of a nonempty write.
     pub fn failed(&self) -> bool
         ensures { result ≡ (marks_of self.now).failed }
     {
         self.failed
     }
 
-    /// Whether a read gave nothing for a buffer that was not empty.
+    /// Whether a read into a nonempty buffer returned no bytes.
     pub fn ended(&self) -> bool
         ensures { result ≡ (marks_of self.now).ended }
     {
         self.ended
     }
 
-    /// How many reads gave bytes, up to 2^64 - 1.
+    /// The number of reads that returned bytes, up to 2^64 - 1.
     pub fn reads(&self) -> u64
         ensures { result ≡ (marks_of self.now).reads }
     {
         self.reads
     }
 
-    /// How many bytes the last read had room for.
+    /// The buffer size of the last read.
     pub fn room(&self) -> usize
         ensures { result ≡ (marks_of self.now).room }
     {
@@ -81,7 +81,7 @@ impl<D> Tap<D> {
 }
 
 impl<D: Read> Tap<D> {
-    /// Makes one read of the device.
+    /// Reads from the device once.
     pub fn read(&mut self, buffer: &mut [u8]) -> io::Result<usize>
         ensures bound { ReadsAtMost result buffer.new }
         ensures bytes { ReadConsumes
@@ -106,7 +106,7 @@ impl<D: Read> Tap<D> {
 }
 
 impl<D: Write> Tap<D> {
-    /// Makes one write to the device.
+    /// Writes to the device once.
     pub fn write(&mut self, piece: &[u8]) -> io::Result<usize>
         ensures bound { WritesAtMost result piece.now }
         ensures bytes { WriteAppends
@@ -128,8 +128,8 @@ impl<D: Write> Tap<D> {
         outcome
     }
 
-    /// Writes all of a text, in as many writes as the device needs. Where it fails, a part of the
-    /// text from its front went out, and nothing else.
+    /// Writes the whole text, with as many writes as the device needs. On failure, the device
+    /// received a prefix of the text and nothing else.
     pub fn write_all(&mut self, text: &[u8]) -> Result<(), Failed>
         ensures sent { OnOk result (Appends (D.contents (device_of self.old))
             (D.contents (device_of self.new)) text.now) }
@@ -149,7 +149,7 @@ impl<D: Write> Tap<D> {
         Ok(())
     }
 
-    /// Has the device pass on what was written and is still held.
+    /// Flushes the device's buffered bytes.
     pub fn flush(&mut self) -> Result<(), Failed>
         ensures kept { Keeps (D.contents (device_of self.old)) (D.contents (device_of self.new)) }
         ensures unmarked { OnOk result (marks_of self.new ≡ marks_of self.old) }

@@ -1,4 +1,4 @@
--- A number on the wire and the command that it names.
+-- Numbers on the wire and the commands that they name.
 use Rattle.std.proofs.Common.{◌≡◌, ℕ, ◌<◌, ◌^◌, Bool, true, false, cond, List, [], ◌∷◌, Option, Some, None, refl, sym, subst, arith}
 use Rattle.std.specs.Prelude.{◌==◌, IfSome}
 use Rattle.std.specs.List.{find}
@@ -8,7 +8,7 @@ use Rattle.tpm_commands.specs.declared.command_code.CommandCode.TheVariants as c
 use Rattle.tpm_commands.specs.CommandCode.{code_named, code_number}
 use Rattle.tpm_commands.specs.CommandFacts.{all_codes}
 
--- a value that a search finds passes the test
+-- a value found by a search passes the test
 pub found_passes : {X : Type 0} (test : X → Bool) (xs : List X) → IfSome (find test xs) (λ x. test x ≡ true)
 found_passes test [] = tt
 found_passes test (x ∷ xs) = chosen (test x) refl (found_passes test xs)
@@ -28,7 +28,7 @@ code_named-number number = numbered number (code_named number) (found_passes (λ
 pub code_named-is : (number : ℕ) (code : CommandCode) → code_named number ≡ Some code → number ≡ code_number code
 code_named-is number code e = sym (subst (λ (found : Option CommandCode). IfSome found (λ code. code_number code ≡ number)) e (code_named-number number))
 
--- ---- the last clause is for each command that has none above it
+-- ---- the last clause covers every command without a clause of its own
 
 pub code_named-again : (code : CommandCode) → code_named (code_number code) ≡ Some code
 unfolding code_named

@@ -1,5 +1,5 @@
--- What the facts of the commands say: which command has a number or a name, and what a command's
--- handles and first parameter are for. TPM 2.0 Library, Part 2, section 6.5.2 (TPM_CC), and Part 3.
+-- The facts about a command: its number and name, and what its handles and its first parameter are
+-- for. TPM 2.0 Library, Part 2, section 6.5.2 (TPM_CC), and Part 3.
 use Rattle.std.specs.Prelude.{ℕ, ◌==◌, nat_eq, is_some, count_by, Bool, true, false, List, [], ◌∷◌, length, Option, slice_get}
 use Rattle.std.specs.Cmp.Lexicographic.{pointwise}
 use Rattle.std.specs.List.{find}
@@ -15,49 +15,49 @@ use Rattle.tpm_commands.specs.CommandFacts.{all_codes, command_facts}
 use Rattle.tpm_commands.specs.Part.{Part}
 use Rattle.tpm_commands.specs.Shape.{Facts, is_sized}
 
--- the number of a command on the wire
+-- the wire number of a command
 abbrev pub code_number : CommandCode → ℕ
 code_number code = (command_facts code).number
 
--- the name of a command: what stands after "TPM2_" at the head of its own section of Part 3
+-- the name of a command: the title of its section of Part 3 without "TPM2_"
 abbrev pub code_name : CommandCode → List ℕ
 code_name code = (command_facts code).name
 
--- the part of the device's state that a success of the command may change
+-- the part of the device's state that the command may change if it succeeds
 abbrev pub part_of : CommandCode → Part
 part_of code = (command_facts code).part
 
--- the shape of a command: every other fact of it
+-- the shape of a command: all other facts about it
 unfoldable pub shape_of : CommandCode → Facts
 shape_of code = (command_facts code).shape
 
--- the command of a number, if it is served
+-- the command with this number, or None if it is not served
 unfoldable pub code_named : ℕ → Option CommandCode
 code_named number = find (λ code. code_number code == number) all_codes
 
--- whether a command of this number is served, and so whether a policy can name it
+-- whether a command with this number is served, and therefore whether a policy can name it
 abbrev pub is_served : ℕ → Bool
 is_served number = is_some (code_named number)
 
--- the command of a name, if it is served
+-- the command with this name, or None if it is not served
 unfoldable pub code_called : List ℕ → Option CommandCode
 code_called name = find (λ code. pointwise nat_eq name (code_name code)) all_codes
 
--- how many handles a command has, and how many of these need authorization
+-- the number of handles of a command, and the number of those that need authorization
 abbrev pub handle_count : CommandCode → ℕ
 handle_count code = length (shape_of code).handles
 
 abbrev pub authorized_handles : CommandCode → ℕ
 authorized_handles code = count_by (λ rule. is_some rule.role) (shape_of code).handles
 
--- the role in which the handle in a place, from 0, is authorized; USER where it needs no
+-- the role for authorizing the handle at a position, counted from 0; USER if the handle needs no
 -- authorization
 abbrev pub role_at : CommandCode → ℕ → Role
 role_at code place =
     option_map_or (λ (rule : HandleRule). unwrap_or rule.role role.User)
     (slice_get (shape_of code).handles place) role.User
 
--- what a command does to an NV index that authorizes it, as its handle in a place, from 0
+-- how a command uses an NV index that authorizes it as the handle at a position, counted from 0
 abbrev pub nv_use : Role → (reads : Bool) → NvUse
 nv_use role.Admin reads = does.Administer
 nv_use role.User true = does.Read

@@ -1,6 +1,6 @@
--- The facts of the commands that are served: each one's number (TPM 2.0 Library, Part 2, section
--- 6.5.2: TPM_CC), name, part of the device's state that its success may change, and shape (Part 3,
--- its own section).
+-- The facts about the served commands: the number of each (TPM 2.0 Library, Part 2, section 6.5.2:
+-- TPM_CC), its name, the part of the device's state that it may change if it succeeds, and its
+-- shape (Part 3, its own section).
 use Rattle.tpm_types.specs.Limits.{data_limit}
 use Rattle.std.specs.Prelude.{ℕ, true, List, [], ◌∷◌, codes}
 use Prim.Native.String.{String}
@@ -21,8 +21,7 @@ pub record CommandFacts : Type 0 where
   pub part : Part
   pub shape : Facts
 
--- a line of the table of commands: the name is what stands after "TPM2_" at the head of the
--- command's section
+-- a line of the table of commands; the name is the title of the command's section without "TPM2_"
 abbrev pub facts : (number : ℕ) → (name : String) → Part → Facts → CommandFacts
 facts number name part shape = record {
   number = number;
@@ -33,15 +32,15 @@ facts number name part shape = record {
 
 -- ---- words of the table of commands
 
--- the shape of a command that answers a sized buffer first
+-- the shape of a command whose answer starts with a sized buffer
 abbrev pub answering : Facts → Facts
 answering shape = record shape { sized_answer = true }
 
--- the shape of a command whose success leaves what a TPM2_Shutdown saved
+-- the shape of a command whose success preserves what a TPM2_Shutdown saved
 abbrev pub keeping : Facts → Facts
 keeping shape = record shape { keeps_shutdown = true }
 
--- the shape of a command that may be refused memory
+-- the shape of a command that can run out of memory
 abbrev pub growing : Facts → Facts
 growing shape = record shape { grows = true }
 
@@ -49,32 +48,33 @@ growing shape = record shape { grows = true }
 abbrev pub reading : Facts → Facts
 reading shape = record shape { reads_nv = true }
 
--- the shape of a command that may have no sessions
+-- the shape of a command that does not allow sessions
 abbrev pub without_sessions : Facts → Facts
 without_sessions shape = record shape { forbids_sessions = true }
 
--- the shape of a command that may be refused memory for what it makes, and answers the handle of
--- that and then a sized buffer
+-- the shape of a command that creates something, for which memory can run out; its answer is the
+-- handle of what it created, then a sized buffer
 abbrev pub making : Facts → Facts
 making shape = record shape { sized_answer = true; answers_handle = true; grows = true }
 
--- the shape of a command whose only handle is an object, authorized in the role of the user
+-- the shape of a command whose only handle is an object, authorized in the role USER
 abbrev pub on_object : List ParameterKind → Facts
 on_object parameters = answering (shape_with (user kind.Object ∷ []) parameters)
 
--- the shape of a command that names a policy session alone
+-- the shape of a command with a policy session as its only handle
 abbrev pub on_policy : List ParameterKind → Facts
 on_policy parameters = shape_with (unauthorized kind.PolicySession ∷ []) parameters
 
--- the shape of a command that lockoutAuth authorizes: lockHandle
+-- the shape of a command authorized by lockoutAuth: lockHandle
 abbrev pub on_lockout : List ParameterKind → Facts
 on_lockout parameters = shape_with (user kind.Lockout ∷ []) parameters
 
--- the shape of a command that lockoutAuth or the platform authorizes: authHandle
+-- the shape of a command authorized by lockoutAuth or the platform: authHandle
 abbrev pub on_clear : List ParameterKind → Facts
 on_clear parameters = shape_with (user kind.Clear ∷ []) parameters
 
--- the shape of a command on an NV index that its authHandle may use: authHandle, nvIndex
+-- the shape of a command that uses an NV index by the authorization of authHandle: authHandle,
+-- nvIndex
 abbrev pub on_nv : List ParameterKind → Facts
 on_nv parameters = shape_with (user kind.NvAuth ∷ unauthorized kind.NvIndex ∷ []) parameters
 
@@ -82,12 +82,12 @@ on_nv parameters = shape_with (user kind.NvAuth ∷ unauthorized kind.NvIndex �
 abbrev pub on_read_nv : List ParameterKind → Facts
 on_read_nv parameters = reading (on_nv parameters)
 
--- the handles of TPM2_StartAuthSession: tpmKey, of which only TPM_RH_NULL is served, and bind
+-- the handles of TPM2_StartAuthSession: tpmKey, which must be TPM_RH_NULL, and bind
 abbrev pub start_handles : List HandleRule
 start_handles = unauthorized kind.Null ∷ unauthorized kind.Entity ∷ []
 
--- the parameters of TPM2_StartAuthSession: nonceCaller, encryptedSalt (of at most 32 bytes, as no
--- key can decrypt one), sessionType, symmetric, authHash
+-- the parameters of TPM2_StartAuthSession: nonceCaller, encryptedSalt (limited to 32 bytes, since
+-- no key can decrypt a salt), sessionType, symmetric, authHash
 abbrev pub start_parameters : List ParameterKind
 start_parameters =
     parameter.Buffer 32 ∷ parameter.Buffer 32 ∷ parameter.SessionType
@@ -103,8 +103,8 @@ create_parameters =
 abbrev pub define_parameters : List ParameterKind
 define_parameters = parameter.Buffer 32 ∷ parameter.NvPublic ∷ []
 
--- the handles of TPM2_PolicySecret, authHandle and policySession, and its parameters nonceTPM,
--- cpHashA, policyRef, expiration
+-- the handles of TPM2_PolicySecret, authHandle and policySession; and its parameters nonceTPM,
+-- cpHashA, policyRef and expiration
 abbrev pub secret_handles : List HandleRule
 secret_handles = user kind.EntityNotNull ∷ unauthorized kind.PolicySession ∷ []
 
@@ -116,8 +116,8 @@ secret_parameters =
 abbrev pub evict_handles : List HandleRule
 evict_handles = user kind.Provision ∷ unauthorized kind.Object ∷ []
 
--- the handles of TPM2_PolicyNV, authHandle, nvIndex and policySession, and its parameters operandB,
--- offset, operation
+-- the handles of TPM2_PolicyNV, authHandle, nvIndex and policySession; and its parameters
+-- operandB, offset and operation
 abbrev pub compared_handles : List HandleRule
 compared_handles =
     user kind.NvAuth ∷ unauthorized kind.NvIndex ∷ unauthorized kind.PolicySession ∷ []
@@ -226,7 +226,7 @@ command_facts code.PolicyPassword = facts 0x18c "PolicyPassword" Sessions (on_po
 command_facts code.PolicyNvWritten =
     facts 0x18f "PolicyNvWritten" Sessions (on_policy (parameter.YesNo ∷ []))
 
--- all commands that are served, ascending by number
+-- all served commands, in ascending order of number
 abbrev pub all_codes : List CommandCode
 all_codes =
     code.EvictControl

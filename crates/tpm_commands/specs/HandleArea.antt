@@ -1,4 +1,4 @@
--- The handles of a command, of which each has a rule. TPM 2.0 Library, Part 3, section 5.4 (handle
+-- The handles of a command, each checked by a rule. TPM 2.0 Library, Part 3, section 5.4 (handle
 -- area validation).
 use Rattle.std.specs.Prelude.{ℕ, not, List, Result, Ok}
 use Rattle.std.specs.Int.{w32}
@@ -16,18 +16,18 @@ use Rattle.tpm_types.specs.Rc.{at, plain}
 use Rattle.tpm_commands.specs.CommandCode.{shape_of}
 use Rattle.tpm_commands.specs.Shape.{is_of_kind}
 
--- the fault of the command's n-th handle
+-- a fault in the command's n-th handle
 abbrev pub handle_fault : ℕ → ResponseCode → Rc
 handle_fault n fault = at (place.Handle n) (plain fault)
 
--- the command's n-th handle, at the front of a text, which its rule has to allow, and what is after
--- it
+-- the command's n-th handle at the front of a text, and the rest of the text. The handle must be
+-- one that its rule allows
 unfoldable pub allowed_handle_at : ℕ → HandleRule → List ℕ → Result (Handle × List ℕ) Rc
 allowed_handle_at n rule text = do
   number ← or_fault (number_at w32 text) (handle_fault n code.Insufficient)
   allowed ← refused_if (not (is_of_kind rule.kind (numbered number.0))) (handle_fault n code.Value)
   Ok (numbered number.0, number.1)
 
--- the handles of a command, one for each of its rules, and what is after them
+-- the handles of a command, one for each of its rules, and the rest of the text
 abbrev pub allowed_handles_at : CommandCode → List ℕ → Result (List Handle × List ℕ) Rc
 allowed_handles_at code text = each_at allowed_handle_at 1 (shape_of code).handles text

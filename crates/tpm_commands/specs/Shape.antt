@@ -1,6 +1,6 @@
--- Every fact of a command but its number and what it does. TPM 2.0 Library, Part 3, the tables of
--- each command's own section: its handles and who authorizes them, its parameters, and whether it
--- may have sessions.
+-- Every fact about a command except its number and its effect. TPM 2.0 Library, Part 3, the tables
+-- in each command's section: its handles and how they are authorized, its parameters, and whether
+-- it may have sessions.
 use Rattle.std.specs.Prelude.{◌==◌, ◌||◌, ◌&&◌, not, is_some, Bool, true, false, List, Some, None}
 use Rattle.tpm_types.specs.declared.handle.Handle.{Handle}
 use Rattle.tpm_commands.specs.declared.shape.HandleKind.{HandleKind}
@@ -12,26 +12,26 @@ use Rattle.tpm_types.specs.declared.role.Role.TheVariants as role
 use Rattle.tpm_commands.specs.declared.shape.Shape.{Shape}
 use Rattle.tpm_types.specs.Handle.{hierarchy_auth_of, hierarchy_of, is_nv_index, is_persistent, is_policy_session, is_transient, lockout_handle, null_handle, owner_handle, pcr_of, platform_handle}
 
--- whether a handle's type is that of something with an authorization value, whether it names
--- something or not: a hierarchy or lockout, a PCR, an NV index (01), a transient object (80) or a
--- persistent one (81); or TPM_RH_NULL (TPMI_DH_ENTITY)
+-- whether a handle is TPM_RH_NULL or has the type of an entity with an authorization value
+-- (TPMI_DH_ENTITY): a hierarchy or lockout, a PCR, an NV index (01), a transient object (80) or a
+-- persistent one (81). The entity need not exist
 abbrev pub is_entity : Handle → Bool
 is_entity handle =
     handle.number == null_handle.number || is_some (hierarchy_auth_of handle) || is_some (pcr_of handle)
     || is_nv_index handle || is_transient handle || is_persistent handle
 
--- whether a handle is that of the owner or of the platform (TPMI_RH_PROVISION)
+-- whether a handle names the owner or the platform (TPMI_RH_PROVISION)
 abbrev pub is_provision : Handle → Bool
 is_provision handle =
     handle.number == owner_handle.number || handle.number == platform_handle.number
 
--- whether a handle is of a kind, by Part 2, section 9: a PCR (TPMI_DH_PCR), or a PCR or
--- TPM_RH_NULL; TPM_RH_NULL alone, where the standard has a key too; a hierarchy or lockout
+-- whether a handle is of a kind (Part 2, section 9). The kinds, in order: a PCR (TPMI_DH_PCR); a
+-- PCR or TPM_RH_NULL; only TPM_RH_NULL (the standard allows a key too); a hierarchy or lockout
 -- (TPMI_RH_HIERARCHY_AUTH); a hierarchy or TPM_RH_NULL (TPMI_RH_HIERARCHY+); an entity as above,
--- with TPM_RH_NULL or without; a transient object or a persistent one, there or not
--- (TPMI_DH_OBJECT); a policy session, which a trial session is too (03: TPMI_SH_POLICY); the owner
--- or the platform; lockout (TPMI_RH_LOCKOUT); lockout or the platform (TPMI_RH_CLEAR); the owner,
--- the platform or an NV index (TPMI_RH_NV_AUTH); an NV index, there or not (TPMI_RH_NV_INDEX)
+-- with or without TPM_RH_NULL; a transient or persistent object, which need not exist
+-- (TPMI_DH_OBJECT); a policy session or a trial session (03: TPMI_SH_POLICY); the owner or the
+-- platform; lockout (TPMI_RH_LOCKOUT); lockout or the platform (TPMI_RH_CLEAR); the owner, the
+-- platform or an NV index (TPMI_RH_NV_AUTH); an NV index, which need not exist (TPMI_RH_NV_INDEX)
 abbrev pub is_of_kind : HandleKind → Handle → Bool
 is_of_kind kind.Pcr handle = is_some (pcr_of handle)
 is_of_kind kind.PcrOrNull handle = is_some (pcr_of handle) || handle.number == null_handle.number
@@ -72,12 +72,12 @@ is_sized parameter.Operation = false
 is_sized parameter.PersistentHandle = false
 is_sized parameter.YesNo = false
 
--- the shape of a command, wherever its lists lie in memory: its handles and who authorizes each,
--- its parameters, whether the first parameter of its answer is a sized buffer, whether a handle
--- stands before the parameters of its answer, whether it may have no sessions, whether it may be
--- refused memory, whether it reads the NV index that authorizes it, where one does (any other
--- command writes that index, or administers it in the role ADMIN), and whether its success leaves
--- what a TPM2_Shutdown saved, which any other success cancels (Part 3, section 9.4)
+-- the shape of a command, regardless of where its lists are in memory. Its fields: the handles and
+-- how each is authorized; the parameters; whether the answer's first parameter is a sized buffer;
+-- whether a handle precedes the answer's parameters; whether sessions are forbidden; whether
+-- memory can run out; whether the command reads the NV index that authorizes it, if an index does
+-- (any other command writes that index, or administers it in the role ADMIN); and whether a
+-- success preserves what a TPM2_Shutdown saved (any other success cancels it: Part 3, section 9.4)
 pub record Facts : Type 0 where
   pub handles : List HandleRule
   pub parameters : List ParameterKind
@@ -100,19 +100,19 @@ facts_of s = record {
   keeps_shutdown = s.keeps_shutdown;
 }
 
--- the rule of a handle that is authorized in the role USER
+-- the rule for a handle that is authorized in the role USER
 abbrev pub user : HandleKind → HandleRule
 user kind = record { kind = kind; role = Some role.User }
 
--- the rule of a handle that is authorized in the role ADMIN
+-- the rule for a handle that is authorized in the role ADMIN
 abbrev pub admin : HandleKind → HandleRule
 admin kind = record { kind = kind; role = Some role.Admin }
 
--- the rule of a handle that needs no authorization
+-- the rule for a handle that needs no authorization
 abbrev pub unauthorized : HandleKind → HandleRule
 unauthorized kind = record { kind = kind; role = None }
 
--- a shape with these handles and parameters, of which none of the other facts holds
+-- a shape with these handles and parameters, in which all other facts are false
 abbrev pub shape_with : List HandleRule → List ParameterKind → Facts
 shape_with handles parameters = record {
   handles = handles;

@@ -1,5 +1,5 @@
-//! The commands that are served, each with its facts: its number (TPM_CC; TPM 2.0 Library, Part 2,
-//! section 6.5.2), its name, and its [`Shape`], which has every other fact.
+//! The served commands and the facts about each: its number (TPM_CC; TPM 2.0 Library, Part 2,
+//! section 6.5.2), its name, and its [`Shape`], which contains all other facts.
 
 ghost use Rattle.std.specs.Prelude.{◌≡◌, ◌≤◌, ◌==◌, IfSome, Some, length, true};
 
@@ -10,8 +10,8 @@ use crate::shape::ParameterKind::{
 use crate::shape::{HandleKind, HandleRule, ParameterKind, Shape};
 use tpm_types::{DATA_LIMIT, NvUse, Role};
 
-/// The commands that are served, ascending by number. The facts of each are in one line of
-/// `facts!`.
+/// The served commands, in ascending order of number. One line of `facts!` contains all facts
+/// about a command.
 #[derive(Clone, Copy, PartialEq, Eq)]
 pub enum CommandCode {
     EvictControl,
@@ -143,7 +143,7 @@ const POLICY_SESSION: HandleRule = HandleRule {
     role: None,
 };
 
-/// The most bytes of the data that a command takes.
+/// The largest size in bytes of the data that a command takes.
 const DATA_SIZE: u16 = DATA_LIMIT as u16;
 
 /// The parameters of TPM2_CreatePrimary and TPM2_Create: inSensitive, inPublic, outsideInfo,
@@ -163,7 +163,7 @@ const COMPARED: &[ParameterKind] = &[Buffer(32), U16, Operation];
 /// authHash.
 const START: &[ParameterKind] = &[Buffer(32), Buffer(32), SessionType, Symmetric, Hash];
 
-/// Whether a fact is one of those that are named.
+/// Whether a fact is among the named ones.
 macro_rules! holds {
     (sized_answer: sized_answer $($rest:ident)*) => { true };
     (answers_handle: answers_handle $($rest:ident)*) => { true };
@@ -175,7 +175,7 @@ macro_rules! holds {
     ($fact:ident:) => { false };
 }
 
-/// A shape with these handles and parameters, of which only the named facts hold.
+/// A shape with these handles and parameters. Of the other facts, only those named are true.
 macro_rules! shape {
     ([$($handle:expr),*], $parameters:expr $(, $fact:ident)*) => {
         Shape {
@@ -191,8 +191,8 @@ macro_rules! shape {
     };
 }
 
-/// One column of the lines of `facts!`: all commands, the number, the name or the shape of a
-/// command, or the command of a number.
+/// One column of the lines of `facts!`: all commands; the number, name or shape of a command; or
+/// the command with a given number.
 macro_rules! column {
     (all; $($number:literal $variant:ident $name:literal $shape:tt)*) => {
         [$(CommandCode::$variant),*]
@@ -211,9 +211,9 @@ macro_rules! column {
     };
 }
 
-/// The facts of all commands, in a line for each, ascending by number: the command's number, its
-/// variant, its name, which is what stands after "TPM2_" at the head of its section of TPM 2.0
-/// Library, Part 3, and its shape.
+/// The facts about all commands, one line for each, in ascending order of number: the command's
+/// number, its variant, its name and its shape. The name is the title of the command's section of
+/// TPM 2.0 Library, Part 3, without "TPM2_".
 macro_rules! facts {
     ($($asked:tt)*) => {
         column! {
@@ -280,27 +280,27 @@ impl CommandCode {
     ghost use Rattle.tpm_commands.specs.CommandCode.{authorized_handles, code_called, code_name, code_named, code_number, handle_count, has_sized_parameter, is_served, nv_use_at, role_at, shape_of};
     ghost use Rattle.tpm_commands.specs.Shape.{facts_of};
 
-    /// All commands that are served, ascending by number.
+    /// All served commands, in ascending order of number.
     pub const ALL: &'static [CommandCode] = &facts!(all);
 
-    /// The number of the command on the wire.
+    /// The wire number of the command.
     #[tactic(auto, unfolding(crate::specs::CommandCode::code_named))]
     pub fn number(self) -> u32
         ensures value { result ≡ code_number self }
-        // The number names this command.
+        // Looking up the number finds this command.
         ensures again { code_named result ≡ Some self }
     {
         facts!(number of self)
     }
 
-    /// Whether a command of this number is served, and so whether a policy can name it.
+    /// Whether a command with this number is served, and therefore whether a policy can name it.
     pub fn is_served(number: u32) -> bool
         ensures { result ≡ is_served number }
     {
         CommandCode::named(number).is_some()
     }
 
-    /// The command of this number, if it is served.
+    /// The command with this number, or None if it is not served.
     #[tactic(auto, using(crate::proofs::Codes::codes), unfolding(crate::specs::CommandCode::code_named))]
     pub fn named(number: u32) -> Option<CommandCode>
         ensures value { result ≡ code_named number }
@@ -310,18 +310,18 @@ impl CommandCode {
         facts!(code of number)
     }
 
-    /// The name of the command. No two commands share one.
+    /// The name of the command, which no other command has.
     #[tactic(auto, unfolding(crate::specs::CommandCode::code_called))]
     pub fn name(self) -> &'static str
         ensures value { result.now ≡ code_name self }
-        // No other command has this name.
+        // Looking up the name finds this command.
         ensures again { code_called (code_name self) ≡ Some self }
         ensures short { length result.now ≤ 26 }
     {
         facts!(name of self)
     }
 
-    /// The command of this name, if it is served.
+    /// The command with this name, or None if it is not served.
     #[tactic(auto, unfolding(crate::specs::CommandCode::code_called))]
     pub fn called(name: &[u8]) -> Option<CommandCode>
         ensures { result ≡ code_called name.now }
@@ -332,7 +332,7 @@ impl CommandCode {
             .find(|code| name == code.name().as_bytes())
     }
 
-    /// The shape of the command: every fact but its number and its name.
+    /// The shape of the command: every fact except its number and its name.
     #[tactic(auto, unfolding(crate::specs::CommandCode::shape_of))]
     pub fn shape(self) -> Shape
         ensures value { facts_of result ≡ shape_of self }
@@ -341,7 +341,7 @@ impl CommandCode {
         facts!(shape of self)
     }
 
-    /// How many handles stand after the command's header.
+    /// The number of handles after the command's header.
     pub fn handle_count(self) -> usize
         ensures value { result ≡ handle_count self }
         ensures few { result ≤ 3 }
@@ -349,7 +349,7 @@ impl CommandCode {
         self.shape().handles.len()
     }
 
-    /// How many of the command's handles need authorization.
+    /// The number of the command's handles that need authorization.
     pub fn authorized_handles(self) -> usize
         ensures value { result ≡ authorized_handles self }
         ensures within { result ≤ handle_count self }
@@ -361,7 +361,7 @@ impl CommandCode {
             .count()
     }
 
-    /// The role in which the handle in this place, from 0, is authorized.
+    /// The role for authorizing the handle at this position, counted from 0.
     pub fn role_at(self, place: usize) -> Role
         ensures { result ≡ role_at self place }
     {
@@ -371,7 +371,7 @@ impl CommandCode {
         }
     }
 
-    /// The use that the command makes of an NV index that authorizes it, in the place of a handle,
+    /// How the command uses an NV index that authorizes it as the handle at this position, counted
     /// from 0.
     pub fn nv_use_at(self, place: usize) -> NvUse
         ensures { result ≡ nv_use_at self place }

@@ -1,13 +1,13 @@
 #![tactic(auto)]
 
-//! The commands that are served (TPM 2.0 Library, Part 3), and the reader of their handles.
+//! The served commands (TPM 2.0 Library, Part 3), and the reader of their handles.
 //!
-//! Every fact of a command but its number, its name and what it does is in its [`shape::Shape`];
-//! [`command_code`] has all facts of a command in one line.
+//! The [`shape::Shape`] of a command contains every fact about it except its number, its name and
+//! its effect; [`command_code`] states all facts about a command in one line.
 //!
-//! The crate uses `tpm_types` for handles and response codes. A read gives the value or the first
-//! fault, as the response code that the standard has for it, and a refused read changes nothing. No
-//! call here takes memory.
+//! The crate uses `tpm_types` for handles and response codes. A read returns the value, or the
+//! first fault as the standard's response code for it; a read that fails changes nothing. No call
+//! here allocates memory.
 
 pub mod command_code;
 pub mod handle_area;

@@ -1,35 +1,35 @@
 //! The shape of a command: its handles and their roles, its parameters, its answer. A [`Shape`]
-//! holds every fact of a command but its number and what it does.
+//! contains every fact about a command except its number and its effect.
 
 ghost use Rattle.std.specs.Prelude.{◌≡◌};
 ghost use Rattle.tpm_commands.specs.Shape.{is_entity, is_provision};
 
 use tpm_types::{Handle, Role};
 
-/// The kind of a handle, by the types of TPM 2.0 Library, Part 2, section 9.
+/// The kind of a handle, after the types of TPM 2.0 Library, Part 2, section 9.
 #[derive(Clone, Copy, PartialEq, Eq)]
 pub enum HandleKind {
     /// TPMI_DH_PCR: a PCR.
     Pcr,
     /// TPMI_DH_PCR+: a PCR, or TPM_RH_NULL.
     PcrOrNull,
-    /// TPM_RH_NULL alone.
+    /// Only TPM_RH_NULL.
     Null,
     /// TPMI_RH_HIERARCHY_AUTH: a hierarchy, or TPM_RH_LOCKOUT.
     HierarchyAuth,
     /// TPMI_RH_HIERARCHY+: a hierarchy, or TPM_RH_NULL.
     Hierarchy,
-    /// TPMI_DH_ENTITY+: whatever has an authorization value, or TPM_RH_NULL.
+    /// TPMI_DH_ENTITY+: any entity that has an authorization value, or TPM_RH_NULL.
     Entity,
-    /// TPMI_DH_ENTITY: whatever has an authorization value.
+    /// TPMI_DH_ENTITY: any entity that has an authorization value.
     EntityNotNull,
     /// TPMI_DH_OBJECT: a transient or a persistent object.
     Object,
-    /// TPMI_SH_POLICY: a policy session, a trial one too.
+    /// TPMI_SH_POLICY: a policy session, or a trial session.
     PolicySession,
     /// TPMI_RH_PROVISION: the owner or the platform.
     Provision,
-    /// TPMI_RH_LOCKOUT: TPM_RH_LOCKOUT alone.
+    /// TPMI_RH_LOCKOUT: only TPM_RH_LOCKOUT.
     Lockout,
     /// TPMI_RH_CLEAR: TPM_RH_LOCKOUT, or the platform.
     Clear,
@@ -39,8 +39,7 @@ pub enum HandleKind {
     NvIndex,
 }
 
-/// Whether the handle's type is that of an entity that has an authorization value, or the handle is
-/// TPM_RH_NULL.
+/// Whether the handle is TPM_RH_NULL or has the type of an entity with an authorization value.
 fn is_entity(handle: Handle) -> bool
     ensures { result ≡ is_entity handle }
 {
@@ -49,7 +48,7 @@ fn is_entity(handle: Handle) -> bool
     is_permanent || handle.pcr().is_some() || is_kept
 }
 
-/// Whether the handle is that of the owner or of the platform.
+/// Whether the handle names the owner or the platform.
 fn is_provision(handle: Handle) -> bool
     ensures { result ≡ is_provision handle }
 {
@@ -82,8 +81,8 @@ impl HandleKind {
     }
 }
 
-/// The kind of a handle of a command, and the role in which it is authorized; None where it needs
-/// no authorization.
+/// The kind of a command's handle, and the role for authorizing it; None if it needs no
+/// authorization.
 #[derive(Clone, Copy, PartialEq, Eq)]
 pub struct HandleRule {
     pub kind: HandleKind,
@@ -97,13 +96,13 @@ pub enum ParameterKind {
     StartupType,
     /// A session type: TPM_SE.
     SessionType,
-    /// A number of one byte: UINT8.
+    /// A one-byte number: UINT8.
     U8,
-    /// A number of two bytes: UINT16.
+    /// A two-byte number: UINT16.
     U16,
-    /// A number of four bytes: UINT32.
+    /// A four-byte number: UINT32.
     U32,
-    /// A number of eight bytes: UINT64.
+    /// An eight-byte number: UINT64.
     U64,
     /// A hash algorithm: TPMI_ALG_HASH.
     Hash,
@@ -113,13 +112,13 @@ pub enum ParameterKind {
     Symmetric,
     /// A selection of PCRs: TPML_PCR_SELECTION.
     Selection,
-    /// A list of digests with their algorithms: TPML_DIGEST_VALUES.
+    /// A list of digests tagged with their algorithms: TPML_DIGEST_VALUES.
     Digests,
     /// A list of digests: TPML_DIGEST.
     DigestList,
     /// A sized buffer of at most this many bytes: a TPM2B.
     Buffer(u16),
-    /// What a caller gives for a new object: TPM2B_SENSITIVE_CREATE.
+    /// What a caller provides for a new object: TPM2B_SENSITIVE_CREATE.
     SensitiveCreate,
     /// The public area of an object: TPM2B_PUBLIC.
     Public,
@@ -164,23 +163,23 @@ impl ParameterKind {
     }
 }
 
-/// Every fact of a command but its number and what it does.
+/// Every fact about a command except its number and its effect.
 #[derive(Clone, Copy)]
 pub struct Shape {
     pub handles: &'static [HandleRule],
     pub parameters: &'static [ParameterKind],
     /// Whether the first parameter of the answer is a sized buffer.
     pub sized_answer: bool,
-    /// Whether a handle stands before the answer's parameters.
+    /// Whether a handle precedes the answer's parameters.
     pub answers_handle: bool,
-    /// Whether the command may have no authorization area.
+    /// Whether the command does not allow an authorization area.
     pub forbids_sessions: bool,
-    /// Whether the command grows something, and so may be refused memory.
+    /// Whether the command grows: it may allocate memory, and so can run out of it.
     pub grows: bool,
-    /// Whether the command reads the NV index that authorizes it, where one does; any other command
-    /// writes the index, or is authorized in the role ADMIN.
+    /// Whether the command reads the NV index that authorizes it, if an index does. Any other
+    /// command writes that index or is authorized in the role ADMIN.
     pub reads_nv: bool,
-    /// Whether a success of the command leaves what a TPM2_Shutdown saved; that of any other
-    /// command cancels it.
+    /// Whether a success of the command preserves what a TPM2_Shutdown saved. A success of any
+    /// other command cancels it.
     pub keeps_shutdown: bool,
 }

@@ -1,4 +1,4 @@
--- The device's response stands, but for a few named cases.
+-- The client gets the device's response, except in a few named cases.
 use Rattle.std.proofs.Common.{◌≡◌, ℕ, ◌/◌, ◌^◌, ◌&&◌, ◌||◌, not, Bool, true, false, if◌then◌else◌, List, [], Option, None, Result, Ok, Err, refl, ap, sym, ◌∙◌}
 use Rattle.std.proofs.lemmas.Bool.{false≢true}
 use Rattle.std.specs.Prelude.{◌==◌}
@@ -59,8 +59,7 @@ no_list r c asked none =
 told_none : (r : Record) (c : Completion) (asked : Asked) (was_told : Bool) (response : List ℕ) → is_refusal 0x1c4 response ≡ false → was_told && has_list asked ≡ false → capability_told r c asked was_told response ≡ None
 unfolding capability_told
 told_none r c asked true response refused none = no_list r c asked none
-told_none r c asked false response refused none =
-    if_false ((asked.capability == 0) && is_refusal 0x1c4 response) _ None (and_right (asked.capability == 0) (is_refusal 0x1c4 response) refused)
+told_none r c asked false response refused none = if_false (is_refusal 0x1c4 response) _ None refused
 
 asked_stands : (r : Record) (c : Completion) (response : List ℕ) (was_told : Bool) (asked : Result Asked Short) → is_refusal 0x1c4 response ≡ false → was_told && asks_parameters asked ≡ false → capability_asked r c response was_told asked ≡ stands c response
 asked_stands r c response was_told (Ok asked) refused none = ap (listed c response) (told_none r c asked was_told response refused none)

@@ -1,4 +1,4 @@
--- Where no memory is refused, the effect of an event is what the function gives.
+-- If no memory is refused, the effect of an event is that of the function.
 use Rattle.std.proofs.Common.{◌≡◌, ℕ, Bool, true, false, List, [], Option, Some, None, refl, ap, sym, ◌∙◌}
 use Rattle.std.proofs.lemmas.Bool.{false≢true}
 use Rattle.tpm_machine.specs.Drawn.{drawn_by}
@@ -41,8 +41,7 @@ pub completes_exactly : (c : Completion) (old : Record) (event : PlainEvent) (se
 completes_exactly c old (Given buffer locality elapsed random) seen x = completes_by_exactly c old buffer locality elapsed random (flush_asked c buffer) seen x
 completes_exactly c old Cycled seen x = passes_exactly c old Cycled seen x
 
--- the effect is that of the function for any value of `can` that is false, with the layer or
--- without it
+-- with the layer or without it, the effect is that of the function if `can` is false
 pub exactly : (can completes : Bool) (c : Completion) (old : Record) (event : PlainEvent) (seen : Seen) → CompletesIf can completes c old event seen → can ≡ false → seen ≡ completed completes c old event
 exactly false false c old event seen is never = passes_exactly c old event seen is
 exactly false true c old event seen is never = completes_exactly c old event seen is

@@ -1,4 +1,5 @@
 pub mod Commands
+pub mod Counters
 pub mod Telling
 pub mod Waiting
 pub mod Exactly

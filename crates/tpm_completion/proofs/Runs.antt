@@ -1,4 +1,4 @@
--- The executions on the device for one event lead from its record to the one after it.
+-- What the device executes for one event leads from its record to the one after the event.
 use Rattle.std.proofs.Common.{◌≡◌, ℕ, Bool, true, false, List, [], Option, Some, None, refl, ap}
 use Rattle.tpm_machine.specs.Executions.{Leads}
 use Rattle.tpm_machine.proofs.Following.{stretch_follows}

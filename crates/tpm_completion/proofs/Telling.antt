@@ -1,5 +1,4 @@
--- The text of a list of elements, from the text so far and the elements that are left to be
--- written.
+-- The text of a list of elements is the text so far and that of the elements that are left.
 use Rattle.std.proofs.Common.{arith, ◌≡◌, ℕ, zero, suc, ◌-◌, ◌≢◌, true, false, List, ◌∷◌, ◌++◌, filter, take, refl, ap, sym, ◌∙◌}
 use Rattle.std.proofs.lemmas.List.{append_assoc}
 use Rattle.std.proofs.lemmas.List.Concat.{flat_map-cons}
@@ -8,7 +7,7 @@ use Rattle.tpm_completion.specs.Listing.{text_of, told_text}
 use Rattle.tpm_actions_capability.specs.declared.element.Element.{Element}
 use Rattle.tpm_completion.specs.declared.listing.Form.{Form}
 
--- an element that is written leaves one less to be written
+-- after an element is written, one less is left
 pub told_one : (form : Form) (from left : ℕ) (text new : List ℕ) (e : Element) (es : List Element) → left ≢ 0 → is_from from e ≡ true → new ≡ text ++ told_text form e → new ++ text_of form from (left - 1) es ≡ text ++ text_of form from left (e ∷ es)
 told_one form from zero text new e es some is told = absurd (some refl)
 told_one form from (suc left) text new e es some is told =
@@ -19,7 +18,7 @@ told_one form from (suc left) text new e es some is told =
 pub passed_one : (form : Form) (from left : ℕ) (text : List ℕ) (e : Element) (es : List Element) → is_from from e ≡ false → text ++ text_of form from left es ≡ text ++ text_of form from left (e ∷ es)
 passed_one form from left text e es is = rw is refl
 
--- an element where none is left to be written is passed over
+-- an element is passed over if no more are asked for
 pub none_left : (form : Form) (from left : ℕ) (text : List ℕ) (e : Element) (es : List Element) → left ≡ 0 → text ++ text_of form from left es ≡ text ++ text_of form from left (e ∷ es)
 none_left form from left text e es none = rw none refl
 

@@ -1,4 +1,4 @@
--- The object that waits longest, of the places so far and the next.
+-- The object that waits longest, among the places so far and the next.
 use Rattle.tpm_bytes.specs.Numbers.{numbers_below}
 use Rattle.std.proofs.Common.{arith, ◌≡◌, ℕ, suc, ◌+◌, [], ◌∷◌, ap, sym, ◌∙◌}
 use Rattle.std.proofs.lemmas.Grind.{fold-append}

@@ -14,7 +14,7 @@ pub record Command : Type 0 where
 abbrev pub command_of : PlainCommand → Command
 command_of c = record { code = c.code; parameters = c.parameters.now }
 
--- the command of a buffer that has the tag TPM_ST_NO_SESSIONS and as many bytes as its header says
+-- the command of a buffer with the tag TPM_ST_NO_SESSIONS and the size that its header says
 unfoldable pub plain_command : List ℕ → Result Command Short
 plain_command buffer = do
   tag ← number_at w16 buffer
@@ -24,7 +24,7 @@ plain_command buffer = do
   sized ← refused_if (not (size.0 == length buffer)) too_short
   Ok (record { code = code.0; parameters = code.1 })
 
--- the tag of a buffer, 0 where it has none
+-- the tag of a buffer, or 0 if it is too short for one
 abbrev pub tag_in : Result (ℕ × List ℕ) Short → ℕ
 tag_in (Ok tag) = tag.0
 tag_in (Err e) = 0

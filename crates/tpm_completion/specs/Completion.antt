@@ -13,7 +13,7 @@ use Rattle.tpm_completion.specs.declared.completion.Held.{Held}
 abbrev pub no_context : Held
 no_context = record { context = 0; waits = 0 }
 
--- the layer of a start, at which no context was given yet
+-- the layer of a start, before any context
 abbrev pub new_completion : (start : ℕ) → Completion
 new_completion start = record {
   start = start;
@@ -22,16 +22,16 @@ new_completion start = record {
   sessions = replicate session_limit 0;
 }
 
--- what is remembered of the object in a place, and the number of the context with which the session
--- in a place was saved, 0 where it is loaded
+-- what is remembered of the object in a place; and the number of the context with which the
+-- session in a place was saved, or 0 if it is loaded
 abbrev pub object_held : Completion → ℕ → Held
 object_held c place = get_or c.objects place no_context
 
 abbrev pub session_context : Completion → ℕ → ℕ
 session_context c place = get_or c.sessions place 0
 
--- what is remembered of the object in a place, and of the session in a place, where the device
--- still has it
+-- what is remembered of the object in a place, and of the session in a place, if the device still
+-- has it
 unfoldable pub object_kept : Record → Completion → ℕ → Held
 object_kept r c place =
     if is_some (object_at r.objects (object_handle place)) then object_held c place else no_context

@@ -11,6 +11,10 @@ use Rattle.tpm_types.specs.declared.handle.Handle.{Handle}
 use Rattle.tpm_types.specs.Handle.{is_transient, null_handle, numbered}
 use Rattle.tpm_completion.specs.declared.context.Token.{Token}
 
+-- the size of a context
+abbrev pub context_size : ℕ
+context_size = 38
+
 -- the bytes "tpmsim 1", by which a token is known
 abbrev pub mark : List ℕ
 mark = 0x74 ∷ 0x70 ∷ 0x6d ∷ 0x73 ∷ 0x69 ∷ 0x6d ∷ 0x20 ∷ 0x31 ∷ []
@@ -29,8 +33,8 @@ context_text start token =
     to_be_bytes w64 token.context ++ to_be_bytes w32 (saved_handle token.handle)
     ++ to_be_bytes w32 null_handle.number ++ sized_text (token_text start token.handle)
 
--- the token of a context's bytes: its number is in front, its handle after another 26 bytes, and
--- the bytes are those of the token's context
+-- the token of a context's bytes: its number comes first, and its handle after 26 more bytes. The
+-- bytes must be just those of the token's context
 unfoldable pub token_at : (start : ℕ) → List ℕ → Result Token Short
 token_at start text = do
   context ← number_at w64 text

@@ -1,4 +1,4 @@
--- The device's response stands, but for a few named cases.
+-- The client gets the device's response, except in a few named cases.
 use Rattle.std.specs.Prelude.{◌≡◌, ℕ, ◌/◌, ◌^◌, ◌==◌, ◌&&◌, ◌||◌, Bool, false, List, [], Result, Ok, Err}
 use Rattle.std.specs.Str.{bytes_eq}
 use Rattle.tpm_bytes.specs.declared.cursor.Short.{Short}
@@ -18,8 +18,8 @@ is_gap response =
     is_refusal 0x143 response
     || (is_refusal 0x1c4 response || bytes_eq response (framed 0xc4 0x1e []))
 
--- whether the layer has a list of what TPM2_GetCapability asks for: commands, properties, transient
--- objects, and loaded or saved sessions
+-- whether the layer has a list of what TPM2_GetCapability asks for: commands, properties,
+-- transient objects, and loaded or saved sessions
 abbrev pub has_list : Asked → Bool
 has_list asked =
     (asked.capability == 2)
@@ -41,8 +41,8 @@ asks_command (Err e) = false
 abbrev pub asks_list : (buffer : List ℕ) → Bool
 asks_list buffer = asks_command (plain_command buffer)
 
--- The device's response stands, byte for byte, and the layer stays as it was, unless the response
--- is one of those refusals, or a success of TPM2_GetCapability for a list that the layer has.
+-- The client gets the device's response, byte for byte, and the layer stays as it was, unless the
+-- response is one of those refusals, or a success of TPM2_GetCapability for a list of the layer.
 abbrev pub DeviceFirst : Type 0
 DeviceFirst =
     (r : Record) (c : Completion) (buffer response : List ℕ) (was_told : Bool)

@@ -1,5 +1,5 @@
--- How the completing layer handles one event: which events the device executes, what is answered,
--- and what the layer remembers then.
+-- How the completing layer handles one event: which events the device executes, what the client
+-- gets, and what the layer remembers then.
 use Rattle.std.specs.Prelude.{◌≡◌, ℕ, ◌==◌, Bool, true, false, List, [], Option, Some, None, replicate}
 use Rattle.tpm_machine.specs.Follows.{After, Follows}
 use Rattle.tpm_machine.specs.Drawn.{drawn_by}
@@ -16,8 +16,8 @@ use Rattle.tpm_completion.specs.Room.{flush_asked, flush_text, given_up, noted}
 use Rattle.tpm_completion.specs.Saving.{Reply}
 use Rattle.tpm_completion.specs.declared.completion.Completion.{Completion}
 
--- the effect of an event: the response, the device's own row, and its record; what the layer
--- remembers then; and how many random bytes the device's latest event drew
+-- the effect of an event: the response, the device's own row and its record; what the layer
+-- remembers then; and how many random bytes the device's last event drew
 pub record Seen : Type 0 where
   pub step : Stepped
   pub layer : Completion
@@ -32,7 +32,7 @@ seen_of record_of machine layer outcome = record {
   drawn = latest_drawn machine;
 }
 
--- the effect where the layer answers in place of the device
+-- the effect with the layer's answer instead of the device's
 abbrev pub answered : Seen → Reply → Seen
 answered seen reply = record {
   step = record seen.step { response = reply.response };
@@ -40,8 +40,8 @@ answered seen reply = record {
   drawn = seen.drawn;
 }
 
--- An event passes to the device alone, which executes it; where the device followed a history, it
--- follows the history with this event. The layer only forgets the contexts of what is gone.
+-- The device alone executes an event. If it followed a history, it follows the history with this
+-- event. The layer only forgets the contexts of what is gone.
 pub record Passes (can : Bool) (c : Completion) (old : Record) (event : PlainEvent) (seen : Seen)
     : Type 0
   where
@@ -50,8 +50,8 @@ pub record Passes (can : Bool) (c : Completion) (old : Record) (event : PlainEve
     pub layer : seen.layer ≡ forgotten seen.step.after c
     pub drawn : seen.drawn ≡ drawn_by old event seen.step.row.check
 
--- The flush of an object that has a context: an empty command passes to the device, for which time
--- passes and nothing else happens, and the layer answers.
+-- The flush of an object that has a context: the device executes an empty command, which only lets
+-- time pass, and the layer answers.
 abbrev pub Notes : Bool → Completion → Record → (locality elapsed : ℕ) → List ℕ → (place : ℕ) → Seen
     → Type 0
 Notes can c old locality elapsed random place seen =
@@ -62,8 +62,8 @@ Notes can c old locality elapsed random place seen =
 unfoldable pub no_random : List ℕ
 no_random = replicate 256 0
 
--- The object in a place is given up: its flush passes to the device, and then the command once
--- more. No time passes for either.
+-- The object in a place is given up: the device executes its flush, and then the command again. No
+-- time passes for either.
 abbrev pub GivesUp : Bool → Seen → (buffer : List ℕ) → (locality : ℕ) → List ℕ → (place : ℕ) → Seen
     → Type 0
 GivesUp can first buffer locality random place seen =
@@ -77,7 +77,7 @@ reply_behind first buffer =
     reply first.step.after first.layer buffer first.step.response (first.step.row.check == 0)
 
 -- After the device's first execution of a command, an object is given up for it, or the layer
--- answers, or the device's response stands.
+-- answers, or the client gets the device's response.
 abbrev pub Behind : Bool → Seen → (buffer : List ℕ) → (locality : ℕ) → List ℕ → Option ℕ → Seen
     → Type 0
 Behind can first buffer locality random (Some place) seen =
@@ -85,19 +85,19 @@ Behind can first buffer locality random (Some place) seen =
 Behind can first buffer locality random None seen =
     seen ≡ answered first (reply_behind first buffer)
 
--- the place of the object that is given up after this effect on the device, if one is
+-- the place of the object that is given up after this effect on the device, if any
 abbrev pub given_up_behind : Seen → Option ℕ
 given_up_behind first = given_up first.layer first.step.row first.step.response
 
--- A command passes to the device first.
+-- The device executes a command first.
 abbrev pub AsksFirst : Bool → Completion → Record → (buffer : List ℕ) → (locality elapsed : ℕ)
     → List ℕ → Seen → Type 0
 AsksFirst can c old buffer locality elapsed random seen =
     (first : Seen) × Passes can c old (Given buffer locality elapsed random) first
     × Behind can first buffer locality random (given_up_behind first) seen
 
--- A command with the layer: the flush of an object that has a context is noted; every other command
--- passes to the device first.
+-- A command with the layer: the layer notes the flush of an object that has a context; the device
+-- executes every other command first.
 abbrev pub CompletesBy : Bool → Completion → Record → (buffer : List ℕ) → (locality elapsed : ℕ)
     → List ℕ → Option ℕ → Seen → Type 0
 CompletesBy can c old buffer locality elapsed random (Some place) seen =
@@ -105,7 +105,7 @@ CompletesBy can c old buffer locality elapsed random (Some place) seen =
 CompletesBy can c old buffer locality elapsed random None seen =
     AsksFirst can c old buffer locality elapsed random seen
 
--- An event had this effect with the layer: a command is completed, and a power cycle passes.
+-- An event had this effect with the layer: the device alone executes a power cycle.
 abbrev pub Completes : Bool → Completion → Record → PlainEvent → Seen → Type 0
 Completes can c old (Given buffer locality elapsed random) seen =
     CompletesBy can c old buffer locality elapsed random (flush_asked c buffer) seen

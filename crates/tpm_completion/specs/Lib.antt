@@ -6,11 +6,16 @@ pub mod Completion
 pub mod Context
 pub mod DeviceFirst
 pub mod Execution
+pub mod Handles
+pub mod Hashing
 pub mod Listing
+pub mod PcrProperties
+pub mod Properties
 pub mod Reply
 pub mod Room
 pub mod Run
 pub mod Saving
+pub mod Testing
 pub mod Told
 pub use Rattle.tpm_machine.specs.Drawn
 pub use Rattle.tpm_machine.specs.State

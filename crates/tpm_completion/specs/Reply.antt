@@ -1,6 +1,7 @@
 -- The completing layer's answers after the device's response. TPM 2.0 Library, Part 3, sections
--- 16.2 (TPM2_StirRandom), 28.2 (TPM2_ContextSave), 28.3 (TPM2_ContextLoad) and 30.2
--- (TPM2_GetCapability).
+-- 10.3 (TPM2_IncrementalSelfTest), 10.4 (TPM2_GetTestResult), 15.4 (TPM2_Hash), 16.2
+-- (TPM2_StirRandom), 28.2 (TPM2_ContextSave), 28.3 (TPM2_ContextLoad), 30.2 (TPM2_GetCapability)
+-- and 30.3 (TPM2_TestParms).
 use Rattle.std.specs.Prelude.{ℕ, ◌==◌, ◌&&◌, not, Bool, false, List, [], length, if◌then◌else◌, Option, Some, None, Result, Ok, Err}
 use Rattle.std.specs.Int.{w32}
 use Rattle.std.specs.Str.{bytes_eq}
@@ -8,21 +9,24 @@ use Rattle.tpm_bytes.specs.Reading.{number_at, sized_at}
 use Rattle.tpm_bytes.specs.declared.cursor.Short.{Short}
 use Rattle.tpm_bytes.specs.declared.cursor.SizedFault.{SizedFault}
 use Rattle.tpm_types.specs.Handle.{numbered}
+use Rattle.tpm_types.specs.Rc.{rc_number}
+use Rattle.tpm_types.specs.declared.refused.Refused.{Refused}
 use Rattle.tpm_record.specs.Record.{Record}
 use Rattle.tpm_step.specs.Answer.{framed}
 use Rattle.tpm_completion.specs.Answer.{is_refusal, refusal, success}
 use Rattle.tpm_completion.specs.Capability.{asked_at, capability_told}
 use Rattle.tpm_completion.specs.Command.{Command, plain_command, tag_of}
-use Rattle.tpm_completion.specs.Saving.{Reply, loaded, saved}
+use Rattle.tpm_completion.specs.Hashing.{hash_row}
+use Rattle.tpm_completion.specs.Saving.{Reply, loaded, refused, saved}
+use Rattle.tpm_completion.specs.Testing.{incremental_row, test_parms_row, test_result_row}
 use Rattle.tpm_completion.specs.declared.capability.Asked.{Asked}
 use Rattle.tpm_completion.specs.declared.completion.Completion.{Completion}
 
--- the reply where the device's response stands
+-- the reply with the device's own response
 abbrev pub stands : Completion → List ℕ → Reply
 stands c response = record { response = response; after = c }
 
--- whether these are the parameters of TPM2_StirRandom: at most 128 bytes, for which the device has
--- no use
+-- whether these are the parameters of TPM2_StirRandom: at most 128 bytes, which are not used
 abbrev pub is_stirred : Result (List ℕ × List ℕ) SizedFault → Bool
 is_stirred (Ok bytes) = length bytes.1 == 0
 is_stirred (Err e) = false
@@ -39,6 +43,21 @@ save_asked r c response (Ok handle) =
     if length handle.1 == 0 then saved r c (numbered handle.0) else stands c response
 save_asked r c response (Err e) = stands c response
 
+-- the reply with the success or the refusal of a row
+abbrev pub replied : Completion → Result (List ℕ) Refused → Reply
+replied c (Ok body) = record { response = success body; after = c }
+replied c (Err e) = refused c (rc_number e.rc)
+
+-- the answer to TPM2_IncrementalSelfTest, TPM2_GetTestResult, TPM2_Hash or TPM2_TestParms
+abbrev pub row_served : Record → Completion → Command → (response : List ℕ) → Reply
+row_served r c command response =
+    if command.code == 0x142 then replied c (incremental_row command.parameters)
+    else (if command.code == 0x17c then replied c (test_result_row command.parameters)
+    else (if command.code == 0x17d then
+    replied c (hash_row r.fixed.hierarchies command.parameters)
+    else (if command.code == 0x18a then replied c (test_parms_row command.parameters)
+    else stands c response)))
+
 -- the answer to a command that the device does not serve
 abbrev pub served : Record → Completion → Command → (response : List ℕ) → Reply
 served r c command response =
@@ -46,7 +65,7 @@ served r c command response =
     else (if command.code == 0x161 then loaded r c command.parameters
     else (if command.code == 0x162 then
     save_asked r c response (number_at w32 command.parameters)
-    else stands c response))
+    else row_served r c command response))
 
 -- the answer to TPM2_GetCapability: the layer's list, or the device's response
 abbrev pub listed : Completion → (response : List ℕ) → Option (List ℕ) → Reply
@@ -59,8 +78,8 @@ capability_asked r c response was_told (Ok asked) =
     listed c response (capability_told r c asked was_told response)
 capability_asked r c response was_told (Err e) = stands c response
 
--- the answer to a command without sessions: before TPM2_Startup always the device's; afterwards the
--- layer's own commands too, where the device refused them with COMMAND_CODE (143)
+-- the answer to a command without sessions: before TPM2_Startup always the device's; afterwards
+-- also that of the layer's own commands, which the device refuses with COMMAND_CODE (143)
 unfoldable pub command_reply : Record → Completion → Command → (response : List ℕ)
     → (was_told : Bool) → Reply
 command_reply r c command response was_told =
@@ -70,8 +89,8 @@ command_reply r c command response was_told =
     capability_asked r c response was_told (asked_at command.parameters)
     else stands c response))
 
--- the answer to a command of TPM 1.2 (tag 00C1), which the device refused with BAD_TAG (1E) and tag
--- 00C4: VALUE (84) with the tag of this version, by which firmware knows that there is no TPM 1.2
+-- the answer to a command of TPM 1.2 (tag 00C1), which the device refused with BAD_TAG (1E) and
+-- tag 00C4: VALUE (84) with tag 8001, from which firmware learns that there is no TPM 1.2
 unfoldable pub probed : Completion → (buffer response : List ℕ) → Reply
 probed c buffer response =
     if (tag_of buffer == 0xc1) && bytes_eq response (framed 0xc4 0x1e []) then

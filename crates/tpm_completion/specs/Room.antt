@@ -1,6 +1,6 @@
--- Objects that wait: a client flushed them, and they stay in their places for the sake of their
--- contexts, until a place is needed. TPM 2.0 Library, Part 3, section 28.4 (TPM2_FlushContext), and
--- Part 1, section 30 (context management).
+-- Objects that wait: a client flushed them, and they stay in their places, so that their contexts
+-- can be loaded, until a place is needed. TPM 2.0 Library, Part 3, section 28.4
+-- (TPM2_FlushContext), and Part 1, section 30 (context management).
 use Rattle.std.specs.Prelude.{ℕ, ◌+◌, ◌-◌, ◌^◌, ◌==◌, ◌&&◌, ◌||◌, nat_lt, not, Bool, List, [], length, if◌then◌else◌, Option, Some, None, Result, Ok, Err}
 use Rattle.std.specs.Int.{w32, to_be_bytes}
 use Rattle.std.specs.List.{fold}
@@ -24,7 +24,8 @@ use Rattle.tpm_completion.specs.declared.room.Waiting.{Waiting}
 abbrev pub has_context : Completion → (place : ℕ) → Bool
 has_context c place = not ((object_held c place).context == 0)
 
--- the place of the object that is flushed, if it has a context and a number is left for the flush
+-- the place of the object that a handle flushes, if it has a context and a number is left for the
+-- flush
 abbrev pub flush_of : Completion → Result (ℕ × List ℕ) Short → Option ℕ
 flush_of c (Ok handle) =
     if (length handle.1 == 0) && (is_transient (numbered handle.0)
@@ -43,8 +44,8 @@ flush_in c (Err e) = None
 unfoldable pub flush_asked : Completion → (buffer : List ℕ) → Option ℕ
 flush_asked c buffer = flush_in c (plain_command buffer)
 
--- the answer to the flush of an object with a context, which waits from then on. Where it waits
--- already, no object has this handle: HANDLE for parameter 1 (1CB)
+-- the answer to the flush of an object with a context, which waits from then on. If it waits
+-- already, its handle names nothing: HANDLE for parameter 1 (1CB)
 abbrev pub flush_noted : Completion → (place : ℕ) → Held → Reply
 flush_noted c place held =
     if held.waits == 0 then record {
@@ -57,13 +58,13 @@ flush_noted c place held =
 unfoldable pub noted : Completion → (place : ℕ) → Reply
 noted c place = flush_noted c place (object_held c place)
 
--- ---- room for another object
+-- ---- a place for another object
 
 -- no object waits
 abbrev pub none_waits : Waiting
 none_waits = record { place = 0; since = 0 }
 
--- of the object in a place and the longest waiting one so far, the one that waits longer
+-- the longest waiting object so far, or the object in this place if it waits longer
 unfoldable pub longer : Completion → Waiting → (place : ℕ) → Waiting
 longer c best place =
     let waits : ℕ = (object_held c place).waits in
@@ -79,7 +80,7 @@ longest c = fold (longer c) none_waits (numbers_below object_limit)
 abbrev pub wants_room : Row → (response : List ℕ) → Bool
 wants_room row response = ((row.code == 0x131) || (row.code == 0x157)) && is_refusal 0x902 response
 
--- the place of the object that is given up for a command with this outcome, if one is
+-- the place of the object that is given up for a command with this outcome, if any
 unfoldable pub given_up : Completion → Row → (response : List ℕ) → Option ℕ
 given_up c row response =
     if wants_room row response && not ((longest c).since == 0) then Some (longest c).place

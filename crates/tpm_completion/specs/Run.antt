@@ -1,4 +1,4 @@
--- The executions on the device for one event: one without the layer, and with it as many as the
+-- What the device executes for one event: the event alone without the layer, and with it what the
 -- layer causes.
 use Rattle.std.specs.Prelude.{ℕ, Bool, true, false, List, [], ◌∷◌, Option, Some, None}
 use Rattle.tpm_machine.specs.Executions.{Execution}
@@ -10,12 +10,12 @@ use Rattle.tpm_completion.specs.Execution.{AsksFirst, Behind, Completes, Complet
 use Rattle.tpm_completion.specs.Room.{flush_asked, flush_text}
 use Rattle.tpm_completion.specs.declared.completion.Completion.{Completion}
 
--- the execution of an event that passed to the device, with this effect
+-- the device's execution of an event, with this effect
 abbrev pub executed : Record → PlainEvent → Seen → Execution
 executed old event seen = record { before = old; event = event; seen = seen.step }
 
--- the executions after the device's first one of a command: the flush of the object that is given
--- up, and the command once more; or none
+-- what the device executes after a command: the flush of the object that is given up, and the
+-- command again; or nothing
 abbrev pub run_behind : (can : Bool) (first : Seen) (buffer : List ℕ) (locality : ℕ)
     (random : List ℕ) (place : Option ℕ) (seen : Seen)
     → Behind can first buffer locality random place seen → List Execution

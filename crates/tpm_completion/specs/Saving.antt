@@ -1,4 +1,5 @@
--- TPM2_ContextSave and TPM2_ContextLoad by tokens. TPM 2.0 Library, Part 3, sections 28.2 and 28.3.
+-- TPM2_ContextSave and TPM2_ContextLoad by tokens. TPM 2.0 Library, Part 3, sections 28.2 and
+-- 28.3.
 use Rattle.std.specs.Prelude.{ℕ, ◌+◌, ◌-◌, ◌^◌, ◌==◌, ◌&&◌, nat_lt, not, List, is_some, if◌then◌else◌, Option, Some, None, Result, Ok, Err, slice_set}
 use Rattle.std.specs.Int.{w32, to_be_bytes}
 use Rattle.tpm_bytes.specs.declared.cursor.Short.{Short}
@@ -31,7 +32,7 @@ with_object c place held = record c { objects = slice_set c.objects place held }
 abbrev pub with_session : Completion → ℕ → (context : ℕ) → Completion
 with_session c place context = record c { sessions = slice_set c.sessions place context }
 
--- the number of the next context or flush, while there is one
+-- the number of the next context or flush, if one is left
 abbrev pub next_number : Completion → Option ℕ
 next_number c = if nat_lt c.count (2 ^ 64 - 1) then Some (c.count + 1) else None
 
@@ -49,8 +50,8 @@ context_given c handle context = record {
 abbrev pub refused : Completion → ℕ → Reply
 refused c code = record { response = refusal code; after = c }
 
--- the reply with a new context of an object that had none; TOO_MANY_CONTEXTS (12E) where no number
--- is left
+-- the reply with a new context of an object that had none; TOO_MANY_CONTEXTS (12E) if no number is
+-- left
 abbrev pub object_numbered : Completion → Handle → Option ℕ → Reply
 object_numbered c handle (Some number) =
     context_given
@@ -58,30 +59,30 @@ object_numbered c handle (Some number) =
     handle number
 object_numbered c handle None = refused c 0x12e
 
--- the reply that saves an object which is there and does not wait, with the context that it has or
--- a new one; otherwise its handle names nothing: REFERENCE_H0
+-- the reply that saves an object, with the context that it has or a new one; REFERENCE_H0 if the
+-- object is not there or waits, since its handle names nothing
 abbrev pub object_saved : Record → Completion → Handle → Held → Reply
 object_saved r c handle held =
     if not (is_some (object_at r.objects handle) && (held.waits == 0)) then refused c 0x910
     else (if held.context == 0 then object_numbered c handle (next_number c)
     else context_given c handle held.context)
 
--- the reply that saves a session with a new context, each time it is saved; it is no longer loaded
+-- the reply that saves a session with a new context, each time; the session is no longer loaded
 -- then
 abbrev pub session_numbered : Completion → Handle → Option ℕ → Reply
 session_numbered c handle (Some number) =
     context_given (with_session (counted c number) (place_named handle) number) handle number
 session_numbered c handle None = refused c 0x12e
 
--- the reply that saves a loaded session; the handle of a saved one names nothing: REFERENCE_H0
+-- the reply that saves a loaded session; REFERENCE_H0 for a saved one, whose handle names nothing
 abbrev pub session_saved : Record → Completion → Handle → (context : ℕ) → Reply
 session_saved r c handle context =
     if is_some (session_at r.sessions handle) && (context == 0) then
     session_numbered c handle (next_number c)
     else refused c 0x910
 
--- the reply to TPM2_ContextSave of a handle: VALUE for handle 1 (184) where it is neither an
--- object's nor a session's
+-- the reply to TPM2_ContextSave of a handle: VALUE for handle 1 (184) if it is neither an object's
+-- nor a session's
 unfoldable pub saved : Record → Completion → Handle → Reply
 saved r c handle =
     if is_transient handle then object_saved r c handle (object_held c (place_named handle))
@@ -91,13 +92,13 @@ saved r c handle =
 
 -- ---- TPM2_ContextLoad
 
--- the reply with the handle of a context that was loaded
+-- the reply with the handle of a loaded context
 abbrev pub handle_given : Completion → Handle → Reply
 handle_given c handle =
     record { response = success (to_be_bytes w32 handle.number); after = c }
 
--- the reply that loads the object of a context, any number of times while it is there; it no longer
--- waits then
+-- the reply that loads the object of a context, any number of times while the object is there; it
+-- no longer waits then
 abbrev pub object_loaded : Record → Completion → Token → Reply
 object_loaded r c token =
     if is_some (object_at r.objects token.handle)
@@ -121,9 +122,9 @@ token_loaded r c token =
     if is_transient token.handle then object_loaded r c token
     else (if is_session token.handle then session_loaded r c token else refused c 0x1cb)
 
--- the reply to TPM2_ContextLoad of these bytes. INTEGRITY for parameter 1 (1DF): they are no
--- context of this layer since its start; HANDLE for parameter 1 (1CB): what they name is not there,
--- or is another object or session, or a session that was loaded since
+-- the reply to TPM2_ContextLoad of these bytes. INTEGRITY for parameter 1 (1DF): they are not a
+-- context of this layer since its start. HANDLE for parameter 1 (1CB): what they name is gone, or
+-- another object or session has its place, or the session was loaded since
 abbrev pub loaded_by : Record → Completion → Result Token Short → Reply
 loaded_by r c (Ok token) = token_loaded r c token
 loaded_by r c (Err e) = refused c 0x1df

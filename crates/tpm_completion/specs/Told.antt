@@ -1,7 +1,7 @@
--- The result of a function that writes an answer, or tells that there is none.
+-- The result of a function that writes an answer, or reports that there is none.
 use Rattle.std.specs.Prelude.{◌≡◌, Bool, true, false, List, ℕ, Option, Some, None}
 
--- The code told that there is an answer and wrote it, or told that there is none.
+-- The code reported that there is an answer and wrote it, or reported that there is none.
 abbrev pub Tells : Option (List ℕ) → (told : Bool) → (text : List ℕ) → Type 0
 Tells (Some wanted) true text = text ≡ wanted
 Tells (Some wanted) false text = ⊥

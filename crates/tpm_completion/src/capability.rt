@@ -1,9 +1,11 @@
 //! TPM2_GetCapability: algorithms, properties, commands, and the handles of objects and sessions.
 
-ghost use Rattle.std.specs.Prelude.{◌≡◌, ◌≤◌, ◌<◌, ◌+◌, ◌*◌, ◌/◌, ◌%◌, ◌^◌, ◌++◌, ◌∷◌, [], length};
-ghost use Rattle.tpm_types.specs.Limits.{object_limit, session_limit};
-ghost use Rattle.tpm_completion.specs.Capability.{algorithm_elements, asked_at, capability_told, command_elements, commands_by, handles_told, is_in_state, object_shown, objects_shown, property_elements, session_shown, sessions_shown, told_of};
-ghost use Rattle.tpm_actions_capability.specs.Elements.{command_attributes, command_element};
+ghost use Rattle.std.specs.Prelude.{◌≡◌, ◌≤◌, ◌+◌, ◌*◌, ◌/◌, ◌%◌, ◌^◌, ◌++◌, [], length};
+ghost use Rattle.tpm_completion.specs.Capability.{algorithm_elements, asked_at, capability_told, command_elements, commands_by, handles_told, is_empty, refused_of, told_of};
+ghost use Rattle.tpm_completion.specs.Handles.{objects_shown, sessions_shown};
+ghost use Rattle.tpm_completion.specs.PcrProperties.{pcr_property_elements};
+ghost use Rattle.tpm_completion.specs.Properties.{property_elements};
+ghost use Rattle.tpm_actions_capability.specs.Elements.{command_element};
 ghost use Rattle.std.specs.List.{flat_map};
 ghost use Rattle.tpm_completion.specs.Listing.{listing};
 ghost use Rattle.tpm_completion.specs.declared.listing.Form.TheVariants as form;
@@ -12,21 +14,19 @@ ghost use Rattle.tpm_completion.specs.Told.{Tells};
 use crate::answer::is_refusal;
 use crate::codes::VALUE_OF_PARAMETER_1;
 use crate::completion::Completion;
-use crate::listing::{Elements, Form, LISTING_LIMIT, list};
+use crate::handles::{objects, sessions};
+use crate::listing::{Elements, Form, LISTING_LIMIT, element, list};
+use crate::properties::properties;
 use arrayvec::ArrayVec;
 use tpm_actions_capability::element::Element;
 use tpm_bytes::{Cursor, Short, Sink};
 use tpm_commands::CommandCode;
-use tpm_containers::numbered;
-use tpm_lockout::Lockout;
 use tpm_record::Keep;
-use tpm_session::handle_of;
-use tpm_types::{Handle, OBJECT_LIMIT, SESSION_LIMIT};
 
 /// The text of a list that TPM2_GetCapability answers.
 pub type Listing = Sink<LISTING_LIMIT>;
 
-/// Room for three elements for each command of the device.
+/// The places for commands: three for each command of the device.
 const COMMANDS_ROOM: usize = 160;
 
 type Commands = ArrayVec<Element, COMMANDS_ROOM>;
@@ -59,12 +59,6 @@ impl Asked {
     }
 }
 
-fn element(number: u32, told: u32) -> Element
-    ensures { result ≡ record { number = number; told = told } }
-{
-    Element { number, told }
-}
-
 /// Lists the algorithms.
 fn algorithms(elements: &mut Elements)
     requires { elements.old.items ≡ [] }
@@ -81,29 +75,6 @@ fn algorithms(elements: &mut Elements)
     elements.push(element(0x43, 0x202));
 }
 
-/// Lists the properties.
-#[tactic(auto, unfolding(crate::specs::Capability::property_elements))]
-fn properties(lockout: &Lockout, elements: &mut Elements)
-    requires { elements.old.items ≡ [] }
-    ensures { elements.new.items ≡ property_elements lockout.now }
-{
-    let fields = lockout.fields();
-    elements.push(element(0x100, u32::from_be_bytes(*b"2.0\0")));
-    elements.push(element(0x105, u32::from_be_bytes(*b"TSIM")));
-    elements.push(element(0x10b, 1));
-    elements.push(element(0x10c, 0));
-    elements.push(element(0x112, 24));
-    elements.push(element(0x11e, 4096));
-    elements.push(element(0x11f, 4096));
-    elements.push(element(0x120, 32));
-    elements.push(element(0x129, CommandCode::ALL.len() as u32 + 3));
-    elements.push(element(0x12c, 1024));
-    elements.push(element(0x20e, fields.failed_tries));
-    elements.push(element(0x20f, fields.max_tries));
-    elements.push(element(0x210, fields.recovery_time));
-    elements.push(element(0x211, fields.lockout_recovery));
-}
-
 /// The element of a command that the device serves, with its attributes (TPMA_CC).
 fn command(code: CommandCode) -> Element
     ensures { result ≡ command_element code }
@@ -114,7 +85,7 @@ fn command(code: CommandCode) -> Element
     element(code.number(), attributes)
 }
 
-/// Lists those of the layer's own commands that come before this one, and then this one.
+/// Lists the layer's own commands that come before this one, and then this one.
 #[tactic(auto, unfolding(crate::specs::Capability::commands_by))]
 fn list_command(code: CommandCode, elements: &mut Commands)
     requires { length elements.old.items + 3 ≤ COMMANDS_ROOM }
@@ -122,17 +93,23 @@ fn list_command(code: CommandCode, elements: &mut Commands)
     ensures few { length elements.new.items ≤ length elements.old.items + 3 }
 {
     match code {
+        CommandCode::SelfTest => elements.push(element(0x142, 0x142)),
         CommandCode::PolicyNv => elements.push(element(0x146, 0x146)),
         CommandCode::FlushContext => {
             elements.push(element(0x161, 0x1000_0161));
             elements.push(element(0x162, 0x0200_0162));
         }
+        CommandCode::PcrRead => {
+            elements.push(element(0x17c, 0x17c));
+            elements.push(element(0x17d, 0x17d));
+        }
+        CommandCode::PolicyPassword => elements.push(element(0x18a, 0x18a)),
         _ => {}
     }
     elements.push(command(code));
 }
 
-/// Lists these commands, and before each of them those of the layer's own that come before it.
+/// Lists these commands, and before each of them the layer's own that come before it.
 #[tactic(auto, using(crate::proofs::Commands::commands_more))]
 fn list_commands(codes: &[CommandCode], elements: &mut Commands)
     requires empty { elements.old.items ≡ [] }
@@ -150,72 +127,6 @@ fn commands(elements: &mut Commands)
     ensures { elements.new.items ≡ command_elements }
 {
     list_commands(CommandCode::ALL, elements);
-}
-
-/// Lists the transient object in a place, if there is one that does not wait.
-#[tactic(auto, unfolding(crate::specs::Capability::object_shown))]
-fn object<K: Keep>(layer: &Completion, keep: &K, place: u32, elements: &mut Elements)
-    requires place { place < object_limit }
-    requires room { length elements.old.items < 64 }
-    ensures added { elements.new.items
-        ≡ elements.old.items ++ object_shown (K.record_of keep.now) layer.now place }
-    ensures few { length elements.new.items ≤ length elements.old.items + 1 }
-{
-    let handle = Handle {
-        number: numbered::number_of(0x80, place as usize),
-    };
-    if layer.object(place as usize).waits == 0 && keep.objects().get(handle).is_some() {
-        elements.push(element(handle.number, handle.number));
-    }
-}
-
-/// Lists the transient objects that do not wait.
-#[tactic(auto, using(tpm_actions_capability::proofs::Listing::one_more))]
-fn objects<K: Keep>(layer: &Completion, keep: &K, elements: &mut Elements)
-    requires { elements.old.items ≡ [] }
-    ensures { elements.new.items ≡ objects_shown (K.record_of keep.now) layer.now }
-{
-    for place in 0..OBJECT_LIMIT as u32 {
-        object(layer, keep, place, elements);
-    }
-}
-
-/// Whether a session with this context number is in the state that `saved` says: saved (true), or
-/// loaded (false), where the number is 0.
-fn is_in_state(saved: bool, context: u64) -> bool
-    ensures { result ≡ is_in_state saved context }
-{
-    if saved { context != 0 } else { context == 0 }
-}
-
-/// Lists the session in a place, if it is in the state that `saved` says: saved (true) or loaded
-/// (false).
-#[tactic(auto, unfolding(crate::specs::Capability::session_shown))]
-fn session<K: Keep>(layer: &Completion, keep: &K, saved: bool, place: u32, elements: &mut Elements)
-    requires place { place < session_limit }
-    requires room { length elements.old.items < 64 }
-    ensures added { elements.new.items
-        ≡ elements.old.items ++ session_shown (K.record_of keep.now) layer.now saved place }
-    ensures few { length elements.new.items ≤ length elements.old.items + 1 }
-{
-    if !is_in_state(saved, layer.session(place as usize)) {
-        return;
-    }
-    if let Some(session) = keep.sessions().in_place(place as usize) {
-        let handle = handle_of(session.kind(), place as usize);
-        elements.push(element(place, handle.number));
-    }
-}
-
-/// Lists the sessions that are saved, where `saved` is true, or those that are loaded.
-#[tactic(auto, using(tpm_actions_capability::proofs::Listing::one_more))]
-fn sessions<K: Keep>(layer: &Completion, keep: &K, saved: bool, elements: &mut Elements)
-    requires { elements.old.items ≡ [] }
-    ensures { elements.new.items ≡ sessions_shown (K.record_of keep.now) layer.now saved }
-{
-    for place in 0..SESSION_LIMIT as u32 {
-        session(layer, keep, saved, place, elements);
-    }
 }
 
 fn tell_objects<K: Keep>(layer: &Completion, keep: &K, asked: Asked, text: &mut Listing)
@@ -271,13 +182,13 @@ fn tell_commands(asked: Asked, text: &mut Listing)
     list(elements.as_slice(), Form::Value, 2, from, asked.count, text);
 }
 
-fn tell_properties<K: Keep>(keep: &K, asked: Asked, text: &mut Listing)
+fn tell_properties<K: Keep>(layer: &Completion, keep: &K, asked: Asked, text: &mut Listing)
     requires { text.old ≡ [] }
     ensures { text.new ≡ listing form.Property 6 asked.property asked.count
-        (property_elements (K.record_of keep.now).fixed.lockout) }
+        (property_elements (K.record_of keep.now) layer.now) }
 {
     let mut elements = ArrayVec::new();
-    properties(&keep.fixed().lockout, &mut elements);
+    properties(layer, keep, &mut elements);
     let from = asked.property;
     list(
         elements.as_slice(),
@@ -297,13 +208,99 @@ fn tell_told<K: Keep>(layer: &Completion, keep: &K, asked: Asked, text: &mut Lis
     match asked.capability {
         1 => return tell_handles(layer, keep, asked, text),
         2 => tell_commands(asked, text),
-        6 => tell_properties(keep, asked, text),
+        6 => tell_properties(layer, keep, asked, text),
         _ => return false,
     }
     true
 }
 
-/// Writes the layer's list in place of the device's response, if the layer has one. `was_told` says
+fn tell_algorithms(asked: Asked, text: &mut Listing)
+    requires { text.old ≡ [] }
+    ensures { text.new ≡ listing form.Algorithm 0 asked.property asked.count algorithm_elements }
+{
+    let mut elements = ArrayVec::new();
+    algorithms(&mut elements);
+    let from = asked.property;
+    list(
+        elements.as_slice(),
+        Form::Algorithm,
+        0,
+        from,
+        asked.count,
+        text,
+    );
+}
+
+/// Lists the properties of PCRs.
+fn pcr_properties(elements: &mut Elements)
+    requires { elements.old.items ≡ [] }
+    ensures { elements.new.items ≡ pcr_property_elements }
+{
+    elements.push(element(0x00, 0x00_ffff));
+    elements.push(element(0x01, 0x81_ffff));
+    elements.push(element(0x02, 0x81_0000));
+    elements.push(element(0x03, 0x81_ffff));
+    elements.push(element(0x04, 0x81_0000));
+    elements.push(element(0x05, 0xff_ffff));
+    elements.push(element(0x06, 0x81_0000));
+    elements.push(element(0x07, 0xff_ffff));
+    elements.push(element(0x08, 0x81_0000));
+    elements.push(element(0x09, 0xff_ffff));
+    elements.push(element(0x0a, 0xff_0000));
+    elements.push(element(0x11, 0));
+    elements.push(element(0x13, 0));
+    elements.push(element(0x14, 0));
+}
+
+fn tell_pcr_properties(asked: Asked, text: &mut Listing)
+    requires { text.old ≡ [] }
+    ensures { text.new
+        ≡ listing form.Selection 7 asked.property asked.count pcr_property_elements }
+{
+    let mut elements = ArrayVec::new();
+    pcr_properties(&mut elements);
+    let from = asked.property;
+    list(
+        elements.as_slice(),
+        Form::Selection,
+        7,
+        from,
+        asked.count,
+        text,
+    );
+}
+
+/// Lists nothing of a capability.
+fn tell_nothing(asked: Asked, text: &mut Listing)
+    requires { text.old ≡ [] }
+    ensures { text.new ≡ listing form.Value asked.capability asked.property asked.count [] }
+{
+    let from = asked.property;
+    list(&[], Form::Value, asked.capability, from, asked.count, text);
+}
+
+/// Whether the layer has an empty list of a capability.
+fn is_empty(capability: u32) -> bool
+    ensures { result ≡ is_empty capability }
+{
+    capability == 3 || capability == 4 || capability == 8
+}
+
+/// Writes the layer's list of a capability that the device refused, if the layer has one.
+fn tell_refused(asked: Asked, text: &mut Listing) -> bool
+    requires { text.old ≡ [] }
+    ensures { Tells (refused_of asked) result text.new }
+{
+    match asked.capability {
+        0 => tell_algorithms(asked, text),
+        7 => tell_pcr_properties(asked, text),
+        capability if is_empty(capability) => tell_nothing(asked, text),
+        _ => return false,
+    }
+    true
+}
+
+/// Writes the layer's list instead of the device's response, if the layer has one. `was_told` says
 /// whether the device answered the capability.
 #[tactic(auto, unfolding(crate::specs::Capability::capability_told))]
 pub fn tell<K: Keep>(
@@ -321,19 +318,8 @@ pub fn tell<K: Keep>(
     if was_told {
         return tell_told(layer, keep, asked, text);
     }
-    if asked.capability != 0 || !is_refusal(VALUE_OF_PARAMETER_1, response) {
-        return false;
+    if is_refusal(VALUE_OF_PARAMETER_1, response) {
+        return tell_refused(asked, text);
     }
-    let mut elements = ArrayVec::new();
-    algorithms(&mut elements);
-    let from = asked.property;
-    list(
-        elements.as_slice(),
-        Form::Algorithm,
-        0,
-        from,
-        asked.count,
-        text,
-    );
-    true
+    false
 }

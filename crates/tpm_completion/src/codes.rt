@@ -1,7 +1,9 @@
-//! The numbers of commands and of response codes that the layer knows: TPM 2.0 Library, Part 2,
+//! The numbers of the commands and response codes that the layer knows. TPM 2.0 Library, Part 2,
 //! sections 6.5 (TPM_CC) and 6.6 (TPM_RC).
 
 pub const CREATE_PRIMARY: u32 = 0x131;
+
+pub const INCREMENTAL_SELF_TEST: u32 = 0x142;
 
 pub const STIR_RANDOM: u32 = 0x146;
 
@@ -14,6 +16,12 @@ pub const CONTEXT_SAVE: u32 = 0x162;
 pub const FLUSH_CONTEXT: u32 = 0x165;
 
 pub const GET_CAPABILITY: u32 = 0x17a;
+
+pub const GET_TEST_RESULT: u32 = 0x17c;
+
+pub const HASH: u32 = 0x17d;
+
+pub const TEST_PARMS: u32 = 0x18a;
 
 pub const SUCCESS: u32 = 0;
 

@@ -14,8 +14,8 @@ pub struct PlainCommand<'a> {
 }
 
 impl<'a> PlainCommand<'a> {
-    /// Reads a command without sessions whose size is the one that its header says; any other is
-    /// passed over.
+    /// Reads a command without sessions whose size is that of its header. The layer answers no
+    /// other command.
     #[tactic(auto, unfolding(crate::specs::Command::plain_command))]
     pub fn read(buffer: &'a [u8]) -> Result<PlainCommand<'a>, Short>
         ensures { Gives command_of (plain_command buffer.now) result }
@@ -37,7 +37,7 @@ impl<'a> PlainCommand<'a> {
     }
 }
 
-/// The tag of a command, 0 where there is none.
+/// The tag of a command, or 0 if the buffer is too short for one.
 pub fn tag_of(buffer: &[u8]) -> u16
     ensures { result ≡ tag_of buffer.now }
 {

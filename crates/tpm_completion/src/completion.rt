@@ -11,9 +11,9 @@ use tpm_types::{Handle, OBJECT_LIMIT, SESSION_LIMIT};
 /// What the layer remembers of the object in a place.
 #[derive(Clone, Copy, PartialEq, Eq)]
 pub struct Held {
-    /// The number of the object's context, 0 where it has none.
+    /// The number of the object's context, or 0 if it has none.
     pub context: u64,
-    /// The number of the object's flush, 0 where it was not flushed. A flushed object waits in its
+    /// The number of the object's flush, or 0 if it was not flushed. A flushed object waits in its
     /// place.
     pub waits: u64,
 }
@@ -21,13 +21,13 @@ pub struct Held {
 /// The state of the layer. Contexts and flushes are counted together, from 1 on.
 #[derive(Clone, Copy, PartialEq, Eq)]
 pub struct Completion {
-    /// A number that the layer's user chooses, by which the contexts of one start are told from
-    /// those of another.
+    /// A number that the caller chooses for each start. It is in each context, so that one of an
+    /// earlier start is not loaded.
     pub start: u64,
     pub count: u64,
     /// What the layer remembers of each transient object, by its place.
     pub objects: [Held; 8],
-    /// For each session, by its place: the number of the context with which it was saved, 0 where
+    /// For each session, by its place: the number of the context with which it was saved, or 0 if
     /// it is loaded.
     pub sessions: [u64; 16],
 }
@@ -41,8 +41,8 @@ impl Held {
 }
 
 impl Completion {
-    /// The layer of a start at which no context was given yet. A number that differs at each start,
-    /// such as the host's clock, lets no context of an earlier start be loaded.
+    /// The layer of a start, before any context. If the number differs at each start, as the
+    /// host's clock does, no context of an earlier start is loaded.
     pub fn of_start(start: u64) -> Completion
         ensures { result ≡ new_completion start }
     {
@@ -78,7 +78,7 @@ impl Completion {
         }
     }
 
-    /// The number of the context of the session in a place, 0 where the session is loaded.
+    /// The number of the context of the session in a place, or 0 if the session is loaded.
     pub(crate) fn session(&self, place: usize) -> u64
         ensures { result ≡ session_context self.now place }
     {
@@ -108,8 +108,8 @@ impl Completion {
         }
     }
 
-    /// The number of the context of the session in a place, if the device still has one there, or
-    /// else 0.
+    /// The number of the context of the session in a place, or 0 if the device has none there any
+    /// more.
     #[tactic(auto, unfolding(crate::specs::Completion::session_kept))]
     fn session_kept<K: Keep>(&self, keep: &K, place: usize) -> u64
         requires { place < session_limit }

@@ -6,7 +6,7 @@ ghost use Rattle.tpm_completion.specs.Context.{context_text, mark, saved_handle,
 use tpm_bytes::{Cursor, Short, Sink, is_equal};
 use tpm_types::Handle;
 
-/// How many bytes a token's blob has, and how many its whole context.
+/// The size of a token's blob, in bytes; and of its whole context.
 pub const TOKEN_SIZE: usize = 20;
 
 pub const CONTEXT_SIZE: usize = 38;
@@ -54,7 +54,7 @@ pub fn context_text(start: u64, token: Token) -> Sink<CONTEXT_SIZE>
     text
 }
 
-/// The token of a context's bytes.
+/// Reads the token of a context; the bytes must be just those of its context.
 #[tactic(auto, unfolding(crate::specs::Context::token_at))]
 pub fn read_token(start: u64, bytes: &[u8]) -> Result<Token, Short>
     ensures { result ≡ token_at start bytes.now }

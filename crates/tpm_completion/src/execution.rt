@@ -15,10 +15,10 @@ use tpm_record::Keep;
 use tpm_step::{Event, Outcome};
 use tpm_types::Locality;
 
-/// Executes one event, and writes its outcome over that of an earlier event. Where `completes` is
-/// true, the layer completes what the device does; where it is false, the device alone executes the
-/// event. The outcome's row is always the device's own, and `drawn` of the machine counts the last
-/// event that it executed.
+/// Executes one event, and writes its outcome over that of an earlier event. If `completes` is
+/// true, the layer may answer after the device; otherwise the device alone executes the event. The
+/// outcome's row is always the device's own. `drawn` of the machine is that of the last event that
+/// it executed.
 pub fn execute<K: Keep>(
     machine: &mut Machine<K>,
     layer: &mut Completion,
@@ -30,8 +30,7 @@ pub fn execute<K: Keep>(
         (state_of K.record_of machine.old) (plain_event event.now)
         (seen_of K.record_of machine.new layer.new outcome.new) }
 
-    // Where no memory can be refused, the whole effect is a function of the layer, the record and
-    // the event.
+    // If no memory can be refused, the layer, the record and the event determine the whole effect.
     ensures exactly { K.can_refuse ≡ false
         → seen_of K.record_of machine.new layer.new outcome.new
         ≡ completed completes layer.old (state_of K.record_of machine.old)
@@ -77,7 +76,7 @@ fn complete_if<K: Keep>(
     }
 }
 
-/// Lets an event pass to the device alone.
+/// Has the device alone execute an event.
 fn pass<K: Keep>(
     machine: &mut Machine<K>,
     layer: &mut Completion,
@@ -114,7 +113,8 @@ fn complete<K: Keep>(
     }
 }
 
-/// Notes the flush of the object in a place, while time passes for the device.
+/// Notes the flush of the object in a place. The device executes an empty command, so that its
+/// time goes on.
 fn note<K: Keep>(
     machine: &mut Machine<K>,
     layer: &mut Completion,
@@ -134,7 +134,7 @@ fn note<K: Keep>(
     layer.note(place, &mut outcome.response);
 }
 
-/// Lets a command pass to the device first.
+/// Has the device execute a command first, and answers after it.
 fn ask_first<K: Keep>(
     machine: &mut Machine<K>,
     layer: &mut Completion,
@@ -153,7 +153,7 @@ fn ask_first<K: Keep>(
     answer_behind(machine, layer, buffer, locality, random, outcome);
 }
 
-/// Gives up an object for a command that found no room, or answers after the device.
+/// Gives up an object for a command that found no place for its own, or answers after the device.
 fn answer_behind<K: Keep>(
     machine: &mut Machine<K>,
     layer: &mut Completion,
@@ -176,7 +176,7 @@ fn answer_behind<K: Keep>(
     }
 }
 
-/// The random bytes of the layer's own flush.
+/// The random bytes of the layer's own flush: zeros.
 #[tactic(auto, unfolding(crate::specs::Execution::no_random))]
 fn no_random() -> [u8; 256]
     ensures { result ≡ no_random }
@@ -184,7 +184,7 @@ fn no_random() -> [u8; 256]
     [0; 256]
 }
 
-/// Flushes the object in a place, and executes a command that found no room once more.
+/// Flushes the object in a place, and executes a command again that found no place for its own.
 fn give_up<K: Keep>(
     machine: &mut Machine<K>,
     layer: &mut Completion,

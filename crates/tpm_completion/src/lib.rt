@@ -1,16 +1,16 @@
 #![tactic(auto)]
 
-//! The completing layer: what firmware and tools ask for and the device lacks by design, as a
-//! function of a small state of its own, the device and one command. It is off unless it is asked
-//! for, command by command.
+//! The completing layer answers what firmware and tools ask for and the device lacks by design. It
+//! is a function of a small state of its own, the device and one command. The caller turns it on
+//! for each command.
 //!
-//! The device is asked first. Where it refuses a command that the layer knows, or lists less than
-//! the layer has, the layer's [`reply`] goes out; everywhere else the device's response does, byte
-//! for byte. [`capability`] has the lists, [`context`] and [`saving`] have contexts by tokens,
-//! [`room`] says which object gives up its place, and [`execution`] is the one call.
+//! The device executes the command first. If it refuses one that the layer knows, or lists less
+//! than the layer has, the client gets the layer's [`reply`]. Otherwise it gets the device's
+//! response, byte for byte. [`capability`], [`handles`] and [`properties`] have the lists,
+//! [`context`] and [`saving`] the contexts, [`testing`] and [`hashing`] four more commands.
+//! [`room`] chooses the object that gives its place up, and [`execution`] is the one call.
 //!
-//! The crate uses tpm_machine, and executes events on it alone: each change of the device is an
-//! execution of tpm_step's.
+//! The layer changes the device by events of tpm_machine alone.
 
 mod answer;
 mod capability;
@@ -19,11 +19,15 @@ mod command;
 pub mod completion;
 mod context;
 pub mod execution;
+mod handles;
+mod hashing;
 pub mod laws;
 mod listing;
+mod properties;
 mod reply;
 mod room;
 mod saving;
+mod testing;
 
 pub use completion::{Completion, Held};
 pub use execution::execute;

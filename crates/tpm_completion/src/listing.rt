@@ -1,6 +1,8 @@
-//! How a capability's list is answered: as many elements as are asked for, from a number on.
+//! How a capability's list is answered: the elements from a number on, at most as many as the
+//! caller asks for.
 
-ghost use Rattle.std.specs.Prelude.{◌≡◌, ◌≤◌, ◌<◌, ◌+◌, ◌*◌, ◌^◌, ◌++◌, List, [], ◌∷◌, length};
+ghost use Rattle.std.specs.Prelude.{◌≡◌, ◌≤◌, ◌<◌, ◌+◌, ◌*◌, ◌^◌, ◌++◌, List, [], ◌∷◌, length, take};
+ghost use Rattle.std.specs.Int.{w32, to_le_bytes};
 ghost use Rattle.tpm_actions_capability.specs.Element.{found_count, is_from};
 ghost use Rattle.tpm_actions_capability.specs.declared.element.Element.{Element as ListedElement};
 ghost use Rattle.tpm_completion.specs.Listing.{listing, text_of, told_text};
@@ -12,7 +14,7 @@ use tpm_bytes::Sink;
 /// The most elements of one answer.
 pub const ELEMENT_LIMIT: usize = 64;
 
-/// The most bytes of one answer: moreData, the capability, the count, and as many elements of eight
+/// The most bytes of one answer: moreData, the capability, the count, and 64 elements of eight
 /// bytes.
 pub const LISTING_LIMIT: usize = 521;
 
@@ -25,6 +27,22 @@ pub enum Form {
     Value,
     Property,
     Algorithm,
+    Selection,
+}
+
+/// The element of this number, for which this is listed.
+pub fn element(number: u32, told: u32) -> Element
+    ensures { result ≡ record { number = number; told = told } }
+{
+    Element { number, told }
+}
+
+/// The three octets of a selection of PCRs.
+fn octets(select: u32) -> [u8; 3]
+    ensures { result ≡ take 3 (to_le_bytes w32 select) }
+{
+    let octets = select.to_le_bytes();
+    [octets[0], octets[1], octets[2]]
 }
 
 fn tell(element: &Element, form: Form, text: &mut Sink<LISTING_LIMIT>)
@@ -33,11 +51,21 @@ fn tell(element: &Element, form: Form, text: &mut Sink<LISTING_LIMIT>)
     ensures few { length text.new ≤ length text.old + 8 }
 {
     match form {
-        Form::Value => {}
-        Form::Property => text.append_u32(element.number),
-        Form::Algorithm => text.append_u16((element.number % (1 << 16)) as u16),
+        Form::Value => text.append_u32(element.told),
+        Form::Property => {
+            text.append_u32(element.number);
+            text.append_u32(element.told);
+        }
+        Form::Algorithm => {
+            text.append_u16((element.number % (1 << 16)) as u16);
+            text.append_u32(element.told);
+        }
+        Form::Selection => {
+            text.append_u32(element.number);
+            text.append_u8(3);
+            text.append(&octets(element.told));
+        }
     }
-    text.append_u32(element.told);
 }
 
 fn is_from(element: &Element, from: u32) -> bool
@@ -53,8 +81,8 @@ fn found_count(elements: &[Element], from: u32) -> usize
     elements.iter().filter(|e| is_from(e, from)).count()
 }
 
-/// Writes an element, if its number is not below this one and any is left to be written; gives how
-/// many are left then.
+/// Writes an element, unless its number is below this one or no more are asked for. Returns how
+/// many more may be written.
 #[tactic(auto, using(crate::proofs::Telling::telling_one))]
 fn tell_if(
     element: &Element,
@@ -76,7 +104,7 @@ fn tell_if(
     left - 1
 }
 
-/// Writes the first elements from a number on, as many as are left to be written.
+/// Writes the elements from a number on, at most `count` of them.
 fn tell_elements(
     elements: &[Element],
     form: Form,
@@ -93,7 +121,7 @@ fn tell_elements(
     }
 }
 
-/// Lists the elements of a capability from a number on, as many as are asked for.
+/// Lists the elements of a capability from a number on, at most `count` of them.
 pub fn list(
     elements: &[Element],
     form: Form,

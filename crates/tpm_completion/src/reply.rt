@@ -1,9 +1,9 @@
-//! The layer's answers after the device's response.
+//! What the layer answers after the device's response.
 
 ghost use Rattle.std.specs.Prelude.{◌≡◌, [], length};
 ghost use Rattle.tpm_bytes.specs.Reading.{sized_at};
 ghost use Rattle.tpm_completion.specs.Command.{command_of};
-ghost use Rattle.tpm_completion.specs.Reply.{capability_asked, command_reply, is_stirred, probed, reply, save_asked, served, stirred};
+ghost use Rattle.tpm_completion.specs.Reply.{capability_asked, command_reply, is_stirred, probed, replied, reply, row_served, save_asked, served, stirred};
 ghost use Rattle.tpm_completion.specs.Capability.{asked_at};
 ghost use Rattle.std.specs.Int.{w32};
 ghost use Rattle.tpm_bytes.specs.Reading.{number_at};
@@ -11,14 +11,17 @@ ghost use Rattle.tpm_bytes.specs.Reading.{number_at};
 use crate::answer::{answer, is_refusal};
 use crate::capability::{Asked, tell};
 use crate::codes::{
-    COMMAND_CODE, CONTEXT_LOAD, CONTEXT_SAVE, GET_CAPABILITY, STIR_RANDOM, SUCCESS, VALUE,
+    COMMAND_CODE, CONTEXT_LOAD, CONTEXT_SAVE, GET_CAPABILITY, GET_TEST_RESULT, HASH,
+    INCREMENTAL_SELF_TEST, STIR_RANDOM, SUCCESS, TEST_PARMS, VALUE,
 };
 use crate::command::{PlainCommand, tag_of};
 use crate::completion::Completion;
+use crate::hashing::hash;
+use crate::testing::{Body, incremental_self_test, test_parms, test_result};
 use tpm_bytes::{Cursor, Sink, is_equal};
 use tpm_record::Keep;
 use tpm_step::Response;
-use tpm_types::Handle;
+use tpm_types::{Handle, Refused};
 
 /// Whether these are the parameters of TPM2_StirRandom.
 fn is_stirred(parameters: &[u8]) -> bool
@@ -31,7 +34,7 @@ fn is_stirred(parameters: &[u8]) -> bool
     }
 }
 
-/// Answers a command of TPM 1.2.
+/// Answers a command of TPM 1.2, by which firmware asks whether there is such a TPM.
 #[tactic(auto, unfolding(crate::specs::Reply::probed))]
 fn probe(layer: &Completion, buffer: &[u8], text: &mut Response)
     ensures { record { response = text.new.items; after = layer.now }
@@ -69,6 +72,34 @@ impl Completion {
         }
     }
 
+    /// Answers by the success or the refusal of a row.
+    fn give(&self, row: Result<Body, Refused>, text: &mut Response)
+        ensures { record { response = text.new.items; after = self.now }
+            ≡ replied self.now row }
+    {
+        match row {
+            Ok(body) => answer(SUCCESS, body.as_slice(), text),
+            Err(refused) => answer(refused.rc.number(), &[], text),
+        }
+    }
+
+    /// Answers a command that tests the device, or TPM2_Hash.
+    fn serve_row<K: Keep>(&self, keep: &K, command: &PlainCommand, text: &mut Response)
+        ensures { record { response = text.new.items; after = self.now }
+            ≡ row_served (K.record_of keep.now) self.now (command_of command.now) text.old.items }
+    {
+        match command.code {
+            INCREMENTAL_SELF_TEST => self.give(incremental_self_test(command.parameters), text),
+            GET_TEST_RESULT => self.give(test_result(command.parameters), text),
+            HASH => {
+                let hierarchies = &keep.fixed().hierarchies;
+                self.give(hash(hierarchies, command.parameters), text);
+            }
+            TEST_PARMS => self.give(test_parms(command.parameters), text),
+            _ => {}
+        }
+    }
+
     /// Answers a command that the device does not serve.
     fn serve<K: Keep>(&mut self, keep: &K, command: &PlainCommand, text: &mut Response)
         ensures { record { response = text.new.items; after = self.new }
@@ -78,7 +109,7 @@ impl Completion {
             STIR_RANDOM => self.stir(command.parameters, text),
             CONTEXT_LOAD => self.load(keep, command.parameters, text),
             CONTEXT_SAVE => self.ask_save(keep, command.parameters, text),
-            _ => {}
+            _ => self.serve_row(keep, command, text),
         }
     }
 
@@ -126,8 +157,8 @@ impl Completion {
         }
     }
 
-    /// Answers after the device, whose response is in `text`: the layer's answer replaces it, or it
-    /// stands. `was_told` says whether the response was a success.
+    /// Writes the layer's answer over the device's response in `text`, or leaves that response.
+    /// `was_told` says whether it was a success.
     #[tactic(auto, unfolding(crate::specs::Reply::reply))]
     pub(crate) fn reply<K: Keep>(
         &mut self,

@@ -1,4 +1,5 @@
-//! Objects that wait in their places, and the choice of the one that gives up its place.
+//! Objects that a client flushed and that wait in their places, and the choice of the one that
+//! gives its place up.
 
 ghost use Rattle.std.specs.Prelude.{◌≡◌, ◌<◌, ◌-◌, ◌^◌, IfSome, length};
 ghost use Rattle.std.specs.Int.{w32};
@@ -25,7 +26,7 @@ pub struct Waiting {
 }
 
 impl Completion {
-    /// The place of the object that is flushed, if it has a context.
+    /// The place of the object that a command flushes, if the object has a context.
     fn flush_of(&self, parameters: &[u8]) -> Option<usize>
         ensures place { result ≡ flush_of self.now (number_at w32 parameters.now) }
         ensures counts { IfSome result (λ place. self.now.count < 2 ^ 64 - 1) }
@@ -82,7 +83,7 @@ impl Completion {
         answer(SUCCESS, &[], text);
     }
 
-    /// Of the object in a place and the longest waiting one so far, the one that waits longer.
+    /// The longest waiting object so far, or the object in this place if it waits longer.
     #[tactic(auto, unfolding(crate::specs::Room::longer))]
     fn longer(&self, best: Waiting, place: usize) -> Waiting
         requires place { place < object_limit }
@@ -111,7 +112,7 @@ impl Completion {
         best
     }
 
-    /// The place of the object that is given up for a command with this outcome, if one is.
+    /// The place of the object to give up, if the command found no place and an object waits.
     #[tactic(auto, unfolding(crate::specs::Room::given_up))]
     pub(crate) fn given_up(&self, row: Row, response: &[u8]) -> Option<usize>
         ensures place { result ≡ given_up self.now row response.now }

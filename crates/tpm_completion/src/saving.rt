@@ -42,7 +42,7 @@ impl Completion {
         }
     }
 
-    /// The number of the next context or flush, while there is one.
+    /// The number of the next context or flush, if one is left.
     pub(crate) fn next_number(&self) -> Option<u64>
         ensures { result ≡ next_number self.now }
     {

@@ -8,8 +8,8 @@ use Rattle.tpm_completion.specs.Saving.{loaded, refused}
 use Rattle.tpm_completion.specs.declared.completion.Completion.{Completion}
 use Rattle.tpm_completion.specs.declared.context.Token.{Token}
 
--- Where a context that is no object's was loaded, it is refused from then on, whatever the device
--- is: HANDLE for parameter 1 (1CB).
+-- After the context of a session was loaded, it is refused, whatever the device is then: HANDLE
+-- for parameter 1 (1CB).
 abbrev pub IsLoadedOnce : Type 0
 IsLoadedOnce = (r later : Record) (c : Completion) (context : List ℕ) (token : Token)
     → token_at c.start context ≡ Ok token → is_transient token.handle ≡ false

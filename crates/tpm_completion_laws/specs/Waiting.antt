@@ -6,11 +6,11 @@ use Rattle.tpm_completion.specs.Completion.{object_held}
 use Rattle.tpm_completion.specs.Room.{given_up}
 use Rattle.tpm_completion.specs.declared.completion.Completion.{Completion}
 
--- the number of the flush since which the object in a place waits, 0 where it does not wait
+-- the number of the flush since which the object in a place waits, or 0 if it does not wait
 abbrev pub waits_since : Completion → (place : ℕ) → ℕ
 waits_since c place = (object_held c place).waits
 
--- The object that is given up waits, and no object was flushed before it that waits too.
+-- The object that is given up waits, and no other object that waits was flushed before it.
 abbrev pub GivesUpTheLongest : Type 0
 GivesUpTheLongest = (c : Completion) (row : Row) (response : List ℕ) (place : ℕ)
     → given_up c row response ≡ Some place

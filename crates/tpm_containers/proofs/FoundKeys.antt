@@ -1,4 +1,4 @@
--- What is found under each key once a value was changed, one was removed, some were kept, or all
+-- The values found by each key after a value was changed, one was removed, some were kept, or all
 -- were changed.
 use Rattle.std.proofs.Common.{◌≡◌, ◌⊎◌, ℕ, Bool, true, false, cond, [], ◌∷◌, map, Option, Some, None, option_map, ◌==◌, refl, sym, ap, ◌∙◌, inl, inr}
 use Rattle.std.proofs.lemmas.Bool.{cases_Bool, cases_eq}
@@ -10,7 +10,7 @@ module _ {X : Type 0} where
   laws : IsSortedMap X
   laws = is_map
 
-  -- once a key is removed, each value is found as before or is gone
+  -- after a key is removed, each value is unchanged or gone
   pub removed_or_same : (es : Entries X) (key other : ℕ) → Ascends es → (at_key (without_key es key) other ≡ at_key es other) ⊎ (at_key (without_key es key) other ≡ None)
   removed_or_same es key other up =
       elim (cases_eq other key) [
@@ -18,7 +18,7 @@ module _ {X : Type 0} where
         | inr apart ↦ inl (laws.removed_others es key other apart)
       ]
 
-  -- once some values are kept, each is found as before or is gone
+  -- after some values are kept, each value is unchanged or gone
   pub kept_or_gone : (stays : X → Bool) (es : Entries X) (key : ℕ) → Ascends es → (at_key (kept_entries stays es) key ≡ at_key es key) ⊎ (at_key (kept_entries stays es) key ≡ None)
   kept_or_gone stays es key up = by (at_key es key) refl
     where
@@ -30,7 +30,8 @@ module _ {X : Type 0} where
             | inr bad ↦ inr (laws.kept_gone stays es key x up there bad)
           ]
 
-  -- a value that is changed and shows the same by a view leaves what all keys show
+  -- if a value changes and a view of it does not, the view of the value found by any key does not
+  -- change either
   pub changed_shows : {V : Type 0} (shown : X → V) (es : Entries X) (key : ℕ) (old new : X) → at_key es key ≡ Some old → shown new ≡ shown old → (other : ℕ) → option_map shown (at_key (changed_key es key new) other) ≡ option_map shown (at_key es other)
   changed_shows {V} shown es key old new there same other =
       elim (cases_eq other key) [
@@ -42,7 +43,7 @@ module _ {X : Type 0} where
         | inr apart ↦ ap (option_map shown) (laws.changed_others es key new other apart)
       ]
 
-  -- where all values are changed, each is found changed
+  -- if all values are changed, the changed value is found by each key
   abbrev pub all_changed : (X → X) → Entries X → Entries X
   all_changed change es = map (λ e. (e.0, change e.1)) es
 

@@ -1,4 +1,5 @@
--- Where the code finds a key among the entries, and that an edit there is an edit under the key.
+-- The index at which the code finds a key among the entries. Editing the entry at that index edits
+-- the key's value.
 use Rattle.std.proofs.Common.{◌≡◌, ℕ, zero, suc, ◌<◌, ◌≤◌, Bool, true, false, cond, [], ◌∷◌, ◌++◌, length, get_or, slice_set, Option, Some, None, IfSome, is_some, refl, sym, ap, subst, ◌∙◌, arith}
 use Rattle.std.specs.Prelude.{nat_le, ◌==◌}
 use Rattle.std.specs.List.{position, position_or_len, insert, remove}
@@ -15,15 +16,15 @@ not_found true x e = absurd cc
 not_found false x e = refl
 
 module _ {X : Type 0} where
-  -- whether an entry has a key
+  -- whether an entry has this key
   abbrev has : ℕ → ℕ × X → Bool
   has key e = e.0 == key
 
-  -- whether an entry's key is this one or above it
+  -- whether an entry's key is at least this one
   abbrev is_from : ℕ → ℕ × X → Bool
   is_from key e = nat_le key e.0
 
-  -- where no entry passes a test, none in a place does
+  -- if no entry passes a test, the entry at any index fails it
   position-None : (test : ℕ × X → Bool) (es : Entries X) (d : ℕ × X) → position test es ≡ None → (k : ℕ) → k < length es → test (get_or es k d) ≡ false
   position-None test es d is k inside =
       let none : length es ≤ position_or_len test es = ltb-false _ _ (not_found _ (position_or_len test es) is) in
@@ -61,14 +62,14 @@ module _ {X : Type 0} where
   key_from_none (e ∷ es) key is =
       found_nowhere (λ (l : Entries X). key_from l key) (is_from key) (λ e. Some e.0) None refl (λ _ _. refl) (e ∷ es) e (position-None (is_from key) (e ∷ es) e is)
 
-  -- ---- edits where a key is found
+  -- ---- edits at the index of a key
 
-  -- The index is inside, and is the first at which a test holds.
+  -- The index is in the list, and is the first one whose entry passes a test.
   abbrev IsFirst : (ℕ × X → Bool) → Entries X → ℕ → ℕ × X → Type 0
   IsFirst test es i d =
       (i < length es) × (test (get_or es i d) ≡ true) × ((k : ℕ) → k < i → test (get_or es k d) ≡ false)
 
-  -- the first place at which a test holds is the first among the rest too
+  -- the first index whose entry passes a test is also the first among the rest
   first_rest : (test : ℕ × X → Bool) (e : ℕ × X) (es : Entries X) (i : ℕ) (d : ℕ × X) → IsFirst test (e ∷ es) (suc i) d → IsFirst test es i d
   first_rest test e es i d p =
       let inside = p.0 in
@@ -118,14 +119,14 @@ module _ {X : Type 0} where
   set_position es key i x is =
       set_there es key i x (key, x) (position-Some (has key) es i (key, x) is)
 
-  -- ---- the entry at the place of a key
+  -- ---- the entry at the index of a key
 
-  -- what is read at the place of a key is under the key
+  -- the entry read at the index of a key contains the key's value
   pub read_where : (es : Entries X) (key : ℕ) (o : Option ℕ) → o ≡ position (λ e. e.0 == key) es → IfSome o (λ i. (e : ℕ × X) → get_or es i e ≡ e → at_key es key ≡ Some e.1)
   read_where es key None is = tt
   read_where es key (Some i) is = λ e read. at_key_position es key i e (sym is) ∙ ap (λ (p : ℕ × X). Some p.1) read
 
-  -- what is written at the place of a key changes what is under the key
+  -- writing at the index of a key changes the key's value
   pub written_where : (es : Entries X) (key : ℕ) (o : Option ℕ) → o ≡ position (λ e. e.0 == key) es → IfSome o (λ i. (e : ℕ × X) (x : X) → get_or es i e ≡ e → slice_set es i (e.0, x) ≡ changed_key es key x)
   written_where es key None is = tt
   written_where es key (Some i) is = λ e x read.
@@ -133,12 +134,12 @@ module _ {X : Type 0} where
       let same : e.0 ≡ key = ap (λ (p : ℕ × X). p.0) (sym read) ∙ here in
       ap (λ (k : ℕ). slice_set es i (k, x)) same ∙ set_position es key i x (sym is)
 
-  -- An entry at an index is read and written there under this key.
+  -- The entry at an index is that of this key, for reading and for writing.
   pub record Lent (es : Entries X) (key i : ℕ) (e : ℕ × X) : Type 0 where
     pub value : at_key es key ≡ Some e.1
     pub written : (x : X) → slice_set es i (e.0, x) ≡ changed_key es key x
 
-  -- an entry that is lent from the slice that a container shows is read and written under its key
+  -- an entry borrowed from a container's slice is that of its key, for reading and for writing
   pub lent_at : (shown es : Entries X) (key i : ℕ) (e : ℕ × X) → shown ≡ es → e ≡ get_or es i e → ((e : ℕ × X) → get_or shown i e ≡ e → at_key shown key ≡ Some e.1) → ((e : ℕ × X) (x : X) → get_or shown i e ≡ e → slice_set shown i (e.0, x) ≡ changed_key shown key x) → Lent es key i e
   lent_at shown es key i e same read value written =
       let is : get_or shown i e ≡ e = ap (λ (l : Entries X). get_or l i e) same ∙ sym {b = get_or es i e} read in

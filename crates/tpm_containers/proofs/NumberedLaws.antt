@@ -1,4 +1,4 @@
--- Slots as a map from numbers: what is found after a value is put, removed or changed.
+-- Slots as a map keyed by number: the values found after one was put, removed or changed.
 use Rattle.std.proofs.Common.{◌≡◌, ◌≢◌, ℕ, ◌+◌, ◌<◌, ◌≤◌, ◌^◌, Bool, true, false, cond, eqb, List, length, Option, Some, None, slice_set, refl, sym, ap, subst, ◌∙◌, arith, inl, inr}
 use Rattle.std.specs.Prelude.{option_and_then}
 use Rattle.std.proofs.lemmas.Bool.{cases_eq, eqb-true, eq-eqb, ne_eqb}
@@ -12,7 +12,7 @@ module _ {X : Type 0} (kind : X → ℕ) where
 
   -- ---- numbers
 
-  -- what is found under a number whose place holds this
+  -- what is found by a number whose slot has this content
   abbrev seen : ℕ → Option X → Option X
   seen number cell = option_and_then (if_of_kind kind number) cell
 
@@ -41,7 +41,7 @@ module _ {X : Type 0} (kind : X → ℕ) where
   kind_of-number_of : (k place : ℕ) → place < 2 ^ 24 → kind_of (number_of k place) ≡ k
   kind_of-number_of k place below = omega arith
 
-  -- what another number finds where a place is written
+  -- what is found by another number after a slot is written
   elsewhere : (places : Slots) (place other : ℕ) (cell : Option X) → (place_of other ≡ place → seen other cell ≡ seen other (at_place places place)) → place < length places → at_number kind (slice_set places place cell) other ≡ at_number kind places other
   unfolding at_number
   elsewhere places place other cell same inside =
@@ -53,7 +53,7 @@ module _ {X : Type 0} (kind : X → ℕ) where
         | inr apart ↦ ap (seen other) (at_set-other places place (place_of other) cell apart)
       ]
 
-  -- ---- the value in a place
+  -- ---- the value in a slot
 
   pub taken : (places : Slots) (place : ℕ) (x : X) → place < 2 ^ 24 → at_place places place ≡ Some x → at_number kind places (number_of (kind x) place) ≡ Some x
   unfolding at_number
@@ -68,7 +68,7 @@ module _ {X : Type 0} (kind : X → ℕ) where
       ap (λ (n : ℕ). seen (number_of k place) (at_place places n)) (place_of-number_of k place below)
       ∙ ap (seen (number_of k place)) (lowest_free-free places place is).1
 
-  -- ---- a value is put
+  -- ---- putting a value
 
   pub put_found : (places : Slots) (place : ℕ) (x : X) → place < 2 ^ 24 → lowest_free places ≡ Some place → at_number kind (slice_set places place (Some x)) (number_of (kind x) place) ≡ Some x
   put_found places place x below is =
@@ -81,7 +81,7 @@ module _ {X : Type 0} (kind : X → ℕ) where
       (λ here. seen_apart other x (λ byte. apart (one_number other (number_of (kind x) place) (here ∙ sym (place_of-number_of (kind x) place below)) (byte ∙ sym (kind_of-number_of (kind x) place below)))) ∙ ap (seen other) (sym free.1))
       free.0
 
-  -- ---- a place that is written over a value
+  -- ---- a slot that is overwritten
 
   abbrev Found : Slots → ℕ → X → Type 0
   Found places number x = (at_place places (place_of number) ≡ Some x) × (kind_of number ≡ kind x)
@@ -90,7 +90,7 @@ module _ {X : Type 0} (kind : X → ℕ) where
   unfolding at_number
   found_at places number x is = seen_some number (at_place places (place_of number)) x is
 
-  -- another number of the same place has another highest byte, and finds nothing there
+  -- another number for the same slot differs in its highest byte, and nothing is found by it
   hidden : (places : Slots) (number other : ℕ) (x y : X) → Found places number x → kind y ≡ kind x → other ≢ number → place_of other ≡ place_of number → seen other (Some y) ≡ None
   hidden places number other x y is same apart here =
       seen_apart other y (λ byte. apart (one_number other number here (byte ∙ same ∙ sym is.1)))
@@ -102,7 +102,7 @@ module _ {X : Type 0} (kind : X → ℕ) where
       (λ here. none here ∙ sym (ap (seen other) f.0 ∙ hidden places number other x x f refl apart here))
       (at_inside places (place_of number) x f.0)
 
-  -- ---- a value is removed
+  -- ---- removing a value
 
   removed_some : (places : Slots) (number : ℕ) (x : X) → at_number kind places number ≡ Some x → without_number kind places number ≡ slice_set places (place_of number) None
   unfolding without_number
@@ -132,7 +132,7 @@ module _ {X : Type 0} (kind : X → ℕ) where
       by (Some x) is = ap (λ (p : Slots). at_number kind p other) (removed_some places number x is) ∙ others_stay places number other x None is apart (λ here. refl)
       by None is = ap (λ (p : Slots). at_number kind p other) (removed_absent places number is)
 
-  -- ---- a value is changed, and keeps its kind
+  -- ---- changing a value, which keeps its kind
 
   abbrev Keeps : (X → X) → Type 0
   Keeps change = (x : X) → kind (change x) ≡ kind x
@@ -161,7 +161,7 @@ module _ {X : Type 0} (kind : X → ℕ) where
       by (Some x) is = ap (λ (p : Slots). at_number kind p other) (changed_some change places number x is) ∙ others_stay places number other x (Some (change x)) is apart (λ here. hidden places number other x (change x) (found_at places number x is) (keeps x) apart here)
       by None is = ap (λ (p : Slots). at_number kind p other) (changed_absent change places number is)
 
-  -- ---- how many places are taken
+  -- ---- the number of taken slots
 
   pub put_taken : (places : Slots) (place : ℕ) (x : X) → lowest_free places ≡ Some place → taken_count (slice_set places place (Some x)) ≡ taken_count places + 1
   put_taken places place x is =
@@ -170,11 +170,11 @@ module _ {X : Type 0} (kind : X → ℕ) where
       let set = taken_set places place (Some x) free.0 in
       omega (arith, set, none)
 
-  -- the value that is found under a number is in the place of the number, which counts as one
+  -- the value found by a number is in the number's slot, which counts as one taken slot
   one_taken : (places : Slots) (number : ℕ) (x : X) → at_number kind places number ≡ Some x → counted (at_place places (place_of number)) ≡ 1
   one_taken places number x is = ap counted (found_at places number x is).0
 
-  -- a place that is written under a number counts as what is written there
+  -- after a number's slot is written, it counts as what was written
   taken_there : (places : Slots) (number : ℕ) (x : X) (cell : Option X) → at_number kind places number ≡ Some x → taken_count (slice_set places (place_of number) cell) + 1 ≡ taken_count places + counted cell
   taken_there places number x cell is =
       let set = taken_set places (place_of number) cell (at_inside places (place_of number) x (found_at places number x is).0) in
@@ -186,7 +186,7 @@ module _ {X : Type 0} (kind : X → ℕ) where
       let there = taken_there places number x None is in
       rw (removed_some places number x is) (omega (arith, there))
 
-  -- after a removal no more places are taken, whether or not there was a value
+  -- a removal never increases the number of taken slots, whether or not there was a value
   pub removed_taken : (places : Slots) (number : ℕ) → taken_count (without_number kind places number) ≤ taken_count places
   removed_taken places number = by (at_number kind places number) refl
     where

@@ -1,4 +1,4 @@
--- Slots in a list that grows: those after its end are free.
+-- Slots in a list that grows: the slots past its end are free.
 use Rattle.std.proofs.Common.{◌≡◌, ℕ, zero, suc, ◌+◌, ◌-◌, ◌<◌, ◌≤◌, Bool, true, false, cond, ltb, List, [], ◌∷◌, ◌++◌, length, get_or, Option, Some, None, slice_set, is_none, refl, sym, ap, ◌∙◌, arith}
 use Rattle.std.specs.List.{position, position_or_len}
 use Rattle.std.proofs.lemmas.Bool.{lt-ltb, ltb-false, ltb-true}
@@ -8,7 +8,7 @@ use Rattle.tpm_containers.specs.Slots.{at_place, free, lowest_free, padded_to}
 abbrev Cells : Type 0 → Type 0
 Cells X = List (Option X)
 
--- ---- the value in a place
+-- ---- the value in a slot
 
 at_free : {X : Type 0} (n place : ℕ) → at_place (free {X = X} n) place ≡ None
 at_free zero place = refl
@@ -23,7 +23,7 @@ at_padded (cell ∷ cells) n (suc place) = at_padded cells n place
 pub at_place-padded : {X : Type 0} (most : ℕ) (cells : Cells X) (place : ℕ) → at_place (padded_to most cells) place ≡ at_place cells place
 at_place-padded most cells place = at_padded cells _ place
 
--- ---- another value in a place, or none
+-- ---- replacing or removing the value in a slot
 
 set_padded : {X : Type 0} (cells : Cells X) (n place : ℕ) (cell : Option X) → place < length cells → slice_set (cells ++ free n) place cell ≡ slice_set cells place cell ++ free n
 set_padded [] n place cell below = absurd (omega arith)
@@ -50,11 +50,11 @@ clear_padded [] n place behind = clear_free n place
 clear_padded (first ∷ cells) n zero behind = absurd (omega arith)
 clear_padded (first ∷ cells) n (suc place) behind = ap (λ (l : Cells _). first ∷ l) (clear_padded cells n place (omega arith))
 
--- a place after the end is free already
+-- a slot past the end of the list is already free
 pub padded-clear : {X : Type 0} (most : ℕ) (cells : Cells X) (place : ℕ) → length cells ≤ place → slice_set (padded_to most cells) place None ≡ padded_to most cells
 padded-clear most cells place behind = clear_padded cells _ place behind
 
--- nothing is in a place after the end of the list
+-- a slot past the end of the list contains nothing
 pub at_behind : {X : Type 0} (cells : Cells X) (place : ℕ) → length cells ≤ place → at_place cells place ≡ None
 at_behind [] place behind = refl
 at_behind (first ∷ cells) zero behind = absurd (omega arith)
@@ -84,7 +84,7 @@ first_free-right [] (suc n) none = refl
 first_free-right (None ∷ cells) n none = absurd (omega arith)
 first_free-right (Some s ∷ cells) n none = let more = first_free-right cells n (omega arith) in omega (arith, more)
 
--- a free cell among those of the list is the lowest free place
+-- the first free cell of the list, if there is one, is the lowest free slot
 pub free_among : {X : Type 0} (most : ℕ) (cells : Cells X) (place : ℕ) → position is_none cells ≡ Some place → lowest_free (padded_to most cells) ≡ Some place
 free_among most cells place is =
     let here = found (ltb (first_free cells) (length cells)) (first_free cells) place is in
@@ -96,7 +96,7 @@ free_among most cells place is =
 length-padded : {X : Type 0} (most : ℕ) (cells : Cells X) → length cells ≤ most → length (padded_to most cells) ≡ most
 length-padded most cells few = rw (length-append, length-replicate) (omega arith)
 
--- where no cell of the list is free, the first place after them is
+-- if no cell of the list is free, the lowest free slot is the first one past its end
 pub free_behind : {X : Type 0} (most : ℕ) (cells : Cells X) → length cells < most → position is_none cells ≡ None → lowest_free (padded_to most cells) ≡ Some (length cells)
 free_behind most cells few is =
     let none : length cells ≤ first_free cells = ltb-false _ _ (not_found (ltb (first_free cells) (length cells)) (first_free cells) is) in
@@ -104,7 +104,7 @@ free_behind most cells few is =
     let inside : ltb (length cells) (length (padded_to most cells)) ≡ true = lt-ltb _ _ (omega (arith, few, length-padded most cells (omega arith))) in
     rw (same, inside) refl
 
--- ---- a list with one cell more
+-- ---- a list with one more cell
 
 set_first_free : {X : Type 0} (cells : Cells X) (n : ℕ) (cell : Option X) → slice_set (cells ++ free (suc n)) (length cells) cell ≡ (cells ++ cell ∷ []) ++ free n
 set_first_free [] n cell = refl
@@ -118,19 +118,19 @@ padded-push most cells cell few =
     ∙ sym (set_first_free cells (most - suc (length cells)) cell)
     ∙ ap (λ (n : ℕ). slice_set (cells ++ free n) (length cells) cell) (sym before)
 
--- a free cell more is no other place
+-- adding a free cell changes no slot
 pub padded-grown : {X : Type 0} (most : ℕ) (cells : Cells X) → length cells < most → padded_to most (cells ++ None ∷ []) ≡ padded_to most cells
 padded-grown most cells few = padded-push most cells None few ∙ padded-clear most cells (length cells) (omega arith)
 
--- ---- cells that are read, and written back
+-- ---- reading cells and writing them back
 
--- a cell that is read is what is in the place
+-- a cell that is read contains what is in its slot
 pub at_place-read : {X : Type 0} (cells : Cells X) (place : ℕ) (cell d : Option X) → place < length cells → get_or cells place d ≡ cell → at_place cells place ≡ cell
 at_place-read [] place cell d below is = absurd (omega arith)
 at_place-read (first ∷ cells) zero cell d below is = is
 at_place-read (first ∷ cells) (suc place) cell d below is = at_place-read cells place cell d (omega arith) is
 
--- what was in a place is put there again, and changes nothing
+-- writing back the content of a slot changes nothing
 pub set_same : {X : Type 0} (cells : Cells X) (place : ℕ) (cell : Option X) → get_or cells place cell ≡ cell → slice_set cells place cell ≡ cells
 set_same [] place cell is = refl
 set_same (first ∷ cells) zero cell is = ap (λ (c : Option _). c ∷ cells) (sym is)

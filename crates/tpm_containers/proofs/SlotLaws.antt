@@ -1,5 +1,5 @@
--- Slots as a map from their numbers: what is in one after another was written, which is the lowest
--- that is free, and that all are taken where none is.
+-- Slots as a map keyed by number: what a slot contains after another one was written, which slot
+-- is the lowest free one, and that all are taken if none is free.
 use Rattle.std.proofs.Common.{◌≡◌, ◌≢◌, ℕ, zero, suc, ◌+◌, ◌<◌, true, false, ◌≤◌, ltb, List, [], ◌∷◌, length, Option, Some, None, slice_set, is_none, is_some, cond, refl, sym, ap, ◌∙◌, arith, inl, inr}
 use Rattle.std.proofs.lemmas.List.Quantifiers.{position-Some}
 use Rattle.std.proofs.lemmas.List.Sums.{sum_by-cons}
@@ -24,13 +24,13 @@ at_inside [] place x is = absurd cc
 at_inside (first ∷ places) zero x is = omega arith
 at_inside (first ∷ places) (suc place) x is = let more = at_inside places place x is in omega (arith, more)
 
--- ---- the lowest free place
+-- ---- the lowest free slot
 
 is_none_true : {X : Type 0} (cell : Option X) → is_none cell ≡ true → cell ≡ None
 is_none_true None e = refl
 is_none_true (Some x) e = absurd cc
 
--- the lowest free place is free, and is there
+-- the lowest free slot exists and is free
 pub lowest_free-free : {X : Type 0} (places : List (Option X)) (place : ℕ) → lowest_free places ≡ Some place → (place < length places) × (at_place places place ≡ None)
 lowest_free-free places place is =
     let p = position-Some is_none places place None is in
@@ -40,7 +40,7 @@ is_none_false : {X : Type 0} (cell : Option X) → is_none cell ≡ false → ce
 is_none_false None e same = absurd cc
 is_none_false (Some x) e same = absurd cc
 
--- each place below the lowest free one is taken
+-- each slot below the lowest free one is taken
 pub lowest_free-lowest : {X : Type 0} (places : List (Option X)) (place below : ℕ) → lowest_free places ≡ Some place → below < place → at_place places below ≢ None
 lowest_free-lowest places place below is lower =
     let p = position-Some is_none places place None is in
@@ -54,14 +54,14 @@ taken_up (None ∷ places) place none below = absurd (omega arith)
 taken_up (Some x ∷ places) zero none below = λ e. absurd cc
 taken_up (Some x ∷ places) (suc place) none below = taken_up places place (omega arith) (omega arith)
 
--- no place is free only where all are taken
+-- if no slot is free, all are taken
 pub all_taken : {X : Type 0} (places : List (Option X)) (place : ℕ) → lowest_free places ≡ None → place < length places → at_place places place ≢ None
 all_taken places place is below =
     taken_up places place (ltb-false _ _ (not_found (ltb (first_free places) (length places)) (first_free places) is)) below
 
--- ---- the lowest free place in a list that grows
+-- ---- the lowest free slot in a list that grows
 
--- the lowest free place is one of the list's cells, or the first after them
+-- the lowest free slot is one of the list's cells, or the first one past its end
 pub free_within : {X : Type 0} (most : ℕ) (cells : List (Option X)) (place : ℕ) → lowest_free (padded_to most cells) ≡ Some place → place ≤ length cells
 free_within most cells place is =
     elim (cases_lt (length cells) place) [
@@ -69,16 +69,17 @@ free_within most cells place is =
       | inr within ↦ within
     ]
 
--- ---- how many places are taken
+-- ---- the number of taken slots
 
--- how many one place counts as: 1 if it is taken
+-- the count for one slot: 1 if it is taken, else 0
 abbrev pub counted : {X : Type 0} → Option X → ℕ
 counted cell = cond (is_some cell) 1 0
 
 taken-cons : {X : Type 0} (first : Option X) (places : List (Option X)) → taken_count (first ∷ places) ≡ counted first + taken_count places
 taken-cons first places = sum_by-cons counted first places
 
--- another value in a place, or none, changes what that place counts
+-- replacing or removing the value in a slot changes the number of taken slots by the count for
+-- that slot
 pub taken_set : {X : Type 0} (places : List (Option X)) (place : ℕ) (cell : Option X) → place < length places → taken_count (slice_set places place cell) + counted (at_place places place) ≡ taken_count places + counted cell
 taken_set [] place cell below = absurd (omega arith)
 taken_set (first ∷ places) zero cell below =

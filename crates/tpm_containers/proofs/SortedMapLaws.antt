@@ -1,6 +1,6 @@
--- Laws of entries in ascending order of their keys: what is found after one is put, removed or
--- changed, or some are kept; that the keys still ascend; how many there are; and which key comes
--- next.
+-- Laws of entries in ascending order of key: the values found after one is put, removed or
+-- changed, or some are kept; that the keys still ascend; how many keys there are; and which key
+-- comes next.
 use Rattle.std.proofs.Common.{◌≡◌, ◌≢◌, ℕ, ◌<◌, ◌≤◌, ◌+◌, ◌⊎◌, Bool, false, true, cond, eqb, leb, [], ◌∷◌, length, Option, Some, None, is_some, refl, sym, ap, subst, ◌∙◌, arith, inl, inr}
 use Rattle.std.proofs.lemmas.Bool.{cases_eq, cases_lt, cond_both, cond-true, cond-false, eq-eqb, ne_eqb, eqb-true, leb-true, leb-false}
 use Rattle.tpm_containers.specs.SortedMap.{AllAbove, AreEach, Ascends, Entries, at_key, changed_key, kept_entries, key_from, with_key, without_key}
@@ -9,15 +9,15 @@ use Rattle.tpm_containers.specs.IsSortedMap.{IsSortedMap}
 module _ {X : Type 0} where
   -- ---- the first entry
 
-  -- the first entry is found under its own key
+  -- the first entry is found by its own key
   at_first : (e : ℕ × X) (es : Entries X) (key : ℕ) → e.0 ≡ key → at_key (e ∷ es) key ≡ Some e.1
   at_first e es key same = cond-true _ _ _ (eq-eqb e.0 key same)
 
-  -- under another key the first entry is passed over
+  -- a search for another key skips the first entry
   at_rest : (e : ℕ × X) (es : Entries X) (key : ℕ) → e.0 ≢ key → at_key (e ∷ es) key ≡ at_key es key
   at_rest e es key apart = cond-false _ _ _ (ne_eqb e.0 key apart)
 
-  -- a key that is not there is not the first, nor among the rest
+  -- a key that does not exist is neither the first key nor among the rest
   first_apart : (e : ℕ × X) (es : Entries X) (key : ℕ) → at_key (e ∷ es) key ≡ None → (e.0 ≢ key) × (at_key es key ≡ None)
   first_apart e es key none =
       let apart : e.0 ≢ key = λ same. let some = at_first e es key same in cc in
@@ -55,7 +55,7 @@ module _ {X : Type 0} where
       (λ _. above)
       (λ _. (above.0, changed_above low es key x above.1))
 
-  -- ---- a value is put under a free key
+  -- ---- putting a value under a free key
 
   put_found : (es : Entries X) (key : ℕ) (x : X) → at_key es key ≡ None → at_key (with_key es key x) key ≡ Some x
   put_found [] key x none = at_first (key, x) [] key refl
@@ -87,7 +87,7 @@ module _ {X : Type 0} where
       (λ _. omega arith)
       (λ _. omega (arith, put_length es key x))
 
-  -- ---- a key is removed
+  -- ---- removing a key
 
   removed_gone : (es : Entries X) (key : ℕ) → Ascends es → at_key (without_key es key) key ≡ None
   removed_gone [] key up = refl
@@ -130,7 +130,7 @@ module _ {X : Type 0} where
       (λ _. omega arith)
       (λ _. omega (arith, removed_few es key))
 
-  -- ---- what holds of each value of a map
+  -- ---- what holds for each value of a map
 
   pub put_each : (Is : ℕ → X → Type 0) (es : Entries X) (key : ℕ) (x : X) → AreEach Is es → Is key x → AreEach Is (with_key es key x)
   put_each Is [] key x each is = (is, tt)
@@ -146,7 +146,7 @@ module _ {X : Type 0} where
       (λ _. each.1)
       (λ _. (each.0, removed_each Is es key each.1))
 
-  -- ---- a value is changed
+  -- ---- changing a value
 
   changed_found : (es : Entries X) (key : ℕ) (old x : X) → at_key es key ≡ Some old → at_key (changed_key es key x) key ≡ Some x
   changed_found [] key old x there = absurd cc
@@ -184,7 +184,7 @@ module _ {X : Type 0} where
       (λ _. refl)
       (λ _. omega (arith, changed_length es key x))
 
-  -- ---- some entries are kept
+  -- ---- keeping some entries
 
   pub kept_each : (Is : ℕ → X → Type 0) (stays : X → Bool) (es : Entries X) → AreEach Is es → AreEach Is (kept_entries stays es)
   kept_each Is stays [] each = tt
@@ -255,7 +255,7 @@ module _ {X : Type 0} where
 
   -- ---- the next key
 
-  -- the next key is the first, or comes from the rest
+  -- the next key is the first one, or the next key of the rest
   from_first : (e : ℕ × X) (es : Entries X) (key : ℕ) (o : Option ℕ) → key_from (e ∷ es) key ≡ o → ((key ≤ e.0) × (Some e.0 ≡ o)) ⊎ ((e.0 < key) × (key_from es key ≡ o))
   from_first e es key o =
       cond_both (leb key e.0) _ _ (λ v. v ≡ o → ((key ≤ e.0) × (Some e.0 ≡ o)) ⊎ ((e.0 < key) × (key_from es key ≡ o)))
@@ -301,12 +301,12 @@ module _ {X : Type 0} where
             at_rest e es other (λ same. omega arith) ∙ next_none es key other f.1 from
       ]
 
-  -- ---- entries under whose keys the same is found
+  -- ---- maps in which the same is found by each key
 
   abbrev SameFound : Entries X → Entries X → Type 0
   SameFound es fs = (key : ℕ) → at_key es key ≡ at_key fs key
 
-  -- the first key of the one map is not below that of the other
+  -- the first key of one map is not below the first key of the other
   not_below : (e f : ℕ × X) (es fs : Entries X) → Ascends (f ∷ fs) → SameFound (e ∷ es) (f ∷ fs) → f.0 ≤ e.0
   not_below e f es fs up found =
       elim (cases_lt e.0 f.0) [
@@ -318,7 +318,7 @@ module _ {X : Type 0} where
         | inr above ↦ above
       ]
 
-  -- where two maps have the same first entry, the rest of both finds the same
+  -- if two maps have the same first entry, the same is found by each key in the rest of both
   same_rest : (e f : ℕ × X) (es fs : Entries X) → e.0 ≡ f.0 → Ascends (e ∷ es) → Ascends (f ∷ fs) → SameFound (e ∷ es) (f ∷ fs) → SameFound es fs
   same_rest e f es fs one up vp found key =
       elim (cases_eq e.0 key) [

@@ -1,50 +1,49 @@
--- The laws of a map whose keys ascend.
+-- The laws of a map with ascending keys.
 use Rattle.std.specs.Prelude.{◌≡◌, ◌≢◌, ℕ, ◌+◌, ◌<◌, ◌≤◌, Bool, false, true, length, Some, None, is_some}
 use Rattle.tpm_containers.specs.SortedMap.{Ascends, Entries, at_key, changed_key, kept_entries, key_from, with_key, without_key}
 
--- The laws of keys in ascending order, each with a value of this type: they are a map.
+-- Ascending keys with values of this type form a map.
 pub record IsSortedMap (X : Type 0) : Type 0 where
-  -- what is put under a free key is found there, and all else stays
+  -- a value put under a free key is found by it, and all else is unchanged
   pub put_found : (entries : Entries X) (key : ℕ) (x : X) → at_key entries key ≡ None
       → at_key (with_key entries key x) key ≡ Some x
   pub put_others : (entries : Entries X) (key : ℕ) (x : X) (other : ℕ) → other ≢ key
       → at_key (with_key entries key x) other ≡ at_key entries other
-  -- after a key is put in, the keys still ascend, and there is one more
+  -- after a value is put under a free key, the keys still ascend, and there is one more
   pub put_ascends : (entries : Entries X) (key : ℕ) (x : X) → Ascends entries
       → at_key entries key ≡ None → Ascends (with_key entries key x)
   pub put_length : (entries : Entries X) (key : ℕ) (x : X)
       → length (with_key entries key x) ≡ length entries + 1
-  -- what is removed is gone, and all else stays
+  -- what is removed is gone, and all else is unchanged
   pub removed_gone : (entries : Entries X) (key : ℕ) → Ascends entries
       → at_key (without_key entries key) key ≡ None
   pub removed_others : (entries : Entries X) (key other : ℕ) → other ≢ key
       → at_key (without_key entries key) other ≡ at_key entries other
-  -- removing a key that is not there changes nothing
+  -- removing a key that does not exist changes nothing
   pub removed_absent : (entries : Entries X) (key : ℕ) → at_key entries key ≡ None
       → without_key entries key ≡ entries
-  -- after a removal the keys still ascend, and there is one fewer where the key was there, and
-  -- never one more
+  -- after a removal the keys still ascend. There is one fewer if the key existed, and never one
+  -- more
   pub removed_ascends : (entries : Entries X) (key : ℕ) → Ascends entries
       → Ascends (without_key entries key)
   pub removed_length : (entries : Entries X) (key : ℕ) (x : X) → at_key entries key ≡ Some x
       → length (without_key entries key) + 1 ≡ length entries
   pub removed_few : (entries : Entries X) (key : ℕ)
       → length (without_key entries key) ≤ length entries
-  -- what is changed is found as it was changed, and all else stays
+  -- the changed value is found by its key, and all else is unchanged
   pub changed_found : (entries : Entries X) (key : ℕ) (old x : X) → at_key entries key ≡ Some old
       → at_key (changed_key entries key x) key ≡ Some x
   pub changed_others : (entries : Entries X) (key : ℕ) (x : X) (other : ℕ) → other ≢ key
       → at_key (changed_key entries key x) other ≡ at_key entries other
-  -- changing a key that is not there changes nothing
+  -- changing the value of a key that does not exist changes nothing
   pub changed_absent : (entries : Entries X) (key : ℕ) (x : X) → at_key entries key ≡ None
       → changed_key entries key x ≡ entries
-  -- after a change the keys still ascend, and there are as many
+  -- after a change the keys still ascend, and their number is the same
   pub changed_ascends : (entries : Entries X) (key : ℕ) (x : X) → Ascends entries
       → Ascends (changed_key entries key x)
   pub changed_length : (entries : Entries X) (key : ℕ) (x : X)
       → length (changed_key entries key x) ≡ length entries
-  -- where values are kept by a choice, what stays is found as it was, all else is gone, and nothing
-  -- comes
+  -- if a choice keeps some values, these are unchanged, all others are gone, and no value is new
   pub kept_found : (stays : X → Bool) (entries : Entries X) (key : ℕ) (x : X)
       → at_key entries key ≡ Some x → stays x ≡ true
       → at_key (kept_entries stays entries) key ≡ Some x
@@ -53,21 +52,22 @@ pub record IsSortedMap (X : Type 0) : Type 0 where
       → at_key (kept_entries stays entries) key ≡ None
   pub kept_absent : (stays : X → Bool) (entries : Entries X) (key : ℕ) → at_key entries key ≡ None
       → at_key (kept_entries stays entries) key ≡ None
-  -- where values are kept by a choice, the keys still ascend, and there are no more
+  -- if a choice keeps some values, the keys still ascend, and their number does not grow
   pub kept_ascends : (stays : X → Bool) (entries : Entries X) → Ascends entries
       → Ascends (kept_entries stays entries)
   pub kept_few : (stays : X → Bool) (entries : Entries X)
       → length (kept_entries stays entries) ≤ length entries
-  -- the next key from a key on is there, is not below that key, and no key between the two is there
+  -- the next key from a key is in the map and is at or above it, and no key between the two is in
+  -- the map
   pub next_there : (entries : Entries X) (key next : ℕ) → key_from entries key ≡ Some next
       → is_some (at_key entries next) ≡ true
   pub next_from : (entries : Entries X) (key next : ℕ) → key_from entries key ≡ Some next
       → key ≤ next
   pub next_lowest : (entries : Entries X) (key next other : ℕ) → Ascends entries
       → key_from entries key ≡ Some next → key ≤ other → other < next → at_key entries other ≡ None
-  -- there is no next key from a key on only where no such key is there
+  -- if there is no next key at or above a key, the map contains no such key
   pub next_none : (entries : Entries X) (key other : ℕ) → key_from entries key ≡ None → key ≤ other
       → at_key entries other ≡ None
-  -- two lists of entries are the same where the same is found under each key
+  -- two lists of entries are equal if the same is found by each key
   pub same_entries : (entries others : Entries X) → Ascends entries → Ascends others
       → ((key : ℕ) → at_key entries key ≡ at_key others key) → entries ≡ others

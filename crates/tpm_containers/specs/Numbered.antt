@@ -1,5 +1,5 @@
--- Slots as a map from numbers. The three lower bytes of a number name a place, its highest byte is
--- the kind of what is there: under a number of another kind than its own a value is not found.
+-- Slots as a map keyed by number. The three lower bytes of a number identify a slot, and its
+-- highest byte is the kind of the value there. A value is not found by a number of another kind.
 use Rattle.std.specs.Prelude.{◌≡◌, ◌≢◌, ℕ, ◌+◌, ◌*◌, ◌/◌, ◌%◌, ◌^◌, ◌==◌, ◌<◌, is_some, List, length, Option, Some, None, option_and_then, if◌then◌else◌, slice_set}
 use Rattle.std.specs.Option.{option_map_or}
 use Rattle.tpm_containers.specs.Slots.{at_place, lowest_free, taken_count}
@@ -17,59 +17,59 @@ module _ {X : Type 0} where
   abbrev pub if_of_kind : (X → ℕ) → ℕ → X → Option X
   if_of_kind kind number x = if kind_of number == kind x then Some x else None
 
-  -- the value that is found under a number
+  -- the value found by a number
   unfoldable pub at_number : (X → ℕ) → List (Option X) → ℕ → Option X
   at_number kind places number =
       option_and_then (if_of_kind kind number) (at_place places (place_of number))
 
-  -- the places without the value under a number
+  -- the slots without the value found by a number
   unfoldable pub without_number : (X → ℕ) → List (Option X) → ℕ → List (Option X)
   without_number kind places number =
       if is_some (at_number kind places number) then slice_set places (place_of number) None else places
 
-  -- the places with the value under a number changed, if there is one
+  -- the slots after the value found by a number, if there is one, was changed
   abbrev pub changed_at : (X → ℕ) → (X → X) → List (Option X) → ℕ → List (Option X)
   changed_at kind change places number =
       option_map_or (λ (x : X). slice_set places (place_of number) (Some (change x)))
       (at_number kind places number) places
 
-  -- the laws of slots as a map from numbers
+  -- the laws of slots as a map keyed by number
   pub record MapLaws (kind : X → ℕ) : Type 0 where
-    -- what is put into the lowest free place is found under its number, and all else stays
+    -- what is put into the lowest free slot is found by its number, and all else is unchanged
     pub put_found : (places : List (Option X)) (place : ℕ) (x : X) → place < 2 ^ 24
         → lowest_free places ≡ Some place
         → at_number kind (slice_set places place (Some x)) (number_of (kind x) place) ≡ Some x
     pub put_others : (places : List (Option X)) (place : ℕ) (x : X) (other : ℕ) → place < 2 ^ 24
         → lowest_free places ≡ Some place → other ≢ number_of (kind x) place
         → at_number kind (slice_set places place (Some x)) other ≡ at_number kind places other
-    -- nothing was under any number of the lowest free place, and each lower place is taken
+    -- nothing is found by any number of the lowest free slot, and each lower slot is taken
     pub free : (places : List (Option X)) (k place : ℕ) → place < 2 ^ 24
         → lowest_free places ≡ Some place → at_number kind places (number_of k place) ≡ None
     pub lowest : (places : List (Option X)) (place below : ℕ)
         → lowest_free places ≡ Some place → below < place → at_place places below ≢ None
-    -- there is no free place only where all are taken
+    -- if there is no free slot, all slots are taken
     pub full : (places : List (Option X)) (place : ℕ)
         → lowest_free places ≡ None → place < length places → at_place places place ≢ None
-    -- what is in a place is found under its number
+    -- what is in a slot is found by its number
     pub taken : (places : List (Option X)) (place : ℕ) (x : X) → place < 2 ^ 24
         → at_place places place ≡ Some x → at_number kind places (number_of (kind x) place) ≡ Some x
-    -- what is removed is gone, and all else stays
+    -- what is removed is gone, and all else is unchanged
     pub removed_gone : (places : List (Option X)) (number : ℕ)
         → at_number kind (without_number kind places number) number ≡ None
     pub removed_others : (places : List (Option X)) (number other : ℕ) → other ≢ number
         → at_number kind (without_number kind places number) other ≡ at_number kind places other
-    -- removing a number under which nothing was changes nothing
+    -- removing a number changes nothing if no value is found by it
     pub removed_absent : (places : List (Option X)) (number : ℕ)
         → at_number kind places number ≡ None → without_number kind places number ≡ places
-    -- what is changed and keeps its kind is found changed, and all else stays
+    -- a changed value that keeps its kind is found by its number, and all else is unchanged
     pub changed_found : (change : X → X) → ((x : X) → kind (change x) ≡ kind x)
         → (places : List (Option X)) (number : ℕ) (x : X) → at_number kind places number ≡ Some x
         → at_number kind (changed_at kind change places number) number ≡ Some (change x)
     pub changed_others : (change : X → X) → ((x : X) → kind (change x) ≡ kind x)
         → (places : List (Option X)) (number other : ℕ) → other ≢ number
         → at_number kind (changed_at kind change places number) other ≡ at_number kind places other
-    -- where a value is put in, one place more is taken; where one is removed, one fewer; where one
-    -- is changed, as many
+    -- the number of taken slots increases by one when a value is put in, decreases by one when a
+    -- value is removed, and stays the same when a value is changed
     pub put_taken : (places : List (Option X)) (place : ℕ) (x : X)
         → lowest_free places ≡ Some place
         → taken_count (slice_set places place (Some x)) ≡ taken_count places + 1

@@ -1,28 +1,29 @@
--- Slots, numbered from 0, each free or with a value.
+-- Slots, numbered from 0. Each is free or contains a value.
 use Rattle.std.specs.Prelude.{◌≡◌, ℕ, ◌-◌, ◌<◌, Bool, true, IfSome, is_none, is_some, count_by, List, ◌++◌, length, Option, Some, None, option_and_then, Result, Ok, Err, replicate, slice_get, slice_set, position}
 use Rattle.tpm_containers.specs.declared.slots.SlotFault.{SlotFault}
 use Rattle.tpm_containers.specs.declared.slots.SlotFault.TheVariants.{Full, NoMemory}
 
--- a number of free places
+-- this many free slots
 abbrev pub free : {X : Type 0} → ℕ → List (Option X)
 free n = replicate n None
 
--- the value in a place, if it is not free
+-- the value in a slot, or None if the slot is free
 abbrev pub at_place : {X : Type 0} → List (Option X) → ℕ → Option X
 at_place places place = option_and_then (λ x. x) (slice_get places place)
 
--- A property holds of the value in each place that is taken.
+-- Each value in a taken slot has this property.
 abbrev pub AreAll : {X : Type 0} → (X → Type 0) → List (Option X) → Type 0
 AreAll IsOne places = (place : ℕ) → IfSome (at_place places place) IsOne
 
 abbrev pub lowest_free : {X : Type 0} → List (Option X) → Option ℕ
 lowest_free places = position is_none places
 
--- how many places are taken
+-- the number of taken slots
 abbrev pub taken_count : {X : Type 0} → List (Option X) → ℕ
 taken_count places = count_by is_some places
 
--- A value took the lowest free of `most` places, unless all were taken or memory was refused.
+-- A value was put into the lowest free one of `most` slots, unless all were taken or an allocation
+-- failed.
 abbrev pub Inserts : {X : Type 0} → ℕ → Bool → List (Option X) → X
     → Result ℕ SlotFault → List (Option X) → Type 0
 Inserts most can old x (Ok place) new =
@@ -31,13 +32,13 @@ Inserts most can old x (Err Full) new = (lowest_free old ≡ None) × (new ≡ o
 Inserts most can old x (Err NoMemory) new =
     (place : ℕ) × (lowest_free old ≡ Some place) × (can ≡ true) × (new ≡ old)
 
--- A value was put into a place, unless memory was refused.
+-- A value was put into a slot, unless an allocation failed.
 abbrev pub Puts : {X : Type 0} → Bool → List (Option X) → (place : ℕ) → X
     → Result (Unit {0}) SlotFault → List (Option X) → Type 0
 Puts can old place x (Ok done) new = new ≡ slice_set old place (Some x)
 Puts can old place x (Err Full) new = ⊥
 Puts can old place x (Err NoMemory) new = (can ≡ true) × (new ≡ old)
 
--- the places of a list that grows to this many: those after its end are free
+-- all slots of a list with this capacity; those past its end are free
 abbrev pub padded_to : {X : Type 0} → ℕ → List (Option X) → List (Option X)
 padded_to most cells = cells ++ free (most - length cells)

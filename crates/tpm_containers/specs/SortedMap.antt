@@ -1,59 +1,61 @@
--- Values under numbers, their keys, as a list of entries in ascending order of the keys.
+-- Values under numbers, their keys, as a list of entries with ascending keys.
 use Rattle.std.specs.Prelude.{◌≡◌, ℕ, ◌==◌, ◌<◌, ◌≤◌, nat_le, Bool, true, List, [], ◌∷◌, length, filter, Option, Some, None, Result, Ok, Err, is_some, if◌then◌else◌}
 use Rattle.tpm_containers.specs.declared.sorted_map.KeyFault.{KeyFault}
 use Rattle.tpm_containers.specs.declared.sorted_map.KeyFault.TheVariants.{Taken, Full, NoMemory}
 
--- entries: keys, each with a value
+-- entries: keys with their values
 abbrev pub Entries : Type 0 → Type 0
 Entries X = List (ℕ × X)
 
 module _ {X : Type 0} where
-  -- the value under a key
+  -- the value of a key
   abbrev pub at_key : Entries X → ℕ → Option X
   at_key [] key = None
   at_key (e ∷ es) key = if e.0 == key then Some e.1 else at_key es key
 
-  -- the first key of the entries that is not below this one: as keys ascend, the lowest such
+  -- the first key of the entries at or above this one. Since keys ascend, it is the lowest such
+  -- key
   abbrev pub key_from : Entries X → ℕ → Option ℕ
   key_from [] key = None
   key_from (e ∷ es) key = if nat_le key e.0 then Some e.0 else key_from es key
 
-  -- the entries with a value under one more key, before the keys above it
+  -- the entries after a new key and its value were inserted before the entries with higher keys
   abbrev pub with_key : Entries X → ℕ → X → Entries X
   with_key [] key x = (key, x) ∷ []
   with_key (e ∷ es) key x = if nat_le key e.0 then (key, x) ∷ e ∷ es else e ∷ with_key es key x
 
-  -- the entries with another value under a key, if the key is there
+  -- the entries after the value of a key, if the key exists, was replaced
   abbrev pub changed_key : Entries X → ℕ → X → Entries X
   changed_key [] key x = []
   changed_key (e ∷ es) key x = if e.0 == key then (e.0, x) ∷ es else e ∷ changed_key es key x
 
-  -- the entries without a key and its value
+  -- the entries without this key and its value
   abbrev pub without_key : Entries X → ℕ → Entries X
   without_key [] key = []
   without_key (e ∷ es) key = if e.0 == key then es else e ∷ without_key es key
 
-  -- the entries whose values are to stay
+  -- the entries whose values the choice keeps
   abbrev pub kept_entries : (X → Bool) → Entries X → Entries X
   kept_entries stays entries = filter (λ e. stays e.1) entries
 
-  -- every key of these entries is above this one
+  -- Each key of these entries is above this one.
   abbrev pub AllAbove : ℕ → Entries X → Type 0
   AllAbove key [] = Unit {0}
   AllAbove key (e ∷ es) = (key < e.0) × AllAbove key es
 
-  -- the keys ascend, so that none stands twice
+  -- The keys ascend, so no key occurs twice.
   abbrev pub Ascends : Entries X → Type 0
   Ascends [] = Unit {0}
   Ascends (e ∷ es) = AllAbove e.0 es × Ascends es
 
-  -- A property holds of each key with its value.
+  -- Each key and its value have this property.
   abbrev pub AreEach : (ℕ → X → Type 0) → Entries X → Type 0
   AreEach Is [] = Unit {0}
   AreEach Is (e ∷ es) = Is e.0 e.1 × AreEach Is es
 
-  -- A value was put under a free key, where there was room; or nothing changed, for the key is
-  -- taken, or it is free and there are as many as may be, or there was room and memory was refused.
+  -- A value was put under a free key, since the map was not full; or nothing changed. If nothing
+  -- changed, the key is taken; or it is free, but the map is full; or neither is the case, and an
+  -- allocation failed.
   abbrev pub PutsKey : ℕ → Bool → Entries X → ℕ → X → Result (Unit {0}) KeyFault → Entries X
       → Type 0
   PutsKey most can old key x (Ok done) new =

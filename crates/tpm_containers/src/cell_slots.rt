@@ -1,5 +1,5 @@
-//! Slots in cells, of which those after the last one are free: in a list that grows as places are
-//! taken, and so may be refused memory, or in one area of fixed size, which never takes memory.
+//! Slots stored in cells; the slots past the last cell are free. A list grows as slots are taken,
+//! so an allocation can fail; fixed-size storage never allocates memory.
 
 use crate::Items;
 use crate::cells::{free_place, reach};
@@ -8,8 +8,8 @@ use arrayvec::ArrayVec;
 use std::alloc::Global;
 use std::marker::{Model, PhantomData};
 
-/// `N` places, numbered from 0, in as many cells as were ever taken. Contracts see each place, free
-/// or with its value.
+/// `N` slots, numbered from 0. There are only as many cells as the slots in use have ever needed.
+/// Contracts see each slot, free or with its value.
 #[derive(Drop)]
 pub struct CellSlots<T: Drop, C: Items<N, Item = Option<T>>, const N: usize> {
     cells: C,
@@ -19,7 +19,7 @@ pub struct CellSlots<T: Drop, C: Items<N, Item = Option<T>>, const N: usize> {
 /// Slots in a list that grows as they are taken.
 pub type ListSlots<T, const N: usize> = CellSlots<T, Vec<Option<T>>, N>;
 
-/// Slots in one area that is as large as they are; no memory is ever taken.
+/// Slots in fixed-size storage with space for all of them; it never allocates memory.
 pub type FixedSlots<T, const N: usize> = CellSlots<T, ArrayVec<Option<T>, N>, N>;
 
 impl<T: Drop, C: Items<N, Item = Option<T>>, const N: usize> Model for CellSlots<T, C, N> {

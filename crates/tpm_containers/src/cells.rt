@@ -1,5 +1,5 @@
-//! Cells that each are free or hold a value: which place is free among them, and how they come to
-//! reach a place. Both kinds of slots share this.
+//! Cells, each free or with a value: finding the lowest free slot among them, and growing them
+//! until they include a slot. Both kinds of slots share this.
 
 ghost use Rattle.std.specs.Prelude.{◌≡◌, ◌<◌, ◌≤◌, IfSome, OnErr, OnOk, is_none, length, position, true};
 ghost use Rattle.tpm_containers.specs.Slots.{lowest_free, padded_to};
@@ -15,7 +15,7 @@ fn free_cell<T>(cells: &[Option<T>]) -> Option<usize>
     cells.iter().position(|cell| cell.is_none())
 }
 
-/// The lowest free of `most` places, of which these cells are the first and the others are free.
+/// The lowest free one of `most` slots. These cells are the first slots, and all others are free.
 #[tactic(auto, using(crate::proofs::Padding::free_among, crate::proofs::Padding::free_behind))]
 pub(crate) fn free_place<T>(cells: &[Option<T>], most: usize) -> Option<usize>
     requires { length cells.now ≤ most }
@@ -29,7 +29,7 @@ pub(crate) fn free_place<T>(cells: &[Option<T>], most: usize) -> Option<usize>
     if place == most { None } else { Some(place) }
 }
 
-/// Appends free cells until one of them is that of a place. The places stay as they are.
+/// Appends free cells until the cell of a slot exists. The content of the slots does not change.
 pub(crate) fn reach<T: Drop, C: Items<N, Item = Option<T>>, const N: usize>(
     cells: &mut C,
     place: usize,

@@ -1,5 +1,5 @@
-//! The map in entries: in a list that grows, and so may be refused memory, or in fixed places,
-//! which never takes memory.
+//! The map as entries: in a list that grows, for which an allocation can fail, or in fixed-size
+//! storage, which never allocates memory.
 
 use crate::lookup::{index_for, index_of, key_at, value_at};
 use crate::sorted_map::{KeyFault, SortedMap};
@@ -8,18 +8,18 @@ use arrayvec::ArrayVec;
 use std::alloc::Global;
 use std::marker::{Model, PhantomData};
 
-/// Values under keys, each with its key as an entry among the items `E`.
+/// Values by key; the items `E` are the entries, each a key with its value.
 #[derive(Drop)]
 pub struct EntryMap<T: Drop, E: Items<N, Item = (u32, T)>, const N: usize> {
     entries: E,
     of: PhantomData<T>,
 }
 
-/// Values under keys, in a list that grows.
+/// Values by key, in a list that grows.
 pub type ListMap<T, const N: usize> = EntryMap<T, Vec<(u32, T)>, N>;
 
-/// Values under keys, in fixed places, of which the free ones hold default values; no memory is
-/// ever taken.
+/// Values by key, in fixed-size storage, whose free slots contain default values. It never
+/// allocates memory.
 pub type SlotMap<T, const N: usize> = EntryMap<T, ArrayVec<(u32, T), N>, N>;
 
 impl<T: Drop, E: Items<N, Item = (u32, T)>, const N: usize> Model for EntryMap<T, E, N> {
@@ -33,7 +33,7 @@ impl<T: Drop, E: Items<N, Item = (u32, T)>, const N: usize> Model for EntryMap<T
     ghost invariant = { λ map. Ascends (E.items map.entries) × (length (E.items map.entries) ≤ N) };
 }
 
-/// A choice among entries by their values.
+/// A choice among entries that depends only on their values.
 struct ByValue<C> {
     of: PhantomData<C>,
 }

@@ -1,4 +1,4 @@
-//! Items in one area of fixed size, which never takes memory.
+//! Items in fixed-size storage, which never allocates memory.
 
 use crate::items::{Choice, Items};
 use arrayvec::ArrayVec;

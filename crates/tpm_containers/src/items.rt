@@ -1,21 +1,21 @@
-//! The trait of items in order, of which there may be a fixed count, whatever keeps them, and the
-//! choice of those that stay when others are removed.
+//! The trait of an ordered sequence of items, limited to a fixed number, for any type that stores
+//! them; and the choice of the items to keep when others are removed.
 
 ghost use Rattle.std.specs.Prelude.{◌≡◌, ◌<◌, ◌≤◌, ℕ, [], Bool, IfNone, IfSome, List, OnErr, OnOk, filter, insert, length, remove, slice_index_or, slice_set, take, true};
 ghost use Rattle.std.specs.Borrow.{Array, Lends, LendsIf, sem};
 
 use std::alloc::{AllocError, Global};
 
-/// A choice among items: which stay where the others are removed.
+/// A choice among items: which of them to keep when the others are removed.
 pub trait Choice<T> {
     ghost stays: { T → Bool };
 
-    /// Whether an item stays.
+    /// Whether to keep an item.
     fn stays(item: &T) -> bool
         ensures { result ≡ stays item.now };
 }
 
-/// Items in order, with room for `N` of them.
+/// An ordered sequence of items, with room for `N` of them.
 pub trait Items<const N: usize>: Drop + Sized {
     /// The type of an item.
     type Item;
@@ -23,24 +23,24 @@ pub trait Items<const N: usize>: Drop + Sized {
     /// The items.
     ghost items: { Self → List Self.Item };
 
-    /// The same items with another item in a place.
+    /// The same items after one of them was replaced.
     ghost with_item: { Self → ℕ → Self.Item → Self };
 
-    /// The same items with others written over them.
+    /// The items after all of them were overwritten.
     ghost with_items: { Self → List Self.Item → Self };
 
-    /// Whether memory can be refused.
+    /// Whether an allocation can fail.
     ghost can_refuse: { Bool };
 
-    /// No item; no memory is taken.
+    /// An empty sequence; nothing is allocated.
     fn new(alloc: Global) -> Self
         ensures { items result ≡ [] };
 
-    /// Lends the items.
+    /// Read access to all items.
     fn as_slice(&self) -> &[Self::Item]
         ensures { result.now ≡ items self.now };
 
-    /// Lends the item in a place, to be changed.
+    /// Write access to the item at this position, or None.
     fn item_mut(&mut self, place: usize) -> Option<&mut Self::Item>
         ensures* writes_back { sem 𝓛 (LendsIf Self.row Self.Item.row self.entry result
             (with_item self.entry.now place) self.entry.now) }
@@ -48,13 +48,13 @@ pub trait Items<const N: usize>: Drop + Sized {
             × (item.now ≡ slice_index_or (items self.old) place item.now)) }
         ensures absent { IfNone result (length (items self.old) ≤ place) };
 
-    /// Lends all items, to be changed.
+    /// Write access to all items.
     fn slice_mut(&mut self) -> &mut [Self::Item]
         ensures* writes_back { sem 𝓛 (Lends Self.row (Array Self.Item.row 0) self.entry result
             (with_items self.entry.now)) }
         ensures value { result.now ≡ items self.old };
 
-    /// Puts an item into a place, where there is room, and moves the later ones up.
+    /// Inserts an item at this position, if there is room for it, and moves the later items up.
     fn insert(&mut self, place: usize, item: Self::Item) -> Result<(), AllocError>
         requires inside { place ≤ length (items self.old) }
         requires room { length (items self.old) < N }
@@ -62,24 +62,25 @@ pub trait Items<const N: usize>: Drop + Sized {
         ensures unchanged { OnErr result (items self.new ≡ items self.old) }
         ensures refused { OnErr result (can_refuse ≡ true) };
 
-    /// Removes the item in a place, and moves the later ones down.
+    /// Removes the item at this position, and moves the later items down.
     fn remove(&mut self, place: usize)
         requires { place < length (items self.old) }
         ensures { items self.new ≡ remove (items self.old) place };
 
-    /// Removes each item that does not stay by this choice, in one pass.
+    /// Removes each item that the choice does not keep, in one pass.
     fn retain<C: Choice<Self::Item>>(&mut self)
         ensures { items self.new ≡ filter C.stays (items self.old) };
 
-    /// Removes the items from a place on.
+    /// Truncates the sequence to its first `count` items.
     fn truncate(&mut self, count: usize)
         ensures { items self.new ≡ take count (items self.old) };
 
-    /// An item that is written through a loan is in its place afterwards.
+    /// An item written through its mutable reference is at its position afterwards.
     ghost written: { (all : Self) (place : ℕ) (item : Self.Item)
         → items (with_item all place item) ≡ slice_set (items all) place item };
 
-    /// Items that are written through a loan of all, as many as there are, are there afterwards.
+    /// If all items are overwritten through a mutable reference, with the same number of items,
+    /// the sequence consists of the new items afterwards.
     ghost written_all: { (all : Self) (new : List Self.Item) → length new ≡ length (items all)
         → items (with_items all new) ≡ new };
 }

@@ -1,22 +1,23 @@
-//! The laws that make keys in ascending order, each with a value, a map.
+//! Laws that show that ascending keys with their values form a map.
 
 ghost use Rattle.std.specs.Prelude.{◌≡◌, ◌⊎◌, ℕ, Bool, None, Some, map, option_map};
 ghost use Rattle.tpm_containers.specs.IsSortedMap.{IsSortedMap};
 ghost use Rattle.tpm_containers.specs.SortedMap.{Ascends, Entries, at_key, changed_key};
 ghost use Rattle.tpm_containers.specs.SortedMap.{kept_entries, without_key};
 
-/// Keys in ascending order, each with a value, are a map: what is found after one was put, removed
-/// or changed, that they still ascend, how many there are, and which comes next. The function does
-/// nothing.
+/// Ascending keys with their values form a map. The laws say what is found after a key was put,
+/// removed or changed, that the keys still ascend, how many there are, and which one comes next. A
+/// proof only: it has no effect at run time.
 #[inline(always)]
 #[tactic(auto, using(crate::proofs::SortedMapLaws::is_map))]
 pub fn sorted_map_laws<T>()
     ensures { IsSortedMap T }
 {}
 
-/// What is found under any key after a change: once a key is removed, or some values are kept, what
-/// was found before, or nothing; where a value changes and shows the same by a view, what shows the
-/// same; where all values change, each value changed. The function does nothing.
+/// The value found by each key after a change. If a key is removed, or only some values are kept,
+/// each value is unchanged or gone. If a value changes and a view of it does not, the view of the
+/// value found does not change either. If all values change, the changed value is found by each
+/// key. A proof only: it has no effect at run time.
 #[inline(always)]
 #[tactic(auto, using(crate::proofs::FoundKeys::removed_or_same, crate::proofs::FoundKeys::kept_or_gone, crate::proofs::FoundKeys::changed_shows, crate::proofs::FoundKeys::all_changed_found))]
 pub fn found_laws<T, V>()

@@ -1,21 +1,22 @@
 #![tactic(auto)]
 
-//! Containers for the state of a device that grows, in a list or in one area of fixed size, by one
-//! body for both. The crate knows nothing of a TPM.
+//! Containers for the state of a device that grows, in a list or in one area of fixed size, with
+//! the same code for both. The crate does not depend on anything of a TPM.
 //!
-//! - **Items** stand in order, at most a fixed count of them: the trait [`items::Items`].
-//! - **Slots** are a fixed count of places, each free or with a value: the trait [`slots::Slots`],
-//!   kept in cells ([`cell_slots`]). A value takes the lowest free place, or is put into a place by
-//!   its number; or nothing changes. [`numbered`] finds values by numbers that name a place and a kind, and says the laws of that
-//!   map once.
-//! - **Sorted maps** have values under keys that ascend, at most a fixed count of them, and tell
-//!   the lowest key from any number on: the trait [`sorted_map::SortedMap`], kept in entries
-//!   ([`entry_map`]). A value is put under a free key, or nothing changes; a [`items::Choice`] says
-//!   which values stay. [`laws::sorted_map_laws`] says once that this is a map.
+//! - **Items** are an ordered sequence, limited to a fixed number: the trait [`items::Items`].
+//! - **Slots** are a fixed number of places, each free or with a value: the trait
+//!   [`slots::Slots`], stored in cells ([`cell_slots`]). A value is put into the lowest free slot
+//!   or into one that the caller chooses; otherwise nothing changes. [`numbered`] finds values by
+//!   numbers that consist of a slot and a kind, and states the laws of that map once.
+//! - **Sorted maps** contain values with ascending keys, up to a fixed number, and can find the
+//!   lowest key at or above any number: the trait [`sorted_map::SortedMap`], stored as entries
+//!   ([`entry_map`]). A value is put under a free key; otherwise nothing changes. An
+//!   [`items::Choice`] decides which values to keep. [`laws::sorted_map_laws`] states once that
+//!   this is a map.
 //!
-//! Contracts see all places of slots, and the keys in ascending order with their values, whatever
-//! keeps them. The crate uses `arrayvec` alone. Only a value that comes into a list may take
-//! memory.
+//! In contracts, slots are a list of all slots, and a map is a list of its keys and values in
+//! ascending order of key, whatever type stores them. The crate uses only `arrayvec`. Only adding
+//! a value to a list may allocate memory.
 
 pub mod cell_slots;
 mod cells;

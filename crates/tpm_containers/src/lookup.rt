@@ -1,9 +1,9 @@
-//! Searches of entries in ascending order of their keys, which both maps share.
+//! Searches among entries in ascending order of key, which both maps share.
 
 ghost use Rattle.std.specs.Prelude.{◌≡◌, ◌<◌, ◌≤◌, ◌==◌, ℕ, IfNone, IfSome, Some, insert, is_some, length, nat_le, option_copied, position, remove, slice_index_or, slice_set};
 ghost use Rattle.tpm_containers.specs.SortedMap.{at_key, changed_key, key_from, with_key, without_key};
 
-/// The place of the first entry with a key.
+/// The index of the first entry with this key.
 fn first_with<T>(entries: &[(u32, T)], key: u32) -> Option<usize>
     ensures value { result ≡ position (λ e. e.0 == key) entries.now }
     ensures within { IfSome result (λ i. i < length entries.now) }
@@ -11,7 +11,7 @@ fn first_with<T>(entries: &[(u32, T)], key: u32) -> Option<usize>
     entries.iter().position(|entry| entry.0 == key)
 }
 
-/// The place of the first entry whose key is this one or above it.
+/// The index of the first entry whose key is at least this one.
 fn first_from<T>(entries: &[(u32, T)], key: u32) -> Option<usize>
     ensures value { result ≡ position (λ e. nat_le key e.0) entries.now }
     ensures within { IfSome result (λ i. i < length entries.now) }
@@ -19,7 +19,7 @@ fn first_from<T>(entries: &[(u32, T)], key: u32) -> Option<usize>
     entries.iter().position(|entry| key <= entry.0)
 }
 
-/// The value under a key.
+/// The value of a key.
 #[tactic(auto, using(crate::proofs::KeyIndex::at_key_position, crate::proofs::KeyIndex::at_key_absent))]
 pub(crate) fn value_at<T>(entries: &[(u32, T)], key: u32) -> Option<&T>
     ensures { option_copied result ≡ at_key entries.now key }
@@ -28,7 +28,7 @@ pub(crate) fn value_at<T>(entries: &[(u32, T)], key: u32) -> Option<&T>
     Some(&entries[index].1)
 }
 
-/// The lowest key that is there, from this one on.
+/// The lowest key among the entries at or above this one.
 #[tactic(auto, using(crate::proofs::KeyIndex::key_from_position, crate::proofs::KeyIndex::key_from_none))]
 pub(crate) fn key_at<T>(entries: &[(u32, T)], key: u32) -> Option<u32>
     ensures { result ≡ key_from entries.now key }
@@ -37,8 +37,8 @@ pub(crate) fn key_at<T>(entries: &[(u32, T)], key: u32) -> Option<u32>
     Some(entries[index].0)
 }
 
-/// The place of the entry with a key: to read, to write or to remove that entry is to do so under
-/// the key.
+/// The index of the entry with this key. Reading, writing or removing that entry reads, writes or
+/// removes the key's value.
 #[tactic(auto, using(crate::proofs::KeyIndex::remove_position, crate::proofs::KeyIndex::without_absent))]
 pub(crate) fn index_of<T>(entries: &[(u32, T)], key: u32) -> Option<usize>
     ensures there { is_some result ≡ is_some (at_key entries.now key) }
@@ -53,7 +53,7 @@ pub(crate) fn index_of<T>(entries: &[(u32, T)], key: u32) -> Option<usize>
     first_with(entries, key)
 }
 
-/// The place at which a key that is not there is put.
+/// The index at which to insert a key that does not exist yet.
 #[tactic(auto, using(crate::proofs::KeyIndex::insert_position, crate::proofs::KeyIndex::insert_none))]
 pub(crate) fn index_for<T>(entries: &[(u32, T)], key: u32) -> usize
     ensures within { result ≤ length entries.now }

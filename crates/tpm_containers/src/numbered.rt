@@ -1,5 +1,5 @@
-//! Values in slots, found by numbers that name a kind and a place, as a TPM's handles do; with the
-//! laws that make this a map.
+//! Values in slots, found by numbers that consist of a kind and a slot, like the handles of a TPM;
+//! with laws that show that this is a map.
 
 ghost use Rattle.std.specs.Prelude.{◌≡◌, ◌<◌, ◌⊎◌, ℕ, List, None, Option, is_some, length, option_copied};
 ghost use Rattle.std.specs.Borrow.{LendsIf, sem};
@@ -9,7 +9,7 @@ ghost use Rattle.tpm_containers.specs.Slots.{AreAll, free};
 
 use crate::slots::Slots;
 
-/// A value that is found under numbers of one kind, which is their highest byte.
+/// A value that is found by numbers of one kind. The kind is the highest byte of the number.
 pub trait Kinded: Drop {
     ghost kind: { Self → ℕ };
 
@@ -17,27 +17,28 @@ pub trait Kinded: Drop {
         ensures { result ≡ kind self.now };
 }
 
-/// A value that has properties by the types of its parts.
+/// A value with properties that follow from the types of its parts.
 pub trait Sizes: Drop {
-    /// What holds of a value by the types of its parts.
+    /// The properties of a value that follow from the types of its parts.
     ghost IsOne: { Self → Type 0 };
 
-    /// Promises what holds of the value by the types of its parts. The call only reads.
+    /// The properties of the value that follow from the types of its parts. A proof only: it has
+    /// no effect at run time.
     fn read_sizes(&self)
         ensures { IsOne self.now };
 }
 
-/// How many numbers there are of a kind.
+/// The number of slots that the numbers of one kind can identify.
 const PLACE_NUMBERS: u32 = 0x0100_0000;
 
-/// The place that a number names.
+/// The slot that a number identifies.
 pub fn place_of(number: u32) -> usize
     ensures { result ≡ place_of number }
 {
     (number % PLACE_NUMBERS) as usize
 }
 
-/// The number of a value of this kind in a place.
+/// The number for a value of this kind in this slot.
 pub fn number_of(kind: u32, place: usize) -> u32
     requires kind { kind < 256 }
     requires place { place < 0x0100_0000 }
@@ -46,11 +47,11 @@ pub fn number_of(kind: u32, place: usize) -> u32
     kind * PLACE_NUMBERS + place as u32
 }
 
-/// The value that is found under a number.
+/// The value found by a number.
 #[tactic(auto, unfolding(crate::specs::Numbered::at_number))]
 pub fn get<T: Kinded, const N: usize, P: Slots<T, N>>(places: &P, number: u32) -> Option<&T>
     ensures value { option_copied result ≡ at_number T.kind (P.places places.now) number }
-    // There are always `N` places.
+    // There are always `N` slots.
     ensures all { length (P.places places.now) ≡ N }
 {
     let value = places.get(place_of(number))?;
@@ -61,7 +62,7 @@ pub fn get<T: Kinded, const N: usize, P: Slots<T, N>>(places: &P, number: u32) -
     }
 }
 
-/// The value that is found under a number, to be changed.
+/// Write access to the value found by a number, or None.
 #[tactic(auto, unfolding(crate::specs::Numbered::at_number))]
 pub fn get_mut<T: Kinded, const N: usize, P: Slots<T, N>>(
     places: &mut P,
@@ -77,7 +78,7 @@ pub fn get_mut<T: Kinded, const N: usize, P: Slots<T, N>>(
     places.get_mut(place_of(number))
 }
 
-/// Removes the value that is found under a number, and tells whether there was one.
+/// Removes the value found by a number. Returns whether there was one.
 #[tactic(auto, unfolding(crate::specs::Numbered::without_number))]
 pub fn remove<T: Kinded, const N: usize, P: Slots<T, N>>(places: &mut P, number: u32) -> bool
     ensures there { result ≡ is_some (at_number T.kind (P.places places.old) number) }
@@ -90,11 +91,11 @@ pub fn remove<T: Kinded, const N: usize, P: Slots<T, N>>(places: &mut P, number:
     true
 }
 
-/// Promises what holds of each value by the types of its parts, and how many places there are. The
-/// call only reads.
+/// The properties of each value that follow from the types of its parts, and the number of slots.
+/// A proof only: it has no effect at run time.
 pub fn read_sizes<T: Sizes, const N: usize, P: Slots<T, N>>(places: &P)
     ensures each { AreAll T.IsOne (P.places places.now) }
-    // There are always `N` places.
+    // There are always `N` slots.
     ensures all { length (P.places places.now) ≡ N }
 {
     let _ = places.get(N);
@@ -105,15 +106,16 @@ pub fn read_sizes<T: Sizes, const N: usize, P: Slots<T, N>>(places: &P)
     }
 }
 
-/// Slots are a map from numbers, whatever is in them. The function does nothing.
+/// Slots form a map keyed by number, for any type of value. A proof only: it has no effect at run
+/// time.
 #[inline(always)]
 #[tactic(auto, using(crate::proofs::NumberedLaws::is_map))]
 pub fn numbered_laws<T: Kinded>()
     ensures { MapLaws T.kind }
 {}
 
-/// What is found under any number: after a removal, what was found before, or nothing; where all
-/// places are free, nothing. The function does nothing.
+/// After a removal, the value found by each number is unchanged or gone; if all slots are free,
+/// nothing is found. A proof only: it has no effect at run time.
 #[inline(always)]
 #[tactic(auto, using(crate::proofs::FoundNumbers::removed_or_same, crate::proofs::FoundNumbers::free_found))]
 pub fn found_laws<T: Kinded>()

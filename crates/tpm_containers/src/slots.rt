@@ -1,5 +1,5 @@
-//! The trait of slots: a fixed count of places, each free or with a value, where a new value takes
-//! the lowest free place, or is put into a place by its number.
+//! The trait of slots: a fixed number of places, each free or with a value. A new value is put
+//! into the lowest free slot, or into one that the caller chooses.
 
 ghost use Rattle.std.specs.Prelude.{◌≡◌, ◌<◌, ℕ, Bool, IfSome, List, None, Option, Some, length, option_copied, slice_set};
 ghost use Rattle.std.specs.Borrow.{LendsIf, sem};
@@ -8,66 +8,66 @@ ghost use Rattle.tpm_containers.specs.Slots.{Inserts, Puts, at_place, free, lowe
 
 use std::alloc::Global;
 
-/// Why no place was taken.
+/// Why a value was not put into a slot.
 #[derive(Clone, Copy, PartialEq, Eq)]
 pub enum SlotFault {
-    /// All places are taken.
+    /// All slots are taken.
     Full,
-    /// Memory was refused.
+    /// An allocation failed.
     NoMemory,
 }
 
-/// `N` places for values, numbered from 0. Contracts see the list of the places, each free or with
-/// its value.
+/// `N` slots for values, numbered from 0. In contracts they are a list of the slots, each free or
+/// with its value.
 pub trait Slots<T: Drop, const N: usize>: Drop + Sized {
-    /// The places.
+    /// The slots.
     ghost places: { Self → List (Option T) };
 
-    /// The same places with another value in one of them.
+    /// The same slots after a value was put into one of them.
     ghost with_place: { Self → ℕ → T → Self };
 
-    /// Whether memory can be refused.
+    /// Whether an allocation can fail.
     ghost can_refuse: { Bool };
 
-    /// `N` free places; no memory is taken.
+    /// `N` free slots; nothing is allocated.
     fn new(alloc: Global) -> Self
         ensures { places result ≡ free N };
 
-    /// The value in a place, if it is not free.
+    /// The value in this slot, or None if the slot is free.
     fn get(&self, place: usize) -> Option<&T>
         ensures value { option_copied result ≡ at_place (places self.now) place }
-        // There are always `N` places.
+        // There are always `N` slots.
         ensures all { length (places self.now) ≡ N };
 
-    /// The value in a place, if it is not free, to be changed.
+    /// Write access to the value in this slot, or None if the slot is free.
     fn get_mut(&mut self, place: usize) -> Option<&mut T>
         ensures* writes_back { sem 𝓛 (LendsIf Self.row T.row self.entry result
             (with_place self.entry.now place) self.entry.now) }
         ensures value { option_copied_mut result ≡ at_place (places self.old) place };
 
-    /// The lowest free place.
+    /// The lowest free slot.
     fn free(&self) -> Option<usize>
         ensures value { result ≡ lowest_free (places self.now) }
         ensures within { IfSome result (λ place. place < N) };
 
-    /// Puts a value into the lowest free place.
+    /// Puts a value into the lowest free slot.
     fn insert(&mut self, value: T) -> Result<usize, SlotFault>
         ensures { Inserts N can_refuse (places self.old) value result (places self.new) };
 
-    /// Puts a value into a place, over one that is there.
+    /// Puts a value into this slot, replacing any value already there.
     fn put(&mut self, place: usize, value: T) -> Result<(), SlotFault>
         requires { place < N }
         ensures { Puts can_refuse (places self.old) place value result (places self.new) };
 
-    /// Frees a place.
+    /// Frees this slot.
     fn remove(&mut self, place: usize)
         ensures { places self.new ≡ slice_set (places self.old) place None };
 
-    /// Frees all places.
+    /// Frees all slots.
     fn clear(&mut self)
         ensures { places self.new ≡ free N };
 
-    /// A value that is written to a place through a loan is in it afterwards.
+    /// A value written through a mutable reference to its slot is in that slot afterwards.
     ghost written: { (all : Self) (place : ℕ) (value : T)
         → places (with_place all place value) ≡ slice_set (places all) place (Some value) };
 }

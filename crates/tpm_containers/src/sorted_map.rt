@@ -1,4 +1,4 @@
-//! The trait of a map by numbers in ascending order, and why it refuses a value.
+//! The trait of a map keyed by numbers in ascending order, and the reasons why it refuses a value.
 
 ghost use Rattle.std.specs.Prelude.{◌≡◌, ◌≤◌, ℕ, [], Bool, List, is_some, length, option_copied};
 ghost use Rattle.std.specs.Borrow.{LendsIf, sem};
@@ -8,34 +8,34 @@ ghost use Rattle.tpm_containers.specs.SortedMap.{Ascends, PutsKey, at_key, chang
 use crate::Choice;
 use std::alloc::Global;
 
-/// Why nothing was put under a key.
+/// Why no value was put under a key.
 #[derive(Clone, Copy, PartialEq, Eq)]
 pub enum KeyFault {
-    /// There is a value under the key.
+    /// The key already has a value.
     Taken,
-    /// There are as many values as there may be.
+    /// The map is full.
     Full,
-    /// Memory was refused.
+    /// An allocation failed.
     NoMemory,
 }
 
-/// At most `N` values, each under a key of its own. Contracts see them with their keys, in
-/// ascending order of these.
+/// At most `N` values, each with its own key. In contracts they are a list of keys and values, in
+/// ascending order of key.
 pub trait SortedMap<T: Drop, const N: usize>: Drop + Sized {
     /// The keys in ascending order, each with its value.
     ghost entries: { Self → List (ℕ × T) };
 
-    /// The same map with another value under a key that is there.
+    /// The same map after the value of an existing key was replaced.
     ghost with_value: { Self → ℕ → T → Self };
 
-    /// Whether memory can be refused.
+    /// Whether an allocation can fail.
     ghost can_refuse: { Bool };
 
-    /// A map without entries; no memory is taken.
+    /// An empty map; nothing is allocated.
     fn new(alloc: Global) -> Self
         ensures { entries result ≡ [] };
 
-    /// How many values there are.
+    /// The number of values.
     fn len(&self) -> usize
         ensures { result ≡ length (entries self.now) };
 
@@ -43,33 +43,33 @@ pub trait SortedMap<T: Drop, const N: usize>: Drop + Sized {
     fn as_slice(&self) -> &[(u32, T)]
         ensures { result.now ≡ entries self.now };
 
-    /// The value under a key.
+    /// The value of a key.
     fn get(&self, key: u32) -> Option<&T>
         ensures value { option_copied result ≡ at_key (entries self.now) key }
         // The keys always ascend, and there are never more than `N`.
         ensures ascends { Ascends (entries self.now) }
         ensures few { length (entries self.now) ≤ N };
 
-    /// The value under a key, to be changed.
+    /// Write access to the value of a key, or None.
     fn get_mut(&mut self, key: u32) -> Option<&mut T>
         ensures* writes_back { sem 𝓛 (LendsIf Self.row T.row self.entry result
             (with_value self.entry.now key) self.entry.now) }
         ensures value { option_copied_mut result ≡ at_key (entries self.old) key };
 
-    /// The lowest key that is there, from this one on.
+    /// The lowest key in the map at or above this one.
     fn next(&self, key: u32) -> Option<u32>
         ensures { result ≡ key_from (entries self.now) key };
 
-    /// Puts a value under a key that is free.
+    /// Puts a value under a key that must be free.
     fn insert(&mut self, key: u32, value: T) -> Result<(), KeyFault>
         ensures { PutsKey N can_refuse (entries self.old) key value result (entries self.new) };
 
-    /// Removes the value under a key, and tells whether there was one.
+    /// Removes the value of a key. Returns whether there was one.
     fn remove(&mut self, key: u32) -> bool
         ensures there { result ≡ is_some (at_key (entries self.old) key) }
         ensures after { entries self.new ≡ without_key (entries self.old) key };
 
-    /// Removes each value that does not stay by this choice, in one pass.
+    /// Removes each value that the choice does not keep, in one pass.
     fn retain<C: Choice<T>>(&mut self)
         ensures { entries self.new ≡ kept_entries C.stays (entries self.old) };
 
@@ -77,7 +77,7 @@ pub trait SortedMap<T: Drop, const N: usize>: Drop + Sized {
     fn clear(&mut self)
         ensures { entries self.new ≡ [] };
 
-    /// A value that is written through a loan is under its key afterwards.
+    /// A value written through a mutable reference is the value of its key afterwards.
     ghost written: { (map : Self) (key : ℕ) (value : T)
         → entries (with_value map key value) ≡ changed_key (entries map) key value };
 }

@@ -1,16 +1,18 @@
--- The effect of an event with the completing layer, on two devices that differ in secret data alone.
+-- The effect of an event with the completing layer, on two devices that differ in secret data
+-- alone.
 use Rattle.std.proofs.Common.{ap, refl, subst, sym, ◌∙◌}
 use Rattle.std.specs.Prelude.{Bool, List, None, Option, Some, [], false, true, ℕ, ◌==◌, ◌∷◌, ◌≡◌}
 use Rattle.tpm_completion.specs.Completed.{behind, completed, completed_by, completed_with, done_behind, gave_up_behind, passed}
 use Rattle.tpm_completion.specs.Completion.{forgotten}
 use Rattle.tpm_completion.specs.Execution.{Seen, answered, given_up_behind, no_random, reply_behind}
+use Rattle.tpm_completion.specs.Properties.{values_set}
 use Rattle.tpm_completion.specs.Reply.{reply}
 use Rattle.tpm_completion.specs.Room.{flush_asked, flush_text, given_up, noted}
 use Rattle.tpm_completion.specs.Saving.{Reply}
 use Rattle.tpm_completion.specs.declared.completion.Completion.{Completion}
-use Rattle.tpm_edge_secrecy.proofs.Layer.{forgotten_same, reply_same}
+use Rattle.tpm_edge_secrecy.proofs.Layer.{forgotten_same, layer_answers_alike}
 use Rattle.tpm_edge_secrecy.proofs.Repeated.{again_unread, flush_unread, tick_unread}
-use Rattle.tpm_edge_secrecy.specs.Layer.{CompletedRunTellsNothing, CompletedTellsNothing, Completions, CompletesAlike, NoneReadsWith, answers_with}
+use Rattle.tpm_edge_secrecy.specs.Layer.{CompletedRunTellsNothing, CompletedTellsNothing, Completions, CompletesAlike, NoneReadsWith, SetAlike, answers_with}
 use Rattle.tpm_record.specs.Record.{Record}
 use Rattle.tpm_row_secrecy.specs.Secrecy.{DifferInSecrets, Secrecy, of_data}
 use Rattle.tpm_secrecy.proofs.Data.{data_told_nothing}
@@ -48,11 +50,13 @@ module _ (indices : ℕ → Bool) (objects : Public → Bool) where
     layer = ap (λ (z : Reply). z.after) same;
   }
 
+  -- these secrets leave the authorization values
+  sets_alike : (r t : Record) → DifferInSecrets s r t → SetAlike r t
+  sets_alike r t differ = ap (λ (x : Record). values_set x.fixed.hierarchies) differ
+
   reply_alike : (x y : Seen) → CompletesAlike s x y → (buffer : List ℕ) → reply_behind x buffer ≡ reply_behind y buffer
   reply_alike x y alike buffer =
-      sym (reply_same s x.step.after x.layer buffer x.step.response (x.step.row.check == 0))
-      ∙ ap (λ (r : Record). reply r x.layer buffer x.step.response (x.step.row.check == 0)) alike.step.after
-      ∙ reply_same s y.step.after x.layer buffer x.step.response (x.step.row.check == 0)
+      layer_answers_alike s x.step.after y.step.after x.layer buffer x.step.response (x.step.row.check == 0) alike.step.after (sets_alike x.step.after y.step.after alike.step.after)
       ∙ ap (λ (c : Completion). reply y.step.after c buffer x.step.response (x.step.row.check == 0)) alike.layer
       ∙ ap (λ (response : List ℕ). reply y.step.after y.layer buffer response (x.step.row.check == 0)) alike.step.response
       ∙ ap (λ (row : Row). reply y.step.after y.layer buffer y.step.response (row.check == 0)) alike.step.row

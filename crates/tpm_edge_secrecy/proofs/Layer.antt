@@ -1,41 +1,69 @@
--- The completing layer reads nothing secret of a device.
-use Rattle.std.proofs.Common.{ap, refl, ◌∙◌}
+-- The completing layer reads nothing secret of a device, but whether three of its values are
+-- empty.
+use Rattle.std.proofs.Common.{ap, refl, sym, ◌∙◌}
+use Rattle.std.proofs.lemmas.List.Folds.{fold-map}
+use Rattle.std.proofs.lemmas.List.{length-map}
 use Rattle.std.specs.Int.{w32}
-use Rattle.std.specs.Prelude.{Bool, Err, List, None, Ok, Option, Result, Some, [], false, if◌then◌else◌, is_some, length, map, not, true, ℕ, ◌&&◌, ◌/◌, ◌==◌, ◌^◌, ◌∷◌, ◌≡◌}
+use Rattle.std.specs.Prelude.{Bool, Err, List, None, Ok, Option, Result, Some, [], cond, false, if◌then◌else◌, is_some, length, map, not, true, ℕ, ◌&&◌, ◌+◌, ◌++◌, ◌-◌, ◌/◌, ◌==◌, ◌^◌, ◌∷◌, ◌≡◌}
 use Rattle.tpm_actions_capability.specs.declared.element.Element.{Element}
 use Rattle.tpm_bytes.specs.Numbers.{numbers_below}
-use Rattle.tpm_bytes.specs.Reading.{number_at}
+use Rattle.tpm_bytes.specs.Reading.{number_at, ◌>>=◌}
+use Rattle.tpm_bytes.specs.Writing.{sized_text}
 use Rattle.tpm_bytes.specs.declared.cursor.Short.{Short}
 use Rattle.tpm_completion.specs.Answer.{is_refusal}
-use Rattle.tpm_completion.specs.Capability.{asked_at, capability_told, command_elements, handles_told, is_in_state, object_shown, property_elements, session_shown, told_of}
+use Rattle.tpm_completion.specs.Capability.{asked_at, capability_told, command_elements, handles_told, told_of}
 use Rattle.tpm_completion.specs.Command.{Command, plain_command}
 use Rattle.tpm_completion.specs.Completion.{forgotten, no_context, object_held, object_kept, session_context, session_kept}
 use Rattle.tpm_completion.specs.Context.{token_at}
-use Rattle.tpm_completion.specs.Listing.{listing}
-use Rattle.tpm_completion.specs.Reply.{capability_asked, command_reply, listed, reply, reply_by, save_asked, served, stands, stirred}
+use Rattle.tpm_completion.specs.Handles.{is_in_state, object_shown, objects_shown, session_shown, sessions_shown}
+use Rattle.tpm_completion.specs.Hashing.{hash_row, hash_text, hierarchy_at, ticket_hierarchy, ticket_text}
+use Rattle.tpm_completion.specs.Listing.{element, listing}
+use Rattle.tpm_completion.specs.Properties.{active_count, attribute_if, count_elements, counter_count, identity_elements, index_count, is_counter, limit_elements, lockout_elements, object_count, permanent_attributes, property_elements, session_count, startup_attributes, values_set}
+use Rattle.tpm_completion.specs.Reply.{capability_asked, command_reply, listed, replied, reply, reply_by, row_served, save_asked, served, stands, stirred}
 use Rattle.tpm_completion.specs.Saving.{Reply, context_given, handle_given, loaded, loaded_by, next_number, object_loaded, object_numbered, object_saved, place_named, refused, saved, session_loaded, session_numbered, session_saved, token_loaded, with_object, with_session}
+use Rattle.tpm_completion.specs.Testing.{incremental_row, test_parms_row, test_result_row}
 use Rattle.tpm_completion.specs.declared.capability.Asked.{Asked}
 use Rattle.tpm_completion.specs.declared.completion.Completion.{Completion}
 use Rattle.tpm_completion.specs.declared.completion.Held.{Held}
 use Rattle.tpm_completion.specs.declared.context.Token.{Token}
 use Rattle.tpm_containers.specs.Slots.{at_place}
-use Rattle.tpm_edge_secrecy.specs.Layer.{LayerAnswersAlike, LayerForgetsAlike}
+use Rattle.tpm_edge_secrecy.specs.Layer.{LayerAnswersAlike, LayerForgetsAlike, SetAlike}
+use Rattle.tpm_lockout.specs.Tries.{is_locked}
+use Rattle.tpm_mac.specs.Digest.{hash_of}
+use Rattle.tpm_nv.specs.Head.{head_of}
+use Rattle.tpm_nv.specs.Index.{NvIndex}
+use Rattle.tpm_nv.specs.declared.head.Head.{Head}
+use Rattle.tpm_object.specs.declared.object.Object.{Object}
+use Rattle.tpm_record.specs.Hierarchy.{secrets_of}
 use Rattle.tpm_record.specs.Objects.{object_at, object_handle}
 use Rattle.tpm_record.specs.Record.{Record}
+use Rattle.tpm_record.specs.declared.hierarchy.Secrets.{Secrets}
+use Rattle.tpm_record.specs.rows.Rows.{all_read, parameter}
 use Rattle.tpm_row_secrecy.proofs.CapabilityRows.{object_same, of_places, session_same}
 use Rattle.tpm_row_secrecy.proofs.Each.{is_some_of, place_of_each, places}
 use Rattle.tpm_row_secrecy.proofs.Entities.{object_at_bare, session_at_bare}
-use Rattle.tpm_row_secrecy.specs.Secrecy.{Secrecy, bare_object, bare_session, without_secrets}
+use Rattle.tpm_row_secrecy.specs.Secrecy.{DifferInSecrets, Secrecy, bare_index, bare_object, bare_session, without_secrets}
 use Rattle.tpm_session.specs.Sessions.{session_at}
+use Rattle.tpm_types.specs.Algorithm.{hash_at}
+use Rattle.tpm_types.specs.Buffer.{buffer_at}
 use Rattle.tpm_types.specs.Handle.{is_session, is_transient, numbered}
-use Rattle.tpm_types.specs.Limits.{object_limit, session_limit}
+use Rattle.tpm_types.specs.Limits.{data_limit, object_limit, persistent_limit, session_limit}
 use Rattle.tpm_types.specs.declared.handle.Handle.{Handle}
+use Rattle.tpm_types.specs.declared.handle.HierarchyHandle.{HierarchyHandle}
+use Rattle.tpm_types.specs.declared.refused.Refused.{Refused}
 use Rattle.tpm_completion.specs.declared.listing.Form.TheVariants as form
+use Rattle.tpm_types.specs.declared.handle.HierarchyHandle.TheVariants as hierarchy
 
 map_same : {A B : Type 0} (f g : A → B) → ((a : A) → f a ≡ g a) → (xs : List A) → map f xs ≡ map g xs
 map_same f g same [] = refl
 map_same {B = B} f g same (x ∷ xs) =
     ap (λ (y : B). y ∷ map f xs) (same x) ∙ ap (λ (ys : List B). g x ∷ ys) (map_same f g same xs)
+
+abbrev head_entry : ℕ × NvIndex → ℕ × Head
+head_entry e = (e.0, head_of e.1)
+
+abbrev counted : ℕ → ℕ × Head → ℕ
+counted n e = n + cond (is_counter e) 1 0
 
 module _ (s : Secrecy) (r : Record) where
   -- ---- what is there
@@ -67,97 +95,209 @@ module _ (s : Secrecy) (r : Record) where
       ∙ ap (λ (sessions : List ℕ). record c { objects = map (object_kept r c) (numbers_below object_limit); sessions = sessions })
       (map_same (session_kept (without_secrets s r) c) (session_kept r c) (session_kept_same c) (numbers_below session_limit))
 
+  -- ---- counts
+
+  abbrev bare_entry : ℕ × NvIndex → ℕ × NvIndex
+  bare_entry e = (e.0, bare_index s e.1)
+
+  index_count_same : index_count (without_secrets s r).nv ≡ index_count r.nv
+  index_count_same =
+      length-map (map bare_entry r.nv.indices) head_entry
+      ∙ length-map r.nv.indices bare_entry ∙ sym (length-map r.nv.indices head_entry)
+
+  counter_count_same : counter_count (without_secrets s r).nv ≡ counter_count r.nv
+  counter_count_same =
+      fold-map counted head_entry 0 (map bare_entry r.nv.indices)
+      ∙ fold-map (λ (n : ℕ) (e : ℕ × NvIndex). counted n (head_entry e)) bare_entry 0 r.nv.indices
+      ∙ sym (fold-map counted head_entry 0 r.nv.indices)
+
+  persistent_count_same : length (without_secrets s r).persistent ≡ length r.persistent
+  persistent_count_same = length-map r.persistent (λ (e : ℕ × Object). (e.0, bare_object s e.1))
+
+  -- ---- handles
+
+  object_shown_bare : (c : Completion) (place : ℕ) → object_shown (without_secrets s r) c place ≡ object_shown r c place
+  unfolding object_shown
+  object_shown_bare c place = ap (λ (x : List Element). if (object_held c place).waits == 0 then x else []) (object_same s r place)
+
+  session_shown_bare : (c : Completion) (is_saved : Bool) (place : ℕ) → session_shown (without_secrets s r) c is_saved place ≡ session_shown r c is_saved place
+  unfolding session_shown
+  session_shown_bare c is_saved place = ap (λ (x : List Element). if is_in_state is_saved (session_context c place) then x else []) (session_same s r place)
+
+  objects_bare : (c : Completion) → objects_shown (without_secrets s r) c ≡ objects_shown r c
+  objects_bare c = of_places s r (object_shown (without_secrets s r) c) (object_shown r c) (object_shown_bare c) (numbers_below object_limit)
+
+  sessions_bare : (c : Completion) (is_saved : Bool) → sessions_shown (without_secrets s r) c is_saved ≡ sessions_shown r c is_saved
+  sessions_bare c is_saved = of_places s r (session_shown (without_secrets s r) c is_saved) (session_shown r c is_saved) (session_shown_bare c is_saved) (numbers_below session_limit)
+
+same_bind : {A B E : Type 0} (x : Result A E) (f g : A → Result B E) → ((a : A) → f a ≡ g a) → (x >>= f) ≡ (x >>= g)
+same_bind (Ok a) f g same = same a
+same_bind (Err e) f g same = refl
+
+-- the counts of a device, as they are listed
+abbrev counted_elements : (permanent startup indices loaded active objects persistent counters : ℕ) → List Element
+counted_elements permanent startup indices loaded active objects persistent counters =
+    element 0x200 permanent
+    ∷ element 0x201 startup
+    ∷ element 0x202 indices
+    ∷ element 0x203 loaded
+    ∷ element 0x204 (session_limit - loaded)
+    ∷ element 0x205 active
+    ∷ element 0x206 (session_limit - active)
+    ∷ element 0x207 (object_limit - objects)
+    ∷ element 0x208 persistent
+    ∷ element 0x209 (persistent_limit - persistent)
+    ∷ element 0x20a counters
+    ∷ []
+
+-- two devices that differ in secrets alone, and agree on which values are empty
+module _ (s : Secrecy) (one other : Record) (differ : DifferInSecrets s one other) (alike : SetAlike one other) where
+  -- what is the same of a device and of it without its secrets is the same of the two
+  through : {X : Type 0} (f : Record → X) → ((r : Record) → f (without_secrets s r) ≡ f r) → f one ≡ f other
+  through f same = sym (same one) ∙ ap f differ ∙ same other
+
+  object_alike : (handle : Handle) → is_some (object_at one.objects handle) ≡ is_some (object_at other.objects handle)
+  object_alike handle = through (λ (r : Record). is_some (object_at r.objects handle)) (λ (r : Record). object_there s r handle)
+
+  session_alike : (handle : Handle) → is_some (session_at one.sessions handle) ≡ is_some (session_at other.sessions handle)
+  session_alike handle = through (λ (r : Record). is_some (session_at r.sessions handle)) (λ (r : Record). session_there s r handle)
+
+  objects_alike : (c : Completion) → objects_shown one c ≡ objects_shown other c
+  objects_alike c = through (λ (r : Record). objects_shown r c) (λ (r : Record). objects_bare s r c)
+
+  sessions_alike : (c : Completion) (is_saved : Bool) → sessions_shown one c is_saved ≡ sessions_shown other c is_saved
+  sessions_alike c is_saved = through (λ (r : Record). sessions_shown r c is_saved) (λ (r : Record). sessions_bare s r c is_saved)
+
+  secrets_alike : (of : HierarchyHandle) → secrets_of one.fixed.hierarchies of ≡ secrets_of other.fixed.hierarchies of
+  secrets_alike hierarchy.Owner = ap (λ (r : Record). r.fixed.hierarchies.owner.secrets) differ
+  secrets_alike hierarchy.Endorsement = ap (λ (r : Record). r.fixed.hierarchies.endorsement.secrets) differ
+  secrets_alike hierarchy.Platform = ap (λ (r : Record). r.fixed.hierarchies.platform.secrets) differ
+  secrets_alike hierarchy.Null = ap (λ (r : Record). r.fixed.hierarchies.null) differ
+
   -- ---- contexts
 
-  saved_same : (c : Completion) (handle : Handle) → saved (without_secrets s r) c handle ≡ saved r c handle
+  saved_alike : (c : Completion) (handle : Handle) → saved one c handle ≡ saved other c handle
   unfolding saved
-  saved_same c handle =
-      ap (λ (x : Reply). if is_transient handle then x else (if is_session handle then session_saved (without_secrets s r) c handle (session_context c (place_named handle)) else refused c 0x184)) (of_object (object_held c (place_named handle)))
-      ∙ ap (λ (x : Reply). if is_transient handle then object_saved r c handle (object_held c (place_named handle)) else (if is_session handle then x else refused c 0x184)) (of_session (session_context c (place_named handle)))
+  saved_alike c handle =
+      ap (λ (x : Reply). if is_transient handle then x else (if is_session handle then session_saved one c handle (session_context c (place_named handle)) else refused c 0x184)) (of_object (object_held c (place_named handle)))
+      ∙ ap (λ (x : Reply). if is_transient handle then object_saved other c handle (object_held c (place_named handle)) else (if is_session handle then x else refused c 0x184)) (of_session (session_context c (place_named handle)))
     where
-      of_object : (held : Held) → object_saved (without_secrets s r) c handle held ≡ object_saved r c handle held
-      of_object held = ap (λ (there : Bool). if not (there && (held.waits == 0)) then refused c 0x910 else (if held.context == 0 then object_numbered c handle (next_number c) else context_given c handle held.context)) (object_there handle)
+      of_object : (held : Held) → object_saved one c handle held ≡ object_saved other c handle held
+      of_object held = ap (λ (there : Bool). if not (there && (held.waits == 0)) then refused c 0x910 else (if held.context == 0 then object_numbered c handle (next_number c) else context_given c handle held.context)) (object_alike handle)
 
-      of_session : (context : ℕ) → session_saved (without_secrets s r) c handle context ≡ session_saved r c handle context
-      of_session context = ap (λ (there : Bool). if there && (context == 0) then session_numbered c handle (next_number c) else refused c 0x910) (session_there handle)
+      of_session : (context : ℕ) → session_saved one c handle context ≡ session_saved other c handle context
+      of_session context = ap (λ (there : Bool). if there && (context == 0) then session_numbered c handle (next_number c) else refused c 0x910) (session_alike handle)
 
-  token_same : (c : Completion) (token : Token) → token_loaded (without_secrets s r) c token ≡ token_loaded r c token
-  token_same c token =
-      ap (λ (x : Reply). if is_transient token.handle then x else (if is_session token.handle then session_loaded (without_secrets s r) c token else refused c 0x1cb)) of_object
-      ∙ ap (λ (x : Reply). if is_transient token.handle then object_loaded r c token else (if is_session token.handle then x else refused c 0x1cb)) of_session
+  token_alike : (c : Completion) (token : Token) → token_loaded one c token ≡ token_loaded other c token
+  token_alike c token =
+      ap (λ (x : Reply). if is_transient token.handle then x else (if is_session token.handle then session_loaded one c token else refused c 0x1cb)) of_object
+      ∙ ap (λ (x : Reply). if is_transient token.handle then object_loaded other c token else (if is_session token.handle then x else refused c 0x1cb)) of_session
     where
-      of_object : object_loaded (without_secrets s r) c token ≡ object_loaded r c token
-      of_object = ap (λ (there : Bool). if there && (not (token.context == 0) && (token.context == (object_held c (place_named token.handle)).context)) then handle_given (with_object c (place_named token.handle) (record { context = token.context; waits = 0 })) token.handle else refused c 0x1cb) (object_there token.handle)
+      of_object : object_loaded one c token ≡ object_loaded other c token
+      of_object = ap (λ (there : Bool). if there && (not (token.context == 0) && (token.context == (object_held c (place_named token.handle)).context)) then handle_given (with_object c (place_named token.handle) (record { context = token.context; waits = 0 })) token.handle else refused c 0x1cb) (object_alike token.handle)
 
-      of_session : session_loaded (without_secrets s r) c token ≡ session_loaded r c token
-      of_session = ap (λ (there : Bool). if there && (not (token.context == 0) && (token.context == session_context c (place_named token.handle))) then handle_given (with_session c (place_named token.handle) 0) token.handle else refused c 0x1cb) (session_there token.handle)
+      of_session : session_loaded one c token ≡ session_loaded other c token
+      of_session = ap (λ (there : Bool). if there && (not (token.context == 0) && (token.context == session_context c (place_named token.handle))) then handle_given (with_session c (place_named token.handle) 0) token.handle else refused c 0x1cb) (session_alike token.handle)
 
-  loaded_same : (c : Completion) (context : List ℕ) → loaded (without_secrets s r) c context ≡ loaded r c context
+  loaded_alike : (c : Completion) (context : List ℕ) → loaded one c context ≡ loaded other c context
   unfolding loaded
-  loaded_same c context = by (token_at c.start context)
+  loaded_alike c context = by (token_at c.start context)
     where
-      by : (x : Result Token Short) → loaded_by (without_secrets s r) c x ≡ loaded_by r c x
-      by (Ok token) = token_same c token
+      by : (x : Result Token Short) → loaded_by one c x ≡ loaded_by other c x
+      by (Ok token) = token_alike c token
       by (Err e) = refl
+
+  -- ---- properties
+
+  permanent_alike : permanent_attributes one.fixed ≡ permanent_attributes other.fixed
+  permanent_alike =
+      ap (λ (n : ℕ). n + attribute_if one.fixed.disable_clear 0x100 + attribute_if (is_locked one.fixed.lockout.fields) 0x200 + 0x400) alike
+      ∙ ap (λ (r : Record). values_set other.fixed.hierarchies + attribute_if r.fixed.disable_clear 0x100 + attribute_if (is_locked r.fixed.lockout.fields) 0x200 + 0x400) differ
+
+  active_alike : (c : Completion) → active_count one c ≡ active_count other c
+  active_alike c =
+      ap (λ (xs : List Element). length xs + session_count one c true) (sessions_alike c false)
+      ∙ ap (λ (xs : List Element). session_count other c false + length xs) (sessions_alike c true)
+
+  counts_alike : (c : Completion) → count_elements one c ≡ count_elements other c
+  unfolding count_elements
+  counts_alike c =
+      ap (λ (n : ℕ). counted_elements n (startup_attributes one.fixed) (index_count one.nv) (session_count one c false) (active_count one c) (object_count one c) (length one.persistent) (counter_count one.nv)) permanent_alike
+      ∙ ap (λ (r : Record). counted_elements (permanent_attributes other.fixed) (startup_attributes r.fixed) (index_count one.nv) (session_count one c false) (active_count one c) (object_count one c) (length one.persistent) (counter_count one.nv)) differ
+      ∙ ap (λ (n : ℕ). counted_elements (permanent_attributes other.fixed) (startup_attributes other.fixed) n (session_count one c false) (active_count one c) (object_count one c) (length one.persistent) (counter_count one.nv)) (through (λ (r : Record). index_count r.nv) (λ (r : Record). index_count_same s r))
+      ∙ ap (λ (xs : List Element). counted_elements (permanent_attributes other.fixed) (startup_attributes other.fixed) (index_count other.nv) (length xs) (active_count one c) (object_count one c) (length one.persistent) (counter_count one.nv)) (sessions_alike c false)
+      ∙ ap (λ (n : ℕ). counted_elements (permanent_attributes other.fixed) (startup_attributes other.fixed) (index_count other.nv) (session_count other c false) n (object_count one c) (length one.persistent) (counter_count one.nv)) (active_alike c)
+      ∙ ap (λ (xs : List Element). counted_elements (permanent_attributes other.fixed) (startup_attributes other.fixed) (index_count other.nv) (session_count other c false) (active_count other c) (length xs) (length one.persistent) (counter_count one.nv)) (objects_alike c)
+      ∙ ap (λ (n : ℕ). counted_elements (permanent_attributes other.fixed) (startup_attributes other.fixed) (index_count other.nv) (session_count other c false) (active_count other c) (object_count other c) n (counter_count one.nv)) (through (λ (r : Record). length r.persistent) (λ (r : Record). persistent_count_same s r))
+      ∙ ap (λ (n : ℕ). counted_elements (permanent_attributes other.fixed) (startup_attributes other.fixed) (index_count other.nv) (session_count other c false) (active_count other c) (object_count other c) (length other.persistent) n) (through (λ (r : Record). counter_count r.nv) (λ (r : Record). counter_count_same s r))
+
+  properties_alike : (c : Completion) → property_elements one c ≡ property_elements other c
+  unfolding property_elements
+  properties_alike c =
+      ap (λ (xs : List Element). identity_elements ++ limit_elements ++ xs ++ lockout_elements one.fixed.lockout) (counts_alike c)
+      ∙ ap (λ (r : Record). identity_elements ++ limit_elements ++ count_elements other c ++ lockout_elements r.fixed.lockout) differ
 
   -- ---- lists
 
-  object_shown_same : (c : Completion) (place : ℕ) → object_shown (without_secrets s r) c place ≡ object_shown r c place
-  unfolding object_shown
-  object_shown_same c place = ap (λ (x : List Element). if (object_held c place).waits == 0 then x else []) (object_same s r place)
+  handles_alike : (c : Completion) (asked : Asked) (kind : ℕ) → handles_told one c asked kind ≡ handles_told other c asked kind
+  handles_alike c asked kind = rw (objects_alike c, sessions_alike c false, sessions_alike c true) refl
 
-  session_shown_same : (c : Completion) (is_saved : Bool) (place : ℕ) → session_shown (without_secrets s r) c is_saved place ≡ session_shown r c is_saved place
-  unfolding session_shown
-  session_shown_same c is_saved place = ap (λ (x : List Element). if is_in_state is_saved (session_context c place) then x else []) (session_same s r place)
+  told_alike : (c : Completion) (asked : Asked) → told_of one c asked ≡ told_of other c asked
+  told_alike c asked =
+      ap (λ (x : Option (List ℕ)). if asked.capability == 1 then x else (if asked.capability == 2 then Some (listing form.Value 2 asked.property asked.count command_elements) else (if asked.capability == 6 then Some (listing form.Property 6 asked.property asked.count (property_elements one c)) else None))) (handles_alike c asked (asked.property / 2 ^ 24))
+      ∙ ap (λ (xs : List Element). if asked.capability == 1 then handles_told other c asked (asked.property / 2 ^ 24) else (if asked.capability == 2 then Some (listing form.Value 2 asked.property asked.count command_elements) else (if asked.capability == 6 then Some (listing form.Property 6 asked.property asked.count xs) else None))) (properties_alike c)
 
-  handles_same : (c : Completion) (asked : Asked) (kind : ℕ) → handles_told (without_secrets s r) c asked kind ≡ handles_told r c asked kind
-  handles_same c asked kind =
-      rw (
-        of_places s r (object_shown (without_secrets s r) c) (object_shown r c) (object_shown_same c) (numbers_below object_limit),
-        of_places s r (session_shown (without_secrets s r) c false) (session_shown r c false) (session_shown_same c false) (numbers_below session_limit),
-        of_places s r (session_shown (without_secrets s r) c true) (session_shown r c true) (session_shown_same c true) (numbers_below session_limit),
-      ) refl
-
-  told_same : (c : Completion) (asked : Asked) → told_of (without_secrets s r) c asked ≡ told_of r c asked
-  told_same c asked =
-      ap (λ (x : Option (List ℕ)). if asked.capability == 1 then x else (if asked.capability == 2 then Some (listing form.Value 2 asked.property asked.count command_elements) else (if asked.capability == 6 then Some (listing form.Property 6 asked.property asked.count (property_elements r.fixed.lockout)) else None))) (handles_same c asked (asked.property / 2 ^ 24))
-
-  capability_same : (c : Completion) (asked : Asked) (was_told : Bool) (response : List ℕ) → capability_told (without_secrets s r) c asked was_told response ≡ capability_told r c asked was_told response
+  capability_alike : (c : Completion) (asked : Asked) (was_told : Bool) (response : List ℕ) → capability_told one c asked was_told response ≡ capability_told other c asked was_told response
   unfolding capability_told
-  capability_same c asked true response = told_same c asked
-  capability_same c asked false response = refl
+  capability_alike c asked true response = told_alike c asked
+  capability_alike c asked false response = refl
 
   -- ---- the answer
 
-  served_same : (c : Completion) (command : Command) (response : List ℕ) → served (without_secrets s r) c command response ≡ served r c command response
-  served_same c command response =
-      ap (λ (x : Reply). if command.code == 0x146 then stirred c command.parameters response else (if command.code == 0x161 then x else (if command.code == 0x162 then save_asked (without_secrets s r) c response (number_at w32 command.parameters) else stands c response))) (loaded_same c command.parameters)
-      ∙ ap (λ (x : Reply). if command.code == 0x146 then stirred c command.parameters response else (if command.code == 0x161 then loaded r c command.parameters else (if command.code == 0x162 then x else stands c response))) (by (number_at w32 command.parameters))
+  hash_alike : (parameters : List ℕ) → hash_row one.fixed.hierarchies parameters ≡ hash_row other.fixed.hierarchies parameters
+  unfolding hash_row hash_text
+  hash_alike parameters =
+      same_bind (parameter 1 (buffer_at data_limit parameters)) _ _ (λ message.
+      same_bind (parameter 2 (hash_at message.1)) _ _ (λ hash.
+      same_bind (parameter 3 (hierarchy_at hash.1)) _ _ (λ asked.
+      same_bind (all_read asked.1) _ _ (λ ended.
+      ap (λ (x : Secrets). let z : Result (List ℕ) Refused = Ok (sized_text (hash_of hash.0 message.0) ++ ticket_text (ticket_hierarchy asked.0 message.0) x.proof (hash_of hash.0 message.0)) in z) (secrets_alike (ticket_hierarchy asked.0 message.0))))))
+
+  row_alike : (c : Completion) (command : Command) (response : List ℕ) → row_served one c command response ≡ row_served other c command response
+  row_alike c command response =
+      ap (λ (x : Result (List ℕ) Refused). if command.code == 0x142 then replied c (incremental_row command.parameters) else (if command.code == 0x17c then replied c (test_result_row command.parameters) else (if command.code == 0x17d then replied c x else (if command.code == 0x18a then replied c (test_parms_row command.parameters) else stands c response)))) (hash_alike command.parameters)
+
+  served_alike : (c : Completion) (command : Command) (response : List ℕ) → served one c command response ≡ served other c command response
+  served_alike c command response =
+      ap (λ (x : Reply). if command.code == 0x146 then stirred c command.parameters response else (if command.code == 0x161 then x else (if command.code == 0x162 then save_asked one c response (number_at w32 command.parameters) else row_served one c command response))) (loaded_alike c command.parameters)
+      ∙ ap (λ (x : Reply). if command.code == 0x146 then stirred c command.parameters response else (if command.code == 0x161 then loaded other c command.parameters else (if command.code == 0x162 then x else row_served one c command response))) (by (number_at w32 command.parameters))
+      ∙ ap (λ (x : Reply). if command.code == 0x146 then stirred c command.parameters response else (if command.code == 0x161 then loaded other c command.parameters else (if command.code == 0x162 then save_asked other c response (number_at w32 command.parameters) else x))) (row_alike c command response)
     where
-      by : (x : Result (ℕ × List ℕ) Short) → save_asked (without_secrets s r) c response x ≡ save_asked r c response x
-      by (Ok handle) = ap (λ (x : Reply). if length handle.1 == 0 then x else stands c response) (saved_same c (numbered handle.0))
+      by : (x : Result (ℕ × List ℕ) Short) → save_asked one c response x ≡ save_asked other c response x
+      by (Ok handle) = ap (λ (x : Reply). if length handle.1 == 0 then x else stands c response) (saved_alike c (numbered handle.0))
       by (Err e) = refl
 
-  asked_same : (c : Completion) (response : List ℕ) (was_told : Bool) (x : Result Asked Short) → capability_asked (without_secrets s r) c response was_told x ≡ capability_asked r c response was_told x
-  asked_same c response was_told (Ok asked) = ap (listed c response) (capability_same c asked was_told response)
-  asked_same c response was_told (Err e) = refl
+  asked_alike : (c : Completion) (response : List ℕ) (was_told : Bool) (x : Result Asked Short) → capability_asked one c response was_told x ≡ capability_asked other c response was_told x
+  asked_alike c response was_told (Ok asked) = ap (listed c response) (capability_alike c asked was_told response)
+  asked_alike c response was_told (Err e) = refl
 
-  command_same : (c : Completion) (command : Command) (response : List ℕ) (was_told : Bool) → command_reply (without_secrets s r) c command response was_told ≡ command_reply r c command response was_told
+  command_alike : (c : Completion) (command : Command) (response : List ℕ) (was_told : Bool) → command_reply one c command response was_told ≡ command_reply other c command response was_told
   unfolding command_reply
-  command_same c command response was_told =
-      ap (λ (x : Reply). if not r.fixed.started then stands c response else (if is_refusal 0x143 response then x else (if command.code == 0x17a then capability_asked (without_secrets s r) c response was_told (asked_at command.parameters) else stands c response))) (served_same c command response)
-      ∙ ap (λ (x : Reply). if not r.fixed.started then stands c response else (if is_refusal 0x143 response then served r c command response else (if command.code == 0x17a then x else stands c response))) (asked_same c response was_told (asked_at command.parameters))
+  command_alike c command response was_told =
+      ap (λ (r : Record). if not r.fixed.started then stands c response else (if is_refusal 0x143 response then served one c command response else (if command.code == 0x17a then capability_asked one c response was_told (asked_at command.parameters) else stands c response))) differ
+      ∙ ap (λ (x : Reply). if not other.fixed.started then stands c response else (if is_refusal 0x143 response then x else (if command.code == 0x17a then capability_asked one c response was_told (asked_at command.parameters) else stands c response))) (served_alike c command response)
+      ∙ ap (λ (x : Reply). if not other.fixed.started then stands c response else (if is_refusal 0x143 response then served other c command response else (if command.code == 0x17a then x else stands c response))) (asked_alike c response was_told (asked_at command.parameters))
 
-  pub reply_same : (c : Completion) (buffer response : List ℕ) (was_told : Bool) → reply (without_secrets s r) c buffer response was_told ≡ reply r c buffer response was_told
+  pub reply_alike : (c : Completion) (buffer response : List ℕ) (was_told : Bool) → reply one c buffer response was_told ≡ reply other c buffer response was_told
   unfolding reply
-  reply_same c buffer response was_told = by (plain_command buffer)
+  reply_alike c buffer response was_told = by (plain_command buffer)
     where
-      by : (x : Result Command Short) → reply_by (without_secrets s r) c buffer response was_told x ≡ reply_by r c buffer response was_told x
-      by (Ok command) = command_same c command response was_told
+      by : (x : Result Command Short) → reply_by one c buffer response was_told x ≡ reply_by other c buffer response was_told x
+      by (Ok command) = command_alike c command response was_told
       by (Err e) = refl
 
 pub layer_answers_alike : LayerAnswersAlike
-layer_answers_alike s r c buffer response was_told = reply_same s r c buffer response was_told
+layer_answers_alike s one other c buffer response was_told differ alike = reply_alike s one other differ alike c buffer response was_told
 
 pub layer_forgets_alike : LayerForgetsAlike
 layer_forgets_alike s r c = forgotten_same s r c

@@ -1,5 +1,5 @@
--- What the layer has a device execute beside the event reads nothing secret: a tick, the flush of an
--- object that is given up, and the command once more for which it is.
+-- What the layer has a device execute besides the event reads nothing secret: a tick, the flush of
+-- an object that is given up, and the command again for which it is.
 use Rattle.std.proofs.Common.{ap, refl, rules, sym, ◌∙◌}
 use Rattle.std.proofs.lemmas.Bool.{false≢true}
 use Rattle.std.specs.Prelude.{Bool, Err, IfOk, List, None, Ok, Option, Result, Some, [], false, if◌then◌else◌, not, true, ℕ, ◌&&◌, ◌==◌, ◌||◌, ◌≡◌}

@@ -1,4 +1,4 @@
--- What a device that was opened from a journal tells of what its objects seal.
+-- What a device that was opened from a journal reveals of what its objects seal.
 use Rattle.std.specs.Prelude.{Bool, List, Ok, false, ℕ, ◌∷◌, ◌≡◌, ◌⊎◌}
 use Rattle.tpm_journal.specs.Opening.{IsJournal, OpensJournal}
 use Rattle.tpm_journal.specs.Replay.{run_of_all}
@@ -13,8 +13,7 @@ use Rattle.tpm_step.specs.History.{AcceptedCommand, Done, History, recorded}
 use Rattle.tpm_step.specs.Step.{Stepped}
 use Rattle.tpm_types_object.specs.declared.public.Public.{Public}
 
--- the history of a device with all that a journal's entries executed: first that of the device of
--- the journal's head
+-- the history of the device in a journal's head, and what the journal's entries executed after it
 abbrev pub journal_history : (text : List ℕ) (opened : Opened) (new : Record)
     → IsJournal text opened new → History → History
 journal_history text opened new is history =
@@ -22,10 +21,10 @@ journal_history text opened new is history =
     (run_of_all false is.reads.start.journal is.reads.start.device
     is.reads.replays.repeats.performances opened.journal new is.reads.replays.repeats.leads)
 
--- A text was opened as a journal whose head holds a device that follows a history: an image of a
--- device with a history, behind a power cycle, or a state text of one. Whatever was executed since
--- on the device that was opened: an execution tells nothing of what is sealed, or is recorded as an
--- accepted command that reads it, whose policy was met by the history from the head on.
+-- A text was opened as a journal whose head holds a device that follows a history: the image of
+-- such a device, after a power cycle, or its state text. Whatever was executed on the opened
+-- device since, an execution reveals nothing of what is sealed, or is recorded as an accepted
+-- command that reads it, and the history from the head on met the policy of that command.
 abbrev pub OpenedDataNeedPolicy : Type 0
 OpenedDataNeedPolicy =
     (objects : Public → Bool) (text : List ℕ) (opened : Opened) (new : Record)

@@ -1,4 +1,4 @@
--- How a command is said in words: its name, and a word for each of its handles and parameters.
+-- The form of a command in words: its name, and a word for each of its handles and parameters.
 use Rattle.std.specs.Prelude.{ℕ, is_some, List, ◌++◌, codes, if◌then◌else◌}
 use Rattle.std.specs.List.{flat_map}
 use Rattle.tpm_commands.specs.CommandCode.{code_name, shape_of}
@@ -48,7 +48,7 @@ parameter_word parameter.SensitiveCreate = codes "Buffer"
 parameter_word parameter.Public = codes "Buffer"
 parameter_word parameter.NvPublic = codes "Buffer"
 
--- a handle after a space, marked by @ where an entry has to authorize it
+-- a handle after a space, marked with @ if it needs an entry that authorizes it
 abbrev pub handle_form : HandleRule → List ℕ
 handle_form rule =
     (if is_some rule.role then codes " @" else codes " ") ++ handle_word rule.kind
@@ -57,7 +57,7 @@ handle_form rule =
 abbrev pub parameter_form : ParameterKind → List ℕ
 parameter_form kind = codes " " ++ parameter_word kind
 
--- a command in words: its entries, of which the form has none, stand after its handles
+-- a command in words; its entries, which the form omits, follow its handles
 abbrev pub form_of : CommandCode → List ℕ
 form_of code = code_name code ++ flat_map handle_form (shape_of code).handles
     ++ flat_map parameter_form (shape_of code).parameters

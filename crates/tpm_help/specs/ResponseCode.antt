@@ -1,5 +1,5 @@
--- The names of response codes, and the place that a code tells of. TPM 2.0 Library, Part 2, section
--- 6.6: 6.6.2 has the bits of a code, and 6.6.3 the numbers of TPM_RC.
+-- The names of response codes, and the place that a code identifies. TPM 2.0 Library, Part 2,
+-- section 6.6: 6.6.2 defines the bits of a code, and 6.6.3 the numbers of TPM_RC.
 use Rattle.std.specs.Prelude.{ℕ, ◌+◌, ◌/◌, ◌%◌, ◌==◌, ◌||◌, ◌++◌, ◌-◌, nat_lt, List, [], ◌∷◌, codes, length, replicate, if◌then◌else◌}
 use Rattle.tpm_types.specs.declared.rc.Place.{Place}
 use Rattle.tpm_types.specs.declared.rc.Place.TheVariants as place
@@ -11,7 +11,7 @@ use Rattle.std.specs.Option.{option_or}
 use Rattle.std.specs.Result.{result_ok}
 use Rattle.hex.specs.Hex.{decode_of}
 
--- the codes that tell of no place: success, a bad tag, and errors of the version 2.0 (RC_VER1)
+-- the codes that identify no place: success, a bad tag, and errors of the version 2.0 (RC_VER1)
 unfoldable pub errors : List (ℕ × List ℕ)
 errors = (0x000, codes "SUCCESS") ∷ (0x01e, codes "BAD_TAG")
     ∷ (0x100, codes "INITIALIZE")
@@ -50,7 +50,7 @@ errors = (0x000, codes "SUCCESS") ∷ (0x01e, codes "BAD_TAG")
     ∷ (0x155, codes "SENSITIVE")
     ∷ []
 
--- the codes that tell of no place, and are warnings (RC_WARN)
+-- the codes that identify no place, and are warnings (RC_WARN)
 unfoldable pub warnings : List (ℕ × List ℕ)
 warnings = (0x901, codes "CONTEXT_GAP")
     ∷ (0x902, codes "OBJECT_MEMORY")
@@ -82,7 +82,7 @@ warnings = (0x901, codes "CONTEXT_GAP")
     ∷ (0x923, codes "NV_UNAVAILABLE")
     ∷ []
 
--- the codes that tell of a place, without it (RC_FMT1)
+-- the codes that identify a place, here without it (RC_FMT1)
 unfoldable pub located : List (ℕ × List ℕ)
 located = (0x081, codes "ASYMMETRIC")
     ∷ (0x082, codes "ATTRIBUTES")
@@ -119,13 +119,13 @@ located = (0x081, codes "ASYMMETRIC")
     ∷ (0x0a7, codes "ECC_POINT")
     ∷ []
 
--- the name of a number in these rows
+-- the name for a number in this list
 abbrev pub name_in : List (ℕ × List ℕ) → ℕ → Option (List ℕ)
 name_in rows number = option_map (λ row. row.1) (find (λ row. row.0 == number) rows)
 
--- the place of the fault that a code of RC_FMT1 tells: bit 6 is set for a parameter, whose number
--- is in bits 8 to 11; else bit 11 is set for a session and clear for a handle, whose number is in
--- bits 8 to 10. The number 0 is no place
+-- the place of the fault that a code of RC_FMT1 identifies. If bit 6 is set, it is the parameter
+-- whose number is in bits 8 to 11. Otherwise it is a session if bit 11 is set, and a handle if it
+-- is clear; its number is in bits 8 to 10. The number 0 means no place
 unfoldable pub place_in : ℕ → Place
 place_in code =
     let number : ℕ = code / 0x100 in
@@ -134,8 +134,8 @@ place_in code =
     else (if number % 8 == 0 then place.Nowhere
     else (if number / 8 == 1 then place.Session (number % 8) else place.Handle (number % 8)))
 
--- what a response code of twelve bits says, by its name and its place: bit 7 is set in a code of
--- RC_FMT1, which tells of a place. None where the standard has no such code
+-- the name and the place of a response code of twelve bits; bit 7 is set in a code of RC_FMT1,
+-- which identifies a place. None if the standard does not define the code
 unfoldable pub told_by : ℕ → Option (List ℕ × Place)
 told_by code =
     if code / 0x80 % 2 == 1
@@ -143,18 +143,18 @@ told_by code =
     else option_map (λ name. (name, place.Nowhere))
     (option_or (name_in errors code) (name_in warnings code))
 
--- what a response code says; one of more than twelve bits is no TPM's
+-- the meaning of a response code; a code of more than twelve bits is not from a TPM
 abbrev pub told_of : ℕ → Option (List ℕ × Place)
 told_of code = if nat_lt code 0x1000 then told_by code else None
 
--- a code in words: its name, and where the fault is
+-- a code in words: its name, and the place of the fault
 abbrev pub code_text : List ℕ → Place → List ℕ
 code_text name place.Nowhere = name
 code_text name (place.Handle number) = name ++ codes ", handle " ++ decimal number
 code_text name (place.Parameter number) = name ++ codes ", parameter " ++ decimal number
 code_text name (place.Session number) = name ++ codes ", session " ++ decimal number
 
--- the number that one to eight hex digits of either case write
+-- the number in one to eight hex digits of either case
 unfoldable pub hex_number : List ℕ → Option ℕ
 hex_number digits =
     if length digits == 0 || nat_lt 8 (length digits) then None

@@ -1,4 +1,4 @@
--- What is wanted where words that spell no command are at fault.
+-- What is expected at the position of a fault, in words that are not a command.
 use Rattle.std.specs.Prelude.{ℕ, ◌+◌, ◌-◌, ◌==◌, List, [], ◌++◌, length, map, take, drop, replicate, codes, get_or}
 use Rattle.std.specs.Prelude.{Option, Some, None}
 use Rattle.std.specs.List.{count_by, take_while}
@@ -10,19 +10,19 @@ use Rattle.tpm_text.specs.declared.fault.AsmFault.{AsmFault}
 use Rattle.tpm_text.specs.declared.fault.AsmFault.TheVariants as fault
 use Rattle.tpm_help.specs.Form.{handle_word, parameter_word}
 
--- how many entries these tokens of a command have: at most three after the handles, up to the first
--- token that does not begin like an entry
+-- the number of entries in these tokens of a command: at most three after the handles, up to the
+-- first token that does not begin like an entry
 abbrev pub entry_count : CommandCode → (tokens : List (List ℕ)) → ℕ
 entry_count code tokens =
     length (take_while begins_entry (take 3 (drop (handle_count code + 1) tokens)))
 
--- the words for what follows the name of a command with this many entries, in order
+-- the words for what follows the name of a command that has this many entries, in order
 abbrev pub words_behind : CommandCode → (entries : ℕ) → List (List ℕ)
 words_behind code entries = map (λ rule. handle_word rule.kind) (shape_of code).handles
     ++ (replicate entries (codes "entry") ++ map parameter_word (shape_of code).parameters)
 
--- the word for what is wanted in a place after the name, from 0, of the command that the first
--- token names
+-- the word for what is expected at a position after the name, counted from 0, of the command that
+-- the first token names
 abbrev pub word_for : Option CommandCode → (tokens : List (List ℕ)) → (place : ℕ) → List ℕ
 word_for None tokens place = codes "command"
 word_for (Some code) tokens place =
@@ -38,7 +38,7 @@ word_behind words place =
 abbrev pub space_count : List ℕ → ℕ
 space_count text = count_by (λ byte. byte == space) text
 
--- what is wanted where words have this fault, by its column, or after the last token
+-- what is expected at this fault in the words: at the fault's column, or after the last token
 unfoldable pub word_at : (words : List ℕ) → AsmFault → List ℕ
 word_at words fault.BadName = codes "command"
 word_at words (fault.BadField column) =

@@ -2,8 +2,8 @@
 
 use tpm_commands::CommandCode;
 
-/// An example of a command in words: what follows its name and a space in a line, for a device that
-/// has the first objects, sessions and indices.
+/// An example of a command in words: the part of its line after the name and a space. It assumes
+/// a device on which the first objects, sessions and indices exist.
 pub fn example_of(code: CommandCode) -> &'static str {
     match code {
         CommandCode::EvictControl => "OWNER 80000000 pw:- 0x81000001",

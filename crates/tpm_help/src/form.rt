@@ -1,4 +1,4 @@
-//! How a command is said in words: its name, and a word for each of its handles and parameters.
+//! The form of a command in words: its name, and a word for each of its handles and parameters.
 
 ghost use Rattle.std.specs.Prelude.{◌≡◌, ◌≤◌, ◌+◌, ◌*◌, ◌++◌, IfOk, length};
 ghost use Rattle.std.specs.List.{flat_map};
@@ -66,8 +66,8 @@ fn parameters_of(code: CommandCode) -> &'static [ParameterKind]
     code.shape().parameters
 }
 
-/// The form of a command in words, as `NV_Write @Entity Index Buffer u16`: a handle with an @ has
-/// to be authorized by an entry, and entries stand after the handles.
+/// The form of a command in words, such as `NV_Write @Entity Index Buffer u16`. A handle with an
+/// @ needs an entry that authorizes it; entries follow the handles.
 pub fn form_text(code: CommandCode) -> Form
     ensures { result.bytes ≡ form_of code }
 {
@@ -78,7 +78,7 @@ pub fn form_text(code: CommandCode) -> Form
     form
 }
 
-/// The form of a command in words, in new memory: [`form_text`].
+/// Returns the form of a command in words, in new memory, as [`form_text`] does.
 pub fn form_of(alloc: Global, code: CommandCode) -> Result<String, AllocError>
     ensures { IfOk result (λ form. form.bytes.items ≡ form_of code) }
 {

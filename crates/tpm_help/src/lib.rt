@@ -1,12 +1,12 @@
 #![tactic(auto)]
 
-//! What the writer of a script is told: how a command is said in words ([`form`]), an example of
-//! each ([`example`]), what is wanted where words are at fault ([`wanted`]), and what a response
-//! code says ([`response_code`]).
+//! Help for the author of a script: the form of a command in words ([`form`]), an example of each
+//! ([`example`]), what is expected at a fault in words ([`wanted`]), and the meaning of a
+//! response code ([`response_code`]).
 //!
-//! The crate uses `tpm_commands` for the shapes of commands, and `tpm_text` for faults. Each
-//! call equals its definition in `specs/`. The crate says nothing of the examples; a test assembles
-//! each of them.
+//! The crate uses `tpm_commands` for the shapes of commands, and `tpm_text` for faults. Each call
+//! equals its definition in `specs/`. No definition covers the examples; a test assembles each of
+//! them.
 
 pub mod example;
 pub mod form;

@@ -1,5 +1,5 @@
-//! The names of response codes (TPM_RC; TPM 2.0 Library, Part 2, section 6.6), with the handle,
-//! parameter or session that a code tells of.
+//! The names of response codes (TPM_RC; TPM 2.0 Library, Part 2, section 6.6), and the handle,
+//! parameter or session that a code identifies.
 
 ghost use Rattle.std.specs.Prelude.{◌≡◌, ◌<◌, option_map};
 ghost use Rattle.tpm_help.specs.ResponseCode.{errors, hex_number, located};
@@ -8,7 +8,7 @@ ghost use Rattle.tpm_help.specs.ResponseCode.{name_in, place_in, told_of, warnin
 use std::fmt;
 use tpm_types::rc::Place;
 
-/// What a response code says: its name, without TPM_RC_, and where the fault is.
+/// The meaning of a response code: its name, without TPM_RC_, and the place of the fault.
 #[derive(Clone, Copy)]
 pub struct CodeMeaning {
     pub name: &'static str,
@@ -32,7 +32,7 @@ impl fmt::Display for CodeMeaning {
     }
 }
 
-/// The name of an error that has no place.
+/// The name of an error that identifies no place.
 #[tactic(auto, unfolding(crate::specs::ResponseCode::errors))]
 fn error_name(number: u32) -> Option<&'static str>
     ensures { option_map (λ name. name.now) result ≡ name_in errors number }
@@ -116,7 +116,7 @@ fn warning_name(number: u32) -> Option<&'static str>
     }
 }
 
-/// The name of a code that tells of a place, by its number without that.
+/// The name of a code that identifies a place, from its number without the place.
 #[tactic(auto, unfolding(crate::specs::ResponseCode::located))]
 fn located_name(number: u32) -> Option<&'static str>
     ensures { option_map (λ name. name.now) result ≡ name_in located number }
@@ -159,7 +159,7 @@ fn located_name(number: u32) -> Option<&'static str>
     }
 }
 
-/// The place of the fault that a code tells, by its bits 6 and 8 to 11.
+/// The place of the fault, from bits 6 and 8 to 11 of a code.
 #[tactic(auto, unfolding(crate::specs::ResponseCode::place_in))]
 fn place_in(code: u32) -> Place
     requires { code < 0x1000 }
@@ -182,7 +182,7 @@ fn place_in(code: u32) -> Place
     }
 }
 
-/// The number that one to eight hex digits of either case write.
+/// Decodes a number of one to eight hex digits of either case.
 #[tactic(auto, unfolding(crate::specs::ResponseCode::hex_number))]
 pub fn hex_number(digits: &[u8]) -> Option<u32>
     ensures { result ≡ hex_number digits.now }
@@ -197,7 +197,7 @@ pub fn hex_number(digits: &[u8]) -> Option<u32>
     Some(u32::from_be_bytes(bytes))
 }
 
-/// What a response code says; None where the standard has no such code.
+/// Returns the meaning of a response code, or None if the standard does not define it.
 #[tactic(auto, unfolding(crate::specs::ResponseCode::told_by))]
 pub fn meaning_of(code: u32) -> Option<CodeMeaning>
     ensures { option_map (λ told. (told.name.now, told.place)) result ≡ told_of code }

@@ -1,4 +1,4 @@
-//! What is wanted where words that spell no command are at fault.
+//! What is expected at the position of a fault, in words that are not a command.
 
 ghost use Rattle.std.specs.Prelude.{◌≡◌, ◌-◌, [], codes, get_or, take};
 ghost use Rattle.tpm_text.specs.Entry.{begins_entry};
@@ -9,7 +9,7 @@ use crate::form::{handle_word, parameter_word};
 use tpm_commands::CommandCode;
 use tpm_text::{AsmFault, position_of};
 
-/// The word for what is wanted where words have this fault.
+/// The word for what is expected at this fault in the words.
 #[tactic(auto, unfolding(crate::specs::Wanted::word_at))]
 pub fn word_at(words: &[u8], fault: AsmFault) -> &'static str
     ensures { result.now ≡ word_at words.now fault }
@@ -25,7 +25,7 @@ pub fn word_at(words: &[u8], fault: AsmFault) -> &'static str
     }
 }
 
-/// How many spaces stand before a column, which is counted from 1.
+/// The number of spaces before a column. Columns are counted from 1.
 fn spaces_before(words: &[u8], column: usize) -> usize
     ensures { result ≡ space_count (take (column - 1) words.now) }
 {
@@ -43,8 +43,8 @@ fn space_count(text: &[u8]) -> usize
     text.iter().filter(|byte| **byte == b' ').count()
 }
 
-/// The word for what is wanted in a place after the name, from 0, of the command that the first
-/// token names.
+/// The word for what is expected at a position after the name, counted from 0, of the command
+/// that the first token names.
 fn word_behind(words: &[u8], place: usize) -> &'static str
     ensures { result.now ≡ word_behind words.now place }
 {
@@ -63,7 +63,7 @@ fn first_token(words: &[u8]) -> &[u8]
     }
 }
 
-/// How many entries the words of a command have.
+/// The number of entries in the words of a command.
 fn entry_count(words: &[u8], code: CommandCode) -> usize
     ensures { result ≡ entry_count code (tokens_in words.now) }
 {
@@ -82,7 +82,7 @@ fn begins_entry(token: &[u8]) -> bool
     token.starts_with(b"pw:") || token.starts_with(b"s:")
 }
 
-/// The word for what stands in a place after the name of a command with this many entries.
+/// The word at a position after the name of a command that has this many entries.
 fn word_in(code: CommandCode, entries: usize, place: usize) -> &'static str
     ensures { result.now ≡ get_or (words_behind code entries) place (codes "end of line") }
 {

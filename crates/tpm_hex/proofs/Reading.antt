@@ -1,4 +1,4 @@
--- Pairs of hex digits, by the values of the digits.
+-- Pairs of hex digits, in terms of the values of the digits.
 use Rattle.std.proofs.Common.{◌≡◌, ℕ, ◌+◌, ◌*◌, ◌%◌, ◌<◌, ◌≤◌, inl, inr, List, length, take, drop, max, slice_index, slice_set, unwrap_or, Option, Some, None, Ok, Err, ap, refl, sym, arith}
 use Rattle.std.proofs.lemmas.Bool.{cases_lt}
 use Rattle.hex.specs.Hex.{decode_pairs, hex_digit_value, pair_value}
@@ -6,14 +6,14 @@ use Rattle.hex.specs.declared.error.FromHexError.{FromHexError}
 use Rattle.hex.specs.declared.error.FromHexError.TheVariants.{InvalidHexCharacter}
 use Rattle.hex.proofs.Pairs.{decode_err, decode_step, prepend}
 
--- The pairs before a place were read.
+-- The pairs before this offset have been read.
 abbrev pub PairsTellSoFar : List ℕ → (largest : ℕ) → (place : ℕ) → (bytes : List ℕ) → Type 0
 PairsTellSoFar digits largest place bytes =
     (largest < 16 → decode_pairs 0 digits
     ≡ prepend (take place bytes) (decode_pairs (2 * place) (drop (2 * place) digits)))
     × (16 ≤ largest → (fault : FromHexError) × (decode_pairs 0 digits ≡ Err fault))
 
--- the value of a byte is below 16 exactly where it is a digit
+-- the value of a byte is below 16 exactly if the byte is a hex digit
 small_is_digit : (digit : Option ℕ) (value : ℕ) → value ≡ unwrap_or digit 255 → value < 16 → digit ≡ Some value
 small_is_digit (Some own) value e small = ap Some (sym e)
 small_is_digit None value e small = absurd (omega (arith, e, small))
@@ -21,14 +21,14 @@ small_is_digit None value e small = absurd (omega (arith, e, small))
 large_is_none : (byte value : ℕ) → value ≡ unwrap_or (hex_digit_value byte) 255 → 16 ≤ value → hex_digit_value byte ≡ None
 large_is_none byte value e large = grind (arith)
 
--- a pair of digits writes a byte
+-- a pair of digits encodes a byte
 digits_write : (first second high low index : ℕ)
     → hex_digit_value first ≡ Some high → hex_digit_value second ≡ Some low → high < 16 → low < 16
     → pair_value first second index ≡ Ok (high % 16 * 16 + low % 16)
 digits_write first second high low index e f small small' =
     rw (e, f) (ap Ok (omega (arith, small, small')))
 
--- a pair with a byte that is no digit writes no byte
+-- a pair in which one byte is not a digit encodes no byte
 first_is_bad : (first second index : ℕ) → hex_digit_value first ≡ None
     → pair_value first second index ≡ Err (InvalidHexCharacter first index)
 first_is_bad first second index e = rw e refl
@@ -50,7 +50,7 @@ pair_is_bad first second high low index e f large =
       | inr not_small ↦ (_, first_is_bad first second index (large_is_none first high e not_small))
     ]
 
--- one pair more was read
+-- one more pair has been read
 pub pair_read : (digits bytes : List ℕ) (largest place high low next : ℕ)
     → 2 * place + 1 < length digits → place < length bytes
     → high ≡ unwrap_or (hex_digit_value (slice_index digits (2 * place))) 255

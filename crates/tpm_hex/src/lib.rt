@@ -1,25 +1,25 @@
 #![tactic(auto)]
 
-//! Bytes in hex, of which a script's lines and its responses consist.
+//! Bytes in hex, which a script's lines and its responses consist of.
 //!
-//! The crate uses the kit's `hex`, whose definitions say what hex is: each call is proved to be its
-//! definition there. A text that is not hex is refused, and then nothing is said of the room that
-//! its bytes were to go to. The loops have no branch for a single digit, so that the compiler can
-//! do sixteen digits at a time.
+//! The crate uses the kit's `hex`, which defines hex; each call is proved to equal its definition
+//! there. A text that is not hex is refused, and the content of the output buffer is then
+//! unspecified. The loops do not branch on single digits, so that the compiler can process sixteen
+//! digits at a time.
 
 ghost use Rattle.std.specs.Prelude.{◌≡◌, ◌*◌, ◌/◌, ◌<◌, length, slice_index, unwrap_or, IsErr, MatchResult};
 ghost use Rattle.hex.specs.Hex.{decode_of, encode_lower, hex_digit_value, lower_digits};
 ghost use Rattle.tpm_hex.specs.Values.{PairsTell};
 ghost use Rattle.tpm_hex.specs.declared.TheConstants.{NO_DIGIT};
 
-/// The fault that a text is not hex: its length is odd, or a byte of it is no digit.
+/// The fault of a text that is not hex: its length is odd, or one of its bytes is not a digit.
 #[derive(Clone, Copy, PartialEq, Eq)]
 pub struct NotHex;
 
-/// The value of a byte that is no digit.
+/// The value of a byte that is not a digit.
 const NO_DIGIT: u8 = 255;
 
-/// Writes bytes in hex, in lower case.
+/// Writes bytes as lower-case hex.
 pub fn encode(bytes: &[u8], digits: &mut [u8])
     requires { length digits.old ≡ 2 * length bytes.now }
     ensures { digits.new ≡ encode_lower bytes.now }
@@ -31,8 +31,8 @@ pub fn encode(bytes: &[u8], digits: &mut [u8])
     }
 }
 
-/// Writes the bytes that hex digits of either case spell. For a text that is not hex, it is not
-/// said what is left in `bytes`.
+/// Decodes hex digits of either case into `bytes`. If the text is not hex, the content of `bytes`
+/// is unspecified afterwards.
 pub fn decode(digits: &[u8], bytes: &mut [u8]) -> Result<(), NotHex>
     requires { length bytes.old ≡ length digits.now / 2 }
     ensures { MatchResult (decode_of digits.now)
@@ -45,7 +45,7 @@ pub fn decode(digits: &[u8], bytes: &mut [u8]) -> Result<(), NotHex>
     Ok(())
 }
 
-/// Writes the bytes that pairs of digits spell, and gives the largest of the digits' values.
+/// Decodes pairs of digits into `bytes`, and returns the largest digit value.
 fn largest_value(digits: &[u8], bytes: &mut [u8]) -> u8
     requires { length digits.now ≡ 2 * length bytes.old }
     ensures { PairsTell digits.now result bytes.new }
@@ -59,7 +59,7 @@ fn largest_value(digits: &[u8], bytes: &mut [u8]) -> u8
     largest
 }
 
-/// The lower-case digit of a value.
+/// The lower-case digit for a value.
 fn digit_of(value: u8) -> u8
     requires { value < 16 }
     ensures { result ≡ slice_index lower_digits value }
@@ -71,7 +71,7 @@ fn digit_of(value: u8) -> u8
     }
 }
 
-/// The value of a hex digit of either case; `NO_DIGIT` for any other byte.
+/// The value of a hex digit of either case, or `NO_DIGIT` for any other byte.
 fn value_of(digit: u8) -> u8
     ensures { result ≡ unwrap_or (hex_digit_value digit) NO_DIGIT }
 {

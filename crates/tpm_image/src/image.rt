@@ -1,4 +1,4 @@
-//! Saving the image of a device, and opening a device from one.
+//! Saves the image of a device, and opens a device from an image.
 
 ghost use Rattle.std.specs.Prelude.{◌≡◌, ◌||◌, ◌∷◌, IfOk, OnErr, OnOk, false, replicate, true};
 ghost use Rattle.std.specs.Io.KnownBytes.{Appends};
@@ -26,9 +26,9 @@ use tpm_image_text::{
 use tpm_machine::Machine;
 use tpm_record::Keep;
 
-/// Writes the image of a device, which stays as it is, in version 2. If the tap had not failed
-/// before, Write is answered just where the writer failed; a part of the image from its front went
-/// out then.
+/// Writes the image of a device, in version 2, and leaves the device unchanged. If the tap had
+/// not failed before, the result is Write exactly if the writer failed; then only a prefix of the
+/// image was written.
 pub fn save<K: Keep, D: Write>(machine: &Machine<K>, tap: &mut Tap<D>) -> Result<(), SaveFault>
     ensures written { OnOk result (Appends (D.contents (device_of tap.old))
         (D.contents (device_of tap.new))
@@ -44,8 +44,8 @@ pub fn save<K: Keep, D: Write>(machine: &Machine<K>, tap: &mut Tap<D>) -> Result
     send(tap, head.as_slice(), text.as_slice())
 }
 
-/// Writes the image of a device, which stays as it is, in version 2, to the front of a room. Gives
-/// how many bytes the image has; where the room is smaller, nothing is written.
+/// Writes the image of a device, in version 2, to the front of a buffer, and leaves the device
+/// unchanged. Returns the size of the image; if the buffer is smaller, nothing is written.
 pub fn save_into<K: Keep>(machine: &Machine<K>, room: &mut [u8]) -> usize
     ensures { PutsFront (image_text Two (kept_of (state_of K.record_of machine.now))) room.old
         result room.new }
@@ -55,25 +55,25 @@ pub fn save_into<K: Keep>(machine: &Machine<K>, room: &mut [u8]) -> usize
     put_front(head.as_slice(), text.as_slice(), room)
 }
 
-/// Opens a device from its image, of either version: the device is the one that was saved, after a
-/// power cycle. The fault is the first in the order of [`ImageFault`]; NoMemory is answered only in
-/// place of a device.
+/// Opens a device from its image in either version. The result is the saved device after a power
+/// cycle, or the first fault in the order of [`ImageFault`]; NoMemory is returned only if the
+/// text is an image.
 pub fn open<K: Keep>(alloc: Global, text: &[u8]) -> Result<Machine<K>, ImageFault>
-    // Says which device was opened, or which fault is the first.
+    // The device that was opened, or the first fault.
     ensures exact { Opens (state_of K.record_of) (K.empty_can_refuse || K.can_refuse) text.now
         result }
-    // A text that is opened is an image of the device in a version, and within the limits of the
+    // A text that opens is an image of the device in a version, within the limits of that
     // version.
     ensures found { IfOk result (λ machine. (version : Version) × (kept : NonVolatile)
         × IsNonVolatile kept × IsImage version kept text.now
         × (state_of K.record_of machine ≡ powered_on kept)) }
-    // The image of a device in a version is opened.
+    // The image of a device, in either version, opens.
     ensures only { (version : Version) (r : Record) → IsRecord r
         → IsImage version (kept_of r) text.now
         → OpensAgain (state_of K.record_of) (K.empty_can_refuse || K.can_refuse) r result }
 
-    // A device that is opened from the image, of either version, of one that followed a history
-    // follows that history with one power cycle more.
+    // If a device followed a history, the device opened from its image, in either version,
+    // follows that history with one more power cycle.
     ensures history { (version : Version) (r : Record) (history : History) → IsRecord r
         → Follows r history → IsImage version (kept_of r) text.now
         → IfOk result (λ machine. Follows (state_of K.record_of machine) (PowerCycled ∷ history)) }
@@ -81,7 +81,7 @@ pub fn open<K: Keep>(alloc: Global, text: &[u8]) -> Result<Machine<K>, ImageFaul
     open_device(alloc, text)
 }
 
-/// Opens a device from its image; the contract says nothing of texts.
+/// Opens a device from its image. This contract does not mention how images are encoded.
 fn open_device<K: Keep>(alloc: Global, text: &[u8]) -> Result<Machine<K>, ImageFault>
     ensures exact { Opens (state_of K.record_of) (K.empty_can_refuse || K.can_refuse) text.now
         result }
@@ -101,16 +101,16 @@ fn open_device<K: Keep>(alloc: Global, text: &[u8]) -> Result<Machine<K>, ImageF
     }
 }
 
-/// Opens a device from its image, of either version, in place of a new machine of zeros, which is
-/// never refused memory. The device is that of [`open`], and is not moved. After a fault nothing is
-/// said of the machine.
+/// Opens a device from its image, in either version, into a new machine of zeros, which never
+/// runs out of memory. The device is the same as with [`open`], and is not moved. On error, the
+/// machine is unspecified.
 pub fn open_into<K: Keep>(machine: &mut Machine<K>, text: &[u8]) -> Result<(), ImageFault>
     requires new { state_of K.record_of machine.old ≡ manufactured (replicate 256 0) }
     requires never_refused { K.can_refuse ≡ false }
-    // Says which device was opened, or which fault is the first.
+    // The device that was opened, or the first fault.
     ensures exact { Opens (λ done. state_of K.record_of machine.new) false text.now result }
 
-    // The device follows the history of the one that was saved, with one power cycle more.
+    // The device follows the history of the saved device, with one more power cycle.
     ensures history { (version : Version) (r : Record) (history : History) → IsRecord r
         → Follows r history → IsImage version (kept_of r) text.now
         → IfOk result (λ done. Follows (state_of K.record_of machine.new)
@@ -119,7 +119,7 @@ pub fn open_into<K: Keep>(machine: &mut Machine<K>, text: &[u8]) -> Result<(), I
     fill_machine(machine, text)
 }
 
-/// Opens a device from its image in place of a new machine of zeros; the contract says nothing of
+/// Opens a device from its image into a new machine of zeros. This contract does not mention
 /// histories.
 fn fill_machine<K: Keep>(machine: &mut Machine<K>, text: &[u8]) -> Result<(), ImageFault>
     requires new { state_of K.record_of machine.old ≡ manufactured (replicate 256 0) }

@@ -1,5 +1,5 @@
-//! What a device keeps without power, without its clock, as a text: two such texts differ where
-//! more changed than the time.
+//! What a device keeps without power, except for Clock, as a text. If anything except Clock has
+//! changed, the texts differ.
 
 ghost use Rattle.std.specs.Prelude.{◌≡◌, List, [], not, ℕ};
 ghost use Rattle.std.specs.Str.{bytes_eq};
@@ -12,7 +12,7 @@ use tpm_image_text::{Text, put_front, write_body_at};
 use tpm_machine::Machine;
 use tpm_record::Keep;
 
-/// What a device keeps, without its clock. Contracts see it as its text.
+/// What a device keeps, except for Clock. In contracts, the value is its text.
 #[derive(Drop)]
 pub struct KeptText {
     text: Text,
@@ -25,14 +25,16 @@ impl Model for KeptText {
 }
 
 impl KeptText {
-    /// The text of no device: every device keeps something.
+    /// The empty text, which differs from that of every device, since every device keeps
+    /// something.
     pub fn none() -> KeptText
         ensures { result ≡ [] }
     {
         KeptText { text: Text::new() }
     }
 
-    /// Becomes the text of this device, and tells whether it is another than before.
+    /// Replaces the text by that of this device, and returns whether the new text differs from
+    /// the old one.
     pub fn renew<K: Keep>(&mut self, machine: &Machine<K>) -> bool
         ensures text { self.new ≡ kept_text (state_of K.record_of machine.now) }
         ensures told { result ≡ not (bytes_eq self.old
@@ -46,8 +48,8 @@ impl KeptText {
     }
 }
 
-/// Writes the text of what a device keeps, without its clock, to the front of a room, if that fits.
-/// Gives how many bytes the text has, written or not.
+/// Writes the text of what a device keeps, except for Clock, to the front of a buffer, if it
+/// fits. Returns the size of the text in either case.
 pub fn kept_into<K: Keep>(machine: &Machine<K>, room: &mut [u8]) -> usize
     ensures { PutsFront (kept_text (state_of K.record_of machine.now)) room.old result room.new }
 {

@@ -1,14 +1,15 @@
 #![tactic(auto)]
 
-//! The image of a device: what it keeps without power, as bytes from which another device is
+//! The image of a device: what it keeps without power, as bytes from which another device can be
 //! opened.
 //!
 //! [`image::save`] writes the image, and [`image::open`] reads it; [`image::save_into`] and
-//! [`image::open_into`] do so in the caller's memory. [`kept_text`] tells whether anything in an
-//! image changed but the clock. The crate uses the machine, and tpm_image_text for the bytes.
+//! [`image::open_into`] do the same in the caller's memory. [`kept_text`] reports whether
+//! anything in an image changed except for the clock. The crate uses the machine, and
+//! tpm_image_text for the bytes.
 //!
-//! The device that is opened from an image is the one that was saved, after a power cycle. A writer
-//! that fails was given a front of the image, and nothing else.
+//! A device that is opened from an image is the saved device after a power cycle. If the writer
+//! fails, it has received a prefix of the image and nothing else.
 
 pub mod image;
 pub mod kept_text;

@@ -1,23 +1,23 @@
--- An entry after entries whose keys are below its own.
+-- Appending an entry to entries with lower keys.
 use Rattle.std.proofs.Common.{arith, ◌≡◌, ℕ, ◌+◌, ◌≤◌, [], ◌∷◌, ◌++◌, None, refl, ap}
 use Rattle.std.proofs.lemmas.Bool.{lt-leb, ne_eqb}
 use Rattle.tpm_containers.specs.SortedMap.{Entries, at_key, with_key}
 use Rattle.tpm_image_text.specs.Filling.{AllBelow}
 
 module _ {X : Type 0} where
-  -- keys that are all below one key are below every higher key
+  -- if all keys are below one key, they are below every higher key
   pub all_below : (low key : ℕ) (es : Entries X) → low ≤ key → AllBelow low es → AllBelow key es
   all_below low key [] up below = tt
   all_below low key (e ∷ es) up below = (omega (arith, up, below.0), all_below low key es up below.1)
 
-  -- a key that is not below the bound of all keys is free
+  -- a key at or above the bound of all keys is free
   pub free_above : (es : Entries X) (low key : ℕ) → low ≤ key → AllBelow low es → at_key es key ≡ None
   free_above [] low key up below = refl
   free_above (e ∷ es) low key up below =
       let other = ne_eqb e.0 key (λ same. absurd (omega (arith, same, up, below.0))) in
       rw other (free_above es low key up below.1)
 
-  -- the value of a key above all others is put at the end
+  -- a value with a key above all others is added at the end
   pub put_behind : (es : Entries X) (low key : ℕ) (x : X) → low ≤ key → AllBelow low es → with_key es key x ≡ es ++ (key, x) ∷ []
   put_behind [] low key x up below = refl
   put_behind (e ∷ es) low key x up below =
@@ -26,7 +26,7 @@ module _ {X : Type 0} where
 
 pub ruleset appended = (free_above, put_behind)
 
--- after an entry is put at the end, all keys are below the next one's bound
+-- after an entry is appended, all keys are below the lowest key allowed for the next entry
 pub behind_below : {X : Type 0} (es : Entries X) (low next : ℕ) (e : ℕ × X) → low ≤ e.0 → next ≡ e.0 + 1 → AllBelow low es → AllBelow next (es ++ e ∷ [])
 behind_below [] low next e up is below = (omega (arith, is), tt)
 behind_below (d ∷ es) low next e up is below = (omega (arith, up, is, below.0), behind_below es low next e up is below.1)

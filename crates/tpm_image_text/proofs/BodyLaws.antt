@@ -1,5 +1,5 @@
--- The body of an image: what it keeps is read only from its text, and from every such text; and how
--- long it is at most.
+-- The body of an image: decoding returns a kept state exactly if the bytes begin with its
+-- encoding. Also, the largest size of a body.
 use Rattle.tpm_image_text.specs.Sizes.{body_size}
 use Rattle.std.proofs.Common.{◌≡◌, ℕ, ◌^◌, ◌<◌, ◌≤◌, List, ◌++◌, length, Ok, refl, arith, length-append}
 use Rattle.tpm_containers.specs.SortedMap.{Entries}
@@ -19,17 +19,17 @@ use Rattle.tpm_image_text.proofs.ObjectLaws.{objects_small, objects_spelled}
 use Rattle.tpm_image_text.proofs.StateLaws.{state_small, state_spelled}
 use Rattle.tpm_image_text.proofs.VersionLaws.{indices_within, limits_small, limits_spelled, space_within}
 
--- ---- text and reading
+-- ---- encoding and decoding
 
--- the indices of a device are stored so, if they are within the limits of a version
+-- the indices of a device are stored correctly in a version if they fit the version's limits
 stored : (version : Version) (kept : NonVolatile) → IsNonVolatile kept → IsWithin version kept → AreStored version kept.indices
 stored version kept is within = record { ascends = is.nv.ascends; few = within.few; small = within.small; each = is.nv.indices }
 
--- the indices of a device are always within the limits of version 2
+-- the indices of a device always fit the limits of version 2
 pub within_device : (kept : NonVolatile) → IsNonVolatile kept → IsWithin Two kept
 within_device kept is = record { few = is.nv.few; small = is.nv.small }
 
--- the indices of a version are stored as those of a device are, within the limits of the version
+-- the indices of a version are stored like those of a device, within the limits of the version
 indices_is : (version : Version) (kept : NonVolatile) → kept.state.max_count < 2 ^ 64 → AreStored version kept.indices → IsContents (nv_of kept)
 indices_is version kept count are = record { ascends = are.ascends; few = omega (arith, are.few, indices_within version); small = omega (arith, are.small, space_within version); indices = are.each; max_count = count }
 

@@ -1,5 +1,5 @@
--- The frame of a text: a body is read from its frame, and every text that has a body is its frame;
--- and a frame that was cut is refused.
+-- The frame of a text: decoding returns a body exactly if the text is that body in its frame. A
+-- truncated text is refused.
 use Rattle.std.proofs.Common.{◌≡◌, ℕ, ◌+◌, ◌-◌, ◌^◌, ◌<◌, ◌≤◌, Bool, true, false, Option, Some, None, List, ◌++◌, length, take, drop, Result, Ok, Err, refl, sym, ap, subst, ◌∙◌, append_assoc, arith, length-append}
 use Rattle.std.specs.Prelude.{◌==◌, nat_lt, not, ok_or}
 use Rattle.std.specs.Int.{w16, w32, to_be_bytes}
@@ -18,7 +18,7 @@ use Rattle.tpm_types.proofs.Spelled.{rest_fits}
 use Rattle.tpm_image_text.specs.Frame.{Format, before_digest, digest_bytes, digest_of, digested_text, framed_in, head_bytes, head_in, image_format, length_of, number_of, within_frame, word_of}
 use Rattle.tpm_image_text.proofs.VersionLaws.{number_small, numbered-again, numbered-is}
 
--- A version of a format is found by its number, and by no other.
+-- A number names a version of a format exactly if it is the number of that version.
 pub record AreNumbered {V E : Type 0} (format : Format V E) : Type 0 where
   pub is : (n : ℕ) (version : V) → format.numbered n ≡ Some version → n ≡ format.number version
   pub again : (version : V) → format.numbered (format.number version) ≡ Some version
@@ -30,7 +30,7 @@ image_numbered = record { is = numbered-is; again = numbered-again; small = numb
 abbrev whole_of : List ℕ → ℕ
 whole_of body = head_bytes + length body + digest_bytes
 
--- what is between the head and the digest of a text
+-- the part of a text between the head and the digest
 abbrev inner : List ℕ → List ℕ
 inner text = drop head_bytes (before_digest text)
 
@@ -38,7 +38,7 @@ fits_behind : (text : List ℕ) → AreBytes text → (n : ℕ) → AreBytes (dr
 fits_behind text fits n = rest_fits (take n text) (drop n text) (subst AreBytes (sym (take-append-drop n text)) fits)
 
 module _ {V E : Type 0} (format : Format V E) where
-  -- ---- what the frame's tests ask
+  -- ---- what the frame's tests check
 
   record IsFramed (version : V) (text : List ℕ) : Type 0 where
     long : head_bytes + digest_bytes ≤ length text
@@ -56,7 +56,7 @@ module _ {V E : Type 0} (format : Format V E) where
       let digest = (bytes_eq-Decides (hash_of Sha256 (before_digest text)) (digest_of text)).1 is.digest in
       rw (long, word, is.number, whole, digest) refl
 
-  -- five tests, of which none refuses
+  -- if all five tests pass, no fault is returned
   none_refuses : (short word : Bool) (version : Option V) (whole digest : Bool) (body : List ℕ) (said : V × List ℕ) → (refused_if short format.short >>= λ a. refused_if (not word) format.magic >>= λ b. ok_or version format.version >>= λ v. refused_if (not whole) format.whole >>= λ c. refused_if (not digest) format.digest >>= λ d. let done : Result (V × List ℕ) E = Ok (v, body) in done) ≡ Ok said → (v : V) × (short ≡ false) × (word ≡ true) × (version ≡ Some v) × (whole ≡ true) × (digest ≡ true) × ((v, body) ≡ said)
   none_refuses false true (Some v) true true body said e = (v, refl, refl, refl, refl, refl, ok_is {E = E} (v, body) said e)
   none_refuses true word version whole digest body said e = absurd cc
@@ -86,18 +86,18 @@ module _ {V E : Type 0} (format : Format V E) where
       let front = head ++ body in
       omega (arith, length-append head body, length-append front (hash_of Sha256 front), length-hash_of Sha256 front)
 
-  -- the head says the length of the whole, whatever comes after it
+  -- the size decoded from a head is the one it was written with, whatever follows the head
   length_said : (version : V) (whole : ℕ) (rest : List ℕ) → whole < 2 ^ 32 → length_of (head_in format version whole ++ rest) ≡ whole
   length_said version whole rest small = wide32.again whole small
 
-  -- ---- a text that was cut
+  -- ---- a truncated text
 
   pub cut_short : (text : List ℕ) → length text < head_bytes + digest_bytes → within_frame format text ≡ Err format.short
   unfolding within_frame
   cut_short text short = rw (lt-ltb (length text) (head_bytes + digest_bytes) short) refl
 
   module _ (numbers : AreNumbered format) where
-    -- the head says the version, whatever comes after it
+    -- the version decoded from a head is the one it was written with, whatever follows the head
     version_said : (version : V) (whole : ℕ) (rest : List ℕ) → format.numbered (number_of (head_in format version whole ++ rest)) ≡ Some version
     version_said version whole rest = ap format.numbered (wide16.again (format.number version) (numbers.small version)) ∙ numbers.again version
 
@@ -146,7 +146,7 @@ module _ {V E : Type 0} (format : Format V E) where
         let parts : text ≡ digested_text before = sym (take-append-drop place text) ∙ ap (λ (l : List ℕ). before ++ l) (sym is.1.digest) in
         subst (λ (s : V × List ℕ). (text ≡ framed_in format s.0 s.1) × AreBytes s.1) is.2 (parts ∙ ap digested_text front, fits_behind before (AreBytes-take place text fits) head_bytes)
 
-    -- the head of a text that was cut says another length
+    -- the size of a truncated text differs from the size in its head
     other_length : (version : V) (whole : ℕ) (rest : List ℕ) → whole < 2 ^ 32 → (let text = head_in format version whole ++ rest in head_bytes + digest_bytes ≤ length text → length text < whole → within_frame format text ≡ Err format.whole)
     unfolding within_frame
     other_length version whole rest small long less =

@@ -1,4 +1,5 @@
--- The hierarchies of an image: they are read only from their text, and from every such text.
+-- The hierarchies of an image: decoding returns them exactly if the bytes begin with their
+-- encoding.
 use Rattle.std.proofs.Common.{◌≡◌, ℕ, ◌≤◌, List, [], ◌∷◌, ◌++◌, length, refl, arith, length-append}
 use Rattle.tpm_bytes.specs.Writing.{sized_text}
 use Rattle.tpm_types.proofs.Spelled.{Spelled, all_read, first, respelled, six_texts, then, two_texts}

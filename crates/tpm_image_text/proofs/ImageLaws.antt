@@ -1,5 +1,5 @@
--- Images: what a device keeps is read only from its image, and from every such image, and no
--- shorter front of an image is an image.
+-- Images: decoding returns a kept state exactly if the text is its image. No proper prefix of an
+-- image is an image.
 use Rattle.std.proofs.Common.{◌≡◌, ℕ, ◌+◌, ◌<◌, ◌≤◌, List, length, take, Result, Ok, Err, refl, ap, ◌∙◌, arith}
 use Rattle.std.specs.Prelude.{◌↔◌}
 use Rattle.std.proofs.lemmas.List.{length-take}
@@ -19,9 +19,9 @@ use Rattle.tpm_image_text.specs.declared.version.Version.{Version}
 use Rattle.tpm_image_text.proofs.BodyLaws.{body_again, body_small, body_taken}
 use Rattle.tpm_image_text.proofs.FrameLaws.{cut_behind, cut_short, framed_again, framed_taken, image_numbered, length-framed}
 
--- ---- the text of an image and its reading
+-- ---- encoding and decoding an image
 
--- what a body keeps, if the frame has one
+-- the kept state in the body, if the frame is valid
 abbrev kept_by : Result (Version × List ℕ) ImageFault → Result NonVolatile ImageFault
 kept_by framed = framed >>= λ said. or_fault (body_of said.0 said.1) fault.Body
 
@@ -39,7 +39,7 @@ image_taken text kept fits e =
     let body = body_taken a.0.0 a.0.1 kept frame.1 (or_fault_ok (body_of a.0.0 a.0.1) fault.Body kept a.2) in
     (a.0.0, body.1, (body.2, frame.0 ∙ ap (framed_text a.0.0) body.0))
 
--- a text of bytes is the image of what is kept exactly where it is that image's text in a version
+-- decoding bytes returns a kept state exactly if they are its image in some version
 pub image_is : (text : List ℕ) (kept : NonVolatile) → AreBytes text → (image_of text ≡ Ok kept) ↔ ((version : Version) × IsNonVolatile kept × IsImage version kept text)
 image_is text kept fits = (image_taken text kept fits, λ is. ap image_of is.2.1 ∙ image_again is.0 kept is.1 is.2.0)
 
@@ -52,9 +52,9 @@ length-image_text version kept = length-framed image_format version (image_body_
 pub image_small : (version : Version) (kept : NonVolatile) → IsNonVolatile kept → length (image_text version kept) ≤ image_size
 image_small version kept is = omega (arith, length-image_text version kept, body_small version kept is)
 
--- ---- a front of an image
+-- ---- a prefix of an image
 
--- a text with too few bytes is no image
+-- a text that is too short for head and digest is not an image
 pub front_short : (text : List ℕ) (n : ℕ) → n < head_bytes + digest_bytes → image_of (take n text) ≡ Err fault.Short
 front_short text n few = ap kept_by (cut_short image_format (take n text) (omega (arith, few, length-take n text)))
 
@@ -66,7 +66,7 @@ front_cut version kept n is long less =
 
 -- ---- records
 
--- a device that is opened from what was kept is the one after a power cycle
+-- powering on with what a record keeps has the same result as a power cycle
 pub powered_again : (r : Record) → powered_on (kept_of r) ≡ cycled r
 powered_again r = refl
 

@@ -1,4 +1,5 @@
--- The NV indices of an image: they are read only from their text, and from every such text.
+-- The NV indices of an image: decoding returns them exactly if the bytes begin with their
+-- encoding.
 use Rattle.tpm_image_text.specs.Sizes.{indices_size}
 use Rattle.tpm_types.specs.Limits.{nv_data_limit}
 use Rattle.std.proofs.Common.{◌≡◌, ℕ, ◌+◌, ◌*◌, ◌≤◌, Bool, true, false, cond, List, [], ◌∷◌, ◌++◌, length, Option, Some, None, refl, sym, ap, arith, length-append}
@@ -68,7 +69,7 @@ index_of f = record { public = f.0.0; auth_value = f.0.1; bytes = f.1 }
 abbrev keyed : NvIndex → ℕ × NvIndex
 keyed index = (index.public.nv_index.number, index)
 
--- The fields of an NV index have their widths.
+-- The fields of an NV index fit their widths.
 record HasFields (index : NvIndex) : Type 0 where
   public : IsNvPublic index.public
   auth_value : IsAuthValue index.auth_value
@@ -105,7 +106,7 @@ index_spelled = made_of keyed (λ e. e.1) to from (passing_spelled is_index fiel
 
 -- ---- all NV indices
 
--- A property holds of the NV indices in an image of a version.
+-- What holds for the NV indices in an image of this version.
 pub record AreStored (version : Version) (indices : Entries NvIndex) : Type 0 where
   pub ascends : Ascends indices
   pub few : length indices ≤ index_limit version

@@ -1,5 +1,5 @@
--- Indices that are read one after another, as far as there is space for their data: the space of
--- the device, or less.
+-- Reading indices one after another, as long as their data fit a given space, which is at most
+-- that of the device.
 use Rattle.tpm_types.specs.Limits.{nv_index_limit, nv_space_limit}
 use Rattle.std.proofs.Common.{arith, ◌≡◌, ℕ, suc, ◌+◌, ◌-◌, ◌<◌, ◌≤◌, true, false, leb, ltb, List, [], ◌∷◌, ◌++◌, length, Result, Ok, Err, IfOk, Bool, inl, inr, refl, sym, ap, ◌∙◌}
 use Rattle.std.specs.Prelude.{◌⊎◌, ◌&&◌, map, nat_le, not}
@@ -18,11 +18,12 @@ use Rattle.tpm_image_text.specs.declared.fault.FillFault.TheVariants as unfilled
 use Rattle.tpm_image_text.specs.declared.fault.Malformed.{Malformed}
 use Rattle.tpm_image_text.proofs.EntriesLaws.{before, entries_cut, entries_done, entries_from, entries_left}
 
--- the indices that were read, if there is so much space for their data
+-- the indices that were read, if there is enough space for their data
 abbrev pub with_space : ℕ → Entries NvIndex × List ℕ → Result (Entries NvIndex × List ℕ) Malformed
 with_space limit o = refused_if (not (have_space limit o.0)) malformed >>= λ passed. Ok o
 
--- where there are fewer indices than there may be, it is the data that have no space
+-- if an index does not fit although there are fewer indices than the limit, its data exceed the
+-- space
 pub no_space : (contents : NvContents) (size : ℕ) → length contents.indices < nv_index_limit → has_room contents size ≡ false → nv_space_limit < data_bytes contents + size
 no_space contents size few full =
     leb-false (data_bytes contents + size) nv_space_limit (rest (ltb (length contents.indices) nv_index_limit) (lt-ltb (length contents.indices) nv_index_limit few) full)
@@ -31,7 +32,7 @@ no_space contents size few full =
     rest true is none = none
     rest false is none = absurd cc
 
--- indices after which there is no space for the next are not all that a device has
+-- if there is no space for the next index, the text is malformed
 pub entries_full : (limit : ℕ) (at : List ℕ → Result ((ℕ × NvIndex) × List ℕ) Malformed) (count place low : ℕ) (so_far : Entries NvIndex) (text : List ℕ) → place < count → IfOk (at text) (λ x. limit < bytes_of so_far + x.0.1.public.data_size) → (entries_left at count place low so_far text >>= with_space limit) ≡ Err malformed
 unfolding entries_left entries_from
 entries_full limit at count place low so_far text below full = rw left (by (at text) full)
@@ -54,7 +55,7 @@ entries_full limit at count place low so_far text below full = rw left (by (at t
     by (Err fault) over = refl
     by (Ok x) over = in_order (nat_le low x.0.0) x.0 (entries_from at (count - (place + 1)) (x.0.0 + 1) x.1) over
 
--- the fault of a filling, for a text whose reading ends here
+-- if reading an index fails, its fault is the fault of the whole call
 pub indices_cut : (limit : ℕ) (can : Bool) (at : List ℕ → Result ((ℕ × NvIndex) × List ℕ) Malformed) (count place low : ℕ) (so_far new filled : Entries NvIndex) (text rest behind : List ℕ) (whole : Result (Entries NvIndex × List ℕ) Malformed) (fault : FillFault) → limit ≤ nv_space_limit → place < count → (entries_left at count place low so_far text >>= with_space limit) ≡ whole → Appends can (at text) low (λ e. (e.0 < low) ⊎ (nv_space_limit < bytes_of so_far + e.1.public.data_size)) so_far (Err fault) new rest → Fills can whole filled (Err fault) behind
 indices_cut limit can at count place low so_far new filled text rest behind whole unfilled.NoMemory less below is may = may
 indices_cut limit can at count place low so_far new filled text rest behind whole unfilled.Malformed less below is misfits = sym is ∙ by (at text) refl misfits
@@ -64,15 +65,15 @@ indices_cut limit can at count place low so_far new filled text rest behind whol
     by (Ok x) read (inl under) = ap (λ (r : Result (Entries NvIndex × List ℕ) Malformed). r >>= with_space limit) (entries_cut at count place low so_far text below (rw read under))
     by (Ok x) read (inr over) = entries_full limit at count place low so_far text below (rw read (omega (arith, over, less)))
 
--- all indices are read, and there is space for them
+-- if there is space for all indices that were read, the overall result is these indices
 pub indices_done : (limit : ℕ) (at : List ℕ → Result ((ℕ × NvIndex) × List ℕ) Malformed) (count place low : ℕ) (so_far : Entries NvIndex) (text : List ℕ) → place ≡ count → bytes_of so_far ≤ limit → (entries_left at count place low so_far text >>= with_space limit) ≡ Ok (so_far, text)
 indices_done limit at count place low so_far text whole small = rw (entries_done at count place low so_far text whole, le-leb (bytes_of so_far) limit small) refl
 
--- all indices are read, and there is no space for them
+-- if there is no space for all indices that were read, the overall result is malformed
 pub indices_over : (limit : ℕ) (at : List ℕ → Result ((ℕ × NvIndex) × List ℕ) Malformed) (count place low : ℕ) (so_far : Entries NvIndex) (text : List ℕ) → place ≡ count → limit < bytes_of so_far → (entries_left at count place low so_far text >>= with_space limit) ≡ Err malformed
 indices_over limit at count place low so_far text whole over = rw (entries_done at count place low so_far text whole, lt-leb (bytes_of so_far) limit over) refl
 
--- how many bytes the heads of all indices have
+-- the heads of indices have the same total data size as the indices
 pub heads_total : (es : Entries NvIndex) → total (map (λ (e : ℕ × NvIndex). (e.0, head_of e.1)) es) ≡ bytes_of es
 heads_total [] = refl
 heads_total (e ∷ es) = omega (arith, heads_total es, sum_by-cons (λ (e : ℕ × NvIndex). e.1.public.data_size) e es)

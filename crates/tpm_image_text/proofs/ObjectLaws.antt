@@ -1,4 +1,5 @@
--- The persistent objects of an image: a value is read only from its text, and from every such text.
+-- The persistent objects of an image: decoding returns a value exactly if the bytes begin with
+-- its encoding.
 use Rattle.tpm_image_text.specs.Sizes.{object_fields_size, objects_size}
 use Rattle.std.proofs.Common.{◌≡◌, ℕ, ◌*◌, ◌^◌, ◌<◌, ◌≤◌, true, List, [], ◌∷◌, ◌++◌, length, Some, None, Ok, refl, sym, ap, subst, ◌∙◌, append_assoc, arith, length-append}
 use Rattle.std.specs.Prelude.{◌==◌}
@@ -80,7 +81,7 @@ same_type a b same =
     let some : Some a ≡ Some b = sym (object_type_named-again a) ∙ ap object_type_named same ∙ object_type_named-again b in
     cc
 
--- A sensitive area is within its sizes, and one of this public area.
+-- The parts of a sensitive area have allowed sizes, and the area belongs to this public area.
 abbrev IsOf : Public → Sensitive → Type 0
 IsOf p s = IsSensitive s × (is_sensitive_of p s ≡ true)
 
@@ -94,7 +95,7 @@ fields_of o = ((o.hierarchy, o.qualified_name), o.public)
 abbrev object_of : Fields → Sensitive → Object
 object_of f s = record { hierarchy = f.0.0; public = f.1; auth_value = s.auth_value; seed_value = s.seed_value; sensitive = s.sensitive; qualified_name = f.0.1 }
 
--- the sensitive area of an object, where it is read as one of the object's public area
+-- An object's sensitive area can be decoded, and belongs to the object's public area.
 abbrev HasArea : Object → Type 0
 HasArea o = IsOf o.public (sensitive_of o)
 

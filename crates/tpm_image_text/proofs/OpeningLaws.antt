@@ -1,4 +1,4 @@
--- The answers of opening an image, from the frame and the body of a text.
+-- The results of opening an image follow from the frame and the body of the text.
 use Rattle.std.proofs.Common.{◌≡◌, ℕ, Bool, true, false, List, length, Option, Some, None, Result, Ok, Err, refl}
 use Rattle.std.specs.Prelude.{◌==◌, is_ok, nat_lt, not, ok_or, take}
 use Rattle.std.specs.Str.{bytes_eq}
@@ -17,7 +17,7 @@ use Rattle.tpm_image_text.specs.declared.fault.ImageFault.TheVariants as fault
 use Rattle.tpm_image_text.specs.declared.fault.Malformed.{Malformed}
 use Rattle.tpm_image_text.specs.declared.version.Version.{Version}
 
--- no fault of the frame is NoMemory
+-- decoding the frame never returns NoMemory
 frame_fits : (text : List ℕ) → framed_body text ≡ Err fault.NoMemory → ⊥
 unfolding within_frame
 frame_fits text is =
@@ -36,7 +36,7 @@ module _ {M : Type 0} (record_of : M → Record) (can : Bool) where
   unframed text fault.NoMemory is = absurd (frame_fits text is)
   unframed text f is = rw is refl
 
--- a body that spells a state makes an image
+-- if the body of a framed text encodes a state, the text is an image
 pub is_image : (text : List ℕ) (version : Version) (body : List ℕ) → framed_body text ≡ Ok (version, body) → is_ok (body_of version body) ≡ true → (kept : NonVolatile) × (image_of text ≡ Ok kept)
 is_image text version body framed ok = rw framed (by (body_of version body) ok)
   where

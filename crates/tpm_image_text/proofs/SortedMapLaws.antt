@@ -1,4 +1,4 @@
--- Entries in an image: the test that keys ascend says so, and what holds of each entry.
+-- Entries in an image: what the test for ascending keys means, and what holds for each entry.
 use Rattle.std.proofs.Common.{◌≡◌, ℕ, ◌+◌, ◌<◌, Bool, true, false, [], ◌∷◌, refl, arith}
 use Rattle.std.specs.Prelude.{◌&&◌, nat_le}
 use Rattle.std.specs.List.{AllByRecursion}
@@ -14,7 +14,7 @@ pub both : (a b : Bool) → a ≡ true → b ≡ true → (a && b) ≡ true
 both a b first second = rw (first, second) refl
 
 module _ {X : Type 0} where
-  -- keys that ascend from one above this key are above it
+  -- if keys ascend from a bound above this key, all of them are above it
   all_above : (key low : ℕ) (es : Entries X) → key < low → ascend_from low es ≡ true → AllAbove key es
   all_above key low [] less ascend = tt
   all_above key low (e ∷ es) less ascend =

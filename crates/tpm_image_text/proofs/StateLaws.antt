@@ -1,5 +1,5 @@
--- The part of an image that does not grow: a value is read only from its text, and from every such
--- text.
+-- The fixed part of an image: decoding returns a value exactly if the bytes begin with its
+-- encoding.
 use Rattle.tpm_image_text.specs.Sizes.{state_size}
 use Rattle.std.proofs.Common.{◌≡◌, ◌≢◌, ℕ, ◌^◌, ◌<◌, ◌≤◌, Bool, true, List, [], ◌∷◌, ◌++◌, length, Result, Ok, refl, sym, subst, append_assoc, append-nil, arith, length-append}
 use Rattle.std.specs.Prelude.{◌==◌, ◌*◌}
@@ -83,7 +83,7 @@ kind_number Nothing = 0
 kind_number Clear = 1
 kind_number (State values) = 2
 
--- what stands after the byte for the kind of what was saved
+-- the text after the byte for the kind of what was saved
 behind_kind : SavedState → List ℕ
 behind_kind Nothing = []
 behind_kind Clear = []
@@ -160,7 +160,7 @@ saved_spelled =
     respelled (first (number_in_spelled w8 (2 ^ 8) wide8) (for_each kind_number behind_kind IsSavedState saved_by_kind by_kind_spelled))
     kind_text (λ saved is. is.1) (λ saved is. (kind_small saved, is))
 
--- ---- the whole part that does not grow
+-- ---- the whole fixed part
 
 abbrev Parts : Type 0
 Parts = ((((((Hierarchies × Bool) × LockoutFields) × ℕ) × ℕ) × ℕ) × ℕ) × SavedState
@@ -183,7 +183,7 @@ state_of p = record {
 eight_texts : (a b c d e f g h : List ℕ) → a ++ b ++ c ++ d ++ e ++ f ++ g ++ h ≡ a ++ (b ++ (c ++ (d ++ (e ++ (f ++ (g ++ (h ++ [])))))))
 eight_texts a b c d e f g h = simp (append_assoc, append-nil) refl
 
--- What is kept has a text: its counts fit their fields.
+-- A kept state can be encoded: its counts fit their fields.
 abbrev pub HasText : KeptState → Type 0
 HasText s = IsKeptState s × (s.max_count < 2 ^ 64)
 

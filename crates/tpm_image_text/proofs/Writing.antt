@@ -1,5 +1,5 @@
--- Things that are written one after another: those written so far, and those left to be written,
--- are all.
+-- Writing elements one after another: the text so far, followed by the texts of the elements
+-- still to be written, is the whole text.
 use Rattle.tpm_image_text.specs.Sizes.{text_size}
 use Rattle.std.proofs.Math.Nat.{mul-le-mul_left}
 use Rattle.std.proofs.Common.{arith, ◌*◌, ◌^◌, ◌≤◌, ◌≡◌, ℕ, ◌+◌, ◌<◌, List, ◌++◌, length, drop, get_or, sym, ap, ◌∙◌, append_assoc, refl}
@@ -7,7 +7,7 @@ use Rattle.std.specs.List.{flat_map}
 use Rattle.std.proofs.lemmas.List.{drop_more}
 use Rattle.std.proofs.lemmas.List.Concat.{flat_map-cons}
 
--- one thing more is written
+-- writing one more element does not change what the whole text will be
 pub written_more : {X : Type 0} (text_of : X → List ℕ) (text new whole : List ℕ) (xs : List X) (i : ℕ) (d : X) → i < length xs → new ≡ text ++ text_of (get_or xs i d) → text ++ flat_map text_of (drop i xs) ≡ whole → new ++ flat_map text_of (drop (i + 1) xs) ≡ whole
 written_more text_of text new whole xs i d below more so_far =
     let x = get_or xs i d in
@@ -18,11 +18,11 @@ written_more text_of text new whole xs i d below more so_far =
     ∙ ap (λ (l : List _). text ++ flat_map text_of l) (sym (drop_more xs i d below))
     ∙ so_far
 
--- five things are written, one after another
+-- writing five texts one after another writes their concatenation
 pub five_written : (t a b c d e p q r s u : List ℕ) → a ≡ t ++ p → b ≡ a ++ q → c ≡ b ++ r → d ≡ c ++ s → e ≡ d ++ u → e ≡ t ++ (p ++ (q ++ (r ++ (s ++ u))))
 five_written t a b c d e p q r s u first second third fourth fifth = rw (fifth, fourth, third, second, first) (simp append_assoc refl)
 
--- one of sixteen things of one size fits where all of them do
+-- if sixteen elements of the same size fit, each of them fits
 pub one_fits : (size i length start : ℕ) → size ≤ 32 → i < 16 → start + 16 * size ≤ text_size → length ≡ start + i * size → (size * 1 < 2 ^ 63) × (length + size ≤ text_size)
 one_fits size i length start few below room is =
     let up_to : size * (i + 1) ≤ size * 16 = mul-le-mul_left size (omega (arith, below)) in

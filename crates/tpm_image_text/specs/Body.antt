@@ -1,6 +1,7 @@
 -- The body of an image: what a device keeps without power, part by part. The layout is this
--- device's own; objects and indices stand in it by the standard's structures (TPM 2.0 Library, Part
--- 2, sections 12.2.4, TPMT_PUBLIC, 12.3.2.4, TPMT_SENSITIVE, and 13.6, TPM2B_NV_PUBLIC).
+-- device's own; its objects and indices are encoded as the standard's structures (TPM 2.0
+-- Library, Part 2, sections 12.2.4, TPMT_PUBLIC, 12.3.2.4, TPMT_SENSITIVE, and 13.6,
+-- TPM2B_NV_PUBLIC).
 use Rattle.tpm_types.specs.Limits.{nv_data_limit, persistent_limit}
 use Rattle.std.specs.Prelude.{ℕ, ◌+◌, ◌==◌, ◌&&◌, nat_le, not, Bool, true, if◌then◌else◌}
 use Rattle.std.specs.Prelude.{List, [], ◌∷◌, ◌++◌, length, ok_or, Result, Ok, Err}
@@ -41,8 +42,8 @@ use Rattle.tpm_image_text.specs.declared.version.Version.TheVariants.{One, Two}
 
 -- ---- the limits
 
--- the text of the limits: version 1 does not say them; version 2 says how many NV indices there may
--- be, and the most bytes of their data
+-- the text of the limits: nothing in version 1; in version 2, the largest number of NV indices
+-- and the largest size of their data
 unfoldable pub limits_text : Version → List ℕ
 limits_text One = []
 limits_text Two = to_be_bytes w16 (index_limit Two) ++ to_be_bytes w32 (space_limit Two)
@@ -82,8 +83,8 @@ hierarchy_in text = do
   secrets ← secrets_in auth_value.1
   Ok (record { auth_value = auth_value.0; secrets = secrets.0 }, secrets.1)
 
--- the text of all hierarchies: the owner's, the endorsement, the platform and the null hierarchy,
--- of which the last has the empty authorization value; and lockoutAuth
+-- the text of all hierarchies: the owner, endorsement, platform and null hierarchies, followed by
+-- lockoutAuth; the authorization value of the null hierarchy is empty
 unfoldable pub hierarchies_text : Hierarchies → List ℕ
 hierarchies_text h =
     hierarchy_text h.owner ++ hierarchy_text h.endorsement ++ hierarchy_text h.platform
@@ -111,7 +112,7 @@ hierarchies_in text = do
 -- ---- lockout
 
 -- the text of lockout: failedTries, maxTries, recoveryTime, lockoutRecovery, and whether
--- lockoutAuth is closed
+-- lockoutAuth is disabled
 unfoldable pub lockout_text : LockoutFields → List ℕ
 lockout_text l =
     to_be_bytes w32 l.failed_tries ++ to_be_bytes w32 l.max_tries
@@ -138,12 +139,12 @@ lockout_in text = do
 
 -- ---- what a TPM2_Shutdown saved
 
--- the text of the values of the PCRs 0 to 15 by SHA-1, and then by SHA-256
+-- the text of PCRs 0 to 15: their values in the SHA-1 bank, then those in the SHA-256 bank
 abbrev pub values_text : SavedValues → List ℕ
 values_text values =
     flat_map (λ value. value) values.sha1 ++ flat_map (λ value. value) values.sha256
 
--- the values of sixteen PCRs, of this many bytes each
+-- reads the values of sixteen PCRs, each with the given size
 unfoldable pub bank_in : ℕ → List ℕ → Result (List (List ℕ) × List ℕ) Malformed
 bank_in size text = many_at (bytes_in size) 16 text
 
@@ -153,8 +154,8 @@ values_in text = do
   sha256 ← bank_in 32 sha1.1
   Ok (record { sha1 = sha1.0; sha256 = sha256.0 }, sha256.1)
 
--- the text of what a TPM2_Shutdown saved: a byte, 0 for nothing, 1 for CLEAR, 2 for STATE; and the
--- values that STATE saves
+-- the text of what a TPM2_Shutdown saved: one byte, which is 0 for nothing, 1 for CLEAR and 2 for
+-- STATE; a 2 is followed by the values that STATE saves
 unfoldable pub saved_text : SavedState → List ℕ
 saved_text Nothing = to_be_bytes w8 0
 saved_text Clear = to_be_bytes w8 1
@@ -165,7 +166,7 @@ saved_values_in text = do
   values ← values_in text
   Ok (State values.0, values.1)
 
--- what a text says of what was saved, after the byte of this kind
+-- reads what was saved, after the byte for its kind
 abbrev pub saved_by_kind : ℕ → List ℕ → Result (SavedState × List ℕ) Malformed
 saved_by_kind kind text =
     if kind == 0 then Ok (Nothing, text)
@@ -179,7 +180,7 @@ saved_in text = do
 
 -- ---- persistent objects
 
--- the sensitive area that an object has
+-- the sensitive area of an object
 abbrev pub sensitive_of : Object → Sensitive
 sensitive_of o = record {
   object_type = object_type o.public;
@@ -188,34 +189,34 @@ sensitive_of o = record {
   sensitive = o.sensitive;
 }
 
--- the text of an object: its hierarchy, and its qualified Name, its public and its sensitive area,
--- each of these three in a sized buffer
+-- the text of an object: its hierarchy; then its qualified Name, its public area and its
+-- sensitive area, each in a sized buffer
 unfoldable pub object_fields_text : Object → List ℕ
 object_fields_text o =
     to_be_bytes w32 (hierarchy_handle o.hierarchy).number
     ++ sized_text o.qualified_name
     ++ sized_text (public_text o.public) ++ sized_text (sensitive_text (sensitive_of o))
 
--- the text of a persistent object: its handle, and then the object
+-- the text of a persistent object: its handle, followed by the object
 unfoldable pub object_text : ℕ × Object → List ℕ
 object_text e = to_be_bytes w32 e.0 ++ object_fields_text e.1
 
--- the handle of a persistent object
+-- reads the handle of a persistent object
 unfoldable pub handle_in : List ℕ → Result (Handle × List ℕ) Malformed
 handle_in text = do
   number ← number_in w32 text
   named ← refused_if (not (is_persistent (numbered number.0))) malformed
   Ok (numbered number.0, number.1)
 
--- the hierarchy of an object, as it is read
+-- reads the hierarchy of an object
 unfoldable pub object_hierarchy_in : List ℕ → Result (HierarchyHandle × List ℕ) Malformed
 object_hierarchy_in text = do
   number ← number_in w32 text
   hierarchy ← ok_or (hierarchy_of (numbered number.0)) malformed
   Ok (hierarchy, number.1)
 
--- whether a sensitive area is of the type of this public area, and its authorization value has no
--- zero at its end
+-- whether a sensitive area has the type of this public area, and an authorization value that does
+-- not end with a zero byte
 abbrev pub is_sensitive_of : Public → Sensitive → Bool
 is_sensitive_of p s =
     object_type_number s.object_type == object_type_number (object_type p)
@@ -252,12 +253,12 @@ object_in text = do
   object ← passing is_persistable object_fields_in handle.1
   Ok ((handle.0.number, object.0), object.1)
 
--- whether keys ascend from this one on, each above the one before it
+-- whether keys ascend: the first is at least `low`, and each later key is above the key before it
 abbrev pub ascend_from : {X : Type 0} → ℕ → Entries X → Bool
 ascend_from low [] = true
 ascend_from low (e ∷ es) = nat_le low e.0 && ascend_from (e.0 + 1) es
 
--- the text of the persistent objects, in ascending order of their handles, within the limit on
+-- the text of the persistent objects, in ascending order of handle; reading checks the limit on
 -- their number
 unfoldable pub objects_text : Entries Object → List ℕ
 objects_text objects = counted_text object_text objects
@@ -267,18 +268,19 @@ objects_in text = passing (ascend_from 0) (counted_in persistent_limit object_in
 
 -- ---- NV indices
 
--- the text of an NV index: its public area, which names the handle, its authorization value and its
--- data, each in a sized buffer
+-- the text of an NV index: its public area (which contains the handle), its authorization value
+-- and its data, each in a sized buffer
 unfoldable pub index_text : ℕ × NvIndex → List ℕ
 index_text e =
     sized_text (nv_public_text e.1.public) ++ sized_text e.1.auth_value ++ sized_text e.1.bytes
 
--- how many bytes of data an NV index has: as many as its public area says where it is written, else
--- none
+-- the size of an NV index's data: the size in its public area if the index is written, otherwise
+-- 0
 abbrev pub data_size : NvPublic → ℕ
 data_size p = if has p.attributes attribute.Written then p.data_size else 0
 
--- whether an NV index has the size of its type, and as many bytes of data as it is to have
+-- whether the size in an NV index's public area is allowed for its type, and its data have the
+-- required size
 abbrev pub is_index : NvIndex → Bool
 is_index index =
     has_type_size index.public && length index.bytes == data_size index.public
@@ -298,15 +300,16 @@ index_in text = do
   index ← passing is_index fields_of_index_in text
   Ok ((index.0.public.nv_index.number, index.0), index.1)
 
--- how many bytes of data these NV indices have or will have, and whether there is space for them
+-- the total size of the data that these NV indices have or will have, and whether the limit
+-- allows it
 abbrev pub bytes_of : Entries NvIndex → ℕ
 bytes_of indices = sum_by (λ e. e.1.public.data_size) indices
 
 abbrev pub have_space : (limit : ℕ) → Entries NvIndex → Bool
 have_space limit indices = nat_le (bytes_of indices) limit
 
--- the text of the NV indices, in ascending order of their handles, within the version's limits on
--- their number and their data
+-- the text of the NV indices, in ascending order of handle; reading checks the version's limits
+-- on their number and their data
 unfoldable pub indices_text : Entries NvIndex → List ℕ
 indices_text indices = counted_text index_text indices
 
@@ -317,9 +320,9 @@ indices_in version text =
 
 -- ---- the whole body
 
--- the text of what does not grow: the hierarchies, whether TPM2_Clear is refused, lockout, Clock,
--- the counts of TPM Resets and TPM Restarts, the largest value that a counter ever had, and what
--- was saved
+-- the text of the fixed part: the hierarchies, whether TPM2_Clear is refused, lockout, Clock, the
+-- counts of TPM Resets and TPM Restarts, the largest value that a counter ever had, and what was
+-- saved
 unfoldable pub state_text : KeptState → List ℕ
 state_text s =
     hierarchies_text s.hierarchies ++ yes_no_text s.disable_clear ++ lockout_text s.lockout
@@ -352,7 +355,7 @@ state_in text = do
     saved.1,
   )
 
--- the text of a body: the limits, what does not grow, the persistent objects and the NV indices
+-- the text of a body: the limits, the fixed part, the persistent objects and the NV indices
 unfoldable pub image_body_text : Version → NonVolatile → List ℕ
 image_body_text version kept =
     limits_text version ++ state_text kept.state ++ objects_text kept.persistent
@@ -369,6 +372,6 @@ kept_in version text = do
     indices.1,
   )
 
--- what a body keeps, where it has exactly these bytes
+-- the kept state in a body, which must take up all of the bytes
 unfoldable pub body_of : Version → List ℕ → Result NonVolatile Malformed
 body_of version text = filling (kept_in version) text

@@ -1,5 +1,5 @@
--- The fields of an image, each with its text and its reading. A field that is cut short, or has a
--- value that it may not have, is malformed, whatever other readers call that.
+-- The fields of an image: how each is encoded and decoded. A field that is truncated, or contains
+-- a value that is not allowed, is malformed, whatever fault other readers return for it.
 use Rattle.std.specs.Prelude.{ℕ, ◌==◌, nat_lt, not, Bool, true, false, List, ◌++◌, length, Result, Ok}
 use Rattle.std.specs.Int.{Width, w8, w16, to_be_bytes}
 use Rattle.std.specs.List.{flat_map}
@@ -14,13 +14,13 @@ use Rattle.tpm_image_text.specs.declared.fault.Malformed.{Malformed}
 abbrev pub malformed : Malformed
 malformed = record {}
 
--- a reading of a field, whose every fault is that the body is malformed
+-- reads a field, and turns every fault into `malformed`
 abbrev pub in_body : {X E : Type 0}
     → (List ℕ → Result (X × List ℕ) E)
     → List ℕ → Result (X × List ℕ) Malformed
 in_body at text = or_fault (at text) malformed
 
--- a reading of a value that has to pass a test
+-- reads a value that must pass a test
 abbrev pub passing : {X : Type 0}
     → (X → Bool)
     → (List ℕ → Result (X × List ℕ) Malformed)
@@ -30,7 +30,7 @@ passing test at text = do
   passed ← refused_if (not (test x.0)) malformed
   Ok x
 
--- what a reading gives of a text that it takes whole
+-- reads a value that must take up the whole text
 abbrev pub filling : {X : Type 0}
     → (List ℕ → Result (X × List ℕ) Malformed)
     → List ℕ → Result X Malformed
@@ -44,7 +44,7 @@ filling at text = do
 abbrev pub number_in : Width → List ℕ → Result (ℕ × List ℕ) Malformed
 number_in width text = in_body (number_at width) text
 
--- the byte of a yes (1) or a no (0)
+-- the byte for yes (1) or no (0)
 abbrev pub yes_no_number : Bool → ℕ
 yes_no_number true = 1
 yes_no_number false = 0
@@ -55,28 +55,28 @@ yes_no_text is_yes = to_be_bytes w8 (yes_no_number is_yes)
 abbrev pub yes_no_in : List ℕ → Result (Bool × List ℕ) Malformed
 yes_no_in text = in_body yes_no_at text
 
--- this many bytes, as they are read
+-- reads `count` bytes
 abbrev pub bytes_in : ℕ → List ℕ → Result (List ℕ × List ℕ) Malformed
 bytes_in count text = in_body (bytes_at count) text
 
--- a sized buffer of at most this many bytes, as it is read
+-- reads a sized buffer of at most the given size
 abbrev pub buffer_in : ℕ → List ℕ → Result (List ℕ × List ℕ) Malformed
 buffer_in limit text = in_body (buffer_at limit) text
 
--- an authorization value: a sized buffer of at most 32 bytes, with no zero at its end
+-- an authorization value: a sized buffer of at most 32 bytes that does not end with a zero byte
 abbrev pub is_trimmed : List ℕ → Bool
 is_trimmed value = bytes_eq (trimmed value) value
 
 unfoldable pub auth_value_in : List ℕ → Result (List ℕ × List ℕ) Malformed
 auth_value_in text = passing is_trimmed (buffer_in 32) text
 
--- ---- things one after another
+-- ---- lists
 
--- the text of a list of things: how many there are, and each of them
+-- the text of a list: the number of its elements, followed by each element
 abbrev pub counted_text : {X : Type 0} → (X → List ℕ) → List X → List ℕ
 counted_text text_of things = to_be_bytes w16 (length things) ++ flat_map text_of things
 
--- a list of at most this many things, as it is read
+-- reads a list of at most the given number of elements
 abbrev pub counted_in : {X : Type 0}
     → (most : ℕ)
     → (List ℕ → Result (X × List ℕ) Malformed)

@@ -1,4 +1,4 @@
--- What filling the state of a device with what a text spells answers and leaves.
+-- The results of calls that read the state of a device from a text, and the state after them.
 use Rattle.std.specs.Prelude.{◌≡◌, ℕ, ◌+◌, ◌<◌, ◌≤◌, Bool, true, List, [], ◌∷◌, ◌++◌, Result, Ok, Err, IfOk}
 use Rattle.tpm_containers.specs.SortedMap.{Entries}
 use Rattle.tpm_lockout.specs.Lockout.{restored}
@@ -10,8 +10,8 @@ use Rattle.tpm_image_text.specs.declared.fault.FillFault.{FillFault}
 use Rattle.tpm_image_text.specs.declared.fault.FillFault.TheVariants as unfilled
 use Rattle.tpm_image_text.specs.declared.fault.Malformed.{Malformed}
 
--- Something was filled with what a text spells; or the text is malformed; or memory was refused,
--- and then nothing is said of the text.
+-- The value was read from the text; or the text is malformed; or an allocation failed, in which
+-- case the text may be anything.
 abbrev pub Fills : {X : Type 0}
     → Bool → Result (X × List ℕ) Malformed → X
     → Result (Unit {0}) FillFault → List ℕ → Type 0
@@ -24,9 +24,9 @@ abbrev pub AllBelow : {X : Type 0} → ℕ → Entries X → Type 0
 AllBelow key [] = Unit {0}
 AllBelow key (e ∷ es) = (e.0 < key) × AllBelow key es
 
--- One entry was read and put after the others, its key is not below the lowest that it may have,
--- and the next key has to be above it; or what is read is malformed or misplaced, which is what
--- Misfits says of it; or memory was refused.
+-- One entry was read and appended to the others: its key is at least `lowest`, and the next key
+-- must be above it. Or the entry is malformed, or it does not fit, as `Misfits` defines. Or an
+-- allocation failed.
 abbrev pub Appends : {X : Type 0}
     → Bool → Result ((ℕ × X) × List ℕ) Malformed → (lowest : ℕ) → (ℕ × X → Type 0)
     → (old : Entries X) → Result ℕ FillFault → (new : Entries X) → List ℕ → Type 0
@@ -36,8 +36,7 @@ Appends {X} can read lowest Misfits old (Ok next) new rest =
 Appends can read lowest Misfits old (Err unfilled.Malformed) new rest = IfOk read (λ x. Misfits x.0)
 Appends can read lowest Misfits old (Err unfilled.NoMemory) new rest = can ≡ true
 
--- the fixed part of a record, with what was kept of it, and both times of lockout at their
--- beginning
+-- the fixed part of a record, with the kept state restored and both lockout timers restarted
 abbrev pub with_state : Fixed → KeptState → Fixed
 with_state fixed state = record fixed {
   saved = state.saved;
@@ -49,8 +48,8 @@ with_state fixed state = record fixed {
   restart_count = state.restart_count;
 }
 
--- What was kept was put into the fixed part of a record, and the largest value that a counter ever
--- had was answered; or the text is malformed.
+-- The kept state was restored to the fixed part of a record, and the result is the largest value
+-- that a counter ever had; or the text is malformed.
 abbrev pub Restores : Result (KeptState × List ℕ) Malformed
     → Fixed → Result ℕ Malformed → Fixed → List ℕ → Type 0
 Restores read old (Ok max_count) new rest =
@@ -58,16 +57,17 @@ Restores read old (Ok max_count) new rest =
     × (max_count ≡ state.max_count)
 Restores read old (Err fault) new rest = read ≡ Err fault
 
--- A record became that of the device that kept what the text spells; or the text is malformed; or
--- memory was refused, and then nothing is said of the text.
+-- The record became that of a device that was powered on with the kept state in the text; or the
+-- text is malformed; or an allocation failed, in which case the text may be anything.
 abbrev pub PowersOn : Bool → Result NonVolatile Malformed → Result (Unit {0}) FillFault
     → Record → Type 0
 PowersOn can read (Ok done) new = (kept : NonVolatile) × (read ≡ Ok kept) × (new ≡ powered_on kept)
 PowersOn can read (Err unfilled.Malformed) new = read ≡ Err malformed
 PowersOn can read (Err unfilled.NoMemory) new = can ≡ true
 
--- A record became that of the device that kept what the front of a text spells, and the rest of the
--- text was left; or the text is malformed; or memory was refused, and then nothing is said of it.
+-- The record became that of a device that was powered on with the kept state at the front of the
+-- text, and `rest` is left to read; or the text is malformed; or an allocation failed, in which
+-- case the text may be anything.
 abbrev pub PowersOnFrom : Bool → Result (NonVolatile × List ℕ) Malformed
     → Result (Unit {0}) FillFault → Record → (rest : List ℕ) → Type 0
 PowersOnFrom can read (Ok done) new rest =
@@ -75,8 +75,8 @@ PowersOnFrom can read (Ok done) new rest =
 PowersOnFrom can read (Err unfilled.Malformed) new rest = read ≡ Err malformed
 PowersOnFrom can read (Err unfilled.NoMemory) new rest = can ≡ true
 
--- A new state stands for the record of the device that kept what the text spells; or the text is
--- malformed; or memory was refused.
+-- The result is the state of a device that was powered on with the kept state in the text; or the
+-- text is malformed; or an allocation failed.
 abbrev pub Filled : {K : Type 0} → (K → Record) → Bool → Result NonVolatile Malformed
     → Result K FillFault → Type 0
 Filled record_of can read (Ok keep) =

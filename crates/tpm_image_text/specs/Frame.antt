@@ -1,4 +1,4 @@
--- The frame of an image, and of any text that says what a device is: a head before its body, and a
+-- The frame of an image, and of any text that encodes a device: a head before the body, and a
 -- digest after both. The formats are this device's own.
 use Rattle.std.specs.Prelude.{ℕ, ◌+◌, ◌-◌, ◌==◌, nat_lt, not, List, [], ◌∷◌, ◌++◌, length, take, drop}
 use Rattle.std.specs.Prelude.{ok_or, Option, Result, Ok}
@@ -12,8 +12,8 @@ use Rattle.tpm_image_text.specs.declared.fault.ImageFault.{ImageFault}
 use Rattle.tpm_image_text.specs.declared.fault.ImageFault.TheVariants as fault
 use Rattle.tpm_image_text.specs.declared.version.Version.{Version}
 
--- a format of such texts: the letter with which its word ends; its versions, each with its number;
--- and its faults in the order of the checks, of which `whole` is that of the length
+-- a format of framed texts: the last letter of its magic word, the numbers of its versions, and
+-- its faults in the order of the checks; `whole` is the fault of a wrong length
 pub record Format (V E : Type 0) : Type 0 where
   pub letter : ℕ
   pub number : V → ℕ
@@ -24,11 +24,11 @@ pub record Format (V E : Type 0) : Type 0 where
   pub whole : E
   pub digest : E
 
--- the word with which a text of a format begins: TPM and the letter
+-- the magic word at the front of a framed text: TPM and the letter of the format
 abbrev pub word_of : ℕ → List ℕ
 word_of letter = 0x54 ∷ 0x50 ∷ 0x4d ∷ letter ∷ []
 
--- the head of a text: the word, the number of the version, and the length of the whole text
+-- the head of a text: the magic word, the number of the version, and the size of the whole text
 abbrev pub head_in : {V E : Type 0} → Format V E → V → (whole : ℕ) → List ℕ
 head_in format version whole =
     word_of format.letter
@@ -40,32 +40,32 @@ head_bytes = 10
 abbrev pub digest_bytes : ℕ
 digest_bytes = 32
 
--- a text, and after it the digest of the text
+-- a text followed by its digest
 abbrev pub digested_text : List ℕ → List ℕ
 digested_text text = text ++ hash_of Sha256 text
 
--- a body in its frame: the head before it, and after both their digest
+-- a body in its frame: the head before it, and the digest of both after it
 abbrev pub framed_in : {V E : Type 0} → Format V E → V → List ℕ → List ℕ
 framed_in format version body =
     digested_text (head_in format version (head_bytes + length body + digest_bytes) ++ body)
 
--- ---- the parts of a framed text, by their places
+-- ---- the parts of a framed text, by their offsets
 
--- the number of the version in the head of a text
+-- the version's number in the head of a text
 abbrev pub number_of : List ℕ → ℕ
 number_of text = from_be_bytes w16 (take 2 (drop 4 text))
 
 abbrev pub length_of : List ℕ → ℕ
 length_of text = from_be_bytes w32 (take 4 (drop 6 text))
 
--- what is before the digest in a text, and the digest
+-- the part of a text before the digest, and the digest
 abbrev pub before_digest : List ℕ → List ℕ
 before_digest text = take (length text - digest_bytes) text
 
 abbrev pub digest_of : List ℕ → List ℕ
 digest_of text = drop (length text - digest_bytes) text
 
--- the version and the body of a text in its frame, or the first fault of the frame
+-- the version and the body of a framed text, or the first fault of the frame
 unfoldable pub within_frame : {V E : Type 0} → Format V E → List ℕ → Result (V × List ℕ) E
 within_frame format text = do
   long ← refused_if (nat_lt (length text) (head_bytes + digest_bytes)) format.short
@@ -91,11 +91,12 @@ image_format = record {
   digest = fault.Digest;
 }
 
--- the head of an image: the word TPMI, the number of the version, and the length of the whole image
+-- the head of an image: the magic word TPMI, the number of the version, and the size of the whole
+-- image
 abbrev pub head_text : Version → (whole : ℕ) → List ℕ
 head_text version whole = head_in image_format version whole
 
--- a body of an image in its frame
+-- the body of an image, in its frame
 abbrev pub framed_text : Version → List ℕ → List ℕ
 framed_text version body = framed_in image_format version body
 

@@ -14,10 +14,10 @@ use Rattle.tpm_record.specs.Record.{Record, no_objects, no_sessions}
 use Rattle.tpm_record.specs.Saved.{IsSavedState, SavedState}
 use Rattle.tpm_record.specs.declared.hierarchy.Hierarchies.{Hierarchies}
 
--- what is kept of the part that does not grow: the hierarchies; whether TPM2_Clear is refused;
--- failed tries, their parameters and whether lockoutAuth is closed; Clock and the counts of TPM
--- Resets and TPM Restarts; the largest value that a counter ever had; and what the last
--- TPM2_Shutdown saved
+-- the fixed part of what a device keeps: the hierarchies; whether TPM2_Clear is refused; failed
+-- tries, their parameters and whether lockoutAuth is disabled; Clock and the counts of TPM Resets
+-- and TPM Restarts; the largest value that a counter ever had; and what the last TPM2_Shutdown
+-- saved
 pub record KeptState : Type 0 where
   pub hierarchies : Hierarchies
   pub disable_clear : Bool
@@ -28,13 +28,13 @@ pub record KeptState : Type 0 where
   pub max_count : ℕ
   pub saved : SavedState
 
--- what a device keeps: the part that does not grow, the persistent objects and the NV indices
+-- what a device keeps: the fixed part, the persistent objects and the NV indices
 pub record NonVolatile : Type 0 where
   pub state : KeptState
   pub persistent : Entries Object
   pub indices : Entries NvIndex
 
--- what of a record is kept without power
+-- the part of a record that is kept without power
 abbrev pub kept_of : Record → NonVolatile
 kept_of r = record {
   state = record {
@@ -55,7 +55,7 @@ kept_of r = record {
 abbrev pub nv_of : NonVolatile → NvContents
 nv_of kept = record { indices = kept.indices; max_count = kept.state.max_count }
 
--- the record of a device that kept this, as power comes on
+-- the record of a device that kept this state, just after power-on
 abbrev pub powered_on : NonVolatile → Record
 powered_on kept = record {
   fixed = record {
@@ -76,7 +76,7 @@ powered_on kept = record {
   nv = nv_of kept;
 }
 
--- What is kept of a record is within the limits that hold of its parts in every record.
+-- Each part of the kept state is within the limits that hold for it in every record.
 pub record IsKeptState (state : KeptState) : Type 0 where
   pub hierarchies : IsHierarchies state.hierarchies
   pub lockout : IsLockout (restored state.lockout)

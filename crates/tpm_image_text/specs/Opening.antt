@@ -1,4 +1,4 @@
--- What opening an image answers and leaves.
+-- The results of opening an image.
 use Rattle.std.specs.Prelude.{◌≡◌, Bool, true, List, ℕ, Result, Ok, Err}
 use Rattle.tpm_record.specs.Cycle.{cycled}
 use Rattle.tpm_record.specs.Record.{Record}
@@ -7,9 +7,9 @@ use Rattle.tpm_image_text.specs.NonVolatile.{NonVolatile, powered_on}
 use Rattle.tpm_image_text.specs.declared.fault.ImageFault.{ImageFault}
 use Rattle.tpm_image_text.specs.declared.fault.ImageFault.TheVariants.{NoMemory}
 
--- An image was opened: the result is a machine with the record of the device that kept what the
--- image says, as power comes on; or the fault of the text; or memory was refused, which stands only
--- in place of a machine.
+-- The image was opened: the result is a machine with the kept state in the image, just after
+-- power-on. Or the result is the fault of the text. Or an allocation failed, which is reported
+-- only if the text is an image.
 abbrev pub Opens : {M : Type 0} → (M → Record) → Bool → List ℕ → Result M ImageFault → Type 0
 Opens record_of can text (Ok machine) =
     (kept : NonVolatile) × (image_of text ≡ Ok kept) × (record_of machine ≡ powered_on kept)
@@ -17,8 +17,8 @@ Opens record_of can text (Err NoMemory) =
     (can ≡ true) × ((kept : NonVolatile) × (image_of text ≡ Ok kept))
 Opens record_of can text (Err fault) = image_of text ≡ Err fault
 
--- The image of a record was opened, and gave the record after a power cycle, unless memory was
--- refused.
+-- The image of a record was opened, and the result has the record after a power cycle, unless an
+-- allocation failed.
 abbrev pub OpensAgain : {M : Type 0} → (M → Record) → Bool → Record → Result M ImageFault → Type 0
 OpensAgain record_of can r (Ok machine) = record_of machine ≡ cycled r
 OpensAgain record_of can r (Err NoMemory) = can ≡ true

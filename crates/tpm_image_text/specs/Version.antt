@@ -8,18 +8,18 @@ abbrev pub version_number : Version → ℕ
 version_number One = 1
 version_number Two = 2
 
--- the version that has this number, if any
+-- the version with this number, if any
 unfoldable pub version_numbered : ℕ → Option Version
 version_numbered number =
     if number == 1 then Some One else (if number == 2 then Some Two else None)
 
--- how many NV indices an image may have: in version 2 as many as the device
+-- the largest number of NV indices in an image; in version 2 it is the device's limit
 abbrev pub index_limit : Version → ℕ
 index_limit One = 32
 index_limit Two = nv_index_limit
 
--- the most bytes of data that the NV indices of an image have together: in version 2 as many as in
--- the device
+-- the largest total size of the data of all NV indices in an image; in version 2 it is the
+-- device's limit
 abbrev pub space_limit : Version → ℕ
 space_limit One = 8192
 space_limit Two = nv_space_limit

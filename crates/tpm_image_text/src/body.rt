@@ -22,8 +22,7 @@ use tpm_lockout::Lockout;
 use tpm_nv::Indices;
 use tpm_record::{Fixed, Keep};
 
-/// Reads the part of a body that does not grow, and gives the largest value that a counter ever
-/// had.
+/// Reads the fixed part of a body, and returns the largest value that a counter ever had.
 #[tactic(auto, unfolding(crate::specs::Body::state_in))]
 fn read_state(fixed: &mut Fixed, text: &mut Cursor) -> Result<u64, Malformed>
     ensures { Restores (state_in text.old) fixed.old result fixed.new text.new }
@@ -39,7 +38,8 @@ fn read_state(fixed: &mut Fixed, text: &mut Cursor) -> Result<u64, Malformed>
     Ok(max_count)
 }
 
-/// Reads what is kept, of a version, at the front of a text into a `Keep` that was just made.
+/// Reads the state that a device keeps without power from the front of a text of the given
+/// version into a new `Keep`.
 #[tactic(auto, unfolding(crate::specs::Body::kept_in))]
 pub fn read_kept<K: Keep>(
     version: Version,
@@ -62,7 +62,7 @@ pub fn read_kept<K: Keep>(
     Ok(())
 }
 
-/// Reads a whole body of a version into a `Keep` that was just made.
+/// Reads a whole body of the given version into a new `Keep`.
 #[tactic(auto, unfolding(crate::specs::Body::body_of))]
 pub fn read_body<K: Keep>(version: Version, keep: &mut K, body: &[u8]) -> Result<(), FillFault>
     requires { K.record_of keep.old ≡ manufactured (replicate 256 0) }
@@ -76,7 +76,7 @@ pub fn read_body<K: Keep>(version: Version, keep: &mut K, body: &[u8]) -> Result
     Ok(())
 }
 
-/// Writes the part of a body that does not grow, with this clock.
+/// Writes the fixed part of a body, with the given value of Clock.
 #[tactic(auto, unfolding(crate::specs::Body::state_text))]
 fn write_state<K: Keep>(keep: &K, clock: u64, text: &mut Text)
     requires { length text.old + state_size ≤ text_size }
@@ -95,7 +95,7 @@ fn write_state<K: Keep>(keep: &K, clock: u64, text: &mut Text)
     write_saved(&fixed.saved, text);
 }
 
-/// Writes a whole body, in the version that is written.
+/// Writes a whole body in the version that this device writes.
 pub fn write_body<K: Keep>(keep: &K, text: &mut Text)
     requires { text.old ≡ [] }
     ensures written { text.new ≡ image_body_text Two (kept_of (K.record_of keep.now)) }
@@ -104,7 +104,7 @@ pub fn write_body<K: Keep>(keep: &K, text: &mut Text)
     write_body_at(keep, keep.fixed().clock, text);
 }
 
-/// Writes a whole body, with this clock.
+/// Writes a whole body with the given value of Clock.
 #[tactic(auto, unfolding(crate::specs::Body::image_body_text))]
 pub fn write_body_at<K: Keep>(keep: &K, clock: u64, text: &mut Text)
     requires { text.old ≡ [] }

@@ -1,29 +1,30 @@
-//! Why bytes are not an image, and why an image is not saved.
+//! Why bytes are refused as an image, and why saving an image fails.
 
-/// Why bytes are not an image, in the order of the checks.
+/// The reasons why bytes are not an image, in the order of the checks.
 #[derive(Clone, Copy, PartialEq, Eq)]
 pub enum ImageFault {
-    /// The text has fewer bytes than the head and the digest have: 42.
+    /// The text is shorter than 42 bytes, the size of the head and the digest together.
     Short,
     /// The text does not begin with TPMI.
     Magic,
-    /// The text has another version than 1 and 2.
+    /// The version of the text is neither 1 nor 2.
     Version,
-    /// The text is not as long as its head says.
+    /// The size of the text differs from the size in its head.
     Length,
-    /// The last 32 bytes are not the SHA-256 of those before them.
+    /// The last 32 bytes are not the SHA-256 digest of the bytes before them.
     Digest,
-    /// The bytes between head and digest spell no state within the limits of the version.
+    /// The bytes between the head and the digest do not encode a state within the limits of the
+    /// version.
     Body,
-    /// The text is an image, and memory was refused.
+    /// The text is an image, but an allocation failed.
     NoMemory,
 }
 
-/// A part of an image is cut short, or has a value that it may not have.
+/// Part of an image is truncated, or contains a value that is not allowed.
 #[derive(Clone, Copy, PartialEq, Eq)]
 pub struct Malformed;
 
-/// Why the state of a device was not filled with what a text says.
+/// Why the state of a device could not be read from a text.
 #[derive(Clone, Copy, PartialEq, Eq)]
 pub enum FillFault {
     Malformed,

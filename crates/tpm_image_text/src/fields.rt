@@ -17,8 +17,8 @@ use tpm_types::{
     read_yes_no, trimmed,
 };
 
-/// How many bytes the limits have; and the most bytes of the part that does not grow, of the
-/// persistent objects, and of the NV indices.
+/// The size of the limits, in bytes. The three constants after it are the largest sizes of the
+/// fixed part, the persistent objects and the NV indices.
 const LIMITS_SIZE: usize = 6;
 
 const STATE_SIZE: usize = 1_269;
@@ -27,10 +27,10 @@ const OBJECTS_SIZE: usize = 2 + PERSISTENT_LIMIT * 330;
 
 const INDICES_SIZE: usize = 2 + NV_INDEX_LIMIT * 84 + NV_SPACE_LIMIT;
 
-/// The most bytes of what a state text has in addition to the body of the image.
+/// The largest size of what a state text contains in addition to the body of an image.
 const MORE_SIZE: usize = 7_962;
 
-/// The most bytes of a body, of an image or of a state text, together with the digest after it.
+/// The largest size of the body of an image or a state text, including the digest after it.
 pub const TEXT_LIMIT: usize = LIMITS_SIZE
     + STATE_SIZE
     + OBJECTS_SIZE
@@ -96,7 +96,7 @@ pub fn read_bytes<'a>(text: &mut Cursor<'a>, count: usize) -> Result<&'a [u8], M
     }
 }
 
-/// Reads a digest or a secret of this many bytes.
+/// Reads a digest or a secret of N bytes.
 pub fn read_array<const N: usize>(text: &mut Cursor) -> Result<[u8; N], Malformed>
     ensures { Reads (λ bytes. bytes) (bytes_in N text.old) text.old result text.new }
 {
@@ -106,7 +106,7 @@ pub fn read_array<const N: usize>(text: &mut Cursor) -> Result<[u8; N], Malforme
     Ok(array)
 }
 
-/// Reads a sized buffer of at most this many bytes.
+/// Reads a sized buffer of at most the given size.
 pub fn read_sized<'a>(text: &mut Cursor<'a>, most: usize) -> Result<&'a [u8], Malformed>
     ensures exact { Reads (λ bytes. bytes.now) (buffer_in most text.old) text.old result text.new }
     ensures few { IfOk result (λ bytes. length bytes.now ≤ most) }
@@ -117,7 +117,7 @@ pub fn read_sized<'a>(text: &mut Cursor<'a>, most: usize) -> Result<&'a [u8], Ma
     }
 }
 
-/// Whether bytes are an authorization value as it is kept: they do not end in a zero.
+/// Whether bytes can be a stored authorization value: they do not end with a zero byte.
 pub fn is_trimmed(bytes: &[u8]) -> bool
     ensures value { result ≡ is_trimmed bytes.now }
     ensures same { result ≡ true → trimmed bytes.now ≡ bytes.now }
@@ -138,7 +138,7 @@ pub fn read_auth_value(text: &mut Cursor) -> Result<AuthValue, Malformed>
     Ok(AuthValue::of(bytes))
 }
 
-/// Reads a structure that fills a sized buffer.
+/// Reads a structure that takes up a whole sized buffer.
 pub fn read_structure<'a, T: Readable<'a, Fault = Rc> + Drop>(
     text: &mut Cursor<'a>,
 ) -> Result<T, Malformed>
@@ -190,7 +190,7 @@ pub fn write_bool(is_yes: bool, text: &mut Text)
     text.append_u8(u8::from(is_yes));
 }
 
-/// Writes a sized buffer of at most this many bytes.
+/// Writes a sized buffer of at most the given size.
 pub fn write_sized(bytes: &[u8], most: usize, text: &mut Text)
     requires few { length bytes.now ≤ most }
     requires most { most ≤ nv_space_limit }

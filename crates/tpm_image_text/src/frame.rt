@@ -11,15 +11,16 @@ use crate::version::Version;
 use tpm_bytes::Sink;
 use tpm_mac::{HashAlg, digest_parts};
 
-/// The word with which an image begins.
+/// The magic bytes at the front of an image.
 const MAGIC: [u8; 4] = [0x54, 0x50, 0x4d, 0x49];
 
-/// How many bytes the head has, and the digest.
+/// Sizes of the head and of the digest, in bytes.
 const HEAD_BYTES: usize = 10;
 
 const DIGEST_BYTES: usize = 32;
 
-/// The head of an image, in the version that is written, with a body of this many bytes.
+/// Returns the head of an image whose body has the given size, in the version that this device
+/// writes.
 pub fn head(body_bytes: usize) -> Sink<10>
     requires { body_bytes ≤ body_size }
     ensures { result ≡ head_text Two (10 + body_bytes + 32) }
@@ -31,7 +32,7 @@ pub fn head(body_bytes: usize) -> Sink<10>
     head
 }
 
-/// The version and the body of a text in its frame, or the first fault of the frame.
+/// Returns the version and the body of a framed text, or the first fault of the frame.
 #[tactic(auto, unfolding(crate::specs::Frame::within_frame))]
 pub fn framed_body(text: &[u8]) -> Result<(Version, &[u8]), ImageFault>
     ensures value { Gives (λ framed. (framed.0, framed.1.now)) (framed_body text.now) result }

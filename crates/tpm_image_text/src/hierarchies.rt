@@ -36,7 +36,7 @@ fn read_hierarchy(text: &mut Cursor) -> Result<Hierarchy, Malformed>
     })
 }
 
-/// Reads the hierarchies, and lockoutAuth after them.
+/// Reads the hierarchies, followed by lockoutAuth.
 #[tactic(auto, unfolding(crate::specs::Body::hierarchies_in))]
 pub fn read_hierarchies(text: &mut Cursor) -> Result<Hierarchies, Malformed>
     ensures { Reads (λ hierarchies. hierarchies) (hierarchies_in text.old) text.old
@@ -77,7 +77,7 @@ fn write_hierarchy(hierarchy: &Hierarchy, text: &mut Text)
     write_secrets(&hierarchy.secrets, text);
 }
 
-/// Writes the hierarchies, and lockoutAuth after them: at most 394 bytes.
+/// Writes the hierarchies, followed by lockoutAuth: at most 394 bytes.
 #[tactic(auto, unfolding(crate::specs::Body::hierarchies_text))]
 pub fn write_hierarchies(hierarchies: &Hierarchies, text: &mut Text)
     requires { length text.old + 394 ≤ text_size }

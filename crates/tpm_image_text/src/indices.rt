@@ -1,4 +1,4 @@
-//! NV indices in an image: how they are read, and how they are written.
+//! Reads and writes the NV indices in an image.
 
 ghost use Rattle.tpm_image_text.specs.Sizes.{entries_size, index_size, indices_size, text_size};
 ghost use Rattle.tpm_types.specs.Limits.{nv_index_limit, nv_space_limit};
@@ -24,7 +24,7 @@ use tpm_nv::{Head, Indices, RestoreFault, has_type_size};
 use tpm_types::{AuthValue, NV_DATA_LIMIT};
 use tpm_types_nv::{NvAttribute, NvPublic};
 
-/// What an image says of an NV index.
+/// One NV index, as an image stores it.
 #[derive(Drop)]
 struct Index<'a> {
     public: NvPublic,
@@ -32,7 +32,7 @@ struct Index<'a> {
     bytes: &'a [u8],
 }
 
-/// How many bytes of data an index has: none until it is written.
+/// The size of an index's data, which is 0 until the index is written.
 fn data_size(public: &NvPublic) -> usize
     ensures { result ≡ data_size public.now }
 {
@@ -43,7 +43,7 @@ fn data_size(public: &NvPublic) -> usize
     }
 }
 
-/// Reads the public area of an index, in a sized buffer.
+/// Reads the public area of an index from a sized buffer.
 fn read_public(text: &mut Cursor) -> Result<NvPublic, Malformed>
     ensures exact { Reads (λ public. public) (in_body (filled_by nv_public_at) text.old) text.old
         result text.new }
@@ -87,9 +87,9 @@ fn read_index<'a>(text: &mut Cursor<'a>) -> Result<Index<'a>, Malformed>
     })
 }
 
-/// Reads an index and adds it to those that are there, if the NV memory has room for it. Handles
-/// ascend: the handle of the index is `lowest` or more. Gives the lowest handle that the next index
-/// may have.
+/// Reads an index and adds it to the others, if the NV memory has room for it. Handles are stored
+/// in ascending order: the handle of the index must be at least `lowest`. Returns the lowest
+/// handle that the next index may have.
 #[tactic(auto, using(crate::proofs::Appending::appended, crate::proofs::IndicesLaws::no_space))]
 fn add_index<N: Indices>(indices: &mut N, lowest: u64, text: &mut Cursor) -> Result<u64, FillFault>
     requires below { AllBelow lowest (N.contents indices.old).indices }
@@ -114,8 +114,8 @@ fn add_index<N: Indices>(indices: &mut N, lowest: u64, text: &mut Cursor) -> Res
     }
 }
 
-/// Reads a number of indices, each with a handle above those before it, whose data are within the
-/// limit of a version.
+/// Reads `count` indices. Each must have a higher handle than the index before it, and together
+/// their data must be within the limit of the version.
 fn add_indices<N: Indices>(
     version: Version,
     indices: &mut N,
@@ -141,8 +141,8 @@ fn add_indices<N: Indices>(
     Ok(())
 }
 
-/// Reads the NV indices of a device that has none, within the limits of a version. The largest
-/// value of a counter stays.
+/// Reads the NV indices, within the limits of a version, into a device that has none. Leaves the
+/// largest value that a counter ever had unchanged.
 #[tactic(auto, unfolding(crate::specs::Body::indices_in))]
 pub fn read_indices<N: Indices>(
     version: Version,
@@ -163,7 +163,7 @@ pub fn read_indices<N: Indices>(
     add_indices(version, indices, count, text)
 }
 
-/// Writes an NV index with these bytes of data.
+/// Writes an NV index with the given data.
 #[tactic(auto, unfolding(crate::specs::Body::index_text))]
 fn write_index(entry: &(u32, Head), bytes: &[u8], text: &mut Text)
     requires few { length bytes.now ≤ nv_space_limit }
@@ -182,7 +182,7 @@ fn write_index(entry: &(u32, Head), bytes: &[u8], text: &mut Text)
     }
 }
 
-/// Writes the indices of these heads and of this area of their bytes, one after another.
+/// Writes the indices with these heads one after another, with their data from `area`.
 fn write_heads(heads: &[(u32, Head)], area: &[u8], text: &mut Text)
     requires whole { length area.now ≡ total heads.now }
     requires few { length heads.now ≤ nv_index_limit }

@@ -12,9 +12,9 @@ ghost use Rattle.tpm_record.specs.Cycle.{cycled};
 ghost use Rattle.tpm_record.specs.IsRecord.{IsRecord};
 ghost use Rattle.tpm_record.specs.Record.{Record};
 
-/// Every device has an image of version 2, and the image of a device, of either version, tells what
-/// the device keeps, and is no longer than the longest; a device that kept just that is the device
-/// after a power cycle. The function does nothing.
+/// Every device has an image in version 2. The image of a device, in either version, determines
+/// what the device keeps, and does not exceed the largest size. Powering on with what a device
+/// kept gives the same device as a power cycle. A proof only: it has no effect at run time.
 #[inline(always)]
 #[tactic(auto, using(crate::proofs::RecordLaws::record_image, crate::proofs::RecordLaws::record_again, crate::proofs::RecordLaws::record_small, crate::proofs::ImageLaws::powered_again))]
 pub fn image_laws()
@@ -27,7 +27,7 @@ pub fn image_laws()
     ensures cycled { (r : Record) → powered_on (kept_of r) ≡ cycled r }
 {}
 
-/// Two records with one kept text keep the same, without the clock.
+/// Two records with the same kept text keep the same state, except for Clock.
 #[inline(always)]
 #[tactic(auto, using(crate::proofs::RecordLaws::kept_alike))]
 pub fn kept_text_laws()
@@ -35,8 +35,8 @@ pub fn kept_text_laws()
         → kept_but_clock r ≡ kept_but_clock s }
 {}
 
-/// No proper prefix of an image, of either version, is an image: below 42 bytes it is Short, and
-/// otherwise it is refused by Length.
+/// No proper prefix of an image of either version is an image. A prefix shorter than 42 bytes is
+/// refused with Short, any other prefix with Length.
 #[inline(always)]
 #[tactic(auto, using(crate::proofs::ImageLaws::front_short, crate::proofs::RecordLaws::record_cut))]
 pub fn prefix_laws()

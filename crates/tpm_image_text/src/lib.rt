@@ -1,16 +1,15 @@
 #![tactic(auto)]
 
-//! The text of an image: what a device keeps without power, as bytes, and how a state is filled
-//! with what such bytes say.
+//! The text of an image: encodes what a device keeps without power, and decodes it into a state.
 //!
-//! Of the image's two [versions](Version) the second is written ([`saving`]), and both are read
-//! ([`opening`]). Each part of what is kept has a file with its text and its reading; `specs/Body`
-//! and `specs/Image` define them. The crate uses what the parts of a device's state are made of;
-//! tpm_image saves and opens a device by it.
+//! There are two [versions](Version) of the image: the device writes the second ([`saving`]) and
+//! reads both ([`opening`]). For each part of the kept state, one file reads and writes its text;
+//! `specs/Body` and `specs/Image` define these texts. The crate uses the types that make up a
+//! device's state; tpm_image uses the crate to save and open a device.
 //!
-//! The state that is filled from an image is the one that was saved, after a power cycle; a text
-//! that is opened is the image of a device, and every such image is opened. No proper prefix of an
-//! image is an image ([`laws`]).
+//! Opening an image results in the saved state after a power cycle. Each text that opens is the
+//! image of a device, and every such image opens. No proper prefix of an image is an image
+//! ([`laws`]).
 
 mod body;
 pub mod fault;

@@ -1,4 +1,4 @@
-//! The protection against dictionary attacks in an image.
+//! The state of the dictionary-attack protection in an image.
 
 ghost use Rattle.tpm_image_text.specs.Sizes.{text_size};
 ghost use Rattle.std.specs.Prelude.{◌≡◌, ◌≤◌, ◌+◌, ◌++◌, length};
@@ -30,7 +30,7 @@ pub fn read_lockout(text: &mut Cursor) -> Result<LockoutFields, Malformed>
     })
 }
 
-/// Writes what outlasts a power cycle of the protection against dictionary attacks: 17 bytes.
+/// Writes what the dictionary-attack protection keeps through a power cycle: 17 bytes.
 #[tactic(auto, unfolding(crate::specs::Body::lockout_text))]
 pub fn write_lockout(fields: LockoutFields, text: &mut Text)
     requires { length text.old + 17 ≤ text_size }

@@ -1,4 +1,4 @@
-//! Persistent objects in an image: how they are read, and how they are written.
+//! Reads and writes the persistent objects in an image.
 
 ghost use Rattle.tpm_types.specs.Limits.{persistent_limit};
 ghost use Rattle.tpm_image_text.specs.Sizes.{object_fields_size, object_size, objects_size, text_size};
@@ -26,7 +26,7 @@ use tpm_types::{AuthValue, Handle, HierarchyHandle, Octets, PERSISTENT_LIMIT};
 use tpm_types_name::Name;
 use tpm_types_object::{Public, Sensitive};
 
-/// Whether objects of a hierarchy can be persistent.
+/// Whether an object of this hierarchy can be persistent.
 fn can_persist(hierarchy: HierarchyHandle) -> bool
     ensures { result ≡ can_persist hierarchy }
 {
@@ -70,7 +70,7 @@ fn read_handle(text: &mut Cursor) -> Result<Handle, Malformed>
     Ok(handle)
 }
 
-/// Whether this sensitive area can be kept for an object with this public area.
+/// Whether this sensitive area can belong to a stored object with this public area.
 fn is_sensitive_of(public: &Public, sensitive: &Sensitive) -> bool
     ensures value { result ≡ is_sensitive_of public.now sensitive.now }
     ensures same { result ≡ true
@@ -96,7 +96,7 @@ fn read_sensitive(public: &Public, text: &mut Cursor) -> Result<Sensitive, Malfo
     Ok(sensitive)
 }
 
-/// Reads an object, which may be of any hierarchy.
+/// Reads an object of any hierarchy.
 #[tactic(auto, unfolding(crate::specs::Body::object_fields_in))]
 pub fn read_object_fields(text: &mut Cursor) -> Result<Object, Malformed>
     ensures { Reads (λ object. object) (object_fields_in text.old) text.old result text.new }
@@ -134,8 +134,9 @@ fn read_object(text: &mut Cursor) -> Result<(Handle, Object), Malformed>
     Ok((handle, object))
 }
 
-/// Reads an object and adds it to those that are there. Handles ascend: the handle of the object is
-/// `lowest` or more. Gives the lowest handle that the next object may have.
+/// Reads an object and adds it to the others. Handles are stored in ascending order: the handle
+/// of the object must be at least `lowest`. Returns the lowest handle that the next object may
+/// have.
 #[tactic(auto, using(crate::proofs::Appending::appended))]
 fn add_object<P: PersistentObjects>(
     objects: &mut P,
@@ -160,7 +161,7 @@ fn add_object<P: PersistentObjects>(
     }
 }
 
-/// Reads a number of objects, each with a handle above those before it.
+/// Reads `count` objects. Each must have a higher handle than the object before it.
 fn add_objects<P: PersistentObjects>(
     objects: &mut P,
     count: u16,
@@ -178,7 +179,7 @@ fn add_objects<P: PersistentObjects>(
     Ok(())
 }
 
-/// Reads the persistent objects of a device that has none.
+/// Reads the persistent objects into a device that has none.
 #[tactic(auto, unfolding(crate::specs::Body::objects_in))]
 pub fn read_objects<P: PersistentObjects>(
     objects: &mut P,

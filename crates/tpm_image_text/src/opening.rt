@@ -1,4 +1,4 @@
-//! How the state of a device is filled with what a text says, and what is wrong with a text.
+//! Reads the state of a device from a text, and finds the fault of a text.
 
 ghost use Rattle.std.specs.Prelude.{◌≡◌, ◌||◌, Err, is_ok, true};
 ghost use Rattle.tpm_image_text.specs.Body.{body_of};
@@ -15,7 +15,7 @@ use std::alloc::Global;
 use tpm_record::Keep;
 use tpm_slots::SlotKeep;
 
-/// The state that a body of a version spells, in a new `Keep`.
+/// Returns the state that a body of the given version encodes, as a new `Keep`.
 pub fn fill<K: Keep>(alloc: Global, version: Version, body: &[u8]) -> Result<K, FillFault>
     ensures { Filled K.record_of (K.empty_can_refuse || K.can_refuse) (body_of version body.now)
         result }
@@ -27,8 +27,8 @@ pub fn fill<K: Keep>(alloc: Global, version: Version, body: &[u8]) -> Result<K, 
     Ok(keep)
 }
 
-/// Whether a body of a version spells a state. The body is read into places that are never refused
-/// memory.
+/// Whether a body of the given version encodes a state. The call reads the body into a
+/// `SlotKeep`, which never runs out of memory.
 pub fn is_body(alloc: Global, version: Version, body: &[u8]) -> bool
     ensures { result ≡ is_ok (body_of version body.now) }
 {
@@ -38,8 +38,8 @@ pub fn is_body(alloc: Global, version: Version, body: &[u8]) -> bool
     }
 }
 
-/// The fault of opening a text where memory is refused: its first fault, or NoMemory where it is an
-/// image. The call takes no memory.
+/// Returns the fault of opening a text if an allocation fails: the first fault of the text, or
+/// NoMemory if the text is an image. The call allocates no memory.
 #[inline(never)]
 pub fn fault_of(alloc: Global, text: &[u8]) -> ImageFault
     ensures { Opens (λ (r : Record). r) true text.now (Err result) }

@@ -1,4 +1,4 @@
-//! What the last TPM2_Shutdown saved, in an image.
+//! The part of an image that the last TPM2_Shutdown saved.
 
 ghost use Rattle.tpm_image_text.specs.Sizes.{text_size};
 ghost use Rattle.std.specs.Prelude.{◌≡◌, ◌≤◌, ◌+◌, ◌*◌, ◌++◌, length};
@@ -12,7 +12,7 @@ use tpm_bytes::Cursor;
 use tpm_pcr::SavedPcrs;
 use tpm_record::{Saved, SavedKind};
 
-/// Reads the values of the bank of SHA-1 over those in `values`.
+/// Reads the values of the SHA-1 bank and overwrites those in `values`.
 #[tactic(auto, using(crate::proofs::BankLaws::bank_laws))]
 fn read_sha1(values: &mut SavedPcrs, text: &mut Cursor) -> Result<(), Malformed>
     ensures values { Reads (λ done. values.new.sha1) (bank_in 20 text.old)
@@ -28,7 +28,7 @@ fn read_sha1(values: &mut SavedPcrs, text: &mut Cursor) -> Result<(), Malformed>
     Ok(())
 }
 
-/// Reads the values of the bank of SHA-256 over those in `values`.
+/// Reads the values of the SHA-256 bank and overwrites those in `values`.
 #[tactic(auto, using(crate::proofs::BankLaws::bank_laws))]
 fn read_sha256(values: &mut SavedPcrs, text: &mut Cursor) -> Result<(), Malformed>
     ensures values { Reads (λ done. values.new.sha256) (bank_in 32 text.old) text.old
@@ -92,7 +92,7 @@ fn write_values(values: &SavedPcrs, text: &mut Text)
     write_bank(values.sha256(), text);
 }
 
-/// Writes what the last TPM2_Shutdown saved: at most 833 bytes.
+/// Writes what the last TPM2_Shutdown saved, at most 833 bytes.
 #[tactic(auto, unfolding(crate::specs::Body::saved_text))]
 pub fn write_saved(saved: &Saved, text: &mut Text)
     requires { length text.old + 833 ≤ text_size }

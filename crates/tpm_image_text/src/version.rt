@@ -16,15 +16,16 @@ use tpm_types::{NV_INDEX_LIMIT, NV_SPACE_LIMIT};
 /// A version of an image.
 #[derive(Clone, Copy, PartialEq, Eq)]
 pub enum Version {
-    /// Version 1 is read, and no longer written. Its images have at most 32 NV indices, with 8,192
-    /// bytes.
+    /// Version 1 can be read but is no longer written. Its images contain at most 32 NV indices,
+    /// with at most 8,192 bytes of data.
     One,
-    /// Version 2 says how many NV indices and how many bytes of data a device has at most.
+    /// Version 2 states the limits of the device: on the number of NV indices, and on the size of
+    /// their data.
     Two,
 }
 
 impl Version {
-    /// The number by which an image names the version.
+    /// The number that stands for the version in an image.
     pub fn number(self) -> u16
         ensures { result ≡ version_number self }
     {
@@ -34,7 +35,7 @@ impl Version {
         }
     }
 
-    /// The version of a number, if it is the number of one.
+    /// The version with this number, if there is one.
     #[tactic(auto, unfolding(crate::specs::Version::version_numbered))]
     pub fn numbered(number: u16) -> Option<Version>
         ensures { result ≡ version_numbered number }
@@ -46,7 +47,7 @@ impl Version {
         }
     }
 
-    /// How many NV indices an image has at most.
+    /// The largest number of NV indices in an image.
     pub fn index_limit(self) -> usize
         ensures value { result ≡ index_limit self }
         ensures small { result ≤ nv_index_limit }
@@ -57,7 +58,7 @@ impl Version {
         }
     }
 
-    /// The most bytes of data that the NV indices of an image have together.
+    /// The largest total size of the data of all NV indices in an image.
     pub fn space_limit(self) -> usize
         ensures value { result ≡ space_limit self }
         ensures small { result ≤ nv_space_limit }
@@ -69,7 +70,7 @@ impl Version {
     }
 }
 
-/// Reads the limits that an image says, which have to be those of its version.
+/// Reads the limits in an image, which must be those of its version.
 #[tactic(auto, unfolding(crate::specs::Body::limits_in))]
 pub fn read_limits(version: Version, text: &mut Cursor) -> Result<(), Malformed>
     ensures { Reads (λ done. done) (limits_in version text.old) text.old result text.new }

@@ -1,4 +1,4 @@
--- The number of random bytes that a command draws, with the layer or without it, is bounded.
+-- A limit on the number of random bytes that a command draws, with or without the layer.
 use Rattle.std.proofs.Common.{◌≡◌, ◌≤◌, ◌&&◌, ℕ, zero, suc, Bool, true, false, List, [], ◌∷◌, ◌++◌, length, Option, Some, None, Result, Ok, Err, refl, subst, ap, get_or, if◌then◌else◌}
 use native.Mathlib.Omega.{arith}
 use Rattle.std.specs.Int.{w32, to_be_bytes}
@@ -57,9 +57,9 @@ if_within can true layer old buffer locality elapsed random seen completes =
 pub draws_within : (can : Bool) (layer : Completion) (old : Record) (c : Command) (seen : Seen) → Executed can layer old c seen → seen.drawn ≤ length c.random
 draws_within can layer old c seen executed = if_within can c.completes layer old c.buffer c.locality c.elapsed c.random seen executed
 
--- ---- a command for which an object is given up drew none before
+-- ---- a command that makes the layer give up an object drew none before
 
--- a success is no refusal: the third byte of its code is 0, and not 9
+-- a success is not a refusal: the third byte of its response code is 0, not 9
 framed_success : (tag : ℕ) (body : List ℕ) → is_refusal 0x902 (framed tag 0 body) ≡ true → ⊥
 framed_success tag body is =
     let same : framed tag 0 body ≡ refusal 0x902 = (bytes_eq-Decides (framed tag 0 body) (refusal 0x902)).0 is in

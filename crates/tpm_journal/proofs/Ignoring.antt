@@ -1,4 +1,4 @@
--- Random bytes that a command did not draw have no influence on it, nor on what its layer does.
+-- Random bytes that a command did not draw affect neither the command nor its layer.
 use Rattle.std.proofs.Common.{◌≡◌, ◌≤◌, ◌-◌, ℕ, Bool, true, false, List, [], ◌++◌, length, replicate, take, Option, Some, None, refl, subst, sym, ap, ◌∙◌}
 use native.Mathlib.Omega.{arith}
 use Rattle.std.proofs.lemmas.List.{length-append, length-replicate, length-take-le}
@@ -18,8 +18,8 @@ use Rattle.tpm_journal.specs.Living.{Answers, IgnoresUndrawn, Lives}
 use Rattle.tpm_journal.proofs.Again.{lives_again}
 use Rattle.tpm_journal.proofs.Drawing.{draws_within, gives_up_draws_none, no_more_drawn}
 
--- an event that passed to the device passes with other random bytes, where it is executed alike
--- with them and draws as many
+-- if the layer passed an event to the device, it also passes the event with other random bytes
+-- that make it execute in the same way and draw the same number of bytes
 passes_with : (layer : Completion) (old : Record) (event other : PlainEvent) (seen : Seen) → Passes false layer old event seen
     → Executes false old other seen.step → drawn_by old other seen.step.row.check ≡ drawn_by old event seen.step.row.check
     → Passes false layer old other seen
@@ -30,7 +30,8 @@ passes_with layer old event other seen passes executes draws = record {
   drawn = passes.drawn ∙ sym draws;
 }
 
--- an event that passed to the device passes with the bytes that it drew, and zeros after them
+-- an event that the layer passed to the device is also passed with only the bytes that it drew,
+-- followed by zeros
 passes_again : (layer : Completion) (old : Record) (buffer : List ℕ) (locality elapsed : ℕ) (random : List ℕ) (seen : Seen)
     → Passes false layer old (Given buffer locality elapsed random) seen
     → Passes false layer old (Given buffer locality elapsed (zeros_behind seen.drawn random)) seen
@@ -39,7 +40,8 @@ passes_again layer old buffer locality elapsed random seen passes =
     subst (λ (n : ℕ). Passes false layer old (Given buffer locality elapsed (zeros_behind n random)) seen) (sym passes.drawn)
     (passes_with layer old event _ seen passes (replays old event seen.step passes.executes) (replay_draws old event seen.step passes.executes))
 
--- an event that passed to the device and draws no random bytes passes with any others
+-- an event that the layer passed to the device, and that draws no random bytes, is also passed
+-- with any others
 passes_anyhow : (layer : Completion) (old : Record) (buffer : List ℕ) (locality elapsed : ℕ) (random other : List ℕ) (seen : Seen)
     → Passes false layer old (Given buffer locality elapsed random) seen → drawn_by old (Given buffer locality elapsed random) 0 ≡ 0
     → length other ≡ length random → Passes false layer old (Given buffer locality elapsed other) seen
@@ -55,7 +57,7 @@ zeros_many n random few all =
     length-append (take n random) (replicate (256 - n) 0)
     ∙ omega (arith, few, all, length-take-le n random few, length-replicate {A = ℕ} (256 - n) 0)
 
--- the random bytes that a command drew, and zeros after them
+-- the random bytes that a command drew, followed by zeros
 abbrev kept : Seen → List ℕ → List ℕ
 kept seen random = zeros_behind seen.drawn random
 
@@ -105,7 +107,7 @@ ignores layer old c seen executed =
     (sym (length-take-le seen.drawn c.random few))
     (executed_again c.completes layer old c.buffer c.locality c.elapsed c.random seen executed)
 
--- the entries of a live device and its layer lead to the same layer and record again
+-- executing the entries of a live device and its layer again leads to the same layer and record
 pub lives_alike : (layer : Completion) (old : Record) (entries : List PlainEntry) (after : Completion) (new : Record)
     → Lives layer old entries after new → Answers layer old entries after new
 lives_alike = lives_again ignores

@@ -1,4 +1,4 @@
--- What is read of a text as a journal.
+-- How a text is read as a journal.
 use Rattle.std.proofs.Common.{◌≡◌, ℕ, Bool, false, List, ◌++◌, length, drop, take, Result, Ok, Err, ap, sym, subst, ◌∙◌}
 use Rattle.std.proofs.lemmas.List.{drop_at, length-take-le, take_at, take-append-drop}
 use Rattle.tpm_record.specs.Record.{Record}
@@ -27,7 +27,7 @@ begins text head is = record {
   is = sym (take-append-drop head.size text) ∙ ap (λ (l : List ℕ). l ++ drop head.size text) is.is;
 }
 
--- a head is opened as the start of its text
+-- a head opens as the start of its text
 pub started : (text : List ℕ) (head : Head) (start : Start) → IsHeadOf text head → start_by head.kind head.clock head.content.now ≡ Ok start
     → (rest : List ℕ) × (starts : Starts text start rest) × (head.size ≡ length (starting_head starts))
 started text head start is opened = (
@@ -38,7 +38,7 @@ started text head start is opened = (
 
 -- ---- faults
 
--- what a head holds has a fault of its own kind
+-- opening the content of a head never fails because of a missing head
 no_head_in_image : (clock : ℕ) (image : List ℕ) (found : Result NonVolatile ImageFault) → start_by_image clock image found ≡ Err fault.NoJournal → ⊥
 no_head_in_image clock image (Ok kept) e = absurd cc
 no_head_in_image clock image (Err why) e = absurd cc
@@ -79,7 +79,7 @@ not_opened text (fault.Follow why) new not = absurd not
 
 -- ---- the rest
 
--- a text is the head by which it starts, and the rest
+-- a text consists of the head that starts it and the rest
 pub split_head : (text : List ℕ) (start : Start) (rest : List ℕ) (size : ℕ) (starts : Starts text start rest) → size ≡ length (starting_head starts)
     → (take size text ≡ starting_head starts) × (drop size text ≡ rest)
 split_head text start rest size starts is = (

@@ -13,7 +13,7 @@ use Rattle.tpm_journal.specs.declared.following.FollowFault.{FollowFault}
 use Rattle.tpm_journal.specs.declared.following.FollowFault.TheVariants.{Damaged, Otherwise}
 use Rattle.tpm_journal.specs.declared.journal.Journal.{Journal}
 
--- ---- one entry after others
+-- ---- one entry after the others
 
 append_none : (text : List ℕ) → text ++ [] ≡ text
 append_none [] = refl
@@ -39,7 +39,7 @@ take_further n m text within =
     ∙ ap (λ (l : List ℕ). l ++ drop n (take (n + m) text)) front
     ∙ ap (λ (l : List ℕ). take n text ++ l) (drop-take n m text)
 
--- a performance at the front of a text is one at the front of an equal text
+-- a performance at the beginning of a text is also one at the beginning of an equal text
 pub performs_at : (can : Bool) (before : Journal) (old : Record) (left text : List ℕ) (size : ℕ) (one : Performance) (after : Journal)
     (Holds : ℕ → ℕ → Type 0) → left ≡ text → Performs can before old left size one after Holds → Performs can before old text size one after Holds
 performs_at can before old left text size one after Holds is p = rw (← is) p
@@ -51,7 +51,7 @@ journal_sum can before old [] after new leads = ap (λ (j : Journal). j.sum) lea
 journal_sum can before old (one ∷ performances) after new leads =
     journal_sum can (journal_after before one.entry one.seen.layer) one.seen.step.after performances after new leads.1
 
--- one performance more at the end of others
+-- one more performance after the previous ones
 pub leads_more : (can : Bool) (before : Journal) (old : Record) (performances : List Performance) (mid : Journal) (here : Record)
     (one : Performance) (after : Journal) (new : Record) → LeadsBy can before old performances mid here
     → IsPerformed can mid.layer here one.entry one.seen → after ≡ journal_after mid one.entry one.seen.layer → new ≡ one.seen.step.after
@@ -67,7 +67,7 @@ leads_more can before old (first ∷ performances) mid here one after new leads 
       journal leaves,
 )
 
--- ---- what was executed so far, and one entry more
+-- ---- the executions so far, and one more entry
 
 module _ (can : Bool) (before : Journal) (old : Record) (text : List ℕ) (taken : ℕ) (mid : Journal) (here : Record)
     (size : ℕ) (one : Performance) (after : Journal) (Holds : ℕ → ℕ → Type 0)

@@ -1,4 +1,4 @@
--- By which head a journal starts how.
+-- Which journal starts with which head.
 use Rattle.std.proofs.Common.{◌≡◌, ℕ, List, ◌++◌, Result, Ok, ap, ◌∙◌}
 use Rattle.std.specs.List.{AllByRecursion}
 use Rattle.tpm_completion.specs.declared.completion.Completion.{Completion}

@@ -1,4 +1,4 @@
--- The laws on the random bytes that a command draws.
+-- The laws of the random bytes that a command draws.
 pub mod Fronts
 pub mod Alike
 pub mod Rows

@@ -1,5 +1,5 @@
--- A command as it is given, the entry that is written of it, and the event that is executed again
--- from the entry.
+-- A command as it arrives, the entry that is written for it, and the event that executes the
+-- entry again.
 use Rattle.std.specs.Prelude.{ℕ, ◌-◌, ◌^◌, Bool, List, ◌++◌, length, min, replicate, take}
 use Rattle.tpm_completion.specs.Execution.{CompletesIf, Seen}
 use Rattle.tpm_completion.specs.declared.completion.Completion.{Completion}
@@ -20,12 +20,12 @@ pub record Command : Type 0 where
 abbrev pub given : Command → PlainEvent
 given c = Given c.buffer c.locality c.elapsed c.random
 
--- the elapsed time of a command by the host's clock, where a journal has this time: at least 0, and
--- at most 2^32 - 1
+-- the elapsed time of a command: the host's clock minus the time of a journal, limited to 0 ..
+-- 2^32 - 1
 abbrev pub elapsed_of : (now time : ℕ) → ℕ
 elapsed_of now time = min (now - time) (2 ^ 32 - 1)
 
--- the command of a buffer, cut to as many bytes as an entry can have
+-- the command in a buffer, which is truncated to the largest size in an entry
 abbrev pub command_at : (buffer : List ℕ) (locality elapsed : ℕ) (completes : Bool)
     (random : List ℕ) → Command
 command_at buffer locality elapsed completes random = record {
@@ -36,11 +36,11 @@ command_at buffer locality elapsed completes random = record {
   random = random;
 }
 
--- A command was executed on this record, with the layer or without it, with this effect.
+-- A command was executed on this record, with or without the layer, with this effect.
 abbrev pub Executed : (can : Bool) → Completion → Record → Command → Seen → Type 0
 Executed can layer old c seen = CompletesIf can c.completes layer old (given c) seen
 
--- the entry of a command with this effect: its random bytes are those that were drawn
+-- the entry of a command with this effect; it contains only the random bytes that were drawn
 abbrev pub entry_of : Command → Seen → PlainEntry
 entry_of c seen = record {
   elapsed = c.elapsed;
@@ -51,7 +51,7 @@ entry_of c seen = record {
   answered = sum_of seen.step.response;
 }
 
--- 256 random bytes: these, and zeros after them
+-- 256 random bytes: the given ones, followed by zeros
 abbrev pub padded : List ℕ → List ℕ
 padded drawn = drawn ++ replicate (256 - length drawn) 0
 
@@ -59,7 +59,7 @@ padded drawn = drawn ++ replicate (256 - length drawn) 0
 abbrev pub event_of : PlainEntry → PlainEvent
 event_of e = Given e.buffer e.locality e.elapsed (padded e.drawn)
 
--- An entry was performed on this record, with this effect: its command was executed again, with the
--- layer where the entry says so.
+-- An entry was performed on this record, with this effect: its command was executed again, with
+-- the layer if the entry says so.
 abbrev pub IsPerformed : (can : Bool) → Completion → Record → PlainEntry → Seen → Type 0
 IsPerformed can layer old e seen = CompletesIf can e.completes layer old (event_of e) seen

@@ -1,4 +1,4 @@
--- A text that is opened as a journal.
+-- When a text opens as a journal.
 use Rattle.std.specs.Prelude.{◌≡◌, ℕ, ◌+◌, false, List, length, Result, Ok, Err, Some, None}
 use Rattle.tpm_completion.specs.declared.completion.Completion.{Completion}
 use Rattle.tpm_journal_text.specs.Entry.{PlainEntry}
@@ -13,8 +13,8 @@ use Rattle.tpm_journal.specs.declared.opening.OpenFault.{OpenFault}
 use Rattle.tpm_journal.specs.declared.opening.OpenFault.TheVariants as fault
 use Rattle.tpm_journal.specs.declared.opening.Opened.{Opened}
 
--- A text begins with a head by which a journal starts. From its device and its layer the entries
--- after the head were executed, with this result.
+-- A text begins with a head that starts a journal. From the device and layer of this start, the
+-- entries after the head were executed, with this result.
 pub record Reads (text : List ℕ) (followed : Followed) (journal : Journal) (new : Record) : Type 0 where
   pub start : Start
   pub rest : List ℕ
@@ -22,15 +22,15 @@ pub record Reads (text : List ℕ) (followed : Followed) (journal : Journal) (ne
   pub replays : Replays false start.journal start.device rest followed journal new
 
 -- A text is a journal: its device and the layer above it executed exactly the entries after its
--- head, and what a crash leaves of one more is left after them, or nothing.
+-- head. Nothing follows these entries, except perhaps the remains of one more after a crash.
 pub record IsJournal (text : List ℕ) (opened : Opened) (new : Record) : Type 0 where
   pub followed : Followed
   pub reads : Reads text followed opened.journal new
   pub whole : followed.fault ≡ None
   pub size : opened.taken ≡ length (starting_head reads.starts) + followed.taken
 
--- A text was opened as the device of a journal; or no journal starts by it, for this fault; or its
--- entries were executed until this fault.
+-- A text opened as the device of a journal; or it starts no journal, because of this fault; or
+-- its entries were executed up to this fault.
 abbrev pub OpensJournal : List ℕ → Result Opened OpenFault → Record → Type 0
 OpensJournal text (Ok opened) new = IsJournal text opened new
 OpensJournal text (Err fault.NoJournal) new = StartsNot text fault.NoJournal
@@ -40,8 +40,8 @@ OpensJournal text (Err (fault.Follow why)) new =
     (followed : Followed) × (journal : Journal) × Reads text followed journal new
     × (followed.fault ≡ Some why)
 
--- The journal of a head and these entries was opened whole, and gave the layer and the record to
--- which the entries lead from this start.
+-- The journal with this head and these entries opened completely. Its layer and record are those
+-- to which the entries lead from this start.
 abbrev pub IsOpenedAgain : (head : List ℕ) → Journal → List PlainEntry → (layer : Completion)
     → (final : Record) → Result Opened OpenFault → Record → Type 0
 IsOpenedAgain head start entries layer final (Ok opened) new =

@@ -26,15 +26,15 @@ pub record Performance : Type 0 where
 abbrev pub entry_in : Performance → PlainEntry
 entry_in one = one.entry
 
--- the sum of the response, and the sum that the entry says
+-- the sum of the response, and the sum recorded in the entry
 abbrev pub response_sum : Performance → ℕ
 response_sum one = sum_of one.seen.step.response
 
 abbrev pub answer_said : Performance → ℕ
 answer_said one = one.entry.answered
 
--- These entries were performed one after another, with the layer where they say so, and led from
--- this journal and record to those. `can` says whether memory can be refused.
+-- These entries were performed one after another, with the layer if they say so, and led from one
+-- journal and record to another. `can` says whether an allocation can fail.
 abbrev pub LeadsBy : (can : Bool) → Journal → Record → List Performance → Journal → Record → Type 0
 LeadsBy can before old [] after new = (after ≡ before) × (new ≡ old)
 LeadsBy can before old (one ∷ performances) after new =
@@ -42,7 +42,7 @@ LeadsBy can before old (one ∷ performances) after new =
     × LeadsBy can (journal_after before one.entry one.seen.layer) one.seen.step.after performances
     after new
 
--- all executions on the device for these performances
+-- all executions on the device that these performances caused
 abbrev pub run_of_all : (can : Bool) (before : Journal) (old : Record)
     (performances : List Performance) (after : Journal) (new : Record)
     → LeadsBy can before old performances after new → List Execution
@@ -52,8 +52,8 @@ run_of_all can before old (one ∷ performances) after new leads =
     ++ run_of_all can (journal_after before one.entry one.seen.layer) one.seen.step.after
     performances after new leads.1
 
--- The sums of the responses are those that the entries say; where the device answered otherwise,
--- only the last one differs.
+-- The sums of the responses match those in the entries; if the device answered differently, only
+-- the last sum differs.
 abbrev pub AnswersAre : Option FollowFault → (sums said : List ℕ) → Type 0
 AnswersAre None sums said = sums ≡ said
 AnswersAre (Some Damaged) sums said = sums ≡ said
@@ -61,15 +61,15 @@ AnswersAre (Some Otherwise) sums said =
     (front : List ℕ) × (sum : ℕ) × (other : ℕ) × (sums ≡ front ++ sum ∷ [])
     × (said ≡ front ++ other ∷ []) × (sum ≢ other)
 
--- After the entries that were executed the text is torn, or damaged; if the device answered
--- otherwise, anything is there.
+-- The text after the executed entries is torn, or damaged; if the device answered differently, it
+-- can be anything.
 abbrev pub EndsIn : Option FollowFault → (sum : ℕ) → (left : List ℕ) → Type 0
 EndsIn None sum left = IsTorn sum left
 EndsIn (Some Damaged) sum left = IsDamaged sum left
 EndsIn (Some Otherwise) sum left = Unit {0}
 
--- A device, with its layer, executed exactly the entries at the front of a text, one after another,
--- from this journal and record to those.
+-- A device, with its layer, executed exactly the entries at the beginning of a text, one after
+-- another. They led from one journal and record to another.
 pub record Repeats (can : Bool) (before : Journal) (old : Record) (text : List ℕ) (taken : ℕ)
     (fault : Option FollowFault) (after : Journal) (new : Record) : Type 0
   where
@@ -89,8 +89,8 @@ pub record Replays (can : Bool) (before : Journal) (old : Record) (text : List �
 
 -- ---- one entry
 
--- This is the performance of the entry at the front of a text, and `Holds` relates the sum of its
--- response and the sum that the entry says.
+-- A performance of the entry at the beginning of a text. `Holds` relates the sum of its response
+-- to the sum in the entry.
 pub record Performs (can : Bool) (before : Journal) (old : Record) (text : List ℕ) (size : ℕ)
     (one : Performance) (after : Journal) (Holds : ℕ → ℕ → Type 0) : Type 0
   where
@@ -101,7 +101,7 @@ pub record Performs (can : Bool) (before : Journal) (old : Record) (text : List 
     pub answer : Holds (response_sum one) (answer_said one)
     pub journal : after ≡ journal_after before one.entry one.seen.layer
 
--- What was done about the front of a text; what is seen is the effect, if an entry was executed.
+-- What was done with the beginning of a text; `seen` is the effect, if an entry was executed.
 abbrev pub Does : Bool → Journal → Record → List ℕ → Deed → (after : Journal) → Seen → Type 0
 Does can before old text (deed.Executed entry size) after seen =
     Performs can before old text size (record { entry = plain_entry entry; seen = seen }) after
@@ -114,10 +114,10 @@ Does can before old text deed.Torn after seen =
 Does can before old text deed.Damaged after seen =
     IsDamaged before.sum text × (after ≡ before) × (seen.step.after ≡ old)
 
--- ---- followed whole
+-- ---- texts followed to their end
 
--- A text of these entries was followed to its end: all of them were executed, and led to this layer
--- and this record.
+-- A text of these entries was followed to its end: all of them were executed, and led to this
+-- layer and this record.
 pub record IsFollowedWhole (before : Journal) (entries : List PlainEntry) (layer : Completion)
     (final : Record) (followed : Followed) (after : Journal) (new : Record) : Type 0
   where

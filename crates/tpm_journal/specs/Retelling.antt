@@ -1,4 +1,4 @@
--- What is told of a journal, which is a map over the entries that are executed again.
+-- How a journal is retold: each entry that is executed again maps to its lines.
 use Rattle.std.specs.Prelude.{◌≡◌, ℕ, ◌+◌, false, true, Bool, List, [], ◌∷◌, ◌++◌, codes, drop, flat_map, length}
 use Rattle.std.specs.Prelude.{Option, Some, None, Result, Ok, Err}
 use Rattle.std.specs.Io.KnownBytes.{Appends, Keeps}
@@ -20,13 +20,13 @@ use Rattle.tpm_journal.specs.declared.retelling.RetellFault.TheVariants.{Open, F
 use Rattle.tpm_journal.specs.declared.retelling.Telling.{Telling}
 use Rattle.tpm_journal.specs.declared.retelling.Telling.TheVariants.{Script, Answers}
 
--- the words that tell how an event was answered: `completed` where the completing layer was on, or
--- else the trace
+-- the words that say how an event was answered: `completed` if the completing layer was on,
+-- otherwise the trace
 abbrev pub words_of : (completes : Bool) → PlainEvent → Row → (response : List ℕ) → List ℕ
 words_of true event row response = codes "completed"
 words_of false event row response = trace_text event row response
 
--- The answer to an event can be told in words.
+-- The words for how this event was answered can be written.
 abbrev pub CanBeTold : (completes : Bool) → PlainEvent → Row → (response : List ℕ) → Type 0
 CanBeTold true event row response = Unit {0}
 CanBeTold false event row response = IsRow row × IsAnswered event response
@@ -36,31 +36,32 @@ abbrev pub comment_of : Performance → List ℕ
 comment_of one =
     words_of one.entry.completes (event_of one.entry) one.seen.step.row one.seen.step.response
 
--- the lines of a script that tell an entry: a comment of these words, and the lines that execute
--- its command
+-- the script lines that retell an entry: a comment of these words, and the lines that execute its
+-- command
 abbrev pub lines_with : (words : List ℕ) → PlainEntry → List ℕ
 lines_with words e = codes "# " ++ words ++ 10 ∷ [] ++ (setting_lines e ++ executing_lines e)
 
--- the lines that tell an answer: these words, and the response in hex
+-- the lines that retell an answer: these words, and the response in hex
 abbrev pub answer_lines : (words response : List ℕ) → List ℕ
 answer_lines words response = words ++ 10 ∷ [] ++ encode_lower response ++ 10 ∷ []
 
--- what is told of an entry that was performed: the script that executes it again, or its answer
+-- a performed entry, retold: the script that executes it again, or its answer
 abbrev pub retold : Telling → Performance → List ℕ
 retold Script one = lines_with (comment_of one) one.entry
 retold Answers one = answer_lines (comment_of one) one.seen.step.response
 
--- what is told of an entry with these words, this response and this text of its own
+-- an entry, retold with these words, this response and the entry's own text
 abbrev pub retold_by : Telling → (words response own : List ℕ) → List ℕ
 retold_by Script words response own = codes "# " ++ words ++ 10 ∷ [] ++ drop mark_line_size own
 retold_by Answers words response own = answer_lines words response
 
--- what is told of a head: all of it in a script, and nothing beside answers
+-- a head, retold: in full in a script, not at all among answers
 abbrev pub retold_head : Telling → (head : List ℕ) → List ℕ
 retold_head Script head = head
 retold_head Answers head = []
 
--- Exactly the entries at the front of a text were executed again, one after another, and told.
+-- Exactly the entries at the beginning of a text were executed again, one after another, and
+-- retold.
 pub record Retells (form : Telling) (can : Bool) (before : Journal) (old : Record) (text : List ℕ)
     (held : Option (List ℕ)) (holds : Option (List ℕ)) (taken : ℕ) (fault : Option FollowFault)
     (after : Journal) (new : Record) : Type 0
@@ -68,7 +69,7 @@ pub record Retells (form : Telling) (can : Bool) (before : Journal) (old : Recor
     pub repeats : Repeats can before old text taken fault after new
     pub told : Appends held holds (flat_map (retold form) repeats.performances)
 
--- The entries of a text were executed and told, with this result.
+-- The entries of a text were executed and retold, with this result.
 pub record RetellsEntries (form : Telling) (can : Bool) (before : Journal) (old : Record) (text : List ℕ)
     (held : Option (List ℕ)) (holds : Option (List ℕ)) (followed : Followed) (after : Journal)
     (new : Record) : Type 0
@@ -76,8 +77,8 @@ pub record RetellsEntries (form : Telling) (can : Bool) (before : Journal) (old 
     pub replays : Replays can before old text followed after new
     pub told : Appends held holds (flat_map (retold form) replays.repeats.performances)
 
--- A text begins with a head by which a journal starts. The head, and then each entry that was
--- executed, was told, with this result.
+-- A text begins with a head that starts a journal. The head and then each executed entry were
+-- retold, with this result.
 pub record RetellsText (form : Telling) (text : List ℕ) (held : Option (List ℕ)) (holds : Option (List ℕ))
     (fault : Option FollowFault) : Type 0
   where
@@ -93,13 +94,13 @@ pub record RetellsText (form : Telling) (text : List ℕ) (held : Option (List �
         (retold_head form (starting_head starts)
         ++ flat_map (retold form) replays.repeats.performances)
 
--- how many bytes the head has, and the entries that were executed after it
+-- the size of the head and of the entries that were executed after it
 abbrev pub retold_size : {form : Telling} {text : List ℕ} {held holds : Option (List ℕ)}
     {fault : Option FollowFault} → RetellsText form text held holds fault → ℕ
 retold_size told = length (starting_head told.starts) + told.followed.taken
 
--- A text was told to its end; or up to a fault; or no journal starts by it, and nothing was told; or
--- the writer failed.
+-- A text was retold to its end; or it was retold up to a fault; or it starts no journal, and
+-- nothing was retold; or the writer failed.
 abbrev pub RetellsJournal : Telling → List ℕ → (held : Option (List ℕ)) → (holds : Option (List ℕ))
     → Marks → Result (Unit {0}) RetellFault → Type 0
 RetellsJournal form text held holds marks (Ok done) = RetellsText form text held holds None

@@ -1,4 +1,4 @@
--- With what a journal starts: the device that its head holds, and the state beside it.
+-- The start of a journal: the device in its head, and the journal's additional state.
 use Rattle.std.specs.Prelude.{◌≡◌, ℕ, List, ◌++◌, length, Result, Ok, Err}
 use Rattle.tpm_image_text.specs.Image.{image_of}
 use Rattle.tpm_image_text.specs.NonVolatile.{NonVolatile, powered_on}
@@ -22,14 +22,15 @@ pub record Start : Type 0 where
   pub journal : Journal
   pub device : Record
 
--- the start by an image: power comes on, and the completing layer begins anew
+-- the start from an image: power comes on, and the completing layer restarts
 abbrev pub start_by_image : (clock : ℕ) → (image : List ℕ) → Result NonVolatile ImageFault
     → Result Start OpenFault
 start_by_image clock image (Ok kept) =
     Ok (record { journal = journal_begun clock image; device = powered_on kept })
 start_by_image clock image (Err why) = Err (fault.Image why)
 
--- the start by a state text: the device goes on as it was, and its completing layer, if it had one
+-- the start from a state text: the device continues unchanged, and so does its completing layer,
+-- if it had one
 abbrev pub start_by_state : (clock : ℕ) → (text : List ℕ) → Result WholeState StateFault
     → Result Start OpenFault
 start_by_state clock text (Ok state) = Ok (record {
@@ -38,7 +39,7 @@ start_by_state clock text (Ok state) = Ok (record {
 })
 start_by_state clock text (Err why) = Err (fault.State (Text why))
 
--- the start by a head of this kind, clock and content, or the fault of what it holds
+-- the start from a head of this kind, clock and content, or the fault of the content
 abbrev pub start_by : HeadKind → (clock : ℕ) → (content : List ℕ) → Result Start OpenFault
 start_by Image clock content = start_by_image clock content (image_of content)
 start_by State clock content = start_by_state clock content (state_of_text content)
@@ -50,7 +51,7 @@ pub record BeginsWith (text : List ℕ) (kind : HeadKind) (clock : ℕ) (content
     pub has : HasHead kind clock content
     pub is : text ≡ head_text kind clock content ++ rest
 
--- A text is a head by which a journal starts so, followed by the rest.
+-- A text consists of a head that starts this journal, and the rest.
 pub record Starts (text : List ℕ) (start : Start) (rest : List ℕ) : Type 0 where
   pub kind : HeadKind
   pub clock : ℕ
@@ -58,18 +59,18 @@ pub record Starts (text : List ℕ) (start : Start) (rest : List ℕ) : Type 0 w
   pub begins : BeginsWith text kind clock content rest
   pub is : start_by kind clock content ≡ Ok start
 
--- the text of the head by which a journal starts
+-- the text of the head that starts a journal
 abbrev pub starting_head : {text : List ℕ} {start : Start} {rest : List ℕ} → Starts text start rest
     → List ℕ
 starting_head starts = head_text starts.kind starts.clock starts.content
 
--- A text begins with a head by which no journal starts, for this fault.
+-- A text begins with a head that starts no journal, because of this fault.
 abbrev pub HoldsFault : List ℕ → OpenFault → Type 0
 HoldsFault text why =
     (kind : HeadKind) × (clock : ℕ) × (content : List ℕ) × (rest : List ℕ)
     × BeginsWith text kind clock content rest × (start_by kind clock content ≡ Err why)
 
--- No journal starts by a text: it has no head, or its head holds this fault.
+-- A text starts no journal: it has no head, or the content of its head is faulty in this way.
 abbrev pub StartsNot : List ℕ → OpenFault → Type 0
 StartsNot text fault.NoJournal =
     (kind : HeadKind) (clock : ℕ) (content rest : List ℕ) → BeginsWith text kind clock content rest
@@ -78,14 +79,14 @@ StartsNot text (fault.Image why) = HoldsFault text (fault.Image why)
 StartsNot text (fault.State why) = HoldsFault text (fault.State why)
 StartsNot text (fault.Follow why) = ⊥
 
--- What a head holds was opened: the journal and the device are those of the start, or this is its
--- fault.
+-- The content of a head was opened: the journal and the device are those of the start, or this is
+-- the fault.
 abbrev pub IsStart : Result Start OpenFault → Result Journal OpenFault → (new : Record) → Type 0
 IsStart start (Ok journal) new = start ≡ Ok (record { journal = journal; device = new })
 IsStart start (Err why) new = start ≡ Err why
 
--- The head of a text was opened: its journal and its device are those by which the text starts, and
--- it has this size; or no journal starts by the text.
+-- The head of a text was opened: the journal and the device are those of the text's start, and
+-- this is the head's size; or the text starts no journal.
 abbrev pub StartsBy : List ℕ → Result Started OpenFault → (new : Record) → Type 0
 StartsBy text (Ok started) new =
     (rest : List ℕ)

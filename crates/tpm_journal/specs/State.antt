@@ -1,4 +1,4 @@
--- The state of a journal beside its device.
+-- The state of a journal in addition to its device.
 use Rattle.std.specs.Prelude.{ℕ, ◌+◌, ◌-◌, ◌^◌, List, [], ◌∷◌, min, Option, Some, None}
 use Rattle.tpm_completion.specs.Completion.{new_completion}
 use Rattle.tpm_completion.specs.declared.completion.Completion.{Completion}
@@ -9,8 +9,8 @@ use Rattle.tpm_journal.specs.declared.journal.Journal.{Journal}
 use Rattle.tpm_snapshot.specs.Layer.{completion_of}
 use Rattle.tpm_state_text.specs.declared.layer.Layer.{Layer}
 
--- the journal whose head has this sum and this clock: the completing layer begins anew, with the
--- sum as the number of its start
+-- the journal after a head with this sum and this clock: the completing layer restarts, and the
+-- sum becomes its start number
 abbrev pub journal_of : (sum clock : ℕ) → Journal
 journal_of sum clock = record { sum = sum; time = clock; layer = new_completion sum }
 
@@ -18,17 +18,17 @@ journal_of sum clock = record { sum = sum; time = clock; layer = new_completion 
 abbrev pub journal_begun : (clock : ℕ) → (image : List ℕ) → Journal
 journal_begun clock image = journal_of (head_sum clock image) clock
 
--- the layer of a state: the one that it has, or a new one, with the sum of the head as the number of
--- its start
+-- the layer in a state, or a new layer if the state has none; the sum of the head is the start
+-- number of the new layer
 abbrev pub layer_in : (sum : ℕ) → Option Layer → Completion
 layer_in sum None = new_completion sum
 layer_in sum (Some layer) = completion_of (Some layer)
 
--- the journal whose head has this sum and this clock, and holds a state with this layer
+-- the journal after a head with this sum and this clock, whose state text contains this layer
 abbrev pub journal_resumed : (sum clock : ℕ) → Option Layer → Journal
 journal_resumed sum clock layer = record { sum = sum; time = clock; layer = layer_in sum layer }
 
--- the time after some milliseconds, at most 2^64 - 1
+-- the time after this many elapsed milliseconds, limited to 2^64 - 1
 abbrev pub time_after : (time elapsed : ℕ) → ℕ
 time_after time elapsed = min (time + elapsed) (2 ^ 64 - 1)
 
@@ -36,7 +36,7 @@ abbrev pub time_after_all : (time : ℕ) → List PlainEntry → ℕ
 time_after_all time [] = time
 time_after_all time (e ∷ entries) = time_after_all (time_after time e.elapsed) entries
 
--- the journal after an entry, and after entries, that leave the layer in this state
+-- the journal after an entry, and after several entries, that leave the layer in this state
 abbrev pub journal_after : Journal → PlainEntry → (layer : Completion) → Journal
 journal_after j e layer =
     record { sum = sum_after j.sum e; time = time_after j.time e.elapsed; layer = layer }

@@ -1,2 +1,2 @@
--- What is said of the random bytes that a command draws.
+-- Definitions for the random bytes that a command draws.
 pub mod Bytes

@@ -1,9 +1,10 @@
-//! What a command does depends on its random bytes only through those that it draws, from their
-//! front: any others may stand after them. Whoever writes down the bytes that a command drew can
-//! execute it again.
+//! A command's effect depends only on the random bytes that it draws. These are the first ones of
+//! its event, and any bytes may follow them. So recording the bytes that a command drew is enough
+//! to execute it again.
 //!
-//! Each law is the contract of a function that does nothing. The laws are about the definitions of
-//! tpm_step; how many bytes an event draws is said in tpm_machine.
+//! Each function is a proof only: its contract is the law, and it has no effect at run time. The
+//! laws are about the definitions of tpm_step; tpm_machine defines the number of bytes that an
+//! event draws.
 
 ghost use Rattle.std.specs.Prelude.{◌≡◌, ℕ, Bool, false, IfOk, List, Ok, take};
 ghost use Rattle.tpm_record.specs.rows.Request.{Request};
@@ -17,7 +18,8 @@ ghost use Rattle.tpm_step.specs.Table.{row_of};
 ghost use Rattle.tpm_commands.specs.declared.command_code.CommandCode.{CommandCode};
 ghost use Rattle.tpm_commands.specs.declared.command_code.CommandCode.TheVariants as command;
 
-/// The row of a command acts alike with other random bytes, where those that it draws are the same.
+/// The row of a command acts in the same way with other random bytes, if these agree with the
+/// original ones on all bytes that the command draws.
 #[inline(always)]
 #[tactic(auto, using(crate::proofs::draw_laws::Rows::row_alike))]
 pub fn row_laws()
@@ -25,8 +27,8 @@ pub fn row_laws()
         → ActsAlike q.random other (row_of r c q) (row_of r c (with_random q other)) }
 {}
 
-/// Each byte that a command draws can count: where TPM2_GetRandom acts with other random bytes as
-/// with its own, all those that it draws are the same.
+/// Each byte that a command draws can matter: if TPM2_GetRandom acts in the same way with other
+/// random bytes, these agree with the original ones on all bytes that it draws.
 #[inline(always)]
 #[tactic(auto, using(crate::proofs::draw_laws::Needed::bytes_needed))]
 pub fn needed_byte_laws()
@@ -36,8 +38,9 @@ pub fn needed_byte_laws()
         → take s.answer.drawn other ≡ take s.answer.drawn q.random) }
 {}
 
-/// The step of a command is the same with other random bytes, as many, that agree on those that it
-/// draws, also where memory is refused to it; and it draws as many of them.
+/// The step of a command depends only on the random bytes that it draws. With an equal number of
+/// other random bytes that agree on those drawn, the step is the same, even if an allocation
+/// fails. It also draws the same number of bytes.
 #[inline(always)]
 #[tactic(auto, using(crate::proofs::draw_laws::Executions::steps_alike, crate::proofs::draw_laws::Executions::draws_alike))]
 pub fn step_laws()
@@ -51,8 +54,8 @@ pub fn step_laws()
         ≡ drawn_by r (Given buffer locality elapsed random) check }
 {}
 
-/// An execution of a command with some random bytes is one with others too, as many, that agree on
-/// those that it draws.
+/// The execution of a command depends only on the random bytes that it draws. It is also an
+/// execution with any equal number of other random bytes that agree on those drawn.
 #[inline(always)]
 pub fn execution_laws()
     ensures { (can : Bool) (r : Record) (buffer : List ℕ) (locality elapsed : ℕ)
@@ -62,8 +65,8 @@ pub fn execution_laws()
         → Executes can r (Given buffer locality elapsed other) x }
 {}
 
-/// An event that was executed is executed again, with the same outcome, by the random bytes that it
-/// drew and zeros after them; and it draws as many again.
+/// An executed event can be executed again with only the random bytes that it drew, followed by
+/// zeros. The outcome is the same, and the event draws the same number of bytes.
 #[inline(always)]
 #[tactic(auto, using(crate::proofs::draw_laws::Executions::replays, crate::proofs::draw_laws::Executions::replay_draws))]
 pub fn replay_laws()

@@ -1,4 +1,4 @@
-//! A device, with its completing layer, executes the entries of a text again.
+//! A device and its completing layer execute the entries of a text again.
 
 ghost use Rattle.std.specs.Prelude.{◌≡◌, ◌≤◌, length};
 ghost use Rattle.tpm_completion.specs.Execution.{seen_of};
@@ -15,38 +15,40 @@ use tpm_record::Keep;
 use tpm_step::{Event, Outcome};
 use tpm_types::Locality;
 
-/// Why a text was not followed to its end.
+/// The reasons why the execution of a text's entries stopped early.
 #[derive(Clone, Copy, PartialEq, Eq)]
 pub enum FollowFault {
-    /// The text does not go on with an entry, nor with what a crash leaves of one.
+    /// The text continues neither with an entry nor with the remains of one after a crash.
     Damaged,
-    /// The device answered the last entry otherwise than the entry says.
+    /// The device's answer to the last entry differs from the one recorded in the entry.
     Otherwise,
 }
 
-/// How far a text was followed.
+/// How much of a text was followed.
 #[derive(Clone, Copy, PartialEq, Eq)]
 pub struct Followed {
-    /// How many bytes the entries have that were executed.
+    /// The size of the entries that were executed.
     pub taken: usize,
     pub fault: Option<FollowFault>,
 }
 
-/// What was done about the front of a text.
+/// What was done with the beginning of a text.
 #[derive(Clone, Copy)]
 pub(crate) enum Deed<'a> {
-    /// The entry, whose text has `size` bytes, was executed, and answered as it says.
+    /// The entry, whose text is `size` bytes long, was executed, and the answer matches the
+    /// entry.
     Executed { entry: Entry<'a>, size: usize },
-    /// The entry, whose text has `size` bytes, was executed, and answered otherwise than it says.
+    /// The entry, whose text is `size` bytes long, was executed, and the answer differs from the
+    /// entry.
     Otherwise { entry: Entry<'a>, size: usize },
-    /// The text is torn: less than an entry, and perhaps zeros after it.
+    /// The text is torn: it is less than an entry, possibly followed by zeros.
     Torn,
     /// The text is damaged.
     Damaged,
 }
 
-/// Performs an entry: executes its command again, with the completing layer where the entry says
-/// so. Entries are executed only here.
+/// Performs an entry: executes its command again, with the completing layer if the entry says so.
+/// Only this function executes entries.
 pub fn perform<K: Keep>(
     machine: &mut Machine<K>,
     layer: &mut Completion,
@@ -65,7 +67,7 @@ pub fn perform<K: Keep>(
     execute(machine, layer, entry.completes, &event, outcome);
 }
 
-/// 256 random bytes: these, and zeros after them.
+/// 256 random bytes: the given ones, followed by zeros.
 fn padded(drawn: &[u8]) -> [u8; 256]
     requires { length drawn.now ≤ 256 }
     ensures { result ≡ padded drawn.now }
@@ -77,8 +79,8 @@ fn padded(drawn: &[u8]) -> [u8; 256]
 }
 
 impl Journal {
-    /// Executes the entry at the front of a text. The entry's bytes go to the first room, and its
-    /// text is written to the second, to be compared.
+    /// Executes the entry at the beginning of a text. Stores the entry's bytes in the first
+    /// buffer, and writes its text to the second for comparison.
     pub(crate) fn follow_one<'a, K: Keep>(
         &mut self,
         machine: &mut Machine<K>,
@@ -105,7 +107,7 @@ impl Journal {
         }
     }
 
-    /// Executes the entries of a text that follows what this journal has.
+    /// Executes the entries of a text that continues this journal.
     pub fn follow<K: Keep>(
         &mut self,
         machine: &mut Machine<K>,

@@ -1,4 +1,4 @@
-//! A journal begins, and grows with each command.
+//! How a journal begins, and how each command extends it.
 
 ghost use Rattle.std.specs.Prelude.{◌≡◌, ◌≤◌, ◌<◌, ◌+◌, ◌++◌, [], Ok, Some, false, length, option_copied, take};
 ghost use Rattle.tpm_completion.specs.Execution.{seen_of};
@@ -36,21 +36,21 @@ use tpm_state_text::{Layer, StateBody, write_state};
 use tpm_step::{Event, Outcome};
 use tpm_types::Locality;
 
-/// The state of a journal beside its device.
+/// The state of a journal in addition to its device.
 #[derive(Clone, Copy, PartialEq, Eq)]
 pub struct Journal {
     /// The sum of the marks so far.
     pub sum: u64,
-    /// The time of the journal in milliseconds: its head's clock, and the elapsed times of its
-    /// commands.
+    /// The time of the journal in milliseconds: the clock in its head, plus the elapsed times of
+    /// its commands.
     pub time: u64,
     /// The state of the completing layer.
     pub layer: Completion,
 }
 
 impl Journal {
-    /// The journal whose head has this sum and this clock. The completing layer begins anew, with
-    /// the sum as the number of its start.
+    /// The journal after a head with this sum and this clock. The completing layer restarts; the
+    /// sum becomes its start number.
     pub fn begun(sum: u64, clock_ms: u64) -> Journal
         ensures { result ≡ journal_of sum clock_ms }
     {
@@ -61,7 +61,8 @@ impl Journal {
         }
     }
 
-    /// The journal whose head has this sum and this clock, and holds a state with this layer.
+    /// The journal after a head with this sum and this clock, whose state text contains this
+    /// layer.
     pub(crate) fn resumed(sum: u64, clock_ms: u64, layer: Option<&Layer>) -> Journal
         ensures { result ≡ journal_resumed sum clock_ms (option_copied layer.entry) }
     {
@@ -72,8 +73,8 @@ impl Journal {
         }
     }
 
-    /// Cycles the power of the device, and writes the head of its new journal to the front of a
-    /// buffer. Returns how many bytes the head has; if the buffer is smaller, nothing is done.
+    /// Power-cycles the device, and writes the head of its new journal to the beginning of a
+    /// buffer. Returns the size of the head. If the buffer is too small, the call has no effect.
     pub fn begin<K: Keep>(
         &mut self,
         machine: &mut Machine<K>,
@@ -106,10 +107,10 @@ impl Journal {
         size
     }
 
-    /// Begins the text of the journal anew: writes a head that holds all that the device and the
-    /// completing layer are to the front of a buffer. Returns how many bytes the head has; if the
-    /// buffer is smaller, nothing is done. The device and the layer stay as they are. With the
-    /// journal's own time as the clock no time is lost.
+    /// Restarts the text of the journal: writes a head with the whole state of the device and the
+    /// completing layer to the beginning of a buffer. Returns the size of the head. If the buffer
+    /// is too small, the call has no effect. The device and the layer are unchanged. If the clock
+    /// is the journal's own time, no time is lost.
     pub fn checkpoint<K: Keep>(
         &mut self,
         machine: &Machine<K>,
@@ -122,7 +123,7 @@ impl Journal {
         ensures journal { result ≤ length buffer.old
             → self.new ≡ checkpointed self.old clock_ms (state_of K.record_of machine.now) }
         ensures no_journal { length buffer.old < result → self.new ≡ self.old }
-        // The head starts the journal, and the device, with which this one goes on.
+        // Reading the head yields the journal and the device with which this one continues.
         ensures starts { result ≤ length buffer.old → start_by State clock_ms
             (state_text (state_beside self.old (state_of K.record_of machine.now)))
             ≡ Ok (record { journal = self.new; device = state_of K.record_of machine.now }) }
@@ -137,16 +138,16 @@ impl Journal {
         size
     }
 
-    /// The milliseconds since the latest command, by the host's clock.
+    /// The milliseconds since the latest command, according to the host's clock.
     fn elapsed(&self, now_ms: u64) -> u32
         ensures { result ≡ elapsed_of now_ms self.now.time }
     {
         now_ms.saturating_sub(self.time).min(u64::from(u32::MAX)) as u32
     }
 
-    /// Executes a command by the host's clock, with the completing layer or without it, and writes
-    /// its entry to the front of a room. Gives how many bytes the entry has. A longer buffer than
-    /// 4,097 bytes is cut to 4,097, and is refused alike.
+    /// Executes a command at this time of the host's clock, with or without the completing layer,
+    /// and writes its entry to the beginning of a buffer. Returns the size of the entry. A
+    /// command of more than 4,097 bytes is truncated to 4,097, and is refused in the same way.
     pub fn execute<K: Keep>(
         &mut self,
         machine: &mut Machine<K>,
@@ -168,7 +169,7 @@ impl Journal {
             take result room.new ≡ entry_text self.old.sum (entry_of c seen) }
         ensures fits { result ≤ length room.new }
 
-        // What is written is an entry, which can be read again.
+        // The text written is an entry, and can be read again.
         ensures entry { let c = command_at buffer.now (locality_number locality)
             (elapsed_of now_ms self.old.time) completes random.now in
             let seen = seen_of K.record_of machine.new self.new.layer outcome.new in
@@ -196,8 +197,8 @@ impl Journal {
     }
 }
 
-/// The layer of a state: the one that it has, or a new one, with the sum of the head as the number
-/// of its start.
+/// The layer in a state, or a new layer if the state has none. The sum of the head is the start
+/// number of the new layer.
 fn layer_in(sum: u64, layer: Option<&Layer>) -> Completion
     ensures { result ≡ layer_in sum (option_copied layer.entry) }
 {
@@ -207,8 +208,8 @@ fn layer_in(sum: u64, layer: Option<&Layer>) -> Completion
     }
 }
 
-/// Writes a head whose content comes in two parts to the front of a buffer, if it fits. Returns how
-/// many bytes it has. `sum` becomes the sum of the head's mark.
+/// Writes a head, whose content comes in two parts, to the beginning of a buffer, if it fits.
+/// Returns its size. Sets `sum` to the sum of the head's mark.
 fn put_head(
     kind: HeadKind,
     clock_ms: u64,
@@ -231,7 +232,7 @@ fn put_head(
     size
 }
 
-/// Writes the image of a device: returns its head, and appends the rest to an empty text.
+/// Writes the image of a device: returns its header, and appends the rest to an empty text.
 fn write_image<K: Keep>(machine: &Machine<K>, text: &mut Text) -> Sink<10>
     requires { text.old ≡ [] }
     ensures image { result ++ text.new
@@ -242,7 +243,7 @@ fn write_image<K: Keep>(machine: &Machine<K>, text: &mut Text) -> Sink<10>
     write_text(machine.keep(), text)
 }
 
-/// Writes a head that holds the image of a device to the front of a buffer, if it fits.
+/// Writes a head with the image of a device to the beginning of a buffer, if it fits.
 fn put_image<K: Keep>(
     machine: &Machine<K>,
     clock_ms: u64,
@@ -267,7 +268,7 @@ fn put_image<K: Keep>(
     )
 }
 
-/// Writes a head that holds the state text of a device, with its layer, to the front of a buffer, if
+/// Writes a head with the state text of a device and its layer to the beginning of a buffer, if
 /// it fits.
 fn put_state<K: Keep>(
     machine: &Machine<K>,
@@ -295,7 +296,7 @@ fn put_state<K: Keep>(
     )
 }
 
-/// The front of a buffer, at most as many bytes as an entry can have.
+/// The prefix of a buffer, up to the largest size in an entry.
 #[tactic(auto, using(std::proofs::lemmas::List::take_all))]
 fn cut(buffer: &[u8]) -> &[u8]
     ensures { result.now ≡ take 4097 buffer.now }

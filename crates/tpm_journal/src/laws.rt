@@ -1,4 +1,4 @@
-//! The laws of journals: what is opened is the device that executed the answered commands.
+//! The laws of journals: opening a journal yields the device that executed the answered commands.
 
 ghost use Rattle.std.specs.Prelude.{◌≡◌, ◌++◌, ℕ, Bool, List, Ok, Option, Result, false};
 ghost use Rattle.std.specs.List.{AllByRecursion};
@@ -30,9 +30,9 @@ ghost use Rattle.tpm_record.specs.Record.{Record};
 ghost use Rattle.tpm_state_text.specs.Body.{IsWholeState, WholeState};
 ghost use Rattle.tpm_state_text.specs.State.{state_text};
 
-/// The entries of a live device and its layer are answered again as they say, and lead to its layer
-/// and its record: random bytes that a command did not draw have no influence. The function does
-/// nothing.
+/// If the entries of a live device and its layer are executed again, they have the same answers,
+/// and lead to the same layer and record. Random bytes that a command did not draw have no
+/// effect. A proof only: it has no effect at run time.
 #[inline(always)]
 #[tactic(auto, using(crate::proofs::Ignoring::lives_alike))]
 pub fn living_laws()
@@ -40,8 +40,8 @@ pub fn living_laws()
         (new : Record) → Lives layer old entries after new → Answers layer old entries after new }
 {}
 
-/// A text of entries, followed by what a crash leaves of another one, is followed to its last whole
-/// entry, if the device and its layer answer the entries as they say.
+/// A text consists of entries and the remains of one more after a crash. If the device and its
+/// layer answer as the entries say, exactly the whole entries are executed again.
 #[inline(always)]
 pub fn following_laws()
     ensures { (before : Journal) (old : Record) (layer : Completion) (final new : Record)
@@ -53,9 +53,10 @@ pub fn following_laws()
         → IsFollowedWhole before entries layer final followed after new }
 {}
 
-/// Which journal starts by a head: by the image of a device a new one, after a power cycle of the
-/// device; by a state text one with the device and the layer as they were; and by a checkpoint the
-/// journal that was checkpointed, with its layer and its device. The function does nothing.
+/// Which journal starts with a head. The image of a device starts a new journal, with a power
+/// cycle of the device. A state text starts a journal in which the device and the layer continue
+/// unchanged. A checkpoint starts the journal that was checkpointed, with its layer and its
+/// device. A proof only: it has no effect at run time.
 #[inline(always)]
 #[tactic(auto, using(crate::proofs::Starts::image_starts, crate::proofs::Starts::state_starts, crate::proofs::Starts::checkpoint_starts))]
 pub fn starting_laws()
@@ -74,9 +75,9 @@ pub fn starting_laws()
         ≡ Ok (record { journal = checkpointed j clock r; device = r }) }
 {}
 
-/// A text of a head by which a journal starts, and of entries, followed by what a crash leaves of
-/// another entry, is opened as the device and the layer to which the entries lead from the start, if
-/// they answer as the entries say.
+/// A text consists of a head that starts a journal, its entries, and the remains of one more
+/// entry after a crash. It opens as the device and the layer to which the entries lead from that
+/// start, if the device and its layer answer as the entries say.
 #[inline(always)]
 #[tactic(auto, using(crate::proofs::Again::opened_again))]
 pub fn opening_laws()
@@ -92,8 +93,8 @@ pub fn opening_laws()
         new }
 {}
 
-/// A checkpoint of a live device, and the entries of what the device and its layer executed after
-/// it, are opened as this device and this layer.
+/// A checkpoint of a live device, followed by the entries of the commands that the device and its
+/// layer executed since, opens as this device and this layer.
 #[inline(always)]
 #[tactic(auto, using(crate::proofs::Starts::checkpoint_opened))]
 pub fn checkpoint_laws()
@@ -109,8 +110,9 @@ pub fn checkpoint_laws()
         (checkpointed j clock r) entries layer final result new }
 {}
 
-/// A device that follows a history and executes entries again follows the history with everything
-/// that was executed for them and accepted. The law also says what else holds of such a stretch.
+/// If a device follows a history and executes entries again, it then follows that history
+/// extended by everything that was executed for them and accepted. The law also states what else
+/// holds of such a sequence of entries.
 #[inline(always)]
 pub fn repeating_laws()
     ensures { (can : Bool) (before : Journal) (old : Record) (text : List ℕ) (taken : ℕ)

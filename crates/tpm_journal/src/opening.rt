@@ -1,4 +1,4 @@
-//! A device is opened from a journal.
+//! How a device is opened from a journal.
 
 ghost use Rattle.std.specs.Prelude.{◌≡◌, false, option_copied, replicate};
 ghost use Rattle.tpm_image_text.specs.Image.{image_of};
@@ -19,16 +19,16 @@ use tpm_snapshot::restore_new;
 use tpm_state_text::RestoreFault;
 use tpm_step::Outcome;
 
-/// Why a text was not opened as a journal.
+/// The reasons why a text could not be opened as a journal.
 #[derive(Clone, Copy, PartialEq, Eq)]
 pub enum OpenFault {
     /// The text does not begin with a head.
     NoJournal,
-    /// The head does not hold an image from which this device can be opened.
+    /// The head contains no image from which this device can be opened.
     Image(ImageFault),
-    /// The head does not hold a state text from which this device can be restored.
+    /// The head contains no state text from which this device can be restored.
     State(RestoreFault),
-    /// The entries after the head were followed to a fault.
+    /// The execution of the entries after the head stopped at a fault.
     Follow(FollowFault),
 }
 
@@ -37,7 +37,7 @@ pub enum OpenFault {
 pub(crate) struct Started {
     /// The journal before its first entry.
     pub(crate) journal: Journal,
-    /// How many bytes the head has.
+    /// The size of the head.
     pub(crate) size: usize,
 }
 
@@ -45,11 +45,11 @@ pub(crate) struct Started {
 #[derive(Clone, Copy, PartialEq, Eq)]
 pub struct Opened {
     pub journal: Journal,
-    /// How many bytes the head and the entries have.
+    /// The total size of the head and the entries.
     pub taken: usize,
 }
 
-/// Opens the device of an image that a head holds, in place of a new machine of zeros.
+/// Opens the device from the image in a head, in a machine just manufactured with zeros.
 fn open_image<K: Keep>(machine: &mut Machine<K>, head: &Head) -> Result<Journal, OpenFault>
     requires new { state_of K.record_of machine.old ≡ manufactured (replicate 256 0) }
     requires never_refused { K.can_refuse ≡ false }
@@ -63,7 +63,7 @@ fn open_image<K: Keep>(machine: &mut Machine<K>, head: &Head) -> Result<Journal,
     }
 }
 
-/// Restores the device of a state text that a head holds, in place of a new machine of zeros.
+/// Restores the device from the state text in a head, in a machine just manufactured with zeros.
 fn open_state<K: Keep>(machine: &mut Machine<K>, head: &Head) -> Result<Journal, OpenFault>
     requires new { state_of K.record_of machine.old ≡ manufactured (replicate 256 0) }
     requires never_refused { K.can_refuse ≡ false }
@@ -77,8 +77,8 @@ fn open_state<K: Keep>(machine: &mut Machine<K>, head: &Head) -> Result<Journal,
     }
 }
 
-/// Opens the device that a head holds, in place of a new machine of zeros. Returns the journal of
-/// the head. After a fault nothing is said of the machine.
+/// Opens the device from a head, in a machine just manufactured with zeros. Returns the journal
+/// of the head. On error, the machine is unspecified.
 fn open_head<K: Keep>(machine: &mut Machine<K>, head: &Head) -> Result<Journal, OpenFault>
     requires new { state_of K.record_of machine.old ≡ manufactured (replicate 256 0) }
     requires never_refused { K.can_refuse ≡ false }
@@ -92,8 +92,8 @@ fn open_head<K: Keep>(machine: &mut Machine<K>, head: &Head) -> Result<Journal, 
     }
 }
 
-/// Opens the head of a text, and its device, in place of a new machine of zeros. After a fault
-/// nothing is said of the machine.
+/// Opens the device from the head of a text, in a machine just manufactured with zeros. On error,
+/// the machine is unspecified.
 pub(crate) fn start<K: Keep>(machine: &mut Machine<K>, text: &[u8]) -> Result<Started, OpenFault>
     requires new { state_of K.record_of machine.old ≡ manufactured (replicate 256 0) }
     requires never_refused { K.can_refuse ≡ false }
@@ -112,8 +112,8 @@ pub(crate) fn start<K: Keep>(machine: &mut Machine<K>, text: &[u8]) -> Result<St
     }
 }
 
-/// Opens a device and its completing layer from their journal, in place of a new machine of zeros.
-/// After a fault nothing is said of the machine.
+/// Opens a device and its completing layer from their journal, in a machine just manufactured
+/// with zeros. On error, the machine is unspecified.
 pub fn open<K: Keep>(
     machine: &mut Machine<K>,
     text: &[u8],

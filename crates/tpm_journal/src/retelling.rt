@@ -1,10 +1,11 @@
-//! What happened to a device, told from its journal: as a script, which has the journal's head, and
-//! for each of its entries a comment that traces what was answered and the lines that execute the
-//! command; or as its answers, which has for each entry that trace and the response.
+//! What happened to a device, retold from its journal, as a script or as its answers. The script
+//! consists of the journal's head and, for each entry, a comment that traces the answer and the
+//! lines that execute the command. The answers consist of that trace and the response, for each
+//! entry.
 //!
-//! [`retell`] executes the entries of a journal again, as opening it does, and writes a map over
-//! exactly the entries that were executed. It does no input or output but through the writer that
-//! it is passed.
+//! [`retell`] executes the entries of a journal again, as opening does, and retells exactly the
+//! executed entries, one by one. It does no input or output except through the writer that it
+//! takes.
 
 ghost use Rattle.std.specs.Prelude.{◌≡◌, IfOk, OnErr, false, replicate, true};
 ghost use Rattle.tpm_bytes.specs.Tap.{device_of, marks_of};
@@ -26,28 +27,30 @@ use tpm_machine::Machine;
 use tpm_record::Keep;
 use tpm_step::Outcome;
 
-/// How a journal is told.
+/// How a journal is retold.
 #[derive(Clone, Copy, PartialEq, Eq)]
 pub enum Telling {
     /// As the script that executes it again.
     Script,
-    /// By the trace and the response of each entry.
+    /// As the trace and the response of each entry.
     Answers,
 }
 
-/// Why a journal was not told to its end.
+/// The reasons why a journal was not retold to its end.
 #[derive(Clone, Copy, PartialEq, Eq)]
 pub enum RetellFault {
-    /// The journal has no head, or no device in it. Nothing was told.
+    /// The journal has no head, or its head contains no device. Nothing was retold.
     Open(OpenFault),
-    /// The entries were told up to this fault: their head and they have `taken` bytes.
+    /// The entries were retold up to this fault. The head and these entries are `taken` bytes
+    /// long.
     Follow { fault: FollowFault, taken: usize },
-    /// What is told could not be written.
+    /// The output could not be written.
     Write,
 }
 
-/// Tells a journal: opens the device of its head in place of a new machine of zeros, and executes
-/// its entries again. What follows the last whole entry was never answered, and is not told.
+/// Retells a journal: opens the device from its head in a machine just manufactured with zeros,
+/// and executes its entries again. Text after the last whole entry was never answered, and is not
+/// retold.
 pub fn retell<K: Keep, W: Write>(
     form: Telling,
     machine: &mut Machine<K>,
@@ -81,7 +84,7 @@ pub fn retell<K: Keep, W: Write>(
     }
 }
 
-/// Executes the entries of a text that follows a journal, and tells each.
+/// Executes the entries of a text that continues a journal, and retells each.
 fn retell_entries<K: Keep, W: Write>(
     form: Telling,
     journal: &mut Journal,

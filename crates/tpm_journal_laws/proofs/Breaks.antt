@@ -1,4 +1,4 @@
--- Texts of which no byte ends a line, and the lines of a text after them.
+-- Texts that do not contain the end of a line, and the lines of a text after them.
 use Rattle.std.proofs.Common.{◌≡◌, ℕ, ◌+◌, ◌==◌, Bool, false, cond, List, [], ◌∷◌, ◌++◌, Some, None, refl, sym, ap, ◌∙◌, inl, inr, arith}
 use Rattle.std.specs.Prelude.{slice_index}
 use Rattle.std.specs.List.{AllByRecursion, onto_first}
@@ -16,7 +16,7 @@ pub unbroken_joined : (front back : List ℕ) → Unbroken front → Unbroken ba
 unbroken_joined [] back f b = b
 unbroken_joined (byte ∷ front) back f b = (f.0, unbroken_joined front back f.1 b)
 
--- a text that has the end of a line begins with this line
+-- a text that contains the end of a line begins with that line
 pub line_first : (line rest : List ℕ) → Unbroken line → lines_of (line ++ 10 ∷ rest) ≡ line ∷ lines_of rest
 line_first [] rest h = refl
 line_first (byte ∷ line) rest h =

@@ -1,4 +1,4 @@
--- Buffers that are recorded whole, and those that are cut.
+-- Buffers that are recorded whole, and buffers that are truncated.
 use Rattle.std.proofs.Common.{◌≡◌, ℕ, ◌<◌, List, length, take, Err, refl, sym, ap, ◌∙◌, take_all, arith}
 use Rattle.std.proofs.lemmas.Bool.{le-ltb, lt-ltb}
 use Rattle.std.proofs.lemmas.List.{length-take-le}
@@ -14,7 +14,7 @@ use Rattle.tpm_journal_laws.specs.Buffers.{IsRecordedWhole, LongerAreRefusedAlik
 pub is_recorded_whole : IsRecordedWhole
 is_recorded_whole buffer locality elapsed completes random few = take_all 4097 buffer (omega (arith, few))
 
--- a buffer that is too long has no header
+-- a buffer that is too long contains no header
 no_header : (buffer : List ℕ) → 4096 < length buffer → header_at buffer ≡ Err fault.Length
 unfolding header_at
 no_header buffer long = rw (le-ltb (length buffer) 10 (omega (arith, long)), lt-ltb 4096 (length buffer) long) refl

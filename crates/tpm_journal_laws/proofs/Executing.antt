@@ -1,4 +1,4 @@
--- The lines of an entry execute its command as it was executed.
+-- The lines of an entry execute its command as it was originally executed.
 use native.Mathlib.Nat.{mod-eq_of_lt}
 use Rattle.std.proofs.Common.{◌≡◌, ℕ, zero, suc, ◌+◌, ◌%◌, ◌<◌, ◌≤◌, false, List, [], ◌∷◌, length, take, get_or, refl, sym, ap, ◌∙◌, arith}
 use Rattle.std.specs.Prelude.{map, slice_index}
@@ -16,7 +16,8 @@ use Rattle.std.specs.Prelude.{Result, Ok, Err}
 use Rattle.tpmsim_script.specs.Script.{repeated}
 use Rattle.tpm_journal_laws.specs.Playing.{PlaysAsExecuted}
 
--- numbers that are made of their places begin with a list, where they agree with it
+-- a list that is computed by position begins with another list, if they agree at every position
+-- of that list
 made_front : (byte : ℕ → ℕ) (front : List ℕ) (from count : ℕ) → length front ≤ count → ((i : ℕ) → i < length front → byte (from + i) ≡ get_or front i 0)
     → take (length front) (map byte (range_with_len from count)) ≡ front
 made_front byte [] from count few each = refl
@@ -50,7 +51,7 @@ shown_front : (drawn : List ℕ) → length drawn ≤ 256 → take (length drawn
 shown_front [] few = refl
 shown_front (byte ∷ drawn) few = repeated_front (byte ∷ drawn) few
 
--- no more bytes are drawn than there are
+-- a command draws at most the random bytes that its event has
 few_drawn : (random : List ℕ) (a : Result Accepted RefusedCommand) → drawn_by_command random a 0 ≤ length random
 few_drawn random (Ok a) = omega arith
 few_drawn random (Err e) = omega arith

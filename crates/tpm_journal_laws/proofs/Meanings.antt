@@ -37,7 +37,7 @@ entropy_line e = codes "entropy " ++ encode_lower (shown e.drawn)
 unfoldable pub cmd_line : PlainEntry → List ℕ
 cmd_line e = codes "cmd " ++ encode_lower e.buffer
 
--- ---- no byte of them ends a line
+-- ---- none of their bytes ends a line
 
 no_feed : (d : ℕ) → (48 + d == 10) ≡ false
 no_feed d = grind (arith, nat_tests)
@@ -96,7 +96,7 @@ mark_unbroken word bytes sum h =
 
 -- ---- what they mean
 
--- the first space of a text, which is at this place
+-- the first space of a text, which is at this offset
 spaced : (text : List ℕ) (place : ℕ) → position_or_len (λ byte. byte == 32) text ≡ place → place < length text
     → position (λ byte. byte == 32) text ≡ Some place
 spaced text place e l =

@@ -1,4 +1,4 @@
--- The ten digits of a number are read as this number.
+-- Decoding the ten digits of a number yields this number.
 use Rattle.std.proofs.Common.{◌≡◌, ℕ, ◌+◌, ◌*◌, ◌/◌, ◌%◌, ◌<◌, ◌^◌, ◌-◌, true, Some, refl, arith}
 use Rattle.std.specs.Char.{digit_value}
 use Rattle.std.specs.Str.Parse.{digits_value_after}
@@ -17,7 +17,7 @@ value_at number place = digit (number / place % 10) (omega arith)
 digit_holds : (number place : ℕ) → is_digit 10 (digit_at number place) ≡ true
 digit_holds number place = lt-ltb _ 10 (omega (arith, value_at number place))
 
--- digits have been read as this number, and one more is read
+-- the digits read so far make this number, and one more is read
 one_more : (number place tens : ℕ) → tens ≡ number / (place * 10) → number / (place * 10) * 10 + number / place % 10 ≡ number / place
     → tens * 10 + digit_value (digit_at number place) ≡ number / place
 one_more number place tens so step = omega (arith, so, step, value_at number place)

@@ -35,7 +35,7 @@ quiet : (p next : Playing) (number : ℕ) (line : List ℕ) (lines : List (List 
     → play p number (line ∷ lines) ≡ play next (number + 1) lines
 quiet p next number line lines e = ap (λ (effect : Option Effect). output_with effect number (λ p. play p (number + 1) lines)) e
 
--- ---- how long the lines are
+-- ---- the sizes of the lines
 
 front_many : (word bytes : List ℕ) (sum : ℕ) → length (mark_front word bytes sum) ≡ length word + (2 * length bytes + 17)
 unfolding mark_front
@@ -86,7 +86,7 @@ digits_are bytes are = ap result_ok (decode_of-encode_lower bytes are)
 
 -- ---- an entry
 
--- a script that is played, not traced, and that has waited no time since its last command
+-- a script that is played without traces, and has not waited since its last command
 abbrev playing_at : (locality : ℕ) (random : List ℕ) (device : Record) → Playing
 playing_at locality random device = record { traced = false; locality = locality; waited = 0; random = random; device = device }
 

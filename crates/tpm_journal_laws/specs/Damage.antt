@@ -1,12 +1,12 @@
--- What a device executed of a damaged journal.
+-- What a device executed from a damaged journal.
 use Rattle.std.specs.Prelude.{ℕ, Bool, List, take, Some, None}
 use Rattle.tpm_record.specs.Record.{Record}
 use Rattle.tpm_journal.specs.Replay.{Replays}
 use Rattle.tpm_journal.specs.declared.journal.Journal.{Journal}
 use Rattle.tpm_journal.specs.declared.following.FollowFault.TheVariants.{Damaged}
 
--- A journal that is cut where it is damaged is followed to its end, to the same device: what was
--- answered before the damage is what the entries there say.
+-- A damaged journal that is truncated at the damage is followed to its end, and leads to the same
+-- device. The answers before the damage match the entries there.
 abbrev pub FrontIsFollowed : Type 0
 FrontIsFollowed =
     (can : Bool) (before : Journal) (old : Record) (text : List ℕ) (taken : ℕ) (after : Journal)

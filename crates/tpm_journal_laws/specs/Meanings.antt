@@ -10,18 +10,18 @@ use Rattle.tpmsim_script.specs.Line.{Meaning, Executes, SetsLocality, Waits, Set
 use Rattle.tpmsim_script.specs.Line.{DoesNothing}
 use Rattle.tpmsim_script.specs.Line.{line_meaning, lines_of}
 
--- what the lines of a text mean, one after another; None where a line is bad
+-- the meanings of the lines of a text, one after another; None for a bad line
 abbrev pub meanings_of : (text : List ℕ) → List (Option Meaning)
 meanings_of text = map line_meaning (lines_of text)
 
--- what the lines of an entry mean, and those after them
+-- the meanings of the lines of an entry, followed by those of the later lines
 abbrev pub entry_meanings : PlainEntry → (rest : List (Option Meaning)) → List (Option Meaning)
 entry_meanings e rest =
     Some DoesNothing ∷ Some (Waits e.elapsed) ∷ Some (SetsLocality e.locality)
     ∷ Some (SetsEntropy (encode_lower (shown e.drawn)))
     ∷ Some (Executes (encode_lower e.buffer)) ∷ rest
 
--- what the lines of entries mean, and those after them
+-- the meanings of the lines of several entries, followed by those of the later lines
 abbrev pub entries_meanings : List PlainEntry → (rest : List (Option Meaning))
     → List (Option Meaning)
 entries_meanings [] rest = rest
@@ -32,13 +32,13 @@ abbrev pub EntryMeansIt : Type 0
 EntryMeansIt = (sum : ℕ) (e : PlainEntry) (rest : List ℕ) → IsEntry e
     → meanings_of (entry_text sum e ++ rest) ≡ entry_meanings e (meanings_of rest)
 
--- The two lines of a head do nothing, whatever follows.
+-- The two lines of a head have no effect, whatever follows.
 abbrev pub HeadMeansNothing : Type 0
 HeadMeansNothing = (kind : HeadKind) (clock : ℕ) (content rest : List ℕ)
     → meanings_of (head_text kind clock content ++ rest)
     ≡ Some DoesNothing ∷ Some DoesNothing ∷ meanings_of rest
 
--- A journal of a head and entries means what its entries say, one after another.
+-- A journal that consists of a head and entries means what its entries say, one after another.
 abbrev pub JournalMeansIt : Type 0
 JournalMeansIt = (kind : HeadKind) (clock : ℕ) (content : List ℕ) (entries : List PlainEntry)
     → AllByRecursion IsEntry entries

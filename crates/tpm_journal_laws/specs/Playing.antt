@@ -12,19 +12,19 @@ use Rattle.tpm_step.specs.Step.{step}
 use Rattle.tpmsim_script.specs.Line.{lines_of}
 use Rattle.tpmsim_script.specs.Script.{at_first, play, printed_response, repeated}
 
--- the event that the lines of an entry execute: its random bytes are those that it drew, repeated
+-- the event that the lines of an entry execute: its random bytes repeat those that the entry drew
 abbrev pub scripted : PlainEntry → PlainEvent
 scripted e = Given e.buffer e.locality e.elapsed (repeated (shown e.drawn))
 
--- what a device prints for entries, one after another: each response, a line of hex
+-- what a device prints for entries, one after another: each response, as a line of hex
 abbrev pub printed_answers : Record → List PlainEntry → List ℕ
 printed_answers r [] = []
 printed_answers r (e ∷ entries) =
     printed_response (step r (scripted e)).response
     ++ printed_answers (step r (scripted e)).after entries
 
--- A journal of a head, of at most 32,767 bytes, and entries plays to its end as a script, and
--- prints what the device answers to the entries.
+-- A journal that consists of a head of at most 32,767 bytes and of entries plays to its end as a
+-- script, and prints the device's responses to the entries.
 abbrev pub JournalPlays : Type 0
 JournalPlays = (kind : HeadKind) (clock : ℕ) (content : List ℕ) (entries : List PlainEntry)
     (r : Record) (number : ℕ) → length content ≤ 32767 → AllByRecursion IsEntry entries
@@ -32,8 +32,8 @@ JournalPlays = (kind : HeadKind) (clock : ℕ) (content : List ℕ) (entries : L
     (lines_of (head_text kind clock content ++ entries_text (head_sum clock content) entries))
     ≡ record { text = printed_answers r entries; bad = None }
 
--- Where an entry has the random bytes that its command drew, of 256, its lines execute the command
--- as it was executed.
+-- If an entry contains the random bytes, out of 256, that its command drew, its lines execute the
+-- command as it was originally executed.
 abbrev pub PlaysAsExecuted : Type 0
 PlaysAsExecuted = (r : Record) (e : PlainEntry) (random : List ℕ) → length random ≡ 256
     → e.drawn ≡ take (drawn_by r (Given e.buffer e.locality e.elapsed random) 0) random

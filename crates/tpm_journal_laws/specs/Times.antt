@@ -1,4 +1,4 @@
--- How the time of a journal goes with the host's clock, in milliseconds since 1970.
+-- How the time of a journal follows the host's clock, in milliseconds since 1970.
 use Rattle.std.specs.Prelude.{◌≡◌, ℕ, ◌+◌, ◌-◌, ◌^◌, ◌<◌, ◌≤◌, Bool, List, [], ◌∷◌}
 use Rattle.std.specs.List.{AllByRecursion}
 use Rattle.tpm_completion.specs.Execution.{Seen}
@@ -10,23 +10,23 @@ use Rattle.tpm_journal.specs.declared.journal.Journal.{Journal}
 abbrev pub BeginsAtClock : Type 0
 BeginsAtClock = (clock : ℕ) (image : List ℕ) → (journal_begun clock image).time ≡ clock
 
--- After a command the time of a journal is the clock that the command was given at, if less than
--- 2^32 milliseconds passed.
+-- After a command, the time of a journal equals the host's clock at the arrival of that command,
+-- if less than 2^32 milliseconds passed.
 abbrev pub GoesWithClock : Type 0
 GoesWithClock = (j : Journal) (now : ℕ) (buffer : List ℕ) (locality : ℕ) (completes : Bool)
     (random : List ℕ) (seen : Seen) → j.time ≤ now → now - j.time < 2 ^ 32 → now < 2 ^ 64
     → let c = command_at buffer locality (elapsed_of now j.time) completes random in
     (journal_after j (entry_of c seen) seen.layer).time ≡ now
 
--- how many milliseconds elapse, for the device, over commands that are given at these clocks, one
--- after another, if the journal has this time before them
+-- the milliseconds that elapse in total for the device, over commands that arrive at these clocks
+-- one after another, if this is the journal's time before them
 abbrev pub told_together : (time : ℕ) → (clocks : List ℕ) → ℕ
 told_together time [] = 0
 told_together time (now ∷ clocks) =
     elapsed_of now time + told_together (time_after time (elapsed_of now time)) clocks
 
--- No millisecond counts twice: if no clock is after the latest, no more milliseconds elapse for the
--- device than pass until then, whether the clocks ascend or not.
+-- No millisecond counts twice. If no clock is after the latest, at most the milliseconds until
+-- the latest elapse for the device, whether or not the clocks ascend.
 abbrev pub TellsNoTimeTwice : Type 0
 TellsNoTimeTwice = (time latest : ℕ) (clocks : List ℕ) → time ≤ latest → latest < 2 ^ 64
     → AllByRecursion (λ now. now ≤ latest) clocks → time + told_together time clocks ≤ latest

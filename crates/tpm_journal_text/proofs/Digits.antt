@@ -1,4 +1,4 @@
--- Digits are compared with those of bytes, pair by pair.
+-- Hex digits, compared pair by pair with the hex of bytes.
 use Rattle.std.proofs.Common.{◌≡◌, ℕ, ◌+◌, ◌*◌, ◌/◌, ◌%◌, ◌<◌, eqb, ◌&&◌, Bool, true, false, List, [], ◌∷◌, ◌++◌, length, take, drop, slice_index, Option, Some, None, IfNone, refl, sym, ◌∙◌}
 use Rattle.std.specs.Prelude.{codes}
 use Rattle.std.specs.Str.{bytes_eq}
@@ -11,7 +11,7 @@ regrouped true true rest = refl
 regrouped true false rest = refl
 regrouped false b rest = refl
 
--- one pair more is compared
+-- one more pair is compared
 pub pair_compared : (digits bytes pair : List ℕ) (place : ℕ) → 2 * place + 1 < length digits → place < length bytes
     → pair ≡ encode_lower (slice_index bytes place ∷ [])
     → bytes_eq (drop (2 * place) digits) (encode_lower (drop place bytes))
@@ -29,7 +29,7 @@ none_left [] [] e f = refl
 none_left [] (b ∷ bytes) e f = absurd cc
 none_left (d ∷ digits) bytes e f = absurd cc
 
--- the line of an image does not stand in a text where its end does not follow its digits
+-- a text lacks the line of an image if the line's end does not follow its digits
 pub end_missing : {X : Type 0} (text digits image end : List ℕ) (found : Option X) → text ≡ codes "# " ++ digits
     → digits ≡ encode_lower image ++ end → IfNone found ((rest : List ℕ) → end ≡ 10 ∷ [] ++ rest → ⊥)
     → IfNone found ((rest : List ℕ) → text ≡ codes "# " ++ (encode_lower image ++ (10 ∷ [] ++ rest)) → ⊥)

@@ -1,4 +1,4 @@
--- An entry in which a byte is left out that is not its last is damaged.
+-- Removing any byte of an entry except the last makes it damaged.
 use Rattle.std.proofs.Common.{◌≡◌, ℕ, ◌+◌, ◌-◌, ◌<◌, ◌≤◌, inl, inr, List, [], ◌∷◌, ◌++◌, length, take, drop, max, replicate, get_or, ap, sym, subst, ◌∙◌, append_assoc, arith, length-append}
 use Rattle.std.specs.Int.{w64, to_be_bytes}
 use Rattle.std.proofs.Math.Seq.{get_or-append_right}
@@ -12,11 +12,11 @@ use Rattle.tpm_journal_text.specs.Sum.{sum_from}
 use Rattle.tpm_journal_text.proofs.Damage.{ends_a_line, same_mark, without_end, zero_at}
 use Rattle.tpm_journal_text.proofs.Standing.{buffer_told, drawn_told, entry_text_many, line_stands, mark_bytes, mark_line_many, mark_many}
 
--- a text without the byte at a place
+-- a text without the byte at an offset
 abbrev pub without : (place : ℕ) → List ℕ → List ℕ
 without place text = take place text ++ drop (place + 1) text
 
--- bytes before the place are where they were, and those after it one further to the front
+-- bytes before the removed one keep their offset, and later ones move forward by one
 before_place : (place : ℕ) (text : List ℕ) (at : ℕ) → at < place → place ≤ length text → get_or (without place text) at 0 ≡ get_or text at 0
 before_place place text at before within =
     get_or_append_left (take place text) (drop (place + 1) text) 0 at (omega (arith, before, length-take-le place text within))
@@ -38,7 +38,7 @@ without_many place text within =
 
 -- ---- the bytes of an entry
 
--- its last byte is a line feed
+-- the last byte of an entry is a line feed
 last_is_feed : (sum : ℕ) (e : PlainEntry) (last : ℕ) → last + 1 ≡ length (entry_text sum e) → get_or (entry_text sum e) last 0 ≡ 10
 last_is_feed sum e last is =
     let ends : entry_text sum e ≡ without_end sum e ++ 10 ∷ [] = sym (append-nil (entry_text sum e)) ∙ ends_a_line sum e [] in
@@ -52,7 +52,7 @@ line_ends sum mark many =
     let line = entry_word ++ encode_lower mark ++ 32 ∷ [] ++ encode_lower (to_be_bytes w64 (sum_from sum mark)) in
     get_or_at line 10 [] 0 71 (omega (arith, mark_line_many sum mark many, length-append line (10 ∷ [])))
 
--- no line feed follows it
+-- the byte after the line of an entry's mark is not a line feed
 wait_follows : (sum : ℕ) (e : PlainEntry) → get_or (entry_text sum e) 72 0 ≡ 119
 unfolding entry_text setting_lines
 wait_follows sum e =
@@ -64,7 +64,7 @@ wait_follows sum e =
 
 -- ---- torn
 
--- a text that ends with a line feed has no zeros after its front
+-- a torn text that ends with a line feed has no zeros at its end
 no_zeros : (sum : ℕ) (text : List ℕ) (last : ℕ) (torn : IsTorn sum text) → last + 1 ≡ length text → get_or text last 0 ≡ 10 → torn.front ≡ text
 no_zeros sum text last torn many feed =
     elim (cases_lt last (length torn.front)) [
@@ -85,7 +85,7 @@ module _ (sum : ℕ) (e : PlainEntry) (place : ℕ) (is : IsEntry e) (less : pla
   cut : List ℕ
   cut = without place text
 
-  -- the place of the last byte that is left
+  -- the offset of the last remaining byte
   last : ℕ
   last = length (entry_text sum e) - 2
 
@@ -102,7 +102,7 @@ module _ (sum : ℕ) (e : PlainEntry) (place : ℕ) (is : IsEntry e) (less : pla
   unfolding cut text last
   cut_many = omega (arith, less, without_many place (entry_text sum e) (omega (arith, less)))
 
-  -- a byte of the mark's line is left out: no line ends where the line of a mark does
+  -- if a byte of the mark's line is removed, the first 72 bytes are not the line of a mark
   early : (mark : List ℕ) → place < 72 → length mark ≡ 26 → take 72 cut ≡ mark_line sum mark → ⊥
   unfolding cut text
   early mark before many line =
@@ -111,7 +111,7 @@ module _ (sum : ℕ) (e : PlainEntry) (place : ℕ) (is : IsEntry e) (less : pla
       ∙ sym (get_or-take 72 (without place (entry_text sum e)) 71 0 (omega arith)) ∙ ap (λ (t : List ℕ). get_or t 71 0) line ∙ line_ends sum mark many in
       absurd (omega (arith, feed))
 
-  -- a byte after it is left out: the line of the mark is there
+  -- if a later byte is removed, the line of the mark is still present
   late : 72 ≤ place → take 72 cut ≡ mark_line sum (mark_of e)
   unfolding cut text
   late after =
@@ -119,7 +119,7 @@ module _ (sum : ℕ) (e : PlainEntry) (place : ℕ) (is : IsEntry e) (less : pla
       take-append-le 72 (take place entry) (drop (place + 1) entry) (omega (arith, after, less, length-take-le place entry (omega (arith, less))))
       ∙ take-take 72 place entry after ∙ line_stands sum e entry [] (sym (append-nil entry))
 
-  -- the last line feed is where no line of the entry ends
+  -- the last line feed is not at the end of a line of the entry
   no_end : (mark : List ℕ) → mark ≡ mark_of e → LinesEnd mark cut → ⊥
   unfolding last text
   no_end mark same end =

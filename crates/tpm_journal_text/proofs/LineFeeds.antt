@@ -1,4 +1,4 @@
--- Where the lines of an entry end.
+-- The offsets at which the lines of an entry end.
 use Rattle.std.proofs.Common.{◌≡◌, ℕ, zero, suc, ◌+◌, ◌-◌, ◌*◌, ◌<◌, ◌≤◌, ◌⊎◌, inl, inr, List, [], ◌∷◌, ◌++◌, length, take, drop, max, get_or, replicate, slice_index, Some, None, refl, ap, sym, subst, ◌∙◌, append_assoc, arith, length-append}
 use Rattle.std.specs.Prelude.{codes}
 use Rattle.std.specs.List.{AllByRecursion}
@@ -18,7 +18,7 @@ zero_at (suc count) (suc place) = zero_at count place
 
 -- ---- texts without line feeds
 
--- No line feed is in a text.
+-- A text contains no line feed.
 abbrev pub NoFeed : List ℕ → Type 0
 NoFeed text = (place : ℕ) → get_or text place 0 ≡ 10 → ⊥
 
@@ -50,7 +50,7 @@ hex_no_feed (byte ∷ bytes) zero e = digit_is_no_feed _ e
 hex_no_feed (byte ∷ bytes) (suc zero) e = digit_is_no_feed _ e
 hex_no_feed (byte ∷ bytes) (suc (suc place)) e = hex_no_feed bytes place e
 
--- ---- a line, and what follows it
+-- ---- a line, and the text after it
 
 feed_at : (line rest : List ℕ) (place : ℕ) → NoFeed line → get_or (line ++ 10 ∷ rest) place 0 ≡ 10
     → (place ≡ length line) ⊎ ((more : ℕ) × (place ≡ length line + (1 + more)) × (get_or rest more 0 ≡ 10))
@@ -67,7 +67,7 @@ feed_at (byte ∷ line) rest (suc place) none e =
 
 -- ---- the lines of an entry
 
--- the lines after the line of the mark, without their ends
+-- the lines after the line of the mark, without their line feeds
 wait_line : PlainEntry → List ℕ
 wait_line e = codes "wait " ++ ten_digits e.elapsed
 
@@ -174,7 +174,7 @@ cmd_many : (e : PlainEntry) → length (cmd_line e) ≡ 4 + 2 * length e.buffer
 unfolding cmd_line
 cmd_many e = omega (arith, length-append (codes "cmd ") (encode_lower e.buffer), length-encode_with lower_digits e.buffer)
 
--- where the last line of an entry ends
+-- the offset at which the last line of an entry ends
 abbrev last_end : PlainEntry → ℕ
 last_end e = 35 + 2 * max 1 (length e.drawn) + 2 * length e.buffer
 
@@ -182,7 +182,7 @@ abbrev Ends : (e : PlainEntry) (place : ℕ) → Type 0
 Ends e place =
     ((place ≡ 15) ⊎ ((place ≡ 21) ⊎ (place ≡ drawn_line_end (length e.drawn)))) ⊎ (place ≡ last_end e)
 
--- each line feed of the lines is one of their ends
+-- each line feed in the lines ends one of them
 feeds_end : (e : PlainEntry) (place : ℕ) → get_or (lines_of e) place 0 ≡ 10 → Ends e place
 unfolding lines_of
 feeds_end e place is =
@@ -212,9 +212,9 @@ feeds_end e place is =
           ]
     ]
 
--- ---- the front of an entry
+-- ---- a prefix of an entry
 
--- a byte that is there is within the text
+-- a line feed that is found is within the text
 pub feed_within : (text : List ℕ) (place : ℕ) → get_or text place 0 ≡ 10 → place < length text
 feed_within text place e =
     elim (cases_lt place (length text)) [
@@ -230,7 +230,7 @@ entry_lines sum e =
     append_assoc (mark_line sum (mark_of e)) (setting_lines e) (executing_lines e)
     ∙ ap (λ (l : List ℕ). mark_line sum (mark_of e) ++ l) (lines_are e)
 
--- a line feed after the line of the mark is in the lines
+-- a line feed after the line of the mark belongs to the entry's lines
 pub feed_in_entry : (sum : ℕ) (e : PlainEntry) (place : ℕ) → get_or (entry_text sum e) (72 + place) 0 ≡ 10 → Ends e place
 feed_in_entry sum e place is =
     let line = mark_line sum (mark_of e) in
@@ -239,7 +239,7 @@ feed_in_entry sum e place is =
     (sym (get_or-append-add line (lines_of e) place 0) ∙ ap (λ (n : ℕ). get_or (line ++ lines_of e) (n + place) 0) many
     ∙ ap (λ (l : List ℕ). get_or l (72 + place) 0) (sym (entry_lines sum e)) ∙ is)
 
--- the lines of a front of an entry end where those of the entry end
+-- the lines of a prefix of an entry end where the lines of the entry end
 pub front_lines_end : (sum : ℕ) (e : PlainEntry) (size : ℕ) → IsEntry e → size ≤ 72 + last_end e → LinesEnd (mark_of e) (take size (entry_text sum e))
 front_lines_end sum e size is less place there =
     let text = entry_text sum e in
@@ -252,14 +252,14 @@ front_lines_end sum e size is less place there =
       | inr last ↦ absurd (omega (arith, last, small, less))
     ]
 
--- the lines of a front of a text end where those of the text end
+-- the lines of a prefix of a text end where the lines of the text end
 pub lines_end_front : (mark front back : List ℕ) → LinesEnd mark (front ++ back) → LinesEnd mark front
 lines_end_front mark front back end place there =
     let at : get_or front (72 + place) 0 ≡ 10 = sym (get_or-drop 72 front place 0) ∙ there in
     end place (get_or-drop 72 (front ++ back) place 0
     ∙ get_or_append_left front back 0 (72 + place) (feed_within front (72 + place) at) ∙ at)
 
--- zeros after a text end no line
+-- appending zeros to a text ends no line
 pub lines_end_zeros : (mark front : List ℕ) (count : ℕ) → LinesEnd mark front → LinesEnd mark (front ++ replicate count 0)
 lines_end_zeros mark front count end place there =
     let text = front ++ replicate count 0 in
@@ -274,7 +274,7 @@ lines_end_zeros mark front count end place there =
 
 -- ---- lines that were split off
 
--- the lines after the line of a mark, as they are, and as the mark says where they end
+-- the lines after the line of a mark end where the mark says
 abbrev EndAt : (lines : List ℕ) → (drawn_end : ℕ) → Type 0
 EndAt lines drawn_end = (place : ℕ) → get_or lines place 0 ≡ 10 → (place ≡ 15) ⊎ ((place ≡ 21) ⊎ (place ≡ drawn_end))
 

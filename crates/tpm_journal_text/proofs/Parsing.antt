@@ -41,7 +41,7 @@ fields_same e f a b d g h i =
     ∙ ap (λ (l : List ℕ). made f.elapsed f.locality f.completes f.drawn l e.answered) h
     ∙ ap (made f.elapsed f.locality f.completes f.drawn f.buffer) i
 
--- two entries that stand in one text with one mark are equal
+-- two entries with the same mark in one text are equal
 one_stands : (e f : PlainEntry) (mark text : List ℕ) → Stands e mark text → Stands f mark text → e ≡ f
 one_stands e f mark text a b =
     let drawn_many : length e.drawn ≡ length f.drawn = sym a.drawn_size ∙ b.drawn_size in
@@ -68,7 +68,7 @@ same_entry sum e f x y is other same =
 
 -- ---- entries
 
--- entries that end torn begin with the entries of any other reading of the text
+-- entries followed by a torn end are the first entries in any other reading of the text
 pub others_are_more : (sum : ℕ) (entries others : List PlainEntry) (rest left : List ℕ) → AllByRecursion IsEntry entries → AllByRecursion IsEntry others
     → entries_text sum entries ++ rest ≡ entries_text sum others ++ left → IsTorn (sum_after_all sum entries) rest
     → (more : List PlainEntry) × AllByRecursion IsEntry more × (entries ≡ others ++ more) × (left ≡ entries_text (sum_after_all sum others) more ++ rest)

@@ -1,4 +1,4 @@
--- The parts of an entry stand at their places in its mark and in its text.
+-- The parts of an entry are at their offsets in its mark and in its text.
 use Rattle.std.proofs.Common.{◌≡◌, ℕ, ◌+◌, ◌*◌, ◌<◌, List, [], ◌∷◌, ◌++◌, length, take, drop, max, slice_index, refl, ap, sym, ◌∙◌, append_assoc, arith, length-append}
 use Rattle.std.specs.Prelude.{codes}
 use Rattle.std.specs.Int.{w32, w64, from_be_bytes}
@@ -121,7 +121,7 @@ stands sum e mark text rest is m t =
           (take_at (encode_lower e.buffer) (10 ∷ [] ++ rest) (2 * length e.buffer) (length-encode_with lower_digits e.buffer));
     }
 
--- the line of an entry's mark stands at the front of the entry's text
+-- an entry's text begins with the line of its mark
 pub line_stands : (sum : ℕ) (e : PlainEntry) (text rest : List ℕ) → text ≡ entry_text sum e ++ rest → take 72 text ≡ mark_line sum (mark_of e)
 unfolding entry_text
 line_stands sum e text rest t =

@@ -1,4 +1,4 @@
--- A command that was answered, and its text in a journal.
+-- An answered command, and its text in a journal.
 use Rattle.std.specs.Prelude.{ℕ, ◌+◌, ◌*◌, ◌/◌, ◌%◌, ◌<◌, ◌≤◌, ◌^◌, Bool, true, false}
 use Rattle.std.specs.Prelude.{List, [], ◌∷◌, ◌++◌, codes, drop, length, map, max, take}
 use Rattle.std.specs.Int.{w8, w16, w32, w64, from_be_bytes, to_be_bytes}
@@ -8,7 +8,7 @@ use Rattle.tpm_journal_text.specs.declared.entry.Entry.{Entry}
 use Rattle.tpm_journal_text.specs.Marked.{marked_line, marked_size}
 use Rattle.tpm_journal_text.specs.Sum.{sum_from, sum_of}
 
--- a command that was answered: the milliseconds since the one before it, its locality, whether the
+-- an answered command: the milliseconds since the command before it, its locality, whether the
 -- completing layer was on, the random bytes that it drew, its buffer, and the sum of its response
 pub record PlainEntry : Type 0 where
   pub elapsed : ℕ
@@ -18,15 +18,15 @@ pub record PlainEntry : Type 0 where
   pub buffer : List ℕ
   pub answered : ℕ
 
--- the most bytes of the text of an entry
+-- the largest size of the text of an entry
 abbrev pub entry_room : ℕ
 entry_room = 9216
 
--- the most bytes of a buffer; a longer buffer is refused as one of 4,097 bytes is
+-- the largest size of a buffer; a longer buffer is refused like one of 4,097 bytes
 abbrev pub entry_limit : ℕ
 entry_limit = 4097
 
--- the entry of the code, wherever its bytes lie in memory
+-- the entry in the code, as plain values without their memory
 abbrev pub plain_entry : Entry → PlainEntry
 plain_entry e = record {
   elapsed = e.elapsed_ms;
@@ -37,7 +37,7 @@ plain_entry e = record {
   answered = e.answered;
 }
 
--- What a command has to be to have an entry.
+-- The conditions under which a command has an entry.
 pub record IsEntry (e : PlainEntry) : Type 0 where
   pub elapsed : e.elapsed < 2 ^ 32
   pub locality : e.locality ≤ 4
@@ -54,8 +54,8 @@ abbrev pub flag : Bool → ℕ
 flag false = 0
 flag true = 1
 
--- the mark of an entry, 26 bytes: the elapsed time, the locality, the flag, how many bytes it drew,
--- how many its buffer has, the sum of all these, and the sum of the response
+-- the mark of an entry, 26 bytes: the elapsed time, the locality, the flag, the number of random
+-- bytes drawn, the size of the buffer, the sum of these fields, and the sum of the response
 unfoldable pub mark_of : PlainEntry → List ℕ
 mark_of e =
     to_be_bytes w32 e.elapsed ++ to_be_bytes w8 e.locality ++ to_be_bytes w8 (flag e.completes)
@@ -65,7 +65,7 @@ mark_of e =
 abbrev pub mark_size : ℕ
 mark_size = 26
 
--- how many bytes the entry of a mark drew, and how many bytes its buffer has
+-- the number of random bytes drawn by the entry of a mark, and the size of its buffer
 abbrev pub drawn_size : (mark : List ℕ) → ℕ
 drawn_size mark = from_be_bytes w16 (take 2 (drop 6 mark))
 
@@ -77,52 +77,52 @@ buffer_size mark = from_be_bytes w16 (take 2 (drop 8 mark))
 abbrev pub entry_word : List ℕ
 entry_word = codes "# "
 
--- the line of a mark, where `sum` is the sum of the marks before it
+-- the line of a mark, where `sum` is the sum of all earlier marks
 abbrev pub mark_line : (sum : ℕ) → (mark : List ℕ) → List ℕ
 mark_line sum mark = marked_line entry_word mark (sum_from sum mark)
 
 abbrev pub mark_line_size : ℕ
 mark_line_size = marked_size entry_word mark_size
 
--- the digit of a number at a place of its decimal numeral
+-- the decimal digit of a number at a place (a power of ten)
 abbrev pub digit_at : (number place : ℕ) → ℕ
 digit_at number place = 48 + number / place % 10
 
--- the decimal numeral of a number below 10^10, in ten digits
+-- a number below 10^10 as ten decimal digits
 unfoldable pub ten_digits : ℕ → List ℕ
 ten_digits number =
     map (digit_at number) (1000000000 ∷ 100000000 ∷ 10000000 ∷ 1000000 ∷ 100000 ∷ 10000 ∷ 1000 ∷ 100 ∷ 10 ∷ 1 ∷ [])
 
--- the random bytes for a script's line, which needs at least one
+-- the random bytes in a script line, which needs at least one byte
 abbrev pub shown : List ℕ → List ℕ
 shown [] = 0 ∷ []
 shown (byte ∷ bytes) = byte ∷ bytes
 
--- the lines of a script that set the time and the locality of an entry's command
+-- the script lines that set the time and the locality of an entry's command
 unfoldable pub setting_lines : PlainEntry → List ℕ
 setting_lines e =
     codes "wait " ++ ten_digits e.elapsed ++ codes "\nloc " ++ (48 + e.locality) ∷ [] ++ 10 ∷ []
 
--- the lines of a script that give a command its random bytes and execute it
+-- the script lines that set a command's random bytes and execute it
 unfoldable pub executing_lines : PlainEntry → List ℕ
 executing_lines e =
     codes "entropy " ++ encode_lower (shown e.drawn) ++ codes "\ncmd " ++ encode_lower e.buffer ++ 10 ∷ []
 
--- where the line of the random bytes ends, from the end of the mark's line on, in an entry that drew
--- so many
+-- the offset at which the line of the random bytes ends, for an entry that drew this number of
+-- bytes; it is counted from the end of the mark's line
 abbrev pub drawn_line_end : (drawn : ℕ) → ℕ
 drawn_line_end drawn = 30 + 2 * max 1 drawn
 
--- how many bytes the setting and the executing lines have together
+-- the total size of the setting and the executing lines
 abbrev pub lines_size : (drawn buffer : ℕ) → ℕ
 lines_size drawn buffer = 36 + (2 * max 1 drawn + 2 * buffer)
 
--- the text of an entry, where `sum` is the sum of the marks before it: the line of its mark, and
--- the four lines of a script that execute its command
+-- the text of an entry: the line of its mark, and the four script lines that execute its command;
+-- `sum` is the sum of all earlier marks
 unfoldable pub entry_text : (sum : ℕ) → PlainEntry → List ℕ
 entry_text sum e = mark_line sum (mark_of e) ++ setting_lines e ++ executing_lines e
 
--- how many bytes the text of the entry with this mark has
+-- the size of the text of the entry with this mark
 abbrev pub entry_size : (mark : List ℕ) → ℕ
 entry_size mark = mark_line_size + lines_size (drawn_size mark) (buffer_size mark)
 

@@ -1,5 +1,5 @@
--- The head of a journal: the host's clock, and what the device was then: its image as power came on,
--- or its whole state, as a state text has it.
+-- The head of a journal: the host's clock, and the device at that time. The device is either its
+-- image when power came on, or its whole state as a state text.
 use Rattle.std.specs.Prelude.{◌≡◌, ℕ, ◌+◌, ◌*◌, ◌≤◌, ◌<◌, ◌^◌, List, [], ◌∷◌, ◌++◌, codes, length, take}
 use Rattle.std.specs.Int.{w32, w64, to_be_bytes}
 use Rattle.hex.specs.Hex.{encode_lower}
@@ -10,18 +10,18 @@ use Rattle.tpm_journal_text.specs.declared.head.HeadKind.TheVariants.{Image, Sta
 use Rattle.tpm_journal_text.specs.Marked.{marked_line}
 use Rattle.tpm_journal_text.specs.Sum.{offset_basis, sum_from, sum_of}
 
--- the word with which a journal begins that has a head of this kind
+-- the first word of a journal whose head is of this kind
 abbrev pub head_word : HeadKind → List ℕ
 head_word Image = codes "# tpmsim journal 1 "
 head_word State = codes "# tpmsim journal 2 "
 
--- the most bytes that a head of this kind holds
+-- the largest size of the content of a head of this kind
 abbrev pub content_limit : HeadKind → ℕ
 content_limit Image = 28672
 content_limit State = 36864
 
--- the mark of a head, 20 bytes: the clock in milliseconds, how many bytes the head holds, and their
--- sum
+-- the mark of a head, 20 bytes: the clock in milliseconds, the size of the content, and the
+-- content's sum
 unfoldable pub head_mark : (clock : ℕ) → (content : List ℕ) → List ℕ
 head_mark clock content =
     to_be_bytes w64 clock ++ (to_be_bytes w32 (length content) ++ to_be_bytes w64 (sum_of content))
@@ -30,26 +30,27 @@ head_mark clock content =
 abbrev pub head_sum : (clock : ℕ) → (content : List ℕ) → ℕ
 head_sum clock content = sum_from offset_basis (head_mark clock content)
 
--- the text of a head: the line of its mark, and what it holds in hex in a line that does nothing
+-- the text of a head: the line of its mark, and a line with its content in hex, which has no
+-- effect as a line of a script
 unfoldable pub head_text : HeadKind → (clock : ℕ) → (content : List ℕ) → List ℕ
 head_text kind clock content =
     marked_line (head_word kind) (head_mark clock content) (head_sum clock content)
     ++ codes "# " ++ encode_lower content ++ 10 ∷ []
 
--- how many bytes the line of a head's mark has, and a head that holds `count` bytes
+-- the size of the line of a head's mark, and of a head with `count` bytes of content
 abbrev pub head_line_size : ℕ
 head_line_size = 77
 
 abbrev pub head_size : (count : ℕ) → ℕ
 head_size count = head_line_size + (3 + 2 * count)
 
--- A head of this kind can be written for this clock and this content.
+-- A head of this kind can be written with this clock and this content.
 pub record HasHead (kind : HeadKind) (clock : ℕ) (content : List ℕ) : Type 0 where
   pub in_time : clock < 2 ^ 64
   pub small : length content ≤ content_limit kind
   pub are_bytes : AreBytes content
 
--- The text begins with a head of this kind, clock and content, of this size, whose sum is this one.
+-- The text begins with a head of this kind, clock and content, with this size and this sum.
 pub record IsHeadOf (text : List ℕ) (head : Head) : Type 0 where
   pub has : HasHead head.kind head.clock head.content.now
   pub whole : head.size ≤ length text

@@ -6,7 +6,7 @@ use Rattle.tpm_journal_text.specs.declared.reading.Next.{Next}
 use Rattle.tpm_journal_text.specs.declared.reading.Next.TheVariants.{Whole, Torn, Damaged}
 use Rattle.tpm_journal_text.specs.Entry.{plain_entry, mark_line_size, mark_size, sum_after}
 
--- the text of entries, where `sum` is the sum of the marks before the first
+-- the text of entries; `sum` is the sum of all marks before the first entry
 abbrev pub entries_text : (sum : ℕ) → List PlainEntry → List ℕ
 entries_text sum [] = []
 entries_text sum (e ∷ entries) = entry_text sum e ++ entries_text (sum_after sum e) entries
@@ -16,40 +16,42 @@ abbrev pub sum_after_all : (sum : ℕ) → List PlainEntry → ℕ
 sum_after_all sum [] = sum
 sum_after_all sum (e ∷ entries) = sum_after_all (sum_after sum e) entries
 
--- A text begins with the line of this mark, where `sum` is the sum of the marks before it.
+-- A text begins with the line of this mark; `sum` is the sum of all earlier marks.
 pub record BeginsWithMark (sum : ℕ) (mark text : List ℕ) : Type 0 where
   pub count : length mark ≡ mark_size
   pub bytes : AreBytes mark
   pub line : take mark_line_size text ≡ mark_line sum mark
 
--- A line of the entry with this mark ends at this place after the line of the mark. The end of the
--- last line is the end of the entry, and not among them.
+-- A line of the entry with this mark ends at this offset after the mark's line. The end of the
+-- last line does not count, since it is also the end of the entry.
 abbrev pub EndsLine : (mark : List ℕ) → (place : ℕ) → Type 0
 EndsLine mark place =
     (place ≡ 15) ⊎ ((place ≡ 21) ⊎ (place ≡ drawn_line_end (drawn_size mark)))
 
--- The lines that follow the line of this mark in a text end only where those of its entry end.
+-- After the line of this mark, the lines of a text end only where the lines of the mark's entry
+-- end.
 abbrev pub LinesEnd : (mark text : List ℕ) → Type 0
 LinesEnd mark text =
     (place : ℕ) → get_or (drop mark_line_size text) place 0 ≡ 10 → EndsLine mark place
 
--- A text is less than an entry: its first line is cut, or is the line of a mark that announces more
--- bytes than the text has, and the lines that follow end as those of the mark's entry do.
+-- A text is less than an entry. Either its first line is truncated. Or its first line contains a
+-- mark that announces more bytes than the text has, and the following lines end where those of
+-- the mark's entry end.
 abbrev pub IsCutOff : (sum : ℕ) → List ℕ → Type 0
 IsCutOff sum text =
     (length text < mark_line_size)
     ⊎ ((mark : List ℕ) × BeginsWithMark sum mark text × (length text < entry_size mark)
     × LinesEnd mark text)
 
--- A text is torn: it is less than an entry, and zeros after that, or nothing. A process that is
--- killed leaves less than an entry, and a crash of the host may leave zeros in place of the rest.
+-- A text is torn: it is less than an entry, possibly followed by zeros. Killing a process leaves
+-- less than an entry, and a crash of the host may leave zeros instead of the rest.
 pub record IsTorn (sum : ℕ) (text : List ℕ) : Type 0 where
   pub front : List ℕ
   pub zeros : ℕ
   pub is : text ≡ front ++ replicate zeros 0
   pub cut_off : IsCutOff sum front
 
--- A text has fewer bytes than `size`, if zeros at its end do not count.
+-- A text has fewer than `size` bytes, not counting the zeros at its end.
 pub record HasFewer (size : ℕ) (text : List ℕ) : Type 0 where
   pub front : List ℕ
   pub zeros : ℕ
@@ -61,8 +63,8 @@ pub record IsDamaged (sum : ℕ) (text : List ℕ) : Type 0 where
   pub not_torn : IsTorn sum text → ⊥
   pub no_entry : (e : PlainEntry) (rest : List ℕ) → IsEntry e → text ≡ entry_text sum e ++ rest → ⊥
 
--- What was found at the front of a text: an entry, its size and the sum after it; or the text is
--- torn; or it is damaged.
+-- What was found at the beginning of a text: an entry, its size and the sum after it; or the text
+-- is torn; or it is damaged.
 abbrev pub Finds : (sum : ℕ) → List ℕ → Next → Type 0
 Finds sum text (Whole entry size after) =
     IsEntry (plain_entry entry) × (size ≤ length text)

@@ -1,4 +1,4 @@
--- A comment line of a script that holds bytes and a sum in hex.
+-- A comment line of a script that contains bytes and a sum in hex.
 use Rattle.std.specs.Prelude.{ℕ, ◌+◌, ◌*◌, List, [], ◌∷◌, ◌++◌, length}
 use Rattle.std.specs.Int.{w64, to_be_bytes}
 use Rattle.hex.specs.Hex.{encode_lower}
@@ -8,6 +8,6 @@ unfoldable pub marked_line : (word bytes : List ℕ) → (sum : ℕ) → List �
 marked_line word bytes sum =
     word ++ encode_lower bytes ++ 32 ∷ [] ++ encode_lower (to_be_bytes w64 sum) ++ 10 ∷ []
 
--- how many bytes a marked line has that holds `count` bytes
+-- the size of a marked line with `count` bytes
 abbrev pub marked_size : (word : List ℕ) → (count : ℕ) → ℕ
 marked_size word count = length word + 2 * count + 18

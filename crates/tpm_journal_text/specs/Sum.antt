@@ -1,5 +1,5 @@
--- The sum of bytes: FNV-1a of 64 bits (Fowler, Noll, Vo). Each step takes different sums to
--- different sums, and different bytes too, so that changing a single byte changes the sum.
+-- The sum of bytes: 64-bit FNV-1a (Fowler, Noll, Vo). Each step maps different sums to different
+-- sums, and different bytes to different sums, so changing a single byte changes the sum.
 use Rattle.std.specs.Prelude.{ℕ, ◌*◌, ◌%◌, ◌^◌, bit_xor, List, [], ◌∷◌}
 
 -- the sum of no bytes

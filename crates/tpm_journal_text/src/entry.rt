@@ -1,4 +1,4 @@
-//! The text of a command that was answered.
+//! The text of an answered command.
 
 ghost use Rattle.std.specs.Prelude.{◌≡◌, ◌<◌, ◌≤◌, take, length};
 ghost use Rattle.tpm_journal_text.specs.Entry.{digit_at, ten_digits};
@@ -8,16 +8,16 @@ use crate::put::{put, put_hex};
 use crate::sum::{sum_from, sum_of};
 use tpm_bytes::Sink;
 
-/// The most bytes of a buffer. A longer buffer is refused as one of 4,097 bytes is.
+/// The largest size of a buffer in an entry. A longer buffer is refused like one of 4,097 bytes.
 pub const ENTRY_LIMIT: usize = 4_097;
 
-/// The most bytes of the text of an entry.
+/// The largest size of the text of an entry.
 pub const ENTRY_ROOM: usize = 9_216;
 
-/// The word with which the text of an entry begins.
+/// The first word of an entry's text.
 pub(crate) const ENTRY_WORD: &[u8] = b"# ";
 
-/// A command that was answered.
+/// An answered command.
 #[derive(Clone, Copy)]
 pub struct Entry<'a> {
     /// The milliseconds since the previous command.
@@ -28,11 +28,11 @@ pub struct Entry<'a> {
     /// The random bytes that the command drew.
     pub drawn: &'a [u8],
     pub buffer: &'a [u8],
-    /// The sum of the command's response.
+    /// The sum of the response to the command.
     pub answered: u64,
 }
 
-/// The digit of a number at a place of its decimal numeral.
+/// The decimal digit of a number at a place (a power of ten).
 fn digit(number: u32, place: u32) -> u8
     requires { 0 < place }
     ensures { result ≡ digit_at number place }
@@ -40,7 +40,7 @@ fn digit(number: u32, place: u32) -> u8
     b'0' + (number / place % 10) as u8
 }
 
-/// The decimal numeral of a number, in ten digits.
+/// Encodes a number as ten decimal digits.
 #[tactic(auto, unfolding(crate::specs::Entry::ten_digits))]
 fn ten_digits(number: u32) -> [u8; 10]
     ensures { result ≡ ten_digits number }
@@ -80,8 +80,8 @@ impl<'a> Entry<'a> {
         mark
     }
 
-    /// Puts the lines that set the command's time and locality at a place of a room, and gives the
-    /// place after them.
+    /// Writes the lines that set the command's time and locality at an offset in a buffer;
+    /// returns the end offset.
     #[tactic(auto, unfolding(crate::specs::Entry::setting_lines))]
     fn put_setting(&self, room: &mut [u8], place: usize) -> usize
         requires entry { IsEntry (plain_entry self.now) }
@@ -98,7 +98,7 @@ impl<'a> Entry<'a> {
         put(room, place, b"\n")
     }
 
-    /// The random bytes for a script's line, which needs at least one.
+    /// The random bytes in a script line, which needs at least one byte.
     fn shown(&self) -> &[u8]
         ensures value { result.now ≡ shown self.now.drawn.now }
         ensures size { length result.now ≡ max 1 (length self.now.drawn.now) }
@@ -110,8 +110,8 @@ impl<'a> Entry<'a> {
         }
     }
 
-    /// Puts the lines that give the command its random bytes and execute it at a place of a room,
-    /// and gives the place after them.
+    /// Writes the lines that set the command's random bytes and execute it at an offset in a
+    /// buffer; returns the end offset.
     #[tactic(auto, unfolding(crate::specs::Entry::executing_lines))]
     fn put_executing(&self, room: &mut [u8], place: usize) -> usize
         requires entry { IsEntry (plain_entry self.now) }
@@ -130,8 +130,8 @@ impl<'a> Entry<'a> {
         put(room, place, b"\n")
     }
 
-    /// Writes the text of the entry to the front of a room, and gives how many bytes it has. Adds
-    /// its mark to `sum`, the sum of the marks before it.
+    /// Writes the text of the entry to the beginning of a buffer, and returns its size. Adds the
+    /// entry's mark to `sum`, the sum of all earlier marks.
     #[tactic(auto, unfolding(crate::specs::Entry::entry_text))]
     pub fn write(&self, sum: &mut u64, room: &mut [u8]) -> usize
         requires entry { IsEntry (plain_entry self.now) }

@@ -9,24 +9,24 @@ use crate::put::{put, put_hex};
 use crate::sum::{OFFSET_BASIS, sum_from, sum_of};
 use tpm_bytes::Sink;
 
-/// What a head holds.
+/// The kinds of content of a head.
 #[derive(Clone, Copy, PartialEq, Eq)]
 pub enum HeadKind {
-    /// The image of the device as power came on.
+    /// The image of the device when power came on.
     Image,
-    /// The state text of the device: all that it was.
+    /// The state text of the device: its whole state.
     State,
 }
 
-/// The most bytes that a head of a kind holds.
+/// The largest size of an image in a head.
 const IMAGE_LIMIT: usize = 28_672;
 
 const STATE_LIMIT: usize = 36_864;
 
-/// The most bytes that any head holds.
+/// The largest size of the content of any head.
 pub const CONTENT_LIMIT: usize = STATE_LIMIT;
 
-/// How many bytes the mark of a head has, and how many the mark's line has.
+/// Sizes of a head's mark, and of the mark's line, in bytes.
 pub(crate) const MARK_SIZE: usize = 20;
 
 pub(crate) const MARK_LINE_SIZE: usize = 77;
@@ -35,18 +35,18 @@ pub(crate) const MARK_LINE_SIZE: usize = 77;
 #[derive(Clone, Copy)]
 pub struct Head<'a> {
     pub kind: HeadKind,
-    /// The host's clock in milliseconds, as the device was what the head holds.
+    /// The host's clock in milliseconds, at the time of the content.
     pub clock: u64,
-    /// What the head holds.
+    /// The image or the state text in the head.
     pub content: &'a [u8],
-    /// How many bytes the text of the head has.
+    /// The size of the head's text.
     pub size: usize,
     /// The sum of the head's mark.
     pub sum: u64,
 }
 
 impl HeadKind {
-    /// The word with which a journal begins that has a head of this kind.
+    /// The first word of a journal whose head is of this kind.
     pub(crate) fn word(self) -> &'static [u8]
         ensures { result.now ≡ head_word self }
     {
@@ -56,7 +56,7 @@ impl HeadKind {
         }
     }
 
-    /// The most bytes that a head of this kind holds.
+    /// The largest size of the content of a head of this kind.
     pub(crate) fn limit(self) -> usize
         ensures { result ≡ content_limit self }
     {
@@ -67,7 +67,7 @@ impl HeadKind {
     }
 }
 
-/// How many bytes a head has that holds `count` bytes.
+/// The size of a head with `count` bytes of content.
 #[tactic(auto, using(crate::proofs::HeadStanding::head_text_many))]
 pub fn head_size(count: usize) -> usize
     requires { count ≤ 36864 }
@@ -92,8 +92,8 @@ pub(crate) fn mark_of(clock: u64, front: &[u8], back: &[u8]) -> Sink<MARK_SIZE>
     mark
 }
 
-/// Puts the head of a clock and of a content in two parts into a buffer, and returns how many bytes
-/// it has. `sum` becomes the sum of its mark.
+/// Writes the head for this clock and this content, which comes in two parts, to a buffer.
+/// Returns the size, and sets `sum` to the sum of the head's mark.
 #[tactic(auto, using(crate::proofs::Pieces::hex_joined), unfolding(crate::specs::Head::head_text))]
 fn put_head(
     kind: HeadKind,
@@ -119,8 +119,9 @@ fn put_head(
     put(buffer, place, b"\n")
 }
 
-/// Writes the head of a clock and of a content to a buffer of exactly its size, and returns the sum
-/// of its mark. The content comes in two parts, so that its head and its body need not be joined.
+/// Writes the head for this clock and this content to a buffer of exactly its size, and returns
+/// the sum of the head's mark. The content comes in two parts, so that its header and its body
+/// need not be joined.
 #[tactic(auto, using(std::proofs::lemmas::List::take_all))]
 pub fn write_head(kind: HeadKind, clock: u64, front: &[u8], back: &[u8], buffer: &mut [u8]) -> u64
     requires small { length front.now + length back.now ≤ content_limit kind }

@@ -1,10 +1,10 @@
 #![tactic(auto)]
 
-//! The text of a journal: its head, and an entry for each command that was answered.
+//! The text of a journal: its head, and an entry for each answered command.
 //!
-//! Each line is a line of a script. The specs define the text; [`entry`] and [`head`] write it and
-//! read it. What is read is written again and compared, so that an entry is read only from its own
-//! text.
+//! Each line is a line of a script. The specs define the text; [`entry`] and [`head`] write it
+//! and read it. A reader encodes what it decoded and compares the result with the text, so
+//! reading succeeds only on the exact encoding of an entry.
 
 pub mod entry;
 pub mod head;

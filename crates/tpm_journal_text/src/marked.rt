@@ -1,4 +1,4 @@
-//! A line that holds bytes and a sum in hex.
+//! A line that contains bytes and a sum in hex.
 
 ghost use Rattle.std.specs.Prelude.{◌≡◌, ◌+◌, ◌*◌, ◌≤◌, ◌++◌, ℕ, List, IfNone, IfSome, length, take};
 ghost use Rattle.tpm_bytes.specs.Reading.{AreBytes};
@@ -9,10 +9,10 @@ use crate::put::{put, put_hex};
 use crate::sum::sum_from;
 use tpm_hex::decode;
 
-/// The most bytes of a marked line that is read.
+/// The largest size of a marked line that can be read.
 const LINE_LIMIT: usize = 128;
 
-/// How many bytes a marked line has, whose word and bytes have these sizes.
+/// The size of a marked line whose word and bytes have these sizes.
 pub(crate) const fn marked_size(word: usize, count: usize) -> usize
     requires { word + 2 * count ≤ 65536 }
     ensures { result ≡ word + 2 * count + 18 }
@@ -20,7 +20,7 @@ pub(crate) const fn marked_size(word: usize, count: usize) -> usize
     word + 2 * count + 18
 }
 
-/// Puts the line of bytes and their sum at a place of a room, and gives the place after it.
+/// Writes a line with these bytes and their sum at an offset in a buffer; returns the end offset.
 #[tactic(auto, unfolding(crate::specs::Marked::marked_line))]
 pub(crate) fn put_marked_line(
     room: &mut [u8],
@@ -42,8 +42,8 @@ pub(crate) fn put_marked_line(
     put(room, place, b"\n")
 }
 
-/// Reads the bytes of the marked line at the front of a text, and gives the sum with them added;
-/// None where no such line is there.
+/// Reads the bytes of the marked line at the beginning of a text. Returns the sum with these
+/// bytes added, or None if there is no such line.
 pub(crate) fn read_marked_line(text: &[u8], word: &[u8], sum: u64, bytes: &mut [u8]) -> Option<u64>
     requires small { marked_size word.now (length bytes.old) ≤ 128 }
     requires long { marked_size word.now (length bytes.old) ≤ length text.now }

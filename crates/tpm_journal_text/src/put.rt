@@ -1,11 +1,11 @@
-//! Writing the pieces of a text one after another into a room.
+//! Writes the pieces of a text one after another into a buffer.
 
 ghost use Rattle.std.specs.Prelude.{◌≡◌, ◌+◌, ◌*◌, ◌≤◌, ◌++◌, length, take};
 ghost use Rattle.hex.specs.Hex.{encode_lower};
 
 use tpm_hex::encode;
 
-/// Puts a piece at a place of a room, and gives the place after it.
+/// Writes a piece at an offset in a buffer; returns the end offset.
 pub fn put(room: &mut [u8], place: usize, piece: &[u8]) -> usize
     requires { place + length piece.now ≤ length room.old }
     ensures place { result ≡ place + length piece.now }
@@ -19,7 +19,7 @@ pub fn put(room: &mut [u8], place: usize, piece: &[u8]) -> usize
     end
 }
 
-/// Puts bytes in hex at a place of a room, and gives the place after them.
+/// Writes bytes in hex at an offset in a buffer; returns the end offset.
 pub fn put_hex(room: &mut [u8], place: usize, bytes: &[u8]) -> usize
     requires { place + 2 * length bytes.now ≤ length room.old }
     ensures place { result ≡ place + 2 * length bytes.now }

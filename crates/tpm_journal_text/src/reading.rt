@@ -1,4 +1,4 @@
-//! Reading the entry at the front of a text.
+//! Reads the entry at the beginning of a text.
 
 ghost use Rattle.std.specs.Prelude.{◌≡◌, ◌+◌, ◌*◌, ◌≤◌, ◌<◌, ◌++◌, ℕ, List, true, IfNone, IfSome, IsSomeAnd, drop, length, max, take};
 ghost use Rattle.hex.specs.Hex.{encode_lower};
@@ -14,33 +14,32 @@ use crate::torn::{has_fewer, lines_end};
 use tpm_bytes::is_equal;
 use tpm_hex::decode;
 
-/// How many bytes the mark of an entry has, and how many the mark's line has.
+/// Sizes of an entry's mark, and of the mark's line, in bytes.
 const MARK_SIZE: usize = 26;
 
 const MARK_LINE_SIZE: usize = 72;
 
-/// Room for the bytes that an entry drew, and for its buffer.
+/// The size of a buffer for the random bytes and the command of an entry.
 pub const BYTES_ROOM: usize = 256 + ENTRY_LIMIT;
 
-/// Where the random bytes stand in the text of an entry.
+/// The offset of the random bytes in the text of an entry.
 const DRAWN_PLACE: usize = 102;
 
-/// What stands at the front of a text.
+/// What a text begins with.
 pub enum Next<'a> {
-    /// An entry, how many bytes its text has, and the sum after it.
+    /// An entry, the size of its text, and the sum after it.
     Whole {
         entry: Entry<'a>,
         size: usize,
         sum: u64,
     },
-    /// Less than an entry, whose lines end as an entry's do, and after that zeros up to the end, if
-    /// anything.
+    /// Less than an entry: its lines end where an entry's lines end, and only zeros may follow.
     Torn,
-    /// Neither an entry nor what a crash leaves of one.
+    /// Neither an entry nor the remains of one after a crash.
     Damaged,
 }
 
-/// The number of two bytes at a place of a mark.
+/// The two-byte number at an offset in a mark.
 fn u16_at(mark: &[u8; MARK_SIZE], place: usize) -> usize
     requires { place + 2 ≤ 26 }
     ensures value { result ≡ from_be_bytes w16 (take 2 (drop place mark.now)) }
@@ -49,7 +48,7 @@ fn u16_at(mark: &[u8; MARK_SIZE], place: usize) -> usize
     usize::from(u16::from_be_bytes([mark[place], mark[place + 1]]))
 }
 
-/// Reads bytes in hex at a place of a text; None where there is no hex.
+/// Decodes the hex at an offset in a text, or returns None if it is not hex.
 pub(crate) fn read_hex<'a>(text: &[u8], place: usize, room: &'a mut [u8]) -> Option<&'a [u8]>
     requires { place + 2 * length room.old ≤ length text.now }
     ensures size { IfSome result (λ read. length read.now ≡ length room.old) }
@@ -66,14 +65,14 @@ pub(crate) fn read_hex<'a>(text: &[u8], place: usize, room: &'a mut [u8]) -> Opt
     }
 }
 
-/// The number of four bytes at the front of a mark.
+/// The number in the first four bytes of a mark.
 fn u32_at(mark: &[u8; MARK_SIZE]) -> u32
     ensures { result ≡ from_be_bytes w32 (take 4 mark.now) }
 {
     u32::from_be_bytes([mark[0], mark[1], mark[2], mark[3]])
 }
 
-/// The number of the last eight bytes of a mark.
+/// The number in the last eight bytes of a mark.
 fn u64_at(mark: &[u8; MARK_SIZE]) -> u64
     ensures { result ≡ from_be_bytes w64 (take 8 (drop 18 mark.now)) }
 {
@@ -82,21 +81,21 @@ fn u64_at(mark: &[u8; MARK_SIZE]) -> u64
     ])
 }
 
-/// How many bytes the text of the entry with this mark has.
+/// The size of the entry's text, according to its mark.
 fn size_told(mark: &[u8; MARK_SIZE]) -> usize
     ensures { result ≡ entry_size mark.now }
 {
     MARK_LINE_SIZE + 36 + 2 * u16_at(mark, 6).max(1) + 2 * u16_at(mark, 8)
 }
 
-/// Where the line of the random bytes ends, from the end of the mark's line on.
+/// The offset where the line of the random bytes ends, counted from the end of the mark's line.
 fn drawn_end(mark: &[u8; MARK_SIZE]) -> usize
     ensures { result ≡ drawn_line_end (drawn_size mark.now) }
 {
     30 + 2 * u16_at(mark, 6).max(1)
 }
 
-/// The entry that the text may hold after its mark was read; None where it holds none.
+/// The entry that follows its mark in a text, or None if there is none.
 fn entry_behind<'a>(
     mark: &[u8; MARK_SIZE],
     text: &[u8],
@@ -125,7 +124,7 @@ fn entry_behind<'a>(
     })
 }
 
-/// Whether a text begins with this one.
+/// Whether the text begins with `front`.
 pub(crate) fn begins_with(text: &[u8], front: &[u8]) -> bool
     ensures yes { result ≡ true → (length front.now ≤ length text.now)
         × (take (length front.now) text.now ≡ front.now) }
@@ -138,7 +137,7 @@ pub(crate) fn begins_with(text: &[u8], front: &[u8]) -> bool
     is_equal(begin, front)
 }
 
-/// What a text is that begins with the line of a mark, and is less than the mark's entry.
+/// Classifies a text that begins with the line of a mark and is shorter than the mark's entry.
 fn less_than_entry<'a>(text: &[u8], mark: &[u8; MARK_SIZE]) -> Next<'a>
     requires { 72 ≤ length text.now }
     ensures { (sum : ℕ) → BeginsWithMark sum mark.now text.now → (HasFewer 72 text.now → ⊥)
@@ -152,8 +151,8 @@ fn less_than_entry<'a>(text: &[u8], mark: &[u8; MARK_SIZE]) -> Next<'a>
     }
 }
 
-/// Reads the entry at the front of a text. `sum` is the sum of the marks before it. The entry's
-/// bytes go to the first room, and its text is written to the second, to be compared.
+/// Reads the entry at the beginning of a text. `sum` is the sum of all earlier marks. Stores the
+/// entry's bytes in the first buffer, and writes its text to the second for comparison.
 pub fn read_entry<'a>(
     sum: u64,
     text: &[u8],

@@ -1,4 +1,4 @@
-//! What a crash leaves of an entry: less than an entry, and perhaps zeros after that.
+//! The remains of an entry after a crash: less than an entry, possibly followed by zeros.
 
 ghost use Rattle.std.specs.Prelude.{◌≡◌, ◌==◌, ◌+◌, ◌≤◌, ◌<◌, ◌⊎◌, ◌↔◌, ◌++◌, ℕ, List, [], true, false, drop, get_or, length, replicate, take};
 ghost use Rattle.std.specs.List.{list_all};
@@ -12,7 +12,7 @@ fn are_zeros(bytes: &[u8]) -> bool
     bytes.iter().all(|byte| *byte == 0)
 }
 
-/// Whether a text has fewer bytes than `size`, if zeros at its end do not count.
+/// Whether a text has fewer than `size` bytes, not counting the zeros at its end.
 pub(crate) fn has_fewer(text: &[u8], size: usize) -> bool
     requires { 0 < size }
     ensures yes { result ≡ true → HasFewer size text.now }
@@ -26,15 +26,16 @@ pub(crate) fn has_fewer(text: &[u8], size: usize) -> bool
     are_zeros(end)
 }
 
-/// Whether a line of an entry ends at a place, from the end of the mark's line on.
+/// Whether a line of an entry ends at an offset. Offsets are counted from the end of the mark's
+/// line.
 fn is_line_end(place: usize, drawn_end: usize) -> bool
     ensures { result ≡ true ↔ ((place ≡ 15) ⊎ ((place ≡ 21) ⊎ (place ≡ drawn_end))) }
 {
     place == 15 || place == 21 || place == drawn_end
 }
 
-/// Whether each line feed is where a line of an entry ends, from the end of the mark's line on. The
-/// line of the entry's random bytes ends at `drawn_end`.
+/// Whether each line feed ends a line of an entry. Offsets are counted from the end of the mark's
+/// line; the line of the entry's random bytes ends at `drawn_end`.
 pub(crate) fn lines_end(lines: &[u8], drawn_end: usize) -> bool
     ensures yes { result ≡ true → (place : ℕ) → get_or lines.now place 0 ≡ 10
         → (place ≡ 15) ⊎ ((place ≡ 21) ⊎ (place ≡ drawn_end)) }
@@ -49,9 +50,10 @@ pub(crate) fn lines_end(lines: &[u8], drawn_end: usize) -> bool
     true
 }
 
-/// What a crash leaves of an entry is torn: nothing, the front of the entry, and zeros after that.
-/// It stays torn when another crash cuts it or adds zeros. An entry is not torn, and one in which a
-/// byte is left out is damaged, unless it is the last byte. The function does nothing.
+/// The remains of an entry after a crash are torn: nothing, or a prefix of the entry, possibly
+/// followed by zeros. They stay torn if another crash truncates them or adds zeros. An entry is
+/// not torn. An entry with one byte removed is damaged, unless it was the last byte. A proof
+/// only: it has no effect at run time.
 #[inline(always)]
 pub fn torn_laws()
     ensures nothing { (sum : ℕ) → IsTorn sum [] }

@@ -25,7 +25,10 @@ use Rattle.tpm_completion.specs.Completed.{completed, completed_by, completed_wi
 use Rattle.tpm_completion.specs.Completion.{forgotten, new_completion, no_context, object_held, object_kept, session_context, session_kept}
 use Rattle.tpm_completion.specs.Context.{token_at}
 use Rattle.tpm_completion.specs.Execution.{Seen, given_up_behind, no_random}
-use Rattle.tpm_completion.specs.Reply.{capability_asked, command_reply, listed, probed, reply, reply_by, save_asked, served, stands, stirred}
+use Rattle.tpm_completion.specs.Reply.{capability_asked, command_reply, listed, probed, replied, reply, reply_by, row_served, save_asked, served, stands, stirred}
+use Rattle.tpm_completion.specs.Hashing.{hash_row}
+use Rattle.tpm_completion.specs.Testing.{incremental_row, test_parms_row, test_result_row}
+use Rattle.tpm_types.specs.declared.refused.Refused.{Refused}
 use Rattle.tpm_completion.specs.Room.{flush_asked, flush_in, has_context, flush_of, flush_text, noted}
 use Rattle.tpm_completion.specs.Saving.{Reply, counted, loaded, loaded_by, next_number, object_loaded, object_numbered, object_saved, place_named, refused, saved, session_loaded, session_numbered, session_saved, token_loaded, with_object, with_session}
 use Rattle.tpm_completion.specs.declared.capability.Asked.{Asked}
@@ -220,12 +223,25 @@ save_asked_fine : (r : Record) (c : Completion) (response : List ℕ) (handle : 
 save_asked_fine r c response (Ok handle) is = choice LeavesFine _ (saved r c (numbered handle.0)) (stands c response) (saved_fine r c (numbered handle.0) is) is
 save_asked_fine r c response (Err e) is = is
 
+replied_fine : (c : Completion) (row : Result (List ℕ) Refused) → IsFine c → LeavesFine (replied c row)
+replied_fine c (Ok body) is = is
+replied_fine c (Err e) is = is
+
+row_served_fine : (r : Record) (c : Completion) (command : Command) (response : List ℕ) → IsFine c → LeavesFine (row_served r c command response)
+row_served_fine r c command response is =
+    choice LeavesFine _ (replied c (incremental_row command.parameters)) _ (replied_fine c (incremental_row command.parameters) is)
+    (choice LeavesFine _ (replied c (test_result_row command.parameters)) _ (replied_fine c (test_result_row command.parameters) is)
+    (choice LeavesFine _ (replied c (hash_row r.fixed.hierarchies command.parameters)) _
+    (replied_fine c (hash_row r.fixed.hierarchies command.parameters) is)
+    (choice LeavesFine _ (replied c (test_parms_row command.parameters)) (stands c response)
+    (replied_fine c (test_parms_row command.parameters) is) is)))
+
 served_fine : (r : Record) (c : Completion) (command : Command) (response : List ℕ) → IsFine c → LeavesFine (served r c command response)
 served_fine r c command response is =
     choice LeavesFine _ (stirred c command.parameters response) _ (choice LeavesFine _ _ (stands c response) is is)
     (choice LeavesFine _ (loaded r c command.parameters) _ (loaded_fine r c command.parameters is)
-    (choice LeavesFine _ (save_asked r c response (number_at w32 command.parameters)) (stands c response)
-    (save_asked_fine r c response (number_at w32 command.parameters) is) is))
+    (choice LeavesFine _ (save_asked r c response (number_at w32 command.parameters)) (row_served r c command response)
+    (save_asked_fine r c response (number_at w32 command.parameters) is) (row_served_fine r c command response is)))
 
 listed_fine : (c : Completion) (response : List ℕ) (text : Option (List ℕ)) → IsFine c → LeavesFine (listed c response text)
 listed_fine c response (Some text) is = is

@@ -7,7 +7,7 @@ use tpm_bytes::Cursor;
 use tpm_types::Handle;
 use tpm_types_command::AuthEntry;
 
-/// How many entries a line may have.
+/// The largest number of entries in a line.
 const ENTRIES: u8 = 3;
 
 /// Adds a handle to the line: the name of a permanent entity, or eight hex digits.
@@ -28,7 +28,7 @@ fn put_handle<W: Write>(handle: Handle, line: &mut W) -> fmt::Result {
     }
 }
 
-/// Adds this many handles to the line.
+/// Adds `count` handles to the line.
 pub fn put_handles<W: Write>(
     count: usize,
     fields: &mut Cursor,
@@ -55,7 +55,7 @@ pub fn put_area<W: Write>(fields: &mut Cursor, line: &mut W) -> Result<(), Spell
     Ok(())
 }
 
-/// Adds an entry to the line: of a password, in the one form that a password has, or of a session.
+/// Adds an entry to the line: a password, if it has exactly the form of one, or a session.
 fn put_entry<W: Write>(entry: &AuthEntry, line: &mut W) -> fmt::Result {
     let attributes = entry.attributes.octet;
     if entry.session == Handle::PASSWORD && entry.nonce.is_empty() && attributes == 1 {

@@ -1,4 +1,4 @@
-//! Why there is no line of a buffer.
+//! Why a buffer has no line.
 
 ghost use Rattle.std.specs.Prelude.{◌≡◌};
 
@@ -6,12 +6,12 @@ use std::fmt;
 use tpm_bytes::{Short, SizedFault};
 use tpm_types::Rc;
 
-/// The reason why there is no line of a buffer.
+/// The reason why a buffer has no line.
 #[derive(Clone, Copy, PartialEq, Eq)]
 pub enum SpellFault {
-    /// No line was found that spells the buffer.
+    /// No line was found that encodes the buffer.
     NoLine,
-    /// There is no memory for the line, or not enough.
+    /// There is not enough memory for the line.
     NoMemory,
 }
 

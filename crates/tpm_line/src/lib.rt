@@ -1,13 +1,13 @@
 #![tactic(auto)]
 
-//! The line in words that spells the buffer of a command, where one does.
+//! Finds the line in words that encodes the buffer of a command, if there is one.
 //!
-//! [`line::line_of`] and [`line::write_line`] read a buffer by the shape of its command and write a word
-//! for each of its parts: handles and entries ([`entry`]), parameters ([`parameter`]), which are numbers
-//! ([`number`]), algorithms, bytes in hex ([`word`]) and lists ([`list`]). Then the line is
-//! assembled, and given only where it makes the buffer again. So what is proved of the line rests
-//! on `tpm_text` alone, and the parts that write words promise nothing. Tests show that a line is
-//! found for each buffer that some line spells.
+//! [`line::line_of`] and [`line::write_line`] read a buffer according to the shape of its
+//! command, and write a word for each of its parts: handles and entries ([`entry`]), parameters
+//! ([`parameter`]), which are numbers ([`number`]), algorithms, bytes in hex ([`word`]) and lists
+//! ([`list`]). Then they assemble the line, and return it only if the result is the same buffer.
+//! So the theorem about the line depends only on `tpm_text`, and the parts that write words have
+//! no contract. Tests show that a line is found for each buffer that some line encodes.
 
 mod entry;
 pub mod fault;

@@ -1,4 +1,5 @@
-//! The line of a buffer: it is written by what the buffer says, and compared with the buffer.
+//! The line of a buffer: it is written from the buffer, then assembled and compared with the
+//! buffer.
 
 ghost use Rattle.std.specs.Prelude.{◌≡◌, IfOk, Ok, OnOk, true};
 ghost use Rattle.std.specs.String.{string_bytes};
@@ -15,11 +16,11 @@ use tpm_commands::CommandCode;
 use tpm_text::{Draft, assemble_in};
 use tpm_types_command::Tag;
 
-/// How many bytes a line of a script may have.
+/// The largest size of a line in a script.
 pub const LINE_LIMIT: usize = 65_536;
 
-/// A line that spells this buffer. NoLine says that none was found, and the contract does not say
-/// when.
+/// Returns a line that encodes this buffer. The error NoLine means that none was found; the
+/// contract does not say when.
 pub fn line_of(alloc: Global, buffer: &[u8]) -> Result<String, SpellFault>
     ensures { IfOk result (λ line. assembled (string_bytes line) ≡ Ok buffer.now) }
 {
@@ -29,8 +30,8 @@ pub fn line_of(alloc: Global, buffer: &[u8]) -> Result<String, SpellFault>
     Ok(line)
 }
 
-/// Writes a line that spells this buffer, as [`line_of`] does, to memory of the caller's. NoMemory:
-/// the line would have more than LINE_LIMIT bytes.
+/// Writes a line that encodes this buffer, like [`line_of`], to the caller's memory. The error
+/// NoMemory means that the line would be longer than LINE_LIMIT bytes.
 pub fn write_line(buffer: &[u8], line: &mut ArrayString<LINE_LIMIT>) -> Result<(), SpellFault>
     ensures { OnOk result (assembled line.new.bytes ≡ Ok buffer.now) }
 {
@@ -39,7 +40,7 @@ pub fn write_line(buffer: &[u8], line: &mut ArrayString<LINE_LIMIT>) -> Result<(
     check(line.as_str().as_bytes(), buffer)
 }
 
-/// Checks that a line spells this buffer.
+/// Checks that a line encodes this buffer.
 fn check(line: &[u8], buffer: &[u8]) -> Result<(), SpellFault>
     ensures { OnOk result (assembled line.now ≡ Ok buffer.now) }
 {
@@ -50,7 +51,7 @@ fn check(line: &[u8], buffer: &[u8]) -> Result<(), SpellFault>
     }
 }
 
-/// Whether a line spells this buffer.
+/// Whether a line encodes this buffer.
 fn is_spelled(line: &[u8], buffer: &[u8]) -> bool
     ensures { result ≡ true → assembled line.now ≡ Ok buffer.now }
 {
@@ -61,7 +62,7 @@ fn is_spelled(line: &[u8], buffer: &[u8]) -> bool
     }
 }
 
-/// Writes the words for the parts of a buffer. Bytes that are left over are not looked at.
+/// Writes the words for the parts of a buffer. Ignores any remaining bytes.
 fn spell<W: Write>(buffer: &[u8], line: &mut W) -> Result<(), SpellFault> {
     let fields = &mut Cursor::new(buffer);
     let tag = fields.u16()?;

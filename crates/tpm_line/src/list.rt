@@ -6,10 +6,10 @@ use std::fmt::Write;
 use tpm_bytes::Cursor;
 use tpm_types::{PCR_COUNT, read_hash};
 
-/// The kind of a list's elements.
+/// The kinds of elements in a list.
 #[derive(Clone, Copy, PartialEq, Eq)]
 pub enum Element {
-    /// A selection of a bank: TPMS_PCR_SELECTION.
+    /// A selection of PCRs in a bank: TPMS_PCR_SELECTION.
     Bank,
     /// A digest with its algorithm: TPMT_HA.
     Digest,
@@ -17,7 +17,7 @@ pub enum Element {
     Buffer,
 }
 
-/// Adds the elements of a list to the line, joined by `+`, or `-` for none.
+/// Adds the elements of a list to the line, separated by `+`, or `-` for an empty list.
 pub fn put_list<W: Write>(
     element: Element,
     fields: &mut Cursor,
@@ -40,7 +40,7 @@ pub fn put_list<W: Write>(
     Ok(())
 }
 
-/// Adds the PCRs that are selected in a bank to the line.
+/// Adds the selected PCRs of a bank to the line.
 fn put_bank<W: Write>(fields: &mut Cursor, line: &mut W) -> Result<(), SpellFault> {
     let hash = read_hash(fields)?;
     let _size = fields.u8()?;

@@ -1,4 +1,4 @@
-//! Numbers in words: decimal, but for codes, sets of bits and handles.
+//! Numbers in words: decimal, except for codes, sets of bits and handles.
 
 use std::fmt::{self, Write};
 use tpm_commands::CommandCode;
@@ -8,13 +8,13 @@ use tpm_commands::CommandCode;
 pub enum Form {
     Decimal,
     Hexadecimal,
-    /// Hexadecimal, with all digits of a handle.
+    /// Hexadecimal, with all eight digits of a handle.
     Handle,
 }
 
 impl Form {
-    /// The form of the number in this place among a command's parameters, if it has fewer than
-    /// eight bytes.
+    /// The form of the number at this position among a command's parameters, if it is shorter
+    /// than eight bytes.
     pub fn of(code: CommandCode, place: usize) -> Form {
         match code {
             CommandCode::FlushContext | CommandCode::EvictControl => Form::Handle,

@@ -1,4 +1,4 @@
-//! A parameter in words, of any kind that a command's shape names.
+//! A parameter in words, of any kind in a command's shape.
 
 use crate::fault::SpellFault;
 use crate::list::{Element, put_list};
@@ -22,8 +22,8 @@ pub fn put_parameters<W: Write>(
     Ok(())
 }
 
-/// Adds a parameter of a kind to the line, in this form where it is a number of four bytes or
-/// fewer.
+/// Adds a parameter of a kind to the line. If it is a number of at most four bytes, it is written
+/// in this form.
 fn put_parameter<W: Write>(
     kind: ParameterKind,
     form: Form,

@@ -6,7 +6,7 @@ use tpm_bytes::Cursor;
 use tpm_mac::HashAlg;
 use tpm_types::{SymmetricDefinition, read_hash_or_null};
 
-/// Adds the hex digits of bytes to the line.
+/// Adds bytes as hex digits to the line.
 pub fn put_digits<W: Write>(bytes: &[u8], line: &mut W) -> fmt::Result {
     for byte in bytes {
         let byte = *byte;
@@ -15,7 +15,7 @@ pub fn put_digits<W: Write>(bytes: &[u8], line: &mut W) -> fmt::Result {
     Ok(())
 }
 
-/// Adds bytes in hex to the line, or `-` for none.
+/// Adds bytes in hex to the line, or `-` if there are none.
 pub fn put_bytes<W: Write>(bytes: &[u8], line: &mut W) -> fmt::Result {
     if bytes.is_empty() {
         line.write_str("-")
@@ -38,7 +38,7 @@ pub fn hash_word(hash: HashAlg) -> &'static str {
     }
 }
 
-/// Adds the word for a hash algorithm to the line, or that for none.
+/// Adds the word for a hash algorithm to the line, or the word for none.
 pub fn put_hash<W: Write>(fields: &mut Cursor, line: &mut W) -> Result<(), SpellFault> {
     let word = match read_hash_or_null(fields)? {
         Some(hash) => hash_word(hash),

@@ -1,10 +1,10 @@
 #![tactic(auto)]
 
-//! What is done with the device's state in lists that grow.
+//! Runs tasks with the device's state in lists that grow.
 //!
-//! The type of that state has containers of containers. A call's proof puts the impls of all of
-//! them together anew, and takes the longer the deeper they are nested; so each function here names
-//! one layer of them, and no crate above names that type.
+//! The type of that state consists of nested containers. The proof of a call assembles the impls
+//! of all of them again, which takes longer the deeper they are nested. So each function here
+//! names one layer of them, and no crate above names that type.
 
 ghost use Rattle.std.specs.Prelude.{Result};
 
@@ -17,16 +17,16 @@ use tpm_record::{Keep, PersistentObjects};
 use tpm_session::Session;
 use tpm_types::{NV_INDEX_LIMIT, OBJECT_LIMIT, PERSISTENT_LIMIT, SESSION_LIMIT};
 
-/// What can be done with the state, in whatever way it is kept.
+/// A computation on the state, in any type that keeps it.
 pub trait Task<Fault> {
-    /// Whether the task may give this result.
+    /// Whether this result of the task is possible.
     ghost may_give: { Self → Result (Unit {0}) Fault → Type 0 };
 
     fn run<K: Keep>(self) -> Result<(), Fault>
         ensures { may_give self result };
 }
 
-/// Does a task with the state in containers of these kinds.
+/// Runs a task with the state in containers of these kinds.
 fn run_over_containers<
     Fault,
     T: Task<Fault>,
@@ -40,7 +40,7 @@ fn run_over_containers<
     task.run::<Kept<S, O, P, N>>()
 }
 
-/// Does a task with persistent objects and NV indices in maps of these kinds.
+/// Runs a task with persistent objects and NV indices in maps of these kinds.
 fn run_over_maps<
     Fault,
     T: Task<Fault>,
@@ -55,7 +55,7 @@ fn run_over_maps<
     run_over_containers::<Fault, T, S, O, StoredObjects<P>, StoredIndices<H, A>>(task)
 }
 
-/// Does a task with the state in lists: the type of that state is `ListKeep`.
+/// Runs a task with the state in lists; the type of that state is `ListKeep`.
 pub fn run_over_lists<Fault, T: Task<Fault>>(task: T) -> Result<(), Fault>
     ensures { T.may_give task result }
 {

@@ -1,21 +1,21 @@
--- What protects against dictionary attacks. TPM 2.0 Library, Part 1, section 19.8.
+-- Protection against dictionary attacks. TPM 2.0 Library, Part 1, section 19.8.
 use Rattle.std.specs.Prelude.{ℕ, ◌<◌, ◌*◌, ◌^◌, false}
 use Rattle.tpm_lockout.specs.declared.fields.LockoutFields.{LockoutFields}
 
--- the state of lockout: failed tries, their parameters and whether lockoutAuth is closed, which are
--- kept over a power cycle; and two times in milliseconds, since the latest try was counted or
--- forgiven, and since lockoutAuth closed
+-- the lockout state: failed tries, their parameters, and whether lockoutAuth is disabled, all of
+-- which survive a power cycle; and two times in milliseconds, since the latest try was counted or
+-- forgiven, and since lockoutAuth was disabled
 pub record LockoutState : Type 0 where
   pub fields : LockoutFields
   pub forgiving_time : ℕ
   pub closed_time : ℕ
 
--- the milliseconds of this many seconds
+-- this number of seconds in milliseconds
 abbrev pub milliseconds : ℕ → ℕ
 milliseconds seconds = 1000 * seconds
 
--- lockout of a device as it is manufactured: maxTries is 3, and both recovery times are 1,000
--- seconds
+-- the lockout state of a newly manufactured device: maxTries is 3, and both recovery times are
+-- 1,000 seconds
 abbrev pub new_lockout : LockoutState
 new_lockout = record {
   fields = record {
@@ -29,15 +29,16 @@ new_lockout = record {
   closed_time = 0;
 }
 
--- lockout with both times at their beginning
+-- the lockout state with both times restarted at zero
 abbrev pub times_restarted : LockoutState → LockoutState
 times_restarted s = record s { forgiving_time = 0; closed_time = 0 }
 
--- lockout as power comes on: what was kept, with both times at their beginning
+-- the lockout state at power-on: the saved fields, with both times at zero
 abbrev pub restored : LockoutFields → LockoutState
 restored fields = record { fields = fields; forgiving_time = 0; closed_time = 0 }
 
--- lockout after TPM2_DictionaryAttackParameters: other parameters, and both times begin anew
+-- the lockout state after TPM2_DictionaryAttackParameters: these parameters, with both times at
+-- zero
 abbrev pub with_parameters : (max_tries recovery_time lockout_recovery : ℕ)
     → LockoutState → LockoutState
 with_parameters max_tries recovery_time lockout_recovery s = restored (record s.fields {
@@ -46,8 +47,8 @@ with_parameters max_tries recovery_time lockout_recovery s = restored (record s.
   lockout_recovery = lockout_recovery;
 })
 
--- what holds of every state of lockout: numbers of their widths, and times in milliseconds of no
--- more seconds than a number of 32 bits counts
+-- what holds for every lockout state: each number fits its integer type, and each time is less
+-- than 2^32 seconds, counted in milliseconds
 pub record IsLockout (s : LockoutState) : Type 0 where
   pub failed_tries : s.fields.failed_tries < 2 ^ 32
   pub max_tries : s.fields.max_tries < 2 ^ 32

@@ -1,5 +1,5 @@
--- lockoutAuth: how a wrong try closes it, and how it opens again. TPM 2.0 Library, Part 1, section
--- 19.8 (dictionary attack protection: lockoutAuth and lockoutRecovery).
+-- lockoutAuth: how a failed try disables it, and when it is enabled again. TPM 2.0 Library, Part
+-- 1, section 19.8 (dictionary attack protection: lockoutAuth and lockoutRecovery).
 use Rattle.std.specs.Prelude.{ℕ, ◌+◌, ◌==◌, ◌&&◌, not, nat_le, Bool, true, false, if◌then◌else◌}
 use Rattle.tpm_lockout.specs.Lockout.{LockoutState, milliseconds}
 use Rattle.tpm_lockout.specs.Tries.{forgiven_after}
@@ -8,31 +8,32 @@ use Rattle.tpm_lockout.specs.declared.fields.LockoutFields.{LockoutFields}
 abbrev pub with_closed : Bool → LockoutState → LockoutState
 with_closed closed s = record s { fields = record s.fields { closed = closed } }
 
--- lockout after a wrong try at lockoutAuth, which closes it from now on; where it is closed already
--- nothing changes
+-- the lockout state after a failed try at lockoutAuth, which disables lockoutAuth from now on;
+-- nothing changes if it is already disabled
 abbrev pub closed_by_failure : LockoutState → LockoutState
 closed_by_failure s =
     if s.fields.closed then s else record (with_closed true s) { closed_time = 0 }
 
--- whether time opens lockoutAuth: only where it is closed, and not where lockoutRecovery is 0, when
--- a TPM Reset opens it
+-- whether elapsed time enables lockoutAuth again: only if it is disabled and lockoutRecovery is
+-- not 0; with 0, a TPM Reset enables it
 abbrev pub opens_by_time : LockoutFields → Bool
 opens_by_time f = f.closed && not (f.lockout_recovery == 0)
 
--- lockout after lockoutAuth was closed for this time: it opens as soon as lockoutRecovery has
--- passed
+-- the lockout state once lockoutAuth has been disabled for this time: it is enabled as soon as
+-- lockoutRecovery has passed
 abbrev pub opened_at : (time : ℕ) → LockoutState → LockoutState
 opened_at time s =
     if nat_le (milliseconds s.fields.lockout_recovery) time
     then record (with_closed false s) { closed_time = 0 }
     else record s { closed_time = time }
 
--- lockoutAuth some milliseconds later
+-- the lockout state after some milliseconds, as far as lockoutAuth is concerned
 unfoldable pub opened_after : (elapsed : ℕ) → LockoutState → LockoutState
 opened_after elapsed s =
     if opens_by_time s.fields then opened_at (s.closed_time + elapsed) s
     else record s { closed_time = 0 }
 
--- lockout some milliseconds later: tries are forgiven, and lockoutAuth opens
+-- the lockout state after some milliseconds: tries are forgiven, and lockoutAuth may be enabled
+-- again
 abbrev pub lockout_ticked : (elapsed : ℕ) → LockoutState → LockoutState
 lockout_ticked elapsed s = opened_after elapsed (forgiven_after elapsed s)

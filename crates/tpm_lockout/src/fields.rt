@@ -1,19 +1,19 @@
-//! The counts and parameters of the protection against dictionary attacks that outlast a power
-//! cycle, and so are saved in an image.
+//! The counts and parameters of dictionary attack protection that survive a power cycle and are
+//! therefore saved in an image.
 
-/// The part of the protection against dictionary attacks that outlasts a power cycle.
+/// The part of dictionary attack protection that survives a power cycle.
 #[derive(Clone, Copy, PartialEq, Eq)]
 pub struct LockoutFields {
-    /// Failed tries that are not forgiven (TPM_PT_LOCKOUT_COUNTER).
+    /// The number of failed tries that were not forgiven yet (TPM_PT_LOCKOUT_COUNTER).
     pub failed_tries: u32,
-    /// How many failed tries lock out the entities that they protect (TPM_PT_MAX_AUTH_FAIL).
+    /// The number of failed tries that locks out the protected entities (TPM_PT_MAX_AUTH_FAIL).
     pub max_tries: u32,
-    /// Seconds after which one failed try is forgiven (TPM_PT_LOCKOUT_INTERVAL); 0: tries are not
-    /// counted, and lock nothing.
+    /// The number of seconds after which one failed try is forgiven (TPM_PT_LOCKOUT_INTERVAL).
+    /// With 0, tries are not counted and lock out nothing.
     pub recovery_time: u32,
-    /// Seconds for which a wrong try closes lockoutAuth (TPM_PT_LOCKOUT_RECOVERY); 0: until a TPM
-    /// Reset.
+    /// The number of seconds for which a failed try disables lockoutAuth
+    /// (TPM_PT_LOCKOUT_RECOVERY). With 0, it stays disabled until a TPM Reset.
     pub lockout_recovery: u32,
-    /// Whether lockoutAuth is closed.
+    /// Whether lockoutAuth is disabled.
     pub closed: bool,
 }

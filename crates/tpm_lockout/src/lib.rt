@@ -1,12 +1,12 @@
 #![tactic(auto)]
 
-//! Protection against dictionary attacks: failed tries at protected entities, how they are forgiven
-//! as time goes by, and lockoutAuth, which a wrong try closes for a while. TPM 2.0 Library, Part 1,
-//! section 19.8.
+//! Protection against dictionary attacks: failed tries at protected entities, how they are
+//! forgiven over time, and lockoutAuth, which a failed try disables for a while. TPM 2.0 Library,
+//! Part 1, section 19.8.
 //!
-//! [`lockout::Lockout`] knows nothing of commands or of entities; [`fields::LockoutFields`] is the
-//! part that outlasts a power cycle. The crate uses no other crate. Each call equals its definition
-//! in `specs/`; no call takes memory or refuses.
+//! [`lockout::Lockout`] does not depend on commands or entities; [`fields::LockoutFields`] is the
+//! part that survives a power cycle. The crate uses no other crate. Each call equals its
+//! definition in `specs/`; no call allocates memory or fails.
 
 pub mod fields;
 pub mod lockout;

@@ -1,5 +1,5 @@
-//! The protection against dictionary attacks as it runs: failed tries, their forgiveness as time
-//! goes by, and the closing of lockoutAuth (TPM 2.0 Library, Part 1, section 19.8).
+//! Dictionary attack protection in operation: failed tries, their forgiveness over time, and the
+//! disabling of lockoutAuth (TPM 2.0 Library, Part 1, section 19.8).
 
 ghost use Rattle.std.specs.Prelude.{◌≡◌, ◌-◌, ◌<◌, ◌*◌, ◌^◌, false};
 ghost use Rattle.tpm_lockout.specs.Lockout.{milliseconds, new_lockout, restored, times_restarted};
@@ -11,14 +11,14 @@ ghost use Rattle.tpm_lockout.specs.Tries.{after_failure, forgiven_after, is_lock
 use crate::fields::LockoutFields;
 use std::marker::Model;
 
-/// The protection against dictionary attacks, with its two times. Contracts see its fields and the
+/// Dictionary attack protection and its two times. In contracts it is its fields and the two
 /// times.
 #[derive(Drop)]
 pub struct Lockout {
     fields: LockoutFields,
     /// Milliseconds since the latest try was counted or forgiven.
     forgiving_time: u64,
-    /// Milliseconds since lockoutAuth was closed.
+    /// Milliseconds since lockoutAuth was disabled.
     closed_time: u64,
     ghost short_forgiving: { forgiving_time < milliseconds (2 ^ 32) },
     ghost short_closed: { closed_time < milliseconds (2 ^ 32) },
@@ -36,14 +36,14 @@ impl Model for Lockout {
     } };
 }
 
-/// The milliseconds of this many seconds.
+/// This number of seconds in milliseconds.
 fn milliseconds(seconds: u32) -> u64
     ensures { result ≡ milliseconds seconds }
 {
     1000 * u64::from(seconds)
 }
 
-/// How many failed tries are left after this many are forgiven.
+/// The number of failed tries left after some of them were forgiven.
 fn tries_left(tries: u32, forgiven: u64) -> u32
     ensures { result ≡ tries - forgiven }
 {
@@ -51,8 +51,8 @@ fn tries_left(tries: u32, forgiven: u64) -> u32
 }
 
 impl Lockout {
-    /// Lockout of a device as it is manufactured: maxTries is 3, and both recovery times are 1,000
-    /// seconds.
+    /// The lockout state of a newly manufactured device: maxTries is 3, and both recovery times
+    /// are 1,000 seconds.
     pub fn new() -> Lockout
         ensures { result ≡ new_lockout }
     {
@@ -65,7 +65,7 @@ impl Lockout {
         })
     }
 
-    /// Lockout as power comes on: what was kept, with both times at their beginning.
+    /// The lockout state at power-on: the saved fields, with both times at zero.
     pub fn restore(fields: LockoutFields) -> Lockout
         ensures { result ≡ restored fields }
     {
@@ -76,7 +76,7 @@ impl Lockout {
         }
     }
 
-    /// Lockout as it ran, with both times where they were.
+    /// The lockout state of a device that continues to run: its fields and its two times.
     pub fn resume(fields: LockoutFields, forgiving_time: u64, closed_time: u64) -> Lockout
         requires forgiving { forgiving_time < milliseconds (2 ^ 32) }
         requires closed { closed_time < milliseconds (2 ^ 32) }
@@ -100,17 +100,17 @@ impl Lockout {
         self.forgiving_time
     }
 
-    /// Milliseconds since lockoutAuth was closed.
+    /// Milliseconds since lockoutAuth was disabled.
     pub fn closed_time(&self) -> u64
         ensures { result ≡ self.now.closed_time }
     {
         self.closed_time
     }
 
-    /// The part that outlasts a power cycle.
+    /// The part that survives a power cycle.
     pub fn fields(&self) -> LockoutFields
         ensures value { result ≡ self.now.fields }
-        // The numbers have their widths, and so do the times.
+        // Each field and each time is within its range.
         ensures is_lockout { IsLockout self.now }
     {
         let _failed_tries = self.fields.failed_tries;
@@ -120,8 +120,8 @@ impl Lockout {
         self.fields
     }
 
-    /// Some milliseconds go by: each whole recoveryTime forgives a try, and lockoutAuth opens once
-    /// it was closed for lockoutRecovery.
+    /// Lets some milliseconds elapse: each full recoveryTime forgives a try, and lockoutAuth is
+    /// enabled again after it was disabled for lockoutRecovery.
     pub fn tick(&mut self, elapsed_ms: u32)
         ensures { self.new ≡ lockout_ticked elapsed_ms self.old }
     {
@@ -161,14 +161,15 @@ impl Lockout {
         }
     }
 
-    /// Whether the entities that failed tries protect are locked out.
+    /// Whether the entities protected by failed tries are locked out.
     pub fn is_locked(&self) -> bool
         ensures { result ≡ is_locked self.now.fields }
     {
         self.fields.recovery_time != 0 && self.fields.failed_tries >= self.fields.max_tries
     }
 
-    /// Counts a failed try at a protected entity, unless all is locked out or no try counts.
+    /// Counts a failed try at a protected entity, unless the entities are locked out or tries are
+    /// not counted.
     #[tactic(auto, unfolding(crate::specs::Tries::after_failure))]
     pub fn failed(&mut self)
         ensures { self.new ≡ after_failure self.old }
@@ -180,14 +181,15 @@ impl Lockout {
         }
     }
 
-    /// Forgets all failed tries (TPM2_DictionaryAttackLockReset). The times stay.
+    /// Sets the number of failed tries to zero (TPM2_DictionaryAttackLockReset). The times do not
+    /// change.
     pub fn reset(&mut self)
         ensures { self.new ≡ with_tries 0 self.old }
     {
         self.fields.failed_tries = 0;
     }
 
-    /// Takes other parameters (TPM2_DictionaryAttackParameters), and begins both times anew.
+    /// Sets the parameters (TPM2_DictionaryAttackParameters) and restarts both times.
     pub fn set_parameters(&mut self, max_tries: u32, recovery_time: u32, lockout_recovery: u32)
         ensures { self.new ≡ with_parameters max_tries recovery_time lockout_recovery self.old }
     {
@@ -197,7 +199,7 @@ impl Lockout {
         self.power_cycle();
     }
 
-    /// Closes lockoutAuth after a failed try at it; where it is closed already nothing changes.
+    /// Disables lockoutAuth after a failed try at it. If it is already disabled, nothing changes.
     pub fn lockout_failed(&mut self)
         ensures { self.new ≡ closed_by_failure self.old }
     {
@@ -207,21 +209,21 @@ impl Lockout {
         }
     }
 
-    /// Whether lockoutAuth is closed.
+    /// Whether lockoutAuth is disabled.
     pub fn lockout_closed(&self) -> bool
         ensures { result ≡ self.now.fields.closed }
     {
         self.fields.closed
     }
 
-    /// Opens lockoutAuth, and changes nothing else.
+    /// Enables lockoutAuth, and changes nothing else.
     pub fn lockout_open(&mut self)
         ensures { self.new ≡ with_closed false self.old }
     {
         self.fields.closed = false;
     }
 
-    /// Begins both times anew, as power goes off and on again.
+    /// Restarts both times, as a power cycle does.
     pub fn power_cycle(&mut self)
         ensures { self.new ≡ times_restarted self.old }
     {

@@ -1,4 +1,4 @@
--- Blocks 1 to n of KDFa, joined.
+-- Concatenating blocks 1 to n of KDFa.
 use Rattle.std.proofs.Common.{◌≡◌, ℕ, zero, suc, ◌+◌, ◌-◌, ◌*◌, ◌<◌, ◌≤◌, List, ◌∷◌, [], ◌++◌, add-one, ap, arith, drop, length, length-append, sym, take, ◌∙◌}
 use Rattle.std.proofs.lemmas.Grind.{div_ceil_times, flat_map-append}
 use Rattle.std.proofs.lemmas.List.{append-nil, take_all}
@@ -12,30 +12,31 @@ use Rattle.tpm_mac.specs.Kdf.{kdfa_of, kdfa_text}
 use Rattle.tpm_mac.specs.declared.algorithm.HashAlg.{HashAlg}
 use Rattle.tpm_mac.specs.declared.algorithm.HashAlg.TheVariants.{Sha1, Sha256}
 
--- blocks 1 to n, joined, of pieces that a function of the counter gives
+-- blocks 1 to n concatenated; a function of the counter returns each block
 abbrev pub pieces_to : (ℕ → List ℕ) → ℕ → List ℕ
 pieces_to piece n = flat_map piece (range_with_len 1 n)
 
--- blocks 1 to n of KDFa, joined
+-- blocks 1 to n of KDFa concatenated
 abbrev pub blocks_to : HashAlg → (key label context_u context_v : List ℕ) (size n : ℕ) → List ℕ
 blocks_to alg key label context_u context_v size n =
     pieces_to (λ i. hmac_of alg key (kdfa_text label context_u context_v (size * 8) i)) n
 
--- the first blocks, and one more, joined
+-- the first blocks concatenated with one more
 pieces_to-suc : (piece : ℕ → List ℕ) (n : ℕ) → pieces_to piece (suc n) ≡ pieces_to piece n ++ piece (1 + n)
 pieces_to-suc piece n =
     ap (flat_map piece) (range_with_len-suc 1 n)
     ∙ flat_map-append piece (range_with_len 1 n) ((1 + n) ∷ [])
     ∙ ap (λ (xs : List ℕ). pieces_to piece n ++ xs) (append-nil (piece (1 + n)))
 
--- blocks of one size, joined, have n times that size
+-- n blocks of one size, concatenated, are n times as long
 length-pieces_to : (piece : ℕ → List ℕ) (size : ℕ) → ((i : ℕ) → length (piece i) ≡ size)
     → (n : ℕ) → length (pieces_to piece n) ≡ n * size
 length-pieces_to piece size each zero = omega arith
 length-pieces_to piece size each (suc n) =
     rw (pieces_to-suc piece n, length-append, each (1 + n), length-pieces_to piece size each n) (omega arith)
 
--- a list that has the first n blocks at its front, once block n + 1 is written after them
+-- once block n + 1 is written after the first n blocks at the front of a list, the list starts
+-- with the first n + 1 blocks
 pub take-piece_written : (piece : ℕ → List ℕ) (size : ℕ) → ((i : ℕ) → length (piece i) ≡ size)
     → (old new block : List ℕ) (n : ℕ) → n * size ≤ length old
     → take (n * size) old ≡ take (length old) (pieces_to piece n)
@@ -53,7 +54,7 @@ take-piece_written piece size each old new block n fits so_far same after =
     ∙ ap (λ (xs : List ℕ). before ++ xs) (ap piece (omega arith) ∙ sym same) in
     rw (seam, last, after, front, ← at) (take-block_written old before block (omega arith))
 
--- one more block of KDFa is written after those that are there already
+-- one more block of KDFa is written after the previous ones
 pub kdfa_block_written : (alg : HashAlg) (key label context_u context_v old new block : List ℕ) (size n : ℕ)
     → size ≡ digest_size alg → n * size ≤ length old
     → take (n * size) old ≡ take (length old) (blocks_to alg key label context_u context_v (length old) n)
@@ -65,7 +66,8 @@ kdfa_block_written alg key label context_u context_v old new block size n sized 
     let each : (i : ℕ) → length (piece i) ≡ size = λ i. rw sized (length-hmac_of alg key _) in
     take-piece_written piece size each old new block n fits so_far same after
 
--- a list is the front of its blocks, once the last of those that it has room for is written
+-- once the last block, possibly truncated, is written, the list is the front of the concatenated
+-- blocks
 last-piece_written : (piece : ℕ → List ℕ) (size count n : ℕ) (new : List ℕ) → length new ≤ count * size
     → n ≡ count - 1
     → take ((n + 1) * size) new ≡ take (length new) (pieces_to piece (n + 1))
@@ -78,12 +80,12 @@ last-piece_written piece size (suc m) n new room last so_far =
     let covers : length new ≤ (n + 1) * size = rw at room in
     sym (take_all ((n + 1) * size) new covers) ∙ so_far ∙ ap (λ (k : ℕ). take (length new) (pieces_to piece k)) at
 
--- every digest has at least one byte
+-- every digest is at least one byte long
 digest_size-positive : (alg : HashAlg) → 0 < digest_size alg
 digest_size-positive Sha1 = omega arith
 digest_size-positive Sha256 = omega arith
 
--- all bytes of KDFa are there, once the last block is written
+-- once the last block is written, all bytes of KDFa are written
 pub kdfa_written : (alg : HashAlg) (key label context_u context_v new : List ℕ) (size n : ℕ)
     → size ≡ digest_size alg → n ≡ div_ceil (length new) size - 1
     → take ((n + 1) * size) new ≡ take (length new) (blocks_to alg key label context_u context_v (length new) (n + 1))

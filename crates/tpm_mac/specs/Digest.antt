@@ -1,5 +1,5 @@
--- Digests of whole messages, by the definitions of the hash crates (FIPS 180-4). A message is a
--- list of bytes.
+-- Digests of whole messages, as defined by the hash crates (FIPS 180-4). A message is a list of
+-- bytes.
 use Rattle.std.specs.Prelude.{ℕ, List}
 use Rattle.std.specs.Borrow.{Bor}
 use Rattle.std.specs.List.{flat_map}
@@ -13,11 +13,11 @@ abbrev pub hash_of : HashAlg → List ℕ → List ℕ
 hash_of Sha1 message = sha1 message
 hash_of Sha256 message = sha256 message
 
--- how many bytes a digest has (FIPS 180-4, 1, figure 1)
+-- the size of a digest in bytes (FIPS 180-4, 1, figure 1)
 abbrev pub digest_size : HashAlg → ℕ
 digest_size Sha1 = 20
 digest_size Sha256 = 32
 
--- the parts as one text, in their order
+-- the concatenation of the parts, in order
 abbrev pub joined_text : List (Bor (List ℕ)) → List ℕ
 joined_text parts = flat_map (λ part. part.now) parts

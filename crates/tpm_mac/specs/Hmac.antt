@@ -4,19 +4,19 @@ use Rattle.std.specs.Prelude.{List, ◌++◌, length, map, replicate}
 use Rattle.tpm_mac.specs.Digest.{hash_of}
 use Rattle.tpm_mac.specs.declared.algorithm.HashAlg.{HashAlg}
 
--- K0: the key with zeros to the 64 bytes of a block; a key of more bytes is hashed first (FIPS
+-- K0: the key, padded with zeros to the 64 bytes of a block; a longer key is hashed first (FIPS
 -- 198-1, 4, steps 1 to 3)
 abbrev pub padded_key : HashAlg → List ℕ → List ℕ
 padded_key alg key =
     let short = if nat_lt 64 (length key) then hash_of alg key else key in
     short ++ replicate (64 - length short) 0
 
--- each byte of the key xor the pad
+-- the key with each byte xored with the pad
 abbrev pub masked_key : ℕ → List ℕ → List ℕ
 masked_key pad key = map (λ byte. bit_xor byte pad) key
 
--- the HMAC of a text under a key of any length: H((K0 xor opad) ++ H((K0 xor ipad) ++ text))
--- (FIPS 198-1, 4, steps 4 to 9; ipad and opad: 2.3)
+-- the HMAC of a text with a key of any length: H((K0 xor opad) ++ H((K0 xor ipad) ++ text)) (FIPS
+-- 198-1, 4, steps 4 to 9; ipad and opad: 2.3)
 unfoldable pub hmac_of : HashAlg → (key text : List ℕ) → List ℕ
 hmac_of alg key text =
     let block_key = padded_key alg key in

@@ -1,23 +1,23 @@
--- What a contract sees of an HMAC under way: its algorithm, its key, and the text that it has taken
--- (FIPS 198-1, 4).
+-- How contracts describe an HMAC in progress: by its algorithm, its key, and the text fed to it so
+-- far (FIPS 198-1, 4).
 use Rattle.std.specs.Prelude.{ℕ, List, [], ◌++◌}
 use Rattle.tpm_mac.specs.Hasher.{Holds}
 use Rattle.tpm_mac.specs.Hmac.{masked_key, padded_key}
 use Rattle.tpm_mac.specs.declared.algorithm.HashAlg.{HashAlg}
 use Rattle.tpm_mac.specs.declared.mac.Mac.{Mac}
 
--- The Mac is one of this algorithm and this key, and has taken this text: its inner hash holds (K0
--- xor ipad) ++ text (steps 4 and 5), and its outer hash K0 xor opad (step 7).
+-- The Mac uses this algorithm and key, and this text was fed to it: the input of its inner hash is
+-- (K0 xor ipad) ++ text (steps 4 and 5), and that of its outer hash is K0 xor opad (step 7).
 unfoldable pub MacHolds : Mac → HashAlg → (key text : List ℕ) → Type 0
 MacHolds mac algorithm key text =
     Holds mac.inner algorithm (masked_key 0x36 (padded_key algorithm key) ++ text)
     × Holds mac.outer algorithm (masked_key 0x5c (padded_key algorithm key))
 
--- The Mac is one of this algorithm, whose two hashes have taken nothing.
+-- The Mac uses this algorithm, and nothing was fed to its two hashes.
 unfoldable pub IsUnkeyed : Mac → HashAlg → Type 0
 IsUnkeyed mac algorithm = Holds mac.inner algorithm [] × Holds mac.outer algorithm []
 
--- The Mac has taken this text after whatever it had taken before.
+-- This text was fed to the Mac, after whatever was fed to it before.
 abbrev pub MacTakes : (old : Mac) → List ℕ → (new : Mac) → Type 0
 MacTakes old text new = (algorithm : HashAlg) (key taken : List ℕ)
     → MacHolds old algorithm key taken → MacHolds new algorithm key (taken ++ text)

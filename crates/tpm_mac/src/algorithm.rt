@@ -14,7 +14,7 @@ pub enum HashAlg {
 impl HashAlg {
     ghost use Rattle.tpm_mac.specs.Digest.{digest_size};
 
-    /// The length of a digest in bytes: 20 or 32.
+    /// The size of a digest in bytes: 20 or 32.
     pub fn size(self) -> usize
         ensures { result ≡ digest_size self }
     {

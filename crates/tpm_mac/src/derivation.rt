@@ -10,9 +10,8 @@ ghost use Rattle.tpm_mac.specs.declared.algorithm.HashAlg.{HashAlg};
 use crate::algorithm::HashAlg;
 use crate::mac::Mac;
 
-/// Fills `out` with the bytes that KDFa derives from the key for the label and the two contexts.
-/// The number of bits that is asked for is eight times the length of `out`, and has to fit into
-/// 32 bits.
+/// Fills `out` with the bytes that KDFa derives from the key, the label and the two contexts. The
+/// number of bits requested is eight times the length of `out`, and must fit in 32 bits.
 #[tactic(auto, unfolding(crate::specs::Kdf::kdfa_of))]
 pub fn kdfa(
     alg: HashAlg,
@@ -36,13 +35,13 @@ pub fn kdfa(
         take_text(&mut copy, counter, label, context_u, context_v, &bits);
         write_front(out, index * size, copy.finish().as_slice());
     }
-    // The last block uses up the HMAC itself, so that a single block is made with no copy.
+    // The last block consumes the HMAC, so that a single block needs no copy.
     let counter = last as u32 + 1;
     take_text(&mut mac, counter, label, context_u, context_v, &bits);
     write_front(out, last * size, mac.finish().as_slice());
 }
 
-/// Feeds an HMAC that took no text yet with the text of the counter's block.
+/// Feeds the input of the counter's block to an HMAC to which no text was fed yet.
 fn take_text(
     mac: &mut Mac,
     counter: u32,
@@ -64,7 +63,7 @@ fn take_text(
     mac.update(bits);
 }
 
-/// Writes the block at `start`, as much of the block as there is room for.
+/// Writes the block at `start`, truncated at the end of `out`.
 fn write_front(out: &mut [u8], start: usize, block: &[u8])
     requires { start ≤ length out.old }
     ensures { out.new ≡ take start out.old ++ take (length out.old - start) block.now

@@ -1,4 +1,4 @@
-//! The digest of a message that comes in parts.
+//! The digest of a message given in parts.
 
 ghost use Rattle.std.specs.Prelude.{◌≡◌, length};
 ghost use Rattle.tpm_mac.specs.Digest.{digest_size, hash_of, joined_text};
@@ -7,10 +7,10 @@ use crate::algorithm::HashAlg;
 use crate::hasher::Hasher;
 use arrayvec::ArrayVec;
 
-/// A digest of any of the algorithms: as many bytes as the algorithm's `size`.
+/// A digest by any of the algorithms; its length is the algorithm's `size`.
 pub type Digest = ArrayVec<u8, 32>;
 
-/// The digest of the parts joined. No part is copied.
+/// The digest of the concatenated parts, which are not copied.
 pub fn digest_parts(alg: HashAlg, parts: &[&[u8]]) -> Digest
     ensures value { result.items ≡ hash_of alg (joined_text parts.now) }
     ensures size { length result.items ≡ digest_size alg }

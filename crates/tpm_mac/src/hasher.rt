@@ -1,4 +1,4 @@
-//! A digest of a message that is handed over piece by piece.
+//! The digest of a message that is fed piece by piece.
 
 ghost use Rattle.std.specs.Prelude.{◌≡◌, [], length, List, ℕ};
 ghost use Rattle.tpm_mac.specs.Digest.{digest_size, hash_of};
@@ -11,8 +11,8 @@ use arrayvec::ArrayVec;
 use sha1::Sha1;
 use sha2::{Digest as _, Sha256};
 
-/// A hash under way: its state is the hash crate's own, so that it copies nothing of the message
-/// that it is fed but the begun block.
+/// A hash in progress. Its state is that of the hash crate, so the only bytes of the message that
+/// it copies are those of an incomplete block.
 #[derive(Drop)]
 pub struct Hasher {
     state: State,
@@ -25,7 +25,7 @@ enum State {
 }
 
 impl Hasher {
-    /// A hash of no bytes yet.
+    /// A hash to which nothing was fed yet.
     #[tactic(auto, unfolding(crate::specs::Hasher::Holds))]
     pub fn new(alg: HashAlg) -> Hasher
         ensures { Holds result alg [] }
@@ -37,7 +37,7 @@ impl Hasher {
         Hasher { state }
     }
 
-    /// Takes more of the message.
+    /// Feeds more bytes of the message to the hash.
     #[tactic(auto, unfolding(crate::specs::Hasher::Holds))]
     pub fn update(&mut self, bytes: &[u8])
         ensures { Takes self.old bytes.now self.new }
@@ -48,7 +48,7 @@ impl Hasher {
         }
     }
 
-    /// A hasher that has taken the same message.
+    /// A second hasher in the same state.
     pub(crate) fn copy(&self) -> Hasher
         ensures { result ≡ self.now }
     {
@@ -69,7 +69,7 @@ impl Hasher {
             → Holds self alg message → length result.items ≡ digest_size alg }
     {
         let mut digest = ArrayVec::new();
-        // The digest of either algorithm fits into 32 bytes.
+        // The digest of either algorithm fits in 32 bytes.
         let _ = match self.state {
             State::Sha1(hasher) => digest.try_extend_from_slice(&hasher.finalize()),
             State::Sha256(hasher) => digest.try_extend_from_slice(&hasher.finalize()),

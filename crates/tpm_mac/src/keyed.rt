@@ -1,4 +1,4 @@
-//! HMACs under one key after another: a key that comes again is not masked and hashed again.
+//! HMACs with one key after another. If a key is used again, it is not masked and hashed again.
 
 ghost use Rattle.std.specs.Prelude.{◌≡◌, length};
 ghost use Rattle.tpm_mac.specs.Digest.{digest_size, joined_text};
@@ -10,9 +10,9 @@ use crate::mac::Mac;
 use arrayvec::ArrayVec;
 use std::marker::Model;
 
-/// An HMAC of no text yet, and the key that it has taken. An HMAC under that key again is made of a
-/// copy, which spares both blocks of the key. Contracts see nothing of this, since the key that is
-/// kept decides no HMAC.
+/// An HMAC to which no text was fed yet, and its key. The next HMAC with the same key starts from
+/// a copy, which saves hashing both blocks of the key. The contracts do not mention the stored
+/// key, because it does not change the result of any HMAC.
 #[derive(Drop)]
 pub struct KeyedMac {
     alg: HashAlg,
@@ -32,7 +32,7 @@ impl Model for KeyedMac {
 }
 
 impl KeyedMac {
-    /// An HMAC under the empty key.
+    /// An HMAC with the empty key.
     pub fn new() -> KeyedMac {
         KeyedMac {
             alg: HashAlg::Sha256,
@@ -41,8 +41,8 @@ impl KeyedMac {
         }
     }
 
-    /// The HMAC of the parts joined, as [`hmac_parts`](crate::hmac_parts) makes it, under a key
-    /// that is kept for the next one.
+    /// The HMAC of the concatenated parts, equal to that of [`hmac_parts`](crate::hmac_parts). The
+    /// key is stored for the next call.
     pub fn hmac_parts(&mut self, alg: HashAlg, key: ArrayVec<u8, 64>, parts: &[&[u8]]) -> Digest
         ensures value { result.items ≡ hmac_of alg key.items (joined_text parts.now) }
         ensures size { length result.items ≡ digest_size alg }

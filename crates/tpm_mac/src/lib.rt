@@ -1,11 +1,11 @@
-//! The digests of a TPM: the hash and the HMAC (FIPS 198-1) of parts joined or of a text that is
-//! handed over piece by piece, and the key derivation KDFa (SP 800-108 in counter mode; TCG TPM 2.0
-//! Library Part 1, 11.4.10.2).
+//! The digests of a TPM: the hash and the HMAC (FIPS 198-1) of concatenated parts or of a text fed
+//! piece by piece, and the key derivation KDFa (SP 800-108 in counter mode; TCG TPM 2.0 Library
+//! Part 1, 11.4.10.2).
 //!
-//! The crate uses the hash crates `sha1` and `sha2`, whose definitions of the hashes (FIPS 180-4)
-//! its own definitions cite, and `arrayvec` for a digest of either size. Each call equals its
-//! definition over whole texts, however the text is cut into parts. No call takes memory or
-//! refuses.
+//! The crate uses the hash crates `sha1` and `sha2`, and its definitions refer to their
+//! definitions of the hashes (FIPS 180-4). It uses `arrayvec` for a digest of either size. Each
+//! call equals its definition over the whole text, however the text is divided into parts. No call
+//! allocates memory or fails.
 
 #![tactic(auto)]
 

@@ -1,4 +1,4 @@
-//! HMAC (FIPS 198-1) of a text that is handed over piece by piece, or in parts.
+//! HMAC (FIPS 198-1) of a text fed piece by piece, or given in parts.
 
 ghost use Rattle.std.specs.Prelude.{◌≡◌, ◌-◌, ◌≤◌, [], ◌++◌, length, List, replicate, ℕ};
 ghost use Rattle.tpm_mac.specs.Digest.{digest_size, joined_text};
@@ -10,21 +10,21 @@ use crate::algorithm::HashAlg;
 use crate::digests::{Digest, digest_parts};
 use crate::hasher::Hasher;
 
-/// The size of a block of either hash in bytes.
+/// The block size of either hash in bytes.
 const BLOCK_SIZE: usize = 64;
 
-/// The byte `ipad`, with which the key of the inner hash is masked.
+/// The byte `ipad`, which masks the key of the inner hash.
 const INNER_PAD: u8 = 0x36;
 
-/// The byte `opad`, with which the key of the outer hash is masked.
+/// The byte `opad`, which masks the key of the outer hash.
 const OUTER_PAD: u8 = 0x5c;
 
-/// A key as long as a block, which FIPS 198-1 calls K0.
+/// A key that is one block long, which FIPS 198-1 calls K0.
 type BlockKey = [u8; BLOCK_SIZE];
 
-/// An HMAC under way: the inner hash, which takes the text, and the outer hash, which takes the
-/// inner digest in the end. Each has taken its masked key from the start, so that a copy of a `Mac`
-/// spares both blocks of the key.
+/// An HMAC in progress. The text is fed to the inner hash, and at the end the inner digest is fed
+/// to the outer hash. Both are fed their masked keys at the start, so copying a `Mac` saves
+/// hashing both blocks of the key.
 #[derive(Drop)]
 pub struct Mac {
     inner: Hasher,
@@ -32,7 +32,7 @@ pub struct Mac {
 }
 
 impl Mac {
-    /// An HMAC of no text yet, under a key of any length.
+    /// An HMAC with a key of any length, to which no text was fed yet.
     pub fn new(alg: HashAlg, key: &[u8]) -> Mac
         ensures { MacHolds result alg key.now [] }
     {
@@ -41,8 +41,8 @@ impl Mac {
         mac
     }
 
-    /// A `Mac` of two hashes that have taken no text. A `Mac` is keyed in its place, since each
-    /// return of one copies it.
+    /// A `Mac` of two hashes to which nothing was fed. Its key is fed later, in place, since
+    /// returning a `Mac` copies it.
     #[inline(always)]
     #[tactic(auto, unfolding(crate::specs::Mac::IsUnkeyed))]
     pub(crate) fn unkeyed(alg: HashAlg) -> Mac
@@ -54,7 +54,7 @@ impl Mac {
         }
     }
 
-    /// Feeds each of the two hashes with the key, masked for it.
+    /// Feeds the key to the two hashes, masked for each of them.
     #[inline(always)]
     #[tactic(auto, unfolding(crate::specs::Mac::MacHolds, crate::specs::Mac::IsUnkeyed))]
     pub(crate) fn take_key(&mut self, alg: HashAlg, key: &[u8])
@@ -66,7 +66,7 @@ impl Mac {
         self.outer.update(&mask(&key, OUTER_PAD));
     }
 
-    /// A `Mac` of the same key that has taken the same text.
+    /// A second `Mac` with the same key and in the same state.
     pub(crate) fn copy(&self) -> Mac
         ensures { result ≡ self.now }
     {
@@ -76,7 +76,7 @@ impl Mac {
         }
     }
 
-    /// Takes more of the text.
+    /// Feeds more bytes of the text to the `Mac`.
     #[tactic(auto, unfolding(crate::specs::Mac::MacHolds))]
     pub fn update(&mut self, bytes: &[u8])
         ensures { MacTakes self.old bytes.now self.new }
@@ -84,7 +84,7 @@ impl Mac {
         self.inner.update(bytes);
     }
 
-    /// Takes the parts, one after another.
+    /// Feeds the parts to the `Mac`, one after another.
     pub(crate) fn take_parts(&mut self, parts: &[&[u8]])
         ensures { MacTakes self.old (joined_text parts.now) self.new }
     {
@@ -108,7 +108,7 @@ impl Mac {
     }
 }
 
-/// The HMAC of the parts joined, under a key of any length. No part is copied.
+/// The HMAC of the concatenated parts, with a key of any length. No part is copied.
 pub fn hmac_parts(alg: HashAlg, key: &[u8], parts: &[&[u8]]) -> Digest
     ensures value { result.items ≡ hmac_of alg key.now (joined_text parts.now) }
     ensures size { length result.items ≡ digest_size alg }
@@ -119,7 +119,7 @@ pub fn hmac_parts(alg: HashAlg, key: &[u8], parts: &[&[u8]]) -> Digest
     mac.finish()
 }
 
-/// The key padded with zeros to a block; a key that is longer than a block is hashed first.
+/// The key padded with zeros to a block; a key longer than a block is hashed first.
 fn block_key(alg: HashAlg, key: &[u8]) -> BlockKey
     ensures { result ≡ padded_key alg key.now }
 {
@@ -130,7 +130,7 @@ fn block_key(alg: HashAlg, key: &[u8]) -> BlockKey
     }
 }
 
-/// The bytes, with zeros to the end of a block.
+/// The bytes, padded with zeros to a block.
 fn zero_padded(bytes: &[u8]) -> BlockKey
     requires { length bytes.now ≤ BLOCK_SIZE }
     ensures { result ≡ bytes.now ++ replicate (64 - length bytes.now) 0 }
@@ -140,7 +140,7 @@ fn zero_padded(bytes: &[u8]) -> BlockKey
     block
 }
 
-/// Each byte of the key, masked with the pad.
+/// The key with each byte xored with the pad.
 fn mask(key: &BlockKey, pad: u8) -> BlockKey
     ensures { result ≡ masked_key pad key.now }
 {

@@ -46,7 +46,7 @@ unfolding acceptance
 accepts can r c grants locality random q result answer new granted asked acts =
     rw (granted, ← asked) (row_accepts can c grants q (row_of r c.code q) r result answer new acts)
 
--- ---- the answer to a command that succeeded
+-- ---- the answer to a successful command
 
 pub accepted_answers : (can : Bool) (r : Record) (random : List ℕ) (c : Whole) (grants : List (Option Grant)) (a : Result Accepted Refused) (answer : Answer) (effect : Record) (response : List ℕ) (after : Record) → Succeeds a c grants answer effect → record { response = response; after = after } ≡ answer_to c grants (text_of answer) effect random → Answers can r random (in_command c.code a) (record { response = response; row = record { code = code_number c.code; check = 0 }; after = settled c.code after })
 accepted_answers can r random c grants (Err e) answer effect response after never is = absurd never
@@ -60,7 +60,7 @@ accepted_answers can r random c grants (Ok a) answer effect response after (same
     ∙ ap (λ (x : List (Option Grant)). answer_to a.command x (written_of a.success.answer) a.success.after random) (sym granted) in
     answers_exactly can r random (Ok a) _ (λ i. record { response = (whole i).response; row = record { code = code_number (back i).code; check = 0 }; after = settled (back i).code (whole i).after })
 
--- an accepted command is modest, since the answer has room for no more, and nonces are short
+-- an accepted command is modest, since the answer's buffer is limited and nonces are short
 pub accepted_modest : (random : List ℕ) (c : Whole) (grants : List (Option Grant)) (a : Result Accepted Refused) (answer : Answer) (effect : Record) → answer.drawn ≤ 96 → length answer.parameters ≤ answer_limit → DrawsFew random effect c.entries answer.drawn → Succeeds a c grants answer effect → IfOk a (IsModest random)
 accepted_modest random c grants (Err e) answer effect few short drawn never = tt
 accepted_modest random c grants (Ok a) answer effect few short drawn (same, granted, written, left) = (
@@ -79,7 +79,7 @@ accepted_draws random c grants (Ok a) answer effect n is (same, granted, written
     ∙ ap (λ (x : Record). bytes_drawn random x c.entries a.success.answer.drawn) left
     ∙ ap (λ (x : Whole). bytes_drawn random a.success.after x.entries a.success.answer.drawn) (sym same)
 
--- the rules for the command that is authorized
+-- the rules for an authorized command
 pub ruleset acting = (accepted_answers, accepted_modest, accepted_draws, refused_answers)
 
 -- a command that is refused, or is refused memory, draws no random bytes
@@ -98,7 +98,7 @@ pub not_authorized : (can : Bool) (r : Record) (c : Whole) (locality : ℕ) (ran
 unfolding acceptance
 not_authorized can r c locality random e refused = rw (refused) refl
 
--- the answer to a command that is decoded, and then refused, or refused memory
+-- the answer to a decoded command that is refused, or is refused memory
 pub command_refused : (can : Bool) (r : Record) (buffer : List ℕ) (locality : ℕ) (random : List ℕ) (c : Whole) (e : Refused) (x : Stepped) → general r buffer ≡ Ok c → RefusesOrWantsMemory can c (acceptance r c locality random) e → x ≡ refusal_step r (record { code = code_number c.code; refused = e }) → Answers can r random (accepted r buffer locality random) x
 unfolding accepted
 command_refused can r buffer locality random c e x decoded is seen =

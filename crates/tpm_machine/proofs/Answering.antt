@@ -1,5 +1,4 @@
--- The header of a response that has nothing after it, and the response to a command that has
--- entries.
+-- The header of a response without a body, and the response to a command with entries.
 use Rattle.std.proofs.Common.{arith, length-drop, ◌+◌, ◌-◌, ◌≡◌, ◌≤◌, ℕ, List, [], ◌∷◌, ◌++◌, drop, length, Option, ap, append-nil, refl, sym, ◌∙◌}
 use Rattle.std.specs.Int.{w16, w32, to_be_bytes}
 use Rattle.tpm_types.specs.declared.handle.Handle.{Handle}
@@ -18,13 +17,14 @@ use Rattle.tpm_machine.specs.Drawn.{bytes_drawn}
 pub framed_alone : (tag code : ℕ) → framed tag code [] ≡ to_be_bytes w16 tag ++ to_be_bytes w32 10 ++ to_be_bytes w32 code
 framed_alone tag code = ap (λ (l : List ℕ). to_be_bytes w16 tag ++ to_be_bytes w32 10 ++ l) (append-nil (to_be_bytes w32 code))
 
--- the response to a command that has entries
+-- the response to a command with entries
 success_some : (entries : List Entry) (handle : Option Handle) (answer area : List ℕ) → 1 ≤ length entries → success_text entries handle answer area ≡ framed 0x8002 0 (handle_answer handle ++ to_be_bytes w32 (length answer) ++ answer ++ area)
 unfolding success_text
 success_some [] handle answer area some = absurd (let none : ⊥ = omega arith in none)
 success_some (entry ∷ entries) handle answer area some = refl
 
--- the answer whose three passes are rolling, encrypting and answering entries, followed by its text
+-- the answer after three passes, which roll the entries, encrypt the parameters and answer the
+-- entries; then its text
 answered_by : (c : Whole) (grants : List (Option Grant)) (a : Written) (effect : Record) (random : List ℕ) (mid after : Record) (left parameters area text : List ℕ) → 1 ≤ length c.entries
     → entries_rolled effect c.entries (drop a.drawn random) ≡ record { after = mid; left = left }
     → parameters ≡ encrypted_answer mid (granted_entries c grants) a.parameters
@@ -54,20 +54,20 @@ answered_with c grants a effect random mid after entries granted draws left para
     spelled
     (rw (← paired) ended)
 
--- how many bytes are left after those of the row and the nonces
+-- the number of bytes that are left after those of the row and of the nonces
 left_behind : (r mid : Record) (entries sent : List Entry) (draws left random : List ℕ) (drawn : ℕ)
     → entries ≡ sent → draws ≡ drop drawn random → entries_rolled r entries draws ≡ record { after = mid; left = left } → length left ≡ length (entries_rolled r sent (drop drawn random)).left
 left_behind r mid entries sent draws left random drawn same behind rolled =
     sym (ap (λ (x : Drawn). length x.left) rolled) ∙ ap (λ (l : List Entry). length (entries_rolled r l draws).left) same ∙ ap (λ (l : List ℕ). length (entries_rolled r sent l).left) behind
 
--- three nonces are drawn after the bytes of the row
+-- the three nonces are drawn after the bytes of the row
 pub drawn_few : (r mid : Record) (entries sent : List Entry) (draws left random : List ℕ) (drawn : ℕ)
     → entries ≡ sent → draws ≡ drop drawn random → entries_rolled r entries draws ≡ record { after = mid; left = left } → length draws ≤ length left + 96 → drawn ≤ 96 → DrawsFew random r sent drawn
 drawn_few r mid entries sent draws left random drawn same behind rolled few row =
     let is = left_behind r mid entries sent draws left random drawn same behind rolled in
     omega (arith, is, ap length behind, length-drop drawn random)
 
--- how many bytes the row and the nonces draw in all
+-- the number of bytes that the row and the nonces draw in all
 pub drawn_in_all : (r mid : Record) (entries sent : List Entry) (draws left random : List ℕ) (drawn : ℕ)
     → entries ≡ sent → draws ≡ drop drawn random → entries_rolled r entries draws ≡ record { after = mid; left = left } → length random - length left ≡ bytes_drawn random r sent drawn
 drawn_in_all r mid entries sent draws left random drawn same behind rolled =

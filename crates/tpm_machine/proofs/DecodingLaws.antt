@@ -1,4 +1,4 @@
--- A command that the general checks decode is the one that the whole buffer spells.
+-- If the general checks decode a command, the whole buffer encodes it.
 use Rattle.tpm_types.specs.Limits.{buffer_limit}
 use Rattle.tpm_bytes.specs.Reading.{Gives}
 use Rattle.std.proofs.Common.{arith, refl, sym, Bool, true, false, ◌≤◌, ◌*◌, ◌≡◌, ℕ, List, [], ◌∷◌, ◌+◌, length, Result, Ok, Err, IfOk, Option, None}
@@ -19,7 +19,7 @@ use Rattle.tpm_step.specs.declared.refused_command.RefusedCommand.{RefusedComman
 use Rattle.tpm_step.proofs.Binding.{ok_at}
 use Rattle.tpm_step.proofs.Decoding.{general_reads}
 
--- a command that the general checks let through is the one that is read, and nothing is left after
+-- if a command passes the general checks, it is the one that is read, and nothing is left after
 -- it
 spells : (r : Record) (buffer : List ℕ) (c : Whole) → general r buffer ≡ Ok c → command_at buffer ≡ Ok (c, [])
 spells r buffer c is = ok_at (λ x. command_at buffer ≡ Ok (x, [])) (general r buffer) c (general_reads r buffer) is
@@ -40,7 +40,7 @@ decodes_short r buffer (Ok command) fits decoded =
     short_of (whole_of command) (command_takes buffer (whole_of command, []) fits (spells r buffer (whole_of command) decoded)).0.size
 decodes_short r buffer (Err e) fits decoded = tt
 
--- ---- where no entry decrypts, the plain parameters are those that were sent
+-- ---- if no entry decrypts, the decrypted parameters are those that were sent
 
 neither : (a b : Bool) → (a || b) ≡ false → (a ≡ false) × (b ≡ false)
 neither true b e = absurd (false≢true (sym e))

@@ -1,3 +1,3 @@
--- What tpm_step proves of executions and of power cycles, for those who cite the machine alone.
+-- What tpm_step proves of executions and power cycles, for crates that cite the machine alone.
 pub use Rattle.tpm_step.proofs.Following.{cycled_follows, execution_follows, stretch_follows}
 pub use Rattle.tpm_step.proofs.PowerCycles.{leads_on, power_cycle_executes}

@@ -1,4 +1,4 @@
--- The nonce that is drawn for the session of an entry is as long as the session's own.
+-- The nonce that is drawn for an entry's session has the size of the session's own nonce.
 use Rattle.std.proofs.Common.{◌≡◌, ◌≤◌, ℕ, List, Option, Some, None, length, take, arith}
 use Rattle.std.specs.Prelude.{IfSome}
 use Rattle.std.specs.Option.{option_map_or}

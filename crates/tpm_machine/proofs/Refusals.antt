@@ -1,4 +1,4 @@
--- A refusal is its text, and changes nothing but the time.
+-- A refusal is its text, and changes only the time.
 use Rattle.std.proofs.Common.{◌≡◌, ◌≢◌, ℕ, List, length, Bool, true, false, cond, Result, Ok, Err, refl, ap, sym, ◌∙◌}
 use Rattle.std.proofs.lemmas.Bool.{false≢true}
 use Rattle.tpm_types_command.specs.Command.{Whole}
@@ -15,8 +15,8 @@ use Rattle.tpm_step.specs.Safe.{IsHarmless}
 use Rattle.tpm_step.specs.Step.{Accepted, Answers, RefusesOrWantsMemory, Stepped, Steps, refusal_step, accepted, stepped_of, counted_in, refusal_without_memory, answer_without_memory, step, step_where, success_step}
 use Rattle.tpm_step.specs.declared.refused_command.RefusedCommand.{RefusedCommand}
 
--- A refusal, at a record whose time has passed, is ten bytes, reports its check, and leaves the
--- record but for what it counts.
+-- On a record whose time has passed, a refusal has ten bytes, reports its check, and changes only
+-- what it counts.
 abbrev LeavesRecord : Record → Stepped → Type 0
 LeavesRecord r x = x.row.check ≢ 0 → (length x.response ≡ 10) × (refused : Refused) × (x.response ≡ refusal_text refused) × (x.row.check ≡ check_number refused.check) × (x.after ≡ counted_in refused.counted r)
 
@@ -24,7 +24,7 @@ answer_leaves : (r : Record) (random : List ℕ) (a : Result Accepted RefusedCom
 answer_leaves r random (Ok a) refused = absurd (refused refl)
 answer_leaves r random (Err e) refused = (refl, e.refused, refl, refl, refl)
 
--- MEMORY in place of a success leaves the record as a refusal does
+-- MEMORY instead of a success leaves the record as a refusal does
 success_without_memory_leaves : (grows : Bool) (r : Record) (random : List ℕ) (a : Accepted) → LeavesRecord r (cond grows (refusal_without_memory r a.command) (success_step a random))
 success_without_memory_leaves true r random a refused = (refl, memory_refusal, refl, refl, refl)
 success_without_memory_leaves false r random a refused = absurd (refused refl)

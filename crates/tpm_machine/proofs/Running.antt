@@ -11,16 +11,16 @@ use Rattle.tpm_step.specs.Step.{Stepped, Steps, outcome_step, step}
 use Rattle.tpm_step.specs.declared.event.Event.{Event}
 use Rattle.tpm_step.specs.declared.event.Outcome.{Outcome}
 
--- a run of what is left after the event at i is a run from that event on
+-- if the event at i is executed, and the events after it run, then all events from i on run
 pub run_more : {F : Type 0} {g : Mut F (Bor Outcome × Unit {0}) (Unit {0})} (can : Bool) (old mid new : Record) {p next : F} (q : F) (events : List Event) (i : ℕ) (event : Event) (outcome : Outcome) → i < length events → event ≡ get_or events i event → Executes can old (plain_event event) (outcome_step mid outcome) → CalledAt g p outcome tt next → Runs g can mid next (map plain_event (drop (i + 1) events)) new q → Runs g can old p (map plain_event (drop i events)) new q
 run_more can old mid new q events i event outcome below is executed called rest = rw (drop_more events i event below, ← is) (outcome, _, _, executed, called, rest)
 
--- where no memory can be refused, an execution of an event is its step
+-- if no memory can be refused, an execution of an event is its step
 pub exactly : (can : Bool) (old : Record) (event : PlainEvent) (x : Stepped) → can ≡ false → Steps can old event x → x ≡ step old event
 exactly can old event x cannot (false, only, is) = is
 exactly can old event x cannot (true, only, is) = absurd (false≢true (sym cannot ∙ only refl))
 
--- where no memory can be refused, a run leads to the record to which the steps lead
+-- if no memory can be refused, a run leads to the record to which the steps lead
 pub runs_lead : {F : Type 0} (g : Mut F (Bor Outcome × Unit {0}) (Unit {0})) (can : Bool) (old : Record) (p : F) (events : List PlainEvent) (new : Record) (q : F) → Runs g can old p events new q → can ≡ false → new ≡ after_all old events
 runs_lead g can old p [] new q run cannot = run.0
 runs_lead g can old p (event ∷ events) new q run cannot =

@@ -1,4 +1,4 @@
--- How many of its random bytes an event draws, from their front.
+-- How many of its random bytes an event draws, from the front.
 use Rattle.std.specs.Prelude.{ℕ, zero, suc, ◌-◌, List, drop, length, Result, Ok, Err}
 use Rattle.tpm_types_command.specs.AuthEntry.{Entry}
 use Rattle.tpm_record.specs.Record.{Record}
@@ -7,14 +7,14 @@ use Rattle.tpm_step.specs.Entries.{entries_rolled}
 use Rattle.tpm_step.specs.Events.{PlainEvent, Given, Cycled}
 use Rattle.tpm_step.specs.Step.{Accepted, accepted}
 
--- how many of the random bytes are drawn by a row, which draws `drawn` of them, and by the new
--- nonces of these entries
+-- how many of the random bytes are drawn by a row, which draws `drawn`, and for the new nonces of
+-- these entries
 abbrev pub bytes_drawn : List ℕ → Record → List Entry → (drawn : ℕ) → ℕ
 bytes_drawn random r entries drawn =
     length random - length (entries_rolled r entries (drop drawn random)).left
 
--- how many random bytes a command draws whose row reported this check: a refusal draws none, nor
--- does MEMORY in place of a success
+-- how many random bytes a command draws, if its row reported this check: a refusal draws none,
+-- nor does MEMORY instead of a success
 abbrev pub drawn_by_command : {E : Type 0} → List ℕ → Result Accepted E → (check : ℕ) → ℕ
 drawn_by_command random (Ok a) zero =
     bytes_drawn random a.success.after a.command.entries a.success.answer.drawn

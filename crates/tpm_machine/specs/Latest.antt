@@ -1,4 +1,4 @@
--- The latest execution of a machine, as the machine and its outcome show it.
+-- The latest execution of a machine, as the machine and the outcome show it.
 use Rattle.std.specs.Prelude.{◌≡◌, ℕ, Bool}
 use Rattle.tpm_record.specs.Record.{Record}
 use Rattle.tpm_step.specs.Events.{PlainEvent}
@@ -8,7 +8,7 @@ use Rattle.tpm_step.specs.declared.event.Outcome.{Outcome}
 use Rattle.tpm_step.specs.Executions.{Execution}
 use Rattle.tpm_machine.specs.Drawn.{drawn_by}
 
--- An execution is the latest of a machine with this record: the event was executed with this
+-- This execution is the latest of a machine with this record. The event was executed with this
 -- outcome, and this many of its random bytes were drawn.
 pub record IsLatest (now : Record) (drawn : ℕ) (event : PlainEvent) (outcome : Outcome)
     (one : Execution) : Type 0

@@ -1,5 +1,5 @@
-//! The decoding of a command's buffer, by the general checks that come before authorization; the
-//! first that fails refuses it.
+//! The decoding of a command's buffer, by the general checks that come before authorization. The
+//! first check that fails refuses the buffer.
 
 ghost use Rattle.tpm_types.specs.Limits.{buffer_limit};
 ghost use Rattle.tpm_bytes.specs.Reading.{AreBytes, Gives};
@@ -46,8 +46,8 @@ fn refusal_by(code: CommandCode, check: Check, rc: Rc) -> RefusedCommand
     RefusedCommand::of(code, Refused::by(check, rc))
 }
 
-/// Refuses a command with sessions that may have none, and one without sessions that must have
-/// some.
+/// Refuses a command with sessions that may have none, and a command without sessions that must
+/// have one.
 #[tactic(auto, unfolding(tpm_step::specs::General::sessions_pass))]
 fn check_tag(code: CommandCode, tag: Tag) -> Result<(), Refused>
     ensures { result ≡ sessions_pass code tag }
@@ -64,8 +64,8 @@ fn check_tag(code: CommandCode, tag: Tag) -> Result<(), Refused>
     Ok(())
 }
 
-/// Reads handle n of a command, which its rule has to accept, and which has to name something that
-/// is there.
+/// Reads handle n of a command. Its rule has to allow the handle, and the handle has to name
+/// something that is there.
 #[tactic(auto, unfolding(tpm_step::specs::General::present_handle_at))]
 fn read_handle<K: Keep>(
     keep: &K,
@@ -108,7 +108,7 @@ fn read_handles<K: Keep>(
     Ok(handles)
 }
 
-/// Reads what stands after a command's header, or gives the first check that refuses it.
+/// Reads the text after a command's header, or returns the first check that refuses it.
 #[tactic(auto, unfolding(tpm_step::specs::General::body_of))]
 fn decode_body<'a, K: Keep>(
     keep: &K,
@@ -155,12 +155,12 @@ fn decode_whole<'a, K: Keep>(keep: &K, buffer: &'a [u8]) -> Result<Command<'a>, 
     }
 }
 
-/// Decodes a command's buffer, or gives the first general check that refuses it.
+/// Decodes a command's buffer, or returns the first general check that refuses it.
 #[tactic(auto, using(crate::proofs::DecodingLaws::decodes_reads, crate::proofs::DecodingLaws::decodes_short))]
 pub fn decode<'a, K: Keep>(keep: &K, buffer: &'a [u8]) -> Result<Command<'a>, RefusedCommand>
     ensures decoded { Gives whole_of (general (K.record_of keep.now) buffer.now) result }
 
-    // The command that was decoded is the one that the whole buffer spells.
+    // The whole buffer encodes the decoded command.
     ensures read { IfOk result (λ command. command_at buffer.now ≡ Ok (whole_of command, [])) }
     ensures short { IfOk result (λ command. length command.parameters.now ≤ buffer_limit) }
 {

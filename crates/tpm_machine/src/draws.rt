@@ -1,11 +1,11 @@
-//! The random bytes of an event, from the front of which new nonces are drawn.
+//! The random bytes of an event. New nonces are drawn from their front.
 
 ghost use Rattle.std.specs.Prelude.{◌≡◌, ◌≤◌, ℕ, List, length, take, drop};
 
 use std::marker::Model;
 use tpm_session::Nonce;
 
-/// The random bytes of an event that are left. Contracts see them as a list.
+/// The random bytes of an event that are left, which contracts see as a list.
 #[derive(Drop)]
 pub struct Draws<'a> {
     left: &'a [u8],
@@ -24,14 +24,14 @@ impl<'a> Draws<'a> {
         Draws { left }
     }
 
-    /// How many random bytes are left.
+    /// The number of random bytes that are left.
     pub fn len(&self) -> usize
         ensures { result ≡ length self.now }
     {
         self.left.len()
     }
 
-    /// Draws a nonce of this many bytes, from the front.
+    /// Draws a nonce of this size from the front.
     pub fn nonce(&mut self, size: usize) -> Nonce
         requires small { size ≤ 32 }
         requires enough { size ≤ length self.old }

@@ -1,5 +1,5 @@
-//! What a success does to the sessions of its entries: new nonces, an answer to each entry, and the
-//! end of the sessions that do not continue.
+//! What a success does to the sessions of its entries: it draws new nonces, answers each entry,
+//! and ends the sessions that do not continue.
 
 ghost use Rattle.std.specs.Prelude.{◌≡◌, ◌+◌, ◌*◌, ◌≤◌, ◌++◌, length, map};
 ghost use Rattle.std.specs.List.{zip};
@@ -21,10 +21,10 @@ use tpm_types_command::AuthEntry;
 /// Library, Part 2, section 10.13.3).
 const PASSWORD_ANSWER: [u8; 5] = [0, 0, 1, 0, 0];
 
-/// The most bytes of the answers to the entries of a command, 69 each.
+/// The largest size of the answers to a command's entries, 69 bytes each.
 pub const ENTRY_ANSWERS_LIMIT: usize = 207;
 
-/// How many bytes the next nonce of an entry's session has.
+/// The size of the next nonce of an entry's session.
 #[tactic(auto, unfolding(tpm_step::specs::Entries::draw_of))]
 fn draw_of<K: Keep>(keep: &K, entry: &AuthEntry) -> usize
     ensures value { result ≡ draw_of (K.record_of keep.now) (entry_of entry.now) }
@@ -48,7 +48,7 @@ fn roll_entry<K: Keep>(keep: &mut K, entry: &AuthEntry, draws: &mut Draws)
     keep.sessions_mut().roll(entry.session, nonce);
 }
 
-/// Gives the sessions of the entries new nonces, in order.
+/// Draws new nonces for the sessions of the entries, in order.
 pub fn roll_entries<K: Keep>(keep: &mut K, entries: &[AuthEntry], draws: &mut Draws)
     requires few { length entries.now ≤ 3 }
     requires random { 3 * 32 ≤ length draws.old }
@@ -137,7 +137,7 @@ fn answer_entry<K: Keep>(
     }
 }
 
-/// Answers each entry, in order; each authorized this handle or none.
+/// Answers each entry, in order, with the handle that it authorized, if any.
 pub fn answer_entries<K: Keep>(
     keep: &K,
     hashes: &mut ParameterHashes,
@@ -160,7 +160,7 @@ pub fn answer_entries<K: Keep>(
     answer_entries(keep, hashes, keyed, entries, grants, area);
 }
 
-/// Returns the policy of an entry's session to its start, if it is a policy session.
+/// Sets the policy of an entry's session back to its start, if it is a policy session.
 #[tactic(auto, unfolding(tpm_step::specs::Entries::entry_restarted), using(tpm_policy::proofs::Sizes::starting_sized))]
 fn restart_entry<K: Keep>(keep: &mut K, entry: &AuthEntry)
     ensures { K.record_of keep.new ≡ entry_restarted (K.record_of keep.old) (entry_of entry.now) }
@@ -184,7 +184,7 @@ fn end_entry<K: Keep>(keep: &mut K, entry: &AuthEntry, grant: Option<Grant>)
     }
 }
 
-/// Ends the sessions that do not continue, and returns the policies of those that authorized to
+/// Ends the sessions that do not continue, and sets the policies of those that authorized back to
 /// their start.
 pub fn end_entries<K: Keep>(keep: &mut K, entries: &[AuthEntry], grants: &[Option<Grant>])
     ensures { K.record_of keep.new

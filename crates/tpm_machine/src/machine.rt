@@ -1,5 +1,5 @@
-//! The device itself: it is manufactured, and executes one event or a run of them, by the step that
-//! tpm_step defines.
+//! The device itself. It is manufactured, and executes one event or a run of events, by the step
+//! that tpm_step defines.
 
 ghost use Rattle.tpm_types.specs.Limits.{buffer_limit, response_limit};
 ghost use Rattle.std.specs.Prelude.{◌≡◌, ◌≤◌, ◌<◌, ◌^◌, List, [], IfOk, OnErr, false, length, map, true};
@@ -41,12 +41,12 @@ use tpm_types_command::Command;
 #[derive(Drop)]
 pub struct Machine<K: Keep> {
     keep: K,
-    /// The room for a command's answer, which is cleared for each command, and is no part of the
+    /// The buffer of a command's answer, which is cleared for each command. It is not part of the
     /// state.
     answer: Answer,
-    /// The key of the latest HMAC, which is no part of the state.
+    /// The key of the latest HMAC, which is not part of the state.
     keyed: KeyedMac,
-    /// How many random bytes the latest event drew, which is no part of the state.
+    /// The number of random bytes that the latest event drew, which is not part of the state.
     drawn: usize,
 }
 
@@ -58,7 +58,7 @@ impl<K: Keep> Machine<K> {
     /// A new device. Its memory comes from `alloc`, and its hierarchies' secrets are the random
     /// bytes.
     pub fn manufacture(alloc: Global, random: &[u8; 256]) -> Result<Machine<K>, NoMemory>
-        // Memory is refused only where the type of the state can be refused it.
+        // Memory is refused only if the type of the state can be refused it.
         ensures refused { OnErr result (K.empty_can_refuse ≡ true) }
         ensures state { IfOk result (λ machine. state_of K.record_of machine
             ≡ manufactured random.now) }
@@ -94,7 +94,7 @@ impl<K: Keep> Machine<K> {
         &self.keep
     }
 
-    /// The device's state, to be filled in its place.
+    /// The device's state, to be filled in place.
     pub fn keep_mut(&mut self) -> &mut K
         ensures* writes_back { sem 𝓛 (Lends (machine_row K.row K.SessionSlots.row
             K.ObjectSlots.row K.PersistentMap.row K.NvIndices.row) K.row self.entry result
@@ -104,26 +104,27 @@ impl<K: Keep> Machine<K> {
         &mut self.keep
     }
 
-    /// How many of its random bytes the latest event drew, from their front: those of the command
-    /// itself and of its sessions' new nonces. A refusal draws none, nor does a power cycle.
+    /// The number of random bytes that the latest event drew, from the front: those of the
+    /// command itself and of its sessions' new nonces. A refusal draws none, nor does a power
+    /// cycle.
     pub fn drawn(&self) -> usize
         ensures { result ≡ latest_drawn self.now }
     {
         self.drawn
     }
 
-    /// Executes one event: its response, its row and the state after it are those of the table, or
-    /// of refused memory in place of a success of a command that grows something. `Executes` also
-    /// says what holds of every outcome and of every record.
+    /// Executes one event. Its response, its row and the state after it are those of the table;
+    /// or memory was refused, and MEMORY replaces the success of a command that grows something.
+    /// `Executes` also says what holds of every outcome and of every record.
     pub fn execute(&mut self, event: &Event) -> Outcome
         ensures executes { Executes K.can_refuse (state_of K.record_of self.old)
             (plain_event event.now) (outcome_step (state_of K.record_of self.new) result) }
 
-        // Where the device followed a history, it follows the history with this event, if that was
+        // If the device followed a history, it follows the history with this event, if that was
         // accepted: counters, PCRs, authorization values and sessions are those of the history.
-        // Every replay in it repeats a nonce or an HMAC, each use had its grounds, and each use by
-        // a policy session met every policy that has the authPolicy of the entity that was used, or
-        // the hash is broken.
+        // Every replay in it repeats a nonce or an HMAC. Each use had its grounds. Each use by a
+        // policy session met every policy that has the authPolicy of the used entity, or the hash
+        // is broken.
         ensures history { After Follows (state_of K.record_of self.old) (plain_event event.now)
             (outcome_step (state_of K.record_of self.new) result) }
         ensures counters { After HasCounters (state_of K.record_of self.old)
@@ -146,21 +147,21 @@ impl<K: Keep> Machine<K> {
         outcome
     }
 
-    /// Executes one event, and writes its outcome over that of an event before, so that one
-    /// response serves for a whole run.
+    /// Executes one event, and overwrites the outcome of an earlier event, so that one response
+    /// serves for a whole run.
     pub fn execute_into(&mut self, event: &Event, outcome: &mut Outcome)
         ensures executes { Executes K.can_refuse (state_of K.record_of self.old)
             (plain_event event.now) (outcome_step (state_of K.record_of self.new) outcome.new) }
 
-        // The number of the event's random bytes that were drawn is told.
+        // The machine then has the number of the event's random bytes that were drawn.
         ensures drawn { latest_drawn self.new ≡ drawn_by (state_of K.record_of self.old)
             (plain_event event.now) outcome.new.row.check }
 
-        // Where the device followed a history, it follows the history with this event, if that was
+        // If the device followed a history, it follows the history with this event, if that was
         // accepted: counters, PCRs, authorization values and sessions are those of the history.
-        // Every replay in it repeats a nonce or an HMAC, each use had its grounds, and each use by
-        // a policy session met every policy that has the authPolicy of the entity that was used, or
-        // the hash is broken.
+        // Every replay in it repeats a nonce or an HMAC. Each use had its grounds. Each use by a
+        // policy session met every policy that has the authPolicy of the used entity, or the hash
+        // is broken.
         ensures history { After Follows (state_of K.record_of self.old) (plain_event event.now)
             (outcome_step (state_of K.record_of self.new) outcome.new) }
         ensures counters { After HasCounters (state_of K.record_of self.old)
@@ -183,7 +184,7 @@ impl<K: Keep> Machine<K> {
         read_widths(&self.keep);
     }
 
-    /// Does what an event asks for, writes its response, and gives its row.
+    /// Executes an event, writes its response, and returns its row.
     #[tactic(auto, using(crate::proofs::Refusals::steps_exactly))]
     fn advance(&mut self, event: &Event, text: &mut Response) -> Row
         requires { text.old.items ≡ [] }
@@ -219,21 +220,21 @@ impl<K: Keep> Machine<K> {
         }
     }
 
-    /// Runs the events in order, and calls `tell` with the outcome of each, once each.
+    /// Runs the events in order, and calls `tell` once with each outcome.
     #[tactic(auto, using(crate::proofs::Running::runs_lead, crate::proofs::Histories::runs_follow))]
     pub fn run<F: FnMut(&Outcome)>(&mut self, events: &[Event], tell: &mut F)
         requires { F.IsAlwaysCallable tell.old }
         ensures runs { Runs F.FnMut K.can_refuse (state_of K.record_of self.old) tell.old
             (map plain_event events.now) (state_of K.record_of self.new) tell.new }
 
-        // Where no memory can be refused, the record after the events is that to which their steps
-        // lead.
+        // If no memory can be refused, the record after the events is the one to which their
+        // steps lead.
         ensures after { K.can_refuse ≡ false → state_of K.record_of self.new
             ≡ after_all (state_of K.record_of self.old) (map plain_event events.now) }
 
-        // Where the device followed a history, it follows the history with those of the events
-        // that were accepted. No counter went down that stayed defined, few tries failed, and
-        // every replay repeats a nonce or an HMAC.
+        // If the device followed a history, it follows the history with the accepted events of
+        // the run. No counter that stayed defined went down, few tries failed, and every replay
+        // repeats a nonce or an HMAC.
         ensures history { (history : History) → Follows (state_of K.record_of self.old) history
             → RunFollows F.FnMut K.can_refuse (state_of K.record_of self.old) tell.old
             (map plain_event events.now) (state_of K.record_of self.new) tell.new history }
@@ -258,8 +259,8 @@ impl<K: Keep> Machine<K> {
     ghost use Rattle.tpm_step.specs.Safe.{IsModest};
     ghost use Rattle.tpm_step.specs.Step.{Answers, accepted};
 
-    /// Executes a command's buffer, after its time has passed: writes the response, and gives the
-    /// row.
+    /// Executes a command's buffer after its time has passed, writes the response, and returns
+    /// the row.
     #[tactic(auto, unfolding(tpm_step::specs::Step::accepted))]
     fn command(
         &mut self,
@@ -307,7 +308,7 @@ impl<K: Keep> Machine<K> {
     ghost use Rattle.tpm_step.specs.General.{in_command};
     ghost use Rattle.tpm_step.specs.Step.{acceptance};
 
-    /// Does what a command asks for whose entries authorize these handles.
+    /// Runs a command whose entries authorize these handles.
     #[inline(always)]
     #[tactic(auto, using(crate::proofs::Accepting::acting))]
     fn perform(
@@ -360,7 +361,7 @@ ghost use Rattle.tpm_step.specs.Step.{counted_in, settled};
 ghost use Rattle.tpm_step.specs.Answer.{refusal_text};
 ghost use Rattle.tpm_types.specs.Locality.{locality_number};
 
-/// Promises what the types of an event's parts say of them, and so what holds of every command's
+/// States what the types of an event's parts guarantee, and so what holds of every command's
 /// event. The function does nothing.
 #[inline(always)]
 fn read_command(locality: Locality, elapsed_ms: u32, random: &[u8; 256])
@@ -380,7 +381,7 @@ fn settle<K: Keep>(keep: &mut K, code: CommandCode)
     }
 }
 
-/// Counts against dictionary attacks what a refusal counts.
+/// Counts a refusal against dictionary attacks.
 fn count<K: Keep>(keep: &mut K, counted: Counted)
     ensures { K.record_of keep.new ≡ counted_in counted (K.record_of keep.old) }
 {
@@ -392,7 +393,7 @@ fn count<K: Keep>(keep: &mut K, counted: Counted)
     }
 }
 
-/// Counts what the refusal of a command counts, writes the response to it, and gives the row.
+/// Counts the refusal of a command, writes the response to it, and returns the row.
 fn refuse<K: Keep>(keep: &mut K, refusal: RefusedCommand, text: &mut Response) -> Row
     requires { text.old.items ≡ [] }
     ensures counted { K.record_of keep.new

@@ -1,5 +1,5 @@
-//! The encryption of first parameters: the first of a command's is decrypted, and the first of its
-//! answer's encrypted, by the session that asks for it.
+//! The encryption of first parameters. The session that asks for it decrypts the first parameter
+//! of a command, or encrypts the first parameter of the answer.
 
 ghost use Rattle.std.specs.Prelude.{◌≡◌, ◌≤◌, length, map};
 ghost use Rattle.std.specs.List.{zip};
@@ -51,7 +51,7 @@ fn asks_for(direction: Direction, entry: &AuthEntry) -> bool
     }
 }
 
-/// Decrypts or encrypts the sized buffer at the front of a text by a session, with this
+/// Decrypts or encrypts the sized buffer at the front of a text, by a session with this
 /// authorization value.
 fn pass_first(
     direction: Direction,
@@ -89,8 +89,8 @@ fn pass_by<K: Keep>(
     }
 }
 
-/// Decrypts or encrypts the first parameter by the session of the first entry that asks for it: of
-/// a command, each of whose entries authorizes this handle or none, or of its answer.
+/// Decrypts or encrypts the first parameter of a command or of its answer, by the session of the
+/// first entry that asks for it. Each entry has the handle that it authorizes, if any.
 pub fn pass_parameters<K: Keep>(
     direction: Direction,
     keep: &K,

@@ -1,4 +1,4 @@
-//! The writing of responses: to a refusal, to a success, and to a success with sessions.
+//! Responses to a refusal, to a success, and to a success with sessions.
 
 ghost use Rattle.tpm_types.specs.Limits.{answer_limit, buffer_limit, response_limit};
 ghost use Rattle.std.specs.Prelude.{◌≡◌, ◌+◌, ◌≤◌, ◌++◌, [], length, map};
@@ -47,7 +47,7 @@ fn refusal_tag(check: Check) -> u16
     }
 }
 
-/// Writes the response to a command that was refused.
+/// Writes the response to a refused command.
 #[tactic(auto, using(crate::proofs::Answering::framed_alone))]
 pub fn write_refusal(refused: Refused, text: &mut Response)
     requires { text.old.items ≡ [] }
@@ -81,7 +81,7 @@ fn write_handle(handle: Option<Handle>, text: &mut Response)
     }
 }
 
-/// Writes the response to a success that has no entries.
+/// Writes the response to a success without entries.
 fn write_plain(handle: Option<Handle>, parameters: &[u8], text: &mut Response)
     requires empty { text.old.items ≡ [] }
     requires parameters { length parameters.now ≤ ANSWER_LIMIT }
@@ -111,7 +111,7 @@ fn write_with_area(handle: Option<Handle>, parameters: &[u8], area: &[u8], text:
     append(text, area);
 }
 
-/// Encrypts the parameters of an answer in their place, as the sessions of the entries ask for.
+/// Encrypts the parameters of an answer in place, as the entries' sessions ask for.
 fn encrypt_answer<K: Keep>(
     keep: &K,
     entries: &[AuthEntry],
@@ -120,15 +120,15 @@ fn encrypt_answer<K: Keep>(
 )
     ensures encrypted { parameters.new ≡ encrypted_answer (K.record_of keep.now)
         (zip (map entry_of entries.now) grants.now) parameters.old }
-    // The parameters have no room for more than an answer has.
+    // The parameters always fit the buffer of an answer.
     ensures room { length parameters.old ≤ ANSWER_LIMIT }
 {
     let text = parameters.as_mut_slice();
     pass_parameters(Direction::Encrypt, keep, entries, grants, text);
 }
 
-/// Writes the response to a command with entries that succeeded, rolls and ends their sessions,
-/// and gives how many random bytes the command drew.
+/// Writes the response to a successful command with entries, renews and ends their sessions, and
+/// returns how many random bytes the command drew.
 #[inline(never)]
 fn write_with_sessions<K: Keep>(
     keep: &mut K,
@@ -167,7 +167,7 @@ fn write_with_sessions<K: Keep>(
     drawn
 }
 
-/// Writes the response to a command that succeeded, and gives how many random bytes it drew.
+/// Writes the response to a successful command, and returns how many random bytes it drew.
 #[tactic(auto, unfolding(tpm_step::specs::Answer::success_text, tpm_step::specs::Answer::answer_to))]
 pub fn write_success<K: Keep>(
     keep: &mut K,
@@ -186,7 +186,7 @@ pub fn write_success<K: Keep>(
         answer.old.drawn }
     ensures count { result ≡ bytes_drawn random.now (K.record_of keep.old)
         (whole_of command.now).entries answer.old.drawn }
-    // The parameters of an answer have no room for more.
+    // The parameters of an answer always fit its buffer, which has this size.
     ensures room { length answer.old.parameters ≤ ANSWER_LIMIT }
     ensures fits { length text.new.items ≤ response_limit }
 {

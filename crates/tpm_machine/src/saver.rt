@@ -1,11 +1,10 @@
-//! What saves a device while it is used: a [`Saver`] is told the device, a [`Witness`] each event
-//! that the device executed, and [`SavesNothing`] is the saver and the witness of a device that
-//! nobody keeps.
+//! What saves a device while it is used. A [`Saver`] gets the device, and a [`Witness`] gets each
+//! event that the device executed. [`SavesNothing`] is both, for a device that nobody keeps.
 //!
-//! A script that uses a device tells a saver the device at each change and at the end; a server
-//! tells a witness each command before its response goes out. Contracts see what each call told:
-//! that of a saver's user says which devices the saver was told, in which order, and each saver
-//! says what it makes of them; alike for witnesses.
+//! A script that uses a device calls a saver at each change and at the end. A server calls a
+//! witness with each command before the response is sent. Contracts see what was passed to each
+//! call. The contract of a saver's user says which devices the saver got, in which order, and
+//! each saver says what it does with them. The same holds of witnesses.
 
 ghost use Rattle.std.specs.Prelude.{◌≡◌, Bool, OnErr, OnOk, false, true};
 ghost use Rattle.tpm_step.specs.Executions.{Execution};
@@ -22,40 +21,42 @@ use tpm_step::{Event, Outcome};
 #[derive(Clone, Copy, PartialEq, Eq)]
 pub struct Unsaved;
 
-/// What saves a device while it is used. Contracts see each call that succeeds as a relation of the
-/// saver before, the record of the device that it was told, and the saver after.
+/// A saver, which saves a device while it is used. Contracts see each successful call as a
+/// relation of three: the saver before, the record of the device that it got, and the saver
+/// after.
 pub trait Saver {
-    /// The saver was told a device, its clock too.
+    /// The saver got a device to save, with its clock.
     ghost saves: { Self → Record → Self → Type 0 };
 
-    /// The saver was told a device, of which the clock alone may be unsaved.
+    /// The saver got a device to save, of which at most the clock may be unsaved.
     ghost saves_change: { Self → Record → Self → Type 0 };
 
-    /// Whether a save has failed, which stays so.
+    /// Whether a save has failed; this stays true.
     ghost has_failed: { Self → Bool };
 
     /// Saves a device that has executed a command, if more than its clock changed. The response
-    /// goes out after that.
+    /// is sent after that.
     fn save_change<K: Keep>(&mut self, machine: &Machine<K>) -> Result<(), Unsaved>
         ensures told { OnOk result
             (saves_change self.old (state_of K.record_of machine.now) self.new) }
         ensures failed { OnErr result (has_failed self.new ≡ true) }
         ensures stays { has_failed self.old ≡ true → has_failed self.new ≡ true };
 
-    /// Saves a device, its clock too.
+    /// Saves a device, with its clock.
     fn save<K: Keep>(&mut self, machine: &Machine<K>) -> Result<(), Unsaved>
         ensures told { OnOk result (saves self.old (state_of K.record_of machine.now) self.new) }
         ensures failed { OnErr result (has_failed self.new ≡ true) }
         ensures stays { has_failed self.old ≡ true → has_failed self.new ≡ true };
 }
 
-/// What is told each event that a device executed, before the response goes out. Contracts see each
-/// call that succeeds as a relation of the witness before, the execution, and the witness after.
+/// A witness, which gets each event that a device executed, before the response is sent.
+/// Contracts see each successful call as a relation of three: the witness before, the execution,
+/// and the witness after.
 pub trait Witness {
-    /// The witness was told an execution.
+    /// The witness got an execution.
     ghost notes: { Self → Execution → Self → Type 0 };
 
-    /// Whether a note has failed, which stays so.
+    /// Whether a note has failed; this stays true.
     ghost note_failed: { Self → Bool };
 
     /// Notes the event that a machine executed last, with its outcome.
@@ -72,7 +73,7 @@ pub trait Witness {
         ensures stays { note_failed self.old ≡ true → note_failed self.new ≡ true };
 }
 
-/// A saver that saves nothing, since nobody wants the device any more.
+/// A saver that saves nothing, since nobody needs the device any more.
 #[derive(Clone, Copy, PartialEq, Eq)]
 pub struct SavesNothing;
 

@@ -1,9 +1,9 @@
-//! The comparison that every test makes. An `assert!` is proved anew wherever it is used; a call of
-//! this function takes a tenth of the time.
+//! The comparison that every test uses. The prover proves an `assert!` again at each use; a call
+//! of this function takes a tenth of the time.
 
 use std::process::Abort;
 
-/// Ends the test where the value found is not the one wanted.
+/// Aborts the test if the actual value is not the expected one.
 pub fn check<R: Abort, T: PartialEq + Drop>(rt: &R, found: T, wanted: T) {
     assert!(rt; found == wanted);
 }

@@ -10,19 +10,20 @@ use tpm_bytes::Tap;
 use tpm_record::Keep;
 use tpm_wire::{ConnectionNumber, Full, Mux, NoConnection, ServeFault, Turn, serve};
 
-/// The buffers of TPM2_Startup, and of TPM2_GetRandom of one and of two bytes.
+/// The buffers of TPM2_Startup, of TPM2_GetRandom for one byte, and of TPM2_GetRandom for two
+/// bytes.
 pub const FIRST: &[u8] = &[
     0x80, 1, 0, 0, 0, 12, 0, 0, 1, 0x44, 0, 0, 0x80, 1, 0, 0, 0, 12, 0, 0, 1, 0x7b, 0, 1, 0x80, 1,
     0, 0, 0, 12, 0, 0, 1, 0x7b, 0, 2,
 ];
 
-/// The buffers of TPM2_GetRandom of three, four and five bytes.
+/// The buffers of TPM2_GetRandom for three, four and five bytes.
 const SECOND: &[u8] = &[
     0x80, 1, 0, 0, 0, 12, 0, 0, 1, 0x7b, 0, 3, 0x80, 1, 0, 0, 0, 12, 0, 0, 1, 0x7b, 0, 4, 0x80, 1,
     0, 0, 0, 12, 0, 0, 1, 0x7b, 0, 5,
 ];
 
-/// The responses to the first buffers: a success, one random byte and two random bytes.
+/// The responses to the first buffers: success, one random byte, and two random bytes.
 pub const FIRST_ANSWERS: &[u8] = &[
     0x80, 1, 0, 0, 0, 10, 0, 0, 0, 0, 0x80, 1, 0, 0, 0, 13, 0, 0, 0, 0, 0, 1, 7, 0x80, 1, 0, 0, 0,
     14, 0, 0, 0, 0, 0, 2, 7, 7,
@@ -37,7 +38,7 @@ const SECOND_ANSWERS: &[u8] = &[
 /// The response TPM_RC_COMMAND_SIZE.
 const WRONG_SIZE: &[u8] = &[0x80, 1, 0, 0, 0, 10, 0, 0, 1, 0x42];
 
-/// Feeds a byte, and adds the response of a turn to the others, if the turn answers.
+/// Feeds a byte, and appends the turn's response, if there is one, to the earlier responses.
 fn add_answer<K: Keep>(
     mux: &mut Mux<K>,
     connection: ConnectionNumber,
@@ -76,12 +77,12 @@ fn two_connections_are_fed_a_byte_in_turn(rt: HostRuntime) -> Result<(), Fail> {
     run_over_both(TwoInTurn, &rt, rt.alloc())
 }
 
-/// Whether a turn of a connection gives its end.
+/// Whether a turn of a connection reports that the connection has ended.
 fn has_ended<K: Keep>(mux: &mut Mux<K>, connection: ConnectionNumber) -> bool {
     matches!(turn(mux, connection), Ok(Turn::Ended))
 }
 
-/// Checks that a connection ends whose first buffer has this commandSize.
+/// Checks that a connection ends if its first buffer has this commandSize.
 fn end_by<K: Keep, R: Abort>(rt: &R, mux: &mut Mux<K>, size: [u8; 4]) -> Result<(), Fail> {
     let connection = mux.open()?;
     check(rt, feed(mux, connection, &[0x80, 1]), Ok(2));
@@ -112,7 +113,7 @@ fn a_size_that_no_command_has_ends_a_connection(rt: HostRuntime) -> Result<(), F
     run_over_both(WrongSizes, &rt, rt.alloc())
 }
 
-/// Serves a connection on which nothing comes.
+/// Serves a connection that sends nothing.
 fn serve_nothing<K: Keep>(alloc: Global, mux: &mut Mux<K>) -> Result<u64, ServeFault> {
     let mut reader = Tap::new(b"".as_slice());
     let mut writer = Tap::new(Vec::new(alloc));

@@ -1,4 +1,5 @@
-//! Time, Clock and resetCount near their largest values, which no script waits for.
+//! Time, Clock and resetCount near their maximum values, which a script would take too long to
+//! reach.
 
 use super::comparison::check;
 use super::keeps::{Trial, run_over_both};
@@ -13,13 +14,13 @@ use tpm_types::Locality;
 /// The buffer of TPM2_Startup(CLEAR).
 const STARTUP: &[u8] = b"\x80\x01\0\0\0\x0c\0\0\x01\x44\0\0";
 
-/// Executes TPM2_Startup(CLEAR), this number of milliseconds after the command before it.
+/// Executes TPM2_Startup(CLEAR), this number of milliseconds after the previous command.
 fn start<K: Keep>(machine: &mut Machine<K>, elapsed_ms: u32) {
     let here = Locality::new(0).unwrap();
     machine.execute(&Event::of_command(STARTUP, here, elapsed_ms, [0; 256]));
 }
 
-/// Sets Time and Clock close to their largest values, and resetCount to its own.
+/// Sets Time and Clock close to their maximum values, and resetCount to its maximum.
 fn set(fixed: &mut Fixed) {
     fixed.time = u64::MAX - 8;
     fixed.clock = u64::MAX - 6;

@@ -1,5 +1,5 @@
-//! A device, its host, and the bytes that are sent to it. The contracts of these functions say
-//! nothing, so that a test is proved without a look at the bytes.
+//! A device, its host, and the bytes that are sent to it. The contracts of these functions are
+//! empty, so that the prover does not look at the bytes.
 
 use std::alloc::Global;
 use std::test::Fail;
@@ -16,7 +16,7 @@ pub fn mux<K: Keep>(alloc: Global) -> Result<Mux<K>, Fail> {
     Ok(Mux::new(Machine::manufacture(alloc, &[0; 256])?))
 }
 
-/// The values of the host for a command from locality 0, a millisecond after the one before.
+/// The host's values for a command from locality 0, one millisecond after the previous command.
 pub fn host() -> Host {
     Host {
         locality: Locality::new(0).unwrap(),
@@ -34,12 +34,12 @@ pub fn feed<K: Keep>(
     mux.feed(connection, piece)
 }
 
-/// A turn of a connection.
+/// Performs a turn of a connection.
 pub fn turn<K: Keep>(mux: &mut Mux<K>, connection: ConnectionNumber) -> Result<Turn, NoConnection> {
     mux.turn(connection, host())
 }
 
-/// The outcome of a connection's next buffer, which is whole.
+/// The outcome of a connection's next buffer, which must be complete.
 pub fn answer<K: Keep>(mux: &mut Mux<K>, connection: ConnectionNumber) -> Result<Outcome, Fail> {
     match turn(mux, connection)? {
         Turn::Answer(outcome) => Ok(outcome),

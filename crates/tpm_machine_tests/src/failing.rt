@@ -1,10 +1,10 @@
-//! A reader and a writer over memory, which move a few bytes at a time and fail at a call.
+//! A reader and a writer in memory, which transfer a few bytes at a time and fail at a given
+//! call.
 
 use std::io;
 use std::io::{ErrorKind, Read, Write};
 
-/// A reader of a text: it reads at most `size` bytes at a time, while `reads` are left, and fails
-/// at the next.
+/// Reads from a text: at most `size` bytes at a time. It succeeds `reads` times and then fails.
 #[derive(Drop)]
 pub struct Source<'a> {
     pub left: &'a [u8],
@@ -26,8 +26,8 @@ impl Read for Source<'_> {
     }
 }
 
-/// A writer that keeps what is written: it takes at most `size` bytes at a time, while `writes` are
-/// left, and fails at the next.
+/// A writer that stores what is written. It writes at most `size` bytes at a time, succeeds
+/// `writes` times, and then fails.
 #[derive(Drop)]
 pub struct Sink {
     pub taken: Vec<u8>,

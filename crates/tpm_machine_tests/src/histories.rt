@@ -1,5 +1,5 @@
-//! Three connections that measure into PCRs, in several orders: TPM2_PCR_Read then answers the
-//! value that the accepted commands make.
+//! Three connections that measure into PCRs, in several orders. Afterwards TPM2_PCR_Read returns
+//! the value that the accepted commands determine.
 
 use super::comparison::check;
 use super::device::{STARTUP, answer, feed, mux};
@@ -11,19 +11,19 @@ use tpm_mac::{Digest, HashAlg, digest_parts};
 use tpm_record::Keep;
 use tpm_wire::{ConnectionNumber, Mux};
 
-/// A measurement that a command makes into PCR 16, in the bank of SHA-256.
+/// A command's measurement into PCR 16, in the SHA-256 bank.
 #[derive(Clone, Copy)]
 enum Measurement {
-    /// TPM2_PCR_Extend by a digest of 32 bytes, of which each is this one.
+    /// TPM2_PCR_Extend with a digest that repeats this byte 32 times.
     Extend(u8),
-    /// TPM2_PCR_Event of this byte.
+    /// TPM2_PCR_Event with this byte.
     Event(u8),
     /// TPM2_PCR_Reset of PCR 16.
     Reset,
 }
 
-/// The front of a command on PCR 16, before its parameters: its header, the handle, and the area of
-/// an empty password.
+/// The part of a command on PCR 16 before its parameters: its header, the handle, and an
+/// authorization area with an empty password.
 fn header(size: u8, code: u8) -> [u8; 27] {
     [
         0x80, 2, 0, 0, 0, size, 0, 0, 1, code, 0, 0, 0, 16, 0, 0, 0, 9, 0x40, 0, 0, 9, 0, 0, 1, 0,
@@ -32,7 +32,7 @@ fn header(size: u8, code: u8) -> [u8; 27] {
 }
 
 impl Measurement {
-    /// The value of the PCR after the measurement, by the definition.
+    /// The value of the PCR after the measurement, according to the definition.
     fn fold(self, old: Digest) -> Digest {
         let hash = HashAlg::Sha256;
         match self {
@@ -45,7 +45,7 @@ impl Measurement {
         }
     }
 
-    /// Feeds the measurement's command to a connection.
+    /// Feeds the command for the measurement to a connection.
     fn feed<K: Keep>(self, mux: &mut Mux<K>, connection: ConnectionNumber) -> Result<(), Fail> {
         match self {
             Measurement::Extend(byte) => {
@@ -65,14 +65,14 @@ impl Measurement {
     }
 }
 
-/// The value of PCR 16 at first: zeros.
+/// The initial value of PCR 16: zeros.
 fn zeros() -> Digest {
     let mut value = Digest::new();
     let _ = value.try_extend_from_slice(&[0; 32]);
     value
 }
 
-/// A connection of the three.
+/// One of the three connections.
 #[derive(Clone, Copy)]
 enum Sender {
     First,
@@ -80,7 +80,7 @@ enum Sender {
     Third,
 }
 
-/// What each of the three connections sends, in turn.
+/// What the three connections send, taking turns.
 const IN_TURN: &[(Sender, Measurement)] = &[
     (Sender::First, Measurement::Extend(1)),
     (Sender::Second, Measurement::Event(3)),
@@ -90,7 +90,7 @@ const IN_TURN: &[(Sender, Measurement)] = &[
     (Sender::Third, Measurement::Extend(5)),
 ];
 
-/// What each of the three connections sends, in reverse turn.
+/// What the three connections send, taking turns in reverse order.
 const IN_REVERSE_TURN: &[(Sender, Measurement)] = &[
     (Sender::Third, Measurement::Extend(4)),
     (Sender::Second, Measurement::Event(3)),
@@ -100,7 +100,7 @@ const IN_REVERSE_TURN: &[(Sender, Measurement)] = &[
     (Sender::First, Measurement::Event(2)),
 ];
 
-/// What each of the three connections sends, one connection after another.
+/// What the three connections send, one connection after another.
 const ONE_AFTER_ANOTHER: &[(Sender, Measurement)] = &[
     (Sender::First, Measurement::Extend(1)),
     (Sender::First, Measurement::Event(2)),
@@ -110,15 +110,15 @@ const ONE_AFTER_ANOTHER: &[(Sender, Measurement)] = &[
     (Sender::Third, Measurement::Extend(5)),
 ];
 
-/// TPM2_PCR_Read of PCR 16 in the bank of SHA-256.
+/// TPM2_PCR_Read of PCR 16 in the SHA-256 bank.
 const READ: &[u8] = &[
     0x80, 1, 0, 0, 0, 20, 0, 0, 1, 0x7e, 0, 0, 0, 1, 0, 0x0b, 3, 0, 0, 1,
 ];
 
-/// How many bytes stand before the value in the answer of TPM2_PCR_Read.
+/// The number of bytes before the value in the response of TPM2_PCR_Read.
 const BEFORE_VALUE: usize = 30;
 
-/// Feeds what each connection sends in an order, and compares what TPM2_PCR_Read then answers.
+/// Feeds what the connections send in an order, and checks what TPM2_PCR_Read then returns.
 fn measure<K: Keep, R: Abort>(
     rt: &R,
     alloc: Global,

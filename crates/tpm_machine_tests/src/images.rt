@@ -1,4 +1,4 @@
-//! Two images of version 1, kept as bytes, and the devices that are opened from them.
+//! Two images of version 1, stored as bytes, and the devices that are opened from them.
 
 use super::comparison::check;
 use super::keeps::{Trial, run_over_both};
@@ -12,11 +12,11 @@ use tpm_record::Keep;
 use tpm_step::Event;
 use tpm_types::Locality;
 
-/// A text in pieces: digits of hex, and how many bytes of zeros follow them.
+/// A text in pieces: hex digits, and the number of zero bytes that follow them.
 type Pieces = &'static [(&'static str, usize)];
 
-/// The image of a new device, made of the random bytes 00 to ff, as tests/images/version_1/new.hex
-/// has it.
+/// The image of a new device, made from the random bytes 00 to ff, as in
+/// tests/images/version_1/new.hex.
 const NEW: Pieces = &[
     (
         "54504d490001000001630000000102030405060708090a0b0c0d0e0f10111213",
@@ -61,9 +61,9 @@ const NEW: Pieces = &[
     ),
 ];
 
-/// The image of a device whose TPM2_Shutdown(STATE) saved the PCRs 0 to 15, of which PCR 3 has a
-/// value, as tests/images/version_1/saved.hex has it; PCR 16 had a value too, and there was a
-/// session.
+/// The image of a device whose TPM2_Shutdown(STATE) saved PCRs 0 to 15, as in
+/// tests/images/version_1/saved.hex. PCR 3 has a value; PCR 16 also had a value, and a session
+/// existed.
 const SAVED: Pieces = &[
     (
         "54504d490001000004a30000000102030405060708090a0b0c0d0e0f10111213",
@@ -179,8 +179,8 @@ fn the_image_of_a_new_device(rt: HostRuntime) -> Result<(), Fail> {
     run_over_both(NewDevice, &rt, rt.alloc())
 }
 
-/// The fault of the text that begins as the image of the new device does, has this many bytes, and
-/// another one in a place.
+/// The error for a text that starts like the image of the new device, has this size, and differs
+/// in the byte at an offset.
 fn fault_of<K: Keep>(
     alloc: Global,
     length: usize,
@@ -195,7 +195,7 @@ fn fault_of<K: Keep>(
     Ok(outcome.err())
 }
 
-/// How many bytes a text has, in which place it has another byte, and the fault.
+/// The size of a text, the offset of its different byte, and the error.
 const FAULTS: [(usize, usize, ImageFault); 5] = [
     (41, 0, ImageFault::Short),
     (355, 0, ImageFault::Magic),
@@ -221,14 +221,14 @@ fn a_cut_or_changed_image_has_a_fault(rt: HostRuntime) -> Result<(), Fail> {
     run_over_both(Faults, &rt, rt.alloc())
 }
 
-/// A buffer in hex, and its answer.
+/// A buffer in hex, and its response.
 type Exchange = (&'static str, Pieces);
 
 /// TPM2_Startup(STATE).
 const STARTUP: Exchange = ("80010000000c000001440001", &[("80010000000a00000000", 0)]);
 
-/// TPM2_PCR_Read of PCR 3 and PCR 16 in the bank of SHA-256: PCR 3 has the value that the image has,
-/// and PCR 16 zeros.
+/// TPM2_PCR_Read of PCR 3 and PCR 16 in the SHA-256 bank: PCR 3 has the value from the image, and
+/// PCR 16 is all zeros.
 const READ: Exchange = (
     "8001000000140000017e00000001000b03080001",
     &[
@@ -244,19 +244,20 @@ const READ: Exchange = (
     ],
 );
 
-/// TPM2_PolicyGetDigest of the session that there was: REFERENCE_H0.
+/// TPM2_PolicyGetDigest for the former session: REFERENCE_H0.
 const POLICY: Exchange = (
     "80010000000e0000018903000000",
     &[("80010000000a00000910", 0)],
 );
 
-/// TPM2_StartAuthSession, which takes memory in lists: the handle is free again.
+/// TPM2_StartAuthSession, which allocates memory if the state is stored in lists: the handle is
+/// free again.
 const START: Exchange = (
     "80010000002b0000017640000007400000070010000000000000000000000000000000000000010010000b",
     &[("80010000002000000000030000000010", 16)],
 );
 
-/// Checks how a device answers a buffer.
+/// Checks how a device responds to a buffer.
 fn check_answer<K: Keep, R: Abort>(
     rt: &R,
     alloc: Global,

@@ -1,4 +1,4 @@
-//! Trials: a test is written once for every type that implements `Keep`, and run with two.
+//! Trials: a test is written once for all types that implement `Keep`, and runs with two of them.
 
 use std::alloc::Global;
 use std::process::Abort;
@@ -12,7 +12,7 @@ pub trait Trial {
     fn run<K: Keep, R: Abort>(rt: &R, alloc: Global) -> Result<(), Fail>;
 }
 
-/// A trial, and what it is given.
+/// A trial and its input.
 #[derive(Drop)]
 struct Given<'a, T, R> {
     trial: T,
@@ -28,7 +28,7 @@ impl<T: Trial + Drop, R: Abort> Task<Fail> for Given<'_, T, R> {
     }
 }
 
-/// Runs a trial with the state in fixed places, and with the state in lists.
+/// Runs a trial twice: with the state in fixed slots, and with the state in lists.
 pub fn run_over_both<T: Trial + Drop, R: Abort>(
     trial: T,
     rt: &R,

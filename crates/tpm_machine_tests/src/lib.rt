@@ -1,13 +1,14 @@
 #![tactic(auto)]
 
-//! Tests of the device, of its sessions and NV indices, of its images, and of its connections, for
-//! what no clause says and no script under `tests/` shows: what `run` tells, counters near their
-//! largest values, each public call on sessions and indices once, with values that were computed
-//! outside, connections that take turns, readers, writers and hosts of which each call fails in
-//! turn, a client behind a socket, and two images of version 1.
+//! Tests of the device, its sessions and NV indices, its images, and its connections, for
+//! behaviour that neither a contract nor a script under `tests/` covers: what `run` reports;
+//! counters near their maximum values; one call of each public function on sessions and indices,
+//! with values computed by other programs; connections that take turns; readers, writers and
+//! hosts that fail at each call in turn; a client at the other end of a socket; and two images of
+//! version 1.
 //!
-//! The crate uses `tpm_wire`, `tpm_image` and `tpm_slots`, and no crate uses it. It waits for them,
-//! so it is proved beside the program.
+//! The crate depends on `tpm_wire`, `tpm_image` and `tpm_slots`, and no crate depends on it. Its
+//! proof has to wait for them, so it is proved at the same time as the program.
 
 #[cfg(test)]
 mod comparison;

@@ -1,5 +1,5 @@
-//! NV indices: each call once, over lists and over fixed places, with a digest that was computed
-//! outside, by Python's `hashlib`.
+//! NV indices: each call once, with lists and with fixed slots, and a digest computed by Python's
+//! `hashlib`.
 
 use super::comparison::check;
 use std::alloc::Global;
@@ -21,19 +21,20 @@ const SECOND: Handle = Handle {
     number: 0x0100_0002,
 };
 
-/// An ordinary index of eight bytes, whose authorization value writes and reads it.
+/// An ordinary index of eight bytes that can be written and read with its authorization value.
 const ORDINARY: &[u8] = b"\x01\0\0\x01\0\x0b\0\x04\0\x04\0\0\0\x08";
 
-/// A counter that can be locked for reading until the next startup.
+/// A counter that can be locked against reading until the next startup.
 const COUNTER: &[u8] = b"\x01\0\0\x02\0\x0b\x80\x04\0\x14\0\0\0\x08";
 
-/// A bit field that can be locked for writing until the next startup, and that a startup clears.
+/// A bit field that can be locked against writing until the next startup, and that a startup
+/// clears.
 const BITS: &[u8] = b"\x01\0\0\x01\0\x0b\x08\x04\x40\x24\0\0\0\x08";
 
-/// An index that is extended by SHA-1.
+/// An index that can be extended, with nameAlg SHA-1.
 const EXTENDED: &[u8] = b"\x01\0\0\x01\0\x04\0\x04\0\x44\0\0\0\x14";
 
-/// An ordinary index that is said to be written.
+/// An ordinary index whose public area says that it has been written.
 const WRITTEN: &[u8] = b"\x01\0\0\x01\0\x0b\x20\x04\0\x04\0\0\0\x08";
 
 /// A counter of four bytes.
@@ -43,7 +44,8 @@ const SHORT_COUNTER: &[u8] = b"\x01\0\0\x02\0\x0b\0\x04\0\x14\0\0\0\x04";
 const DIGEST: &[u8] =
     b"\x82\x6e\xb4\x34\xa3\xb9\x98\xd5\x2e\x8f\x8d\x6f\xf9\x74\x18\xcb\x60\xd5\x25\x6e";
 
-/// The outcome of a definition: no public area, or the check that failed, or the call's answer.
+/// The outcome of a definition: there is no public area, or a check failed, or the call returned
+/// a result.
 #[derive(Clone, Copy, PartialEq, Eq)]
 enum Outcome {
     Unread,
@@ -51,7 +53,7 @@ enum Outcome {
     Answered(Result<(), DefineFault>),
 }
 
-/// Defines the index of a public area with the authorization value "a".
+/// Defines the index with this public area and the authorization value "a".
 fn defined<N: Indices>(indices: &mut N, text: &[u8]) -> Outcome {
     let Ok(public) = NvPublic::read(&mut Cursor::new(text)) else {
         return Outcome::Unread;
@@ -62,7 +64,7 @@ fn defined<N: Indices>(indices: &mut N, text: &[u8]) -> Outcome {
     }
 }
 
-/// Defines the index of a public area, without a check of it.
+/// Defines the index with this public area, without checking it.
 fn defined_unchecked<N: Indices>(indices: &mut N, text: &[u8]) -> Option<Result<(), DefineFault>> {
     match NvPublic::read(&mut Cursor::new(text)) {
         Ok(public) => Some(indices.define(public, AuthValue::of(b"a"))),
@@ -77,7 +79,7 @@ fn is_read<N: Indices>(indices: &N, handle: Handle, size: u16, bytes: &[u8]) -> 
     }
 }
 
-/// The fault by which the first byte of an index is not read, if any.
+/// The error when the first byte of an index is read, if any.
 fn read_fault<N: Indices>(indices: &N, handle: Handle) -> Option<ReadFault> {
     indices.read(handle, 0, 1).err()
 }
@@ -89,7 +91,7 @@ fn has_auth<N: Indices>(indices: &N, handle: Handle, bytes: &[u8]) -> bool {
     }
 }
 
-/// Whether an index has the public area that a text spells.
+/// Whether an index has the public area that a text encodes.
 fn has_public<N: Indices>(indices: &N, handle: Handle, text: &[u8]) -> bool {
     let mut sink: Sink<46> = Sink::new();
     match public(indices, handle) {
@@ -98,7 +100,7 @@ fn has_public<N: Indices>(indices: &N, handle: Handle, text: &[u8]) -> bool {
     }
 }
 
-/// Definitions that are refused, and one that is not.
+/// Definitions that are refused, and one that succeeds.
 fn definitions<N: Indices>(rt: &impl Abort, indices: &mut N) {
     check(
         rt,
@@ -121,7 +123,7 @@ fn definitions<N: Indices>(rt: &impl Abort, indices: &mut N) {
     check(rt, has_public(indices, SECOND, ORDINARY), false);
 }
 
-/// What is written to an ordinary index, and what is refused.
+/// Writes to an ordinary index, and writes that are refused.
 fn writes<N: Indices>(rt: &impl Abort, indices: &mut N) {
     check(
         rt,
@@ -148,7 +150,7 @@ fn writes<N: Indices>(rt: &impl Abort, indices: &mut N) {
     );
 }
 
-/// Another authorization value of an index, and its end.
+/// Changes the authorization value of an index, and removes the index.
 fn changes<N: Indices>(rt: &impl Abort, indices: &mut N) {
     check(rt, has_auth(indices, FIRST, b"a"), true);
     check(rt, indices.change_auth(FIRST, AuthValue::of(b"bc")), Ok(()));
@@ -158,7 +160,7 @@ fn changes<N: Indices>(rt: &impl Abort, indices: &mut N) {
     check(rt, indices.undefine(FIRST), false);
 }
 
-/// A counter from the largest count on, and bits.
+/// Counts with a counter, starting from the largest count; and sets bits.
 fn counts<N: Indices>(rt: &impl Abort, indices: &mut N) {
     check(rt, defined(indices, COUNTER), Outcome::Answered(Ok(())));
     indices.set_max_count(7);
@@ -176,7 +178,7 @@ fn counts<N: Indices>(rt: &impl Abort, indices: &mut N) {
     );
 }
 
-/// Locks until the next startup, which leaves a counter and clears bits.
+/// Locks indices until the next startup, which leaves a counter unchanged and clears bits.
 fn locks<N: Indices>(rt: &impl Abort, indices: &mut N) {
     check(rt, indices.lock_write(FIRST), Ok(()));
     check(rt, indices.set_bits(FIRST, 1), Err(WriteFault::Locked));
@@ -195,28 +197,28 @@ fn locks<N: Indices>(rt: &impl Abort, indices: &mut N) {
     indices.read_sizes();
 }
 
-/// An index that is extended.
+/// Extends an index.
 fn extends<N: Indices>(rt: &impl Abort, indices: &mut N) {
     check(rt, defined(indices, EXTENDED), Outcome::Answered(Ok(())));
     check(rt, indices.extend(FIRST, b"abc"), Ok(()));
     check(rt, is_read(indices, FIRST, 20, DIGEST), true);
 }
 
-/// An ordinary index from its definition to its end.
+/// Tests an ordinary index from its definition to its removal.
 fn ordinary<N: Indices>(rt: &impl Abort, mut indices: N) {
     definitions(rt, &mut indices);
     writes(rt, &mut indices);
     changes(rt, &mut indices);
 }
 
-/// A counter and bits.
+/// Tests a counter and a bit field.
 fn counters<N: Indices>(rt: &impl Abort, mut indices: N) {
     counts(rt, &mut indices);
     locks(rt, &mut indices);
 }
 
-/// Makes each call on indices that are kept in one way. A function that names the way is slow to
-/// prove, so each of two functions names one.
+/// Makes each call on indices in one kind of container. A function that names the kind is slow to
+/// prove, so there are two functions that each name one.
 fn exercise<N: Indices, R: Abort>(rt: &R, alloc: Global) {
     ordinary(rt, N::new(alloc));
     counters(rt, N::new(alloc));

@@ -1,4 +1,4 @@
-//! What a run tells of each of its events.
+//! What a run reports about each of its events.
 
 use super::comparison::check;
 use super::keeps::{Trial, run_over_both};
@@ -14,12 +14,12 @@ const STARTUP: u32 = 0x144;
 
 const GET_RANDOM: u32 = 0x17b;
 
-/// The event of a command from locality 0, with no time elapsed and random bytes that are 0.
+/// The event of a command from locality 0, with no elapsed time and random bytes that are all 0.
 fn event_of(buffer: &[u8]) -> Event {
     Event::of_command(buffer, Locality::new(0).unwrap(), 0, [0; 256])
 }
 
-/// The events TPM2_Startup(CLEAR), a power cycle, and TPM2_GetRandom before another startup.
+/// Three events: TPM2_Startup(CLEAR), a power cycle, and TPM2_GetRandom before the next startup.
 fn events() -> [Event<'static>; 3] {
     [
         event_of(b"\x80\x01\0\0\0\x0c\0\0\x01\x44\0\0"),
@@ -28,10 +28,10 @@ fn events() -> [Event<'static>; 3] {
     ]
 }
 
-/// What is told of an event: the length of its response, and its row.
+/// What a run reports about an event: the length of its response, and its row.
 type Told = (usize, Row);
 
-/// What a run tells of these events, one after another.
+/// What a run reports about these events, in order.
 fn told_of<K: Keep>(
     alloc: Global,
     machine: &mut Machine<K>,

@@ -1,4 +1,4 @@
-//! Saving a device to a writer of which each write fails in turn.
+//! Saves a device to a writer, with each write failing in turn.
 
 use super::comparison::check;
 use super::failing::Sink;
@@ -11,8 +11,8 @@ use tpm_image::{SaveFault, save};
 use tpm_machine::Machine;
 use tpm_record::Keep;
 
-/// How many writes of at most 64 bytes an image of a new device takes: one for its head, and six
-/// for the 351 bytes behind it.
+/// The number of writes, of at most 64 bytes each, for an image of a new device: one for its
+/// header, and six for the following 351 bytes.
 const WRITES: usize = 7;
 
 /// How a save ended, and what was written.

@@ -1,5 +1,5 @@
-//! One connection served over memory: in pieces of two sizes, and with each read, each write and
-//! each value of the host failing in turn.
+//! Serves one connection in memory: with the input split into pieces of two sizes, and with each
+//! read, each write and each value from the host failing in turn.
 
 use super::comparison::check;
 use super::connections::{FIRST, FIRST_ANSWERS};
@@ -13,7 +13,7 @@ use tpm_bytes::Tap;
 use tpm_record::Keep;
 use tpm_wire::{HostFault, Mux, ServeFault, serve};
 
-/// How many bytes a read gives, and how many reads, writes and values of the host succeed.
+/// The size of a read, and how many reads, writes and values from the host succeed.
 #[derive(Clone, Copy)]
 struct Limits {
     size: usize,
@@ -22,8 +22,8 @@ struct Limits {
     values: usize,
 }
 
-/// The limits under which the three buffers are answered: a read for each byte and one for the end,
-/// eight writes of at most five bytes, and a value for each buffer.
+/// Limits that suffice for the three buffers: a read for each byte and one for the end, eight
+/// writes of at most five bytes, and one value per buffer.
 const ENOUGH: Limits = Limits {
     size: 1,
     reads: 37,
@@ -31,8 +31,8 @@ const ENOUGH: Limits = Limits {
     values: 3,
 };
 
-/// How a connection ended, what was written, and how many commands were executed: the host lets a
-/// millisecond pass before each.
+/// How a connection ended, what was written, and how many commands were executed. One millisecond
+/// passes on the host's clock before each command.
 #[derive(Drop)]
 struct End {
     outcome: Result<u64, ServeFault>,
@@ -69,8 +69,7 @@ fn serve_first<K: Keep>(alloc: Global, limits: Limits) -> Result<End, Fail> {
     })
 }
 
-/// Checks an outcome, how many bytes of the answers were written, and how many commands were
-/// executed.
+/// Checks an outcome, the number of response bytes written, and the number of commands executed.
 fn check_end<R: Abort>(
     rt: &R,
     end: &End,
@@ -87,7 +86,7 @@ fn check_end<R: Abort>(
     check(rt, end.executed, executed);
 }
 
-/// How many bytes the answers to the first buffers have.
+/// The total size of the responses to the first buffers.
 fn length_of_answers(buffers: usize) -> usize {
     match buffers {
         0 => 0,
@@ -122,8 +121,8 @@ fn pieces_of_one_byte_and_of_all_are_one_stream(rt: HostRuntime) -> Result<(), F
     run_over_both(NothingFails, &rt, rt.alloc())
 }
 
-/// A trial in which each read of one byte fails in turn: the buffers that are whole by then, which
-/// have twelve bytes each, are answered.
+/// A trial in which each read of one byte fails in turn. The buffers that were complete before
+/// the failure, of twelve bytes each, get their responses.
 #[derive(Drop)]
 struct EachRead;
 
@@ -143,8 +142,8 @@ fn each_read_fails(rt: HostRuntime) -> Result<(), Fail> {
     run_over_both(EachRead, &rt, rt.alloc())
 }
 
-/// How many bytes were written before each write, and how many commands were executed by then. The
-/// answers have ten, thirteen and fourteen bytes.
+/// For each write: the number of bytes written before it, and the number of commands executed by
+/// then. The responses are ten, thirteen and fourteen bytes long.
 const WRITES: [(usize, u64); 8] = [
     (0, 1),
     (5, 1),
@@ -156,7 +155,8 @@ const WRITES: [(usize, u64); 8] = [
     (33, 3),
 ];
 
-/// A trial in which each write fails in turn: the command whose answer is lost was executed.
+/// A trial in which each write fails in turn; the command whose response is lost has been
+/// executed.
 #[derive(Drop)]
 struct EachWrite;
 
@@ -175,7 +175,7 @@ fn each_write_fails(rt: HostRuntime) -> Result<(), Fail> {
     run_over_both(EachWrite, &rt, rt.alloc())
 }
 
-/// A trial in which each value of the host fails in turn: the command without a value is not
+/// A trial in which each value from the host fails in turn; the command that gets no value is not
 /// executed.
 #[derive(Drop)]
 struct EachValue;

@@ -1,5 +1,5 @@
-//! Sessions by their handles, in both kinds of places, and values that were computed outside: HMACs
-//! and hashes by Python's `hmac` and `hashlib`, the encrypted parameter by OpenSSL.
+//! Sessions by handle, in both kinds of slots, and values computed by other programs: HMACs and
+//! hashes by Python's `hmac` and `hashlib`, the encrypted parameter by OpenSSL.
 
 ghost use Rattle.std.specs.Prelude.{◌≡◌, ◌≤◌, length};
 
@@ -29,11 +29,11 @@ const NONCE_TPM: &[u8] = &[0xbb; 16];
 /// The command code of TPM2_PCR_Event.
 const CODE: u32 = 0x13c;
 
-/// The hash that `command_hash` is to give.
+/// The hash that `command_hash` must return.
 const COMMAND_HASH: &[u8] = b"\x3c\x31\x76\x2c\x00\x6e\x41\xf9\x21\xdc\x4a\xd8\xac\x22\xff\x90\
     \x93\xac\x6b\xdd\xe5\xf6\xed\x09\xd4\xcc\x24\xef\xf7\x08\x8e\xcb";
 
-/// The hash that `response_hash` is to give.
+/// The hash that `response_hash` must return.
 const RESPONSE_HASH: &[u8] = b"\xf1\x3a\x65\xc8\x44\x28\xe6\x4a\x87\x2d\x9d\x4d\xe4\x53\xb9\x3f\
     \x44\x0a\x92\x38\x60\x94\x71\x3e\x28\xd1\xa5\x87\x7e\x2d\x7d\x46";
 
@@ -48,12 +48,12 @@ const PLAIN: &[u8] = b"a parameter of 25 bytes..";
 const ENCRYPTED: &[u8] = b"\xa2\x50\xc0\xbe\x24\xaf\x83\xc1\xd4\x33\x10\xe8\x13\x7b\x2c\x2f\
     \xe5\x90\xfe\x91\xcb\x85\x69\xf0\x12";
 
-/// The parameter that is masked by the exclusive or with KDFa's bytes for "XOR".
+/// The parameter XORed with KDFa's bytes for "XOR".
 const MASKED: &[u8] = b"\xb9\xa7\x60\x5e\xe4\x00\x34\x4b\xa2\xa5\x9c\x4f\x9c\x9d\xc9\x93\
     \x3c\xd9\x6c\x50\x40\xb3\xcc\x47\x08";
 
-/// The same bytes, passed through a call: the prover then knows only how many they are, and so
-/// computes nothing.
+/// Returns the same bytes from a call, so that the prover knows only their size and computes
+/// nothing.
 fn short(bytes: &[u8]) -> &[u8]
     requires { length bytes.now ≤ 32 }
     ensures { length result.now ≡ length bytes.now }
@@ -83,7 +83,7 @@ fn start(kind: SessionType, binding: Option<Binding>) -> Start<'static>
     }
 }
 
-/// The number of the handle of a session that starts.
+/// The number in the handle of a new session.
 fn started<S: Slots<Session, SESSION_LIMIT>>(
     sessions: &mut Sessions<S>,
     kind: SessionType,
@@ -116,7 +116,7 @@ fn find_sessions<S: Slots<Session, SESSION_LIMIT>, R: Abort>(rt: &R, alloc: Glob
     flush_policy(rt, &mut sessions);
 }
 
-/// Starts a session of each type, which take the lowest free numbers.
+/// Starts a session of each type; they get the lowest free numbers.
 fn start_three<S: Slots<Session, SESSION_LIMIT>, R: Abort>(rt: &R, sessions: &mut Sessions<S>) {
     for (kind, number) in [
         (SessionType::Hmac, 0x0200_0000),
@@ -145,7 +145,7 @@ const POLICY: Handle = Handle {
     number: 0x0300_0001,
 };
 
-/// Gives a session another nonceTPM, unless the session's own has another size.
+/// Replaces the nonceTPM of a session, unless the sizes differ.
 fn roll<S: Slots<Session, SESSION_LIMIT>>(sessions: &mut Sessions<S>, nonce: &[u8]) -> bool
     requires { length nonce.now ≤ 32 }
 {
@@ -162,7 +162,7 @@ fn roll_policy<S: Slots<Session, SESSION_LIMIT>, R: Abort>(rt: &R, sessions: &mu
     check(rt, nonce_of(sessions, 0x0300_0002), Some(NONCE_TPM));
 }
 
-/// Ends the policy session, whose number a new one then takes.
+/// Ends the policy session; a new one then gets its number.
 fn flush_policy<S: Slots<Session, SESSION_LIMIT>, R: Abort>(rt: &R, sessions: &mut Sessions<S>) {
     check(rt, sessions.flush(POLICY), true);
     check(rt, sessions.flush(POLICY), false);
@@ -237,7 +237,7 @@ fn bound_session<R: Abort>(rt: &R, symmetric: SymmetricDefinition) -> Session {
     .expect(rt, "the sizes are those of SHA-256")
 }
 
-/// A session of SHA-256 that is not bound, if a nonce of this size and a key make one.
+/// An unbound session with SHA-256, if a nonce of this size and this key are allowed.
 fn unbound_session(nonce: usize, key: SessionKey) -> Option<Session>
     requires { nonce ≤ 32 }
 {
@@ -267,7 +267,7 @@ fn a_session_has_the_sizes_of_its_hash(rt: HostRuntime) {
 
 const ATTRIBUTES: SessionAttributes = SessionAttributes { octet: 0x21 };
 
-/// What the HMAC of a command's entry authenticates, with nonces of two other sessions.
+/// The data that the HMAC of a command's entry covers, with the nonces of two other sessions.
 fn command_text() -> CommandText<'static> {
     CommandText {
         hash: COMMAND_HASH,
@@ -307,7 +307,8 @@ fn an_entry_s_text_is_written(rt: HostRuntime) {
     check(&rt, short.len(), 0);
 }
 
-/// Encrypts the plain parameter, which has to become this one, and decrypts it again.
+/// Encrypts the plaintext parameter, compares the result with the expected one, and decrypts it
+/// again.
 fn close_and_open<R: Abort>(rt: &R, symmetric: SymmetricDefinition, encrypted: &[u8]) {
     let session = bound_session(rt, symmetric);
     let mut parameter = [0; 25];

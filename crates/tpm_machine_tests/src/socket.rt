@@ -1,4 +1,4 @@
-//! A client and a served device that are joined by a socket, in one process.
+//! A client and a served device in one process, connected by a socket.
 
 use super::comparison::check;
 use super::connections::{FIRST, FIRST_ANSWERS};
@@ -14,10 +14,10 @@ use tpm_record::Keep;
 use tpm_slots::SlotKeep;
 use tpm_wire::{Mux, ServeFault, serve};
 
-/// The socket's file, in the folder where the tests run.
+/// The file of the socket, in the folder where the tests run.
 const PATH: &str = "served.sock";
 
-/// Serves a new device to a stream.
+/// Serves a new device over a stream.
 fn serve_stream<K: Keep>(
     alloc: Global,
     stream: &UnixStream,
@@ -32,7 +32,7 @@ fn serve_stream<K: Keep>(
     ))
 }
 
-/// A socket, and a client that is joined to it.
+/// A socket, and a client that is connected to it.
 fn joined(rt: &HostRuntime) -> Result<(UnixListener, UnixStream), Fail> {
     let listener = UnixListener::bind(rt, PATH)?;
     let client = UnixStream::connect(rt, PATH)?;
@@ -40,7 +40,7 @@ fn joined(rt: &HostRuntime) -> Result<(UnixListener, UnixStream), Fail> {
     Ok((listener, client))
 }
 
-/// Sends the first buffers, and nothing more.
+/// Sends the first buffers, and nothing else.
 fn send_first(client: &UnixStream) -> Result<(), Fail> {
     let mut writer = client;
     writer.write_all(FIRST)?;
@@ -48,7 +48,7 @@ fn send_first(client: &UnixStream) -> Result<(), Fail> {
     Ok(())
 }
 
-/// Reads as many bytes as the answers have.
+/// Reads 37 bytes, the total size of the responses.
 fn read_answers(client: &UnixStream) -> Result<[u8; 37], Fail> {
     let mut reader = client;
     let mut answers = [0; 37];

@@ -23,19 +23,19 @@ radix_number radix.Hexadecimal = 16
 abbrev pub is_digit : ℕ → ℕ → Bool
 is_digit radix digit = nat_lt (digit_value digit) radix
 
--- the number that digits of a radix write: at least one, and leading zeros count for nothing
+-- the number in digits of a radix: at least one digit, and leading zeros do not count
 unfoldable pub numeral : ℕ → List ℕ → Option ℕ
 numeral radix [] = None
 numeral radix (digit ∷ digits) =
     if list_all (is_digit radix) (digit ∷ digits)
     then Some (digits_value radix (digit ∷ digits)) else None
 
--- the number that a token writes: 0x and hex digits of either case, or decimal digits
+-- the number in a token: hex digits of either case after 0x, or decimal digits
 unfoldable pub number_of : List ℕ → Option ℕ
 number_of token =
     if starts_with nat_eq token (codes "0x") then numeral 16 (drop 2 token) else numeral 10 token
 
--- the number that was written: Bad where none was, Range where it is over this limit
+-- the number that was written; the fault is Bad if there is none, Range if it exceeds this limit
 unfoldable pub at_most : ℕ → Option ℕ → Result ℕ TokenFault
 at_most most written = do
   number ← ok_or written Bad
@@ -45,11 +45,11 @@ at_most most written = do
 abbrev pub number_in : ℕ → List ℕ → Result ℕ TokenFault
 number_in most token = at_most most (number_of token)
 
--- the number below 2^32 that decimal digits write: at least one of them, leading zeros allowed;
--- None of any other text
+-- the number below 2^32 in decimal digits: at least one digit, leading zeros allowed; None for
+-- any other text
 abbrev pub decimal_of : List ℕ → Option ℕ
 decimal_of digits = result_ok (at_most (2 ^ 32 - 1) (numeral 10 digits))
 
--- a locality's number, 0 to 4
+-- the number of a locality, 0 to 4
 abbrev pub locality_of : ℕ → Option ℕ
 locality_of number = if nat_le number 4 then Some number else None

@@ -1,9 +1,9 @@
-//! Why a token is not what is wanted.
+//! Why a token is not the expected one.
 
-/// Why a token is not what is wanted in its place.
+/// The reasons why a token is not the expected one.
 #[derive(Clone, Copy, PartialEq, Eq)]
 pub enum TokenFault {
-    /// The token is not written as it should be.
+    /// The token is not of the right form.
     Bad,
     /// A number is too large.
     Range,

@@ -1,8 +1,8 @@
 #![tactic(auto)]
 
-//! Numbers as people write and read them, decimal or in hex, up to the largest that is wanted; and
-//! localities. A [`TokenFault`] says what is wrong with a token. The caller has the whole line, and
-//! says where in it that token stands.
+//! Numbers as people write and read them, decimal or in hex, up to a given limit; and localities.
+//! A [`TokenFault`] says what is wrong with a token. The caller has the whole line, and says
+//! which token of the line it is.
 //!
 //! The crate uses `tpm_types` for localities. Each call equals its definition in `specs/Number`.
 

@@ -1,4 +1,4 @@
-//! Numbers in words, decimal or in hex, up to the largest that is wanted; and localities.
+//! Numbers in words, decimal or in hex, up to a given limit; and localities.
 
 ghost use Rattle.std.specs.Prelude.{◌≡◌, ◌<◌, ◌≤◌, ◌^◌, ◌-◌, IfOk, option_and_then, option_map};
 ghost use Rattle.std.specs.List.{list_all};
@@ -49,7 +49,8 @@ impl Radix {
         bytes.iter().all(|byte| self.has_digit(*byte))
     }
 
-    /// The number that digits of this radix write: Bad where they write none, Range from 2^64 on.
+    /// The number in digits of this radix. The fault is Bad if they are not a number, Range from
+    /// 2^64 on.
     fn read(self, digits: &[u8]) -> Result<u64, TokenFault>
         ensures { Gives (λ number. number)
             (at_most (2 ^ 64 - 1) (numeral (radix_number self) digits.now)) result }
@@ -67,8 +68,8 @@ impl Radix {
     }
 }
 
-/// The number that a token writes, 0x and hex digits or decimal digits: Bad where it writes none,
-/// Range where it is over `most`.
+/// The number in a token: hex digits after 0x, or decimal digits. The fault is Bad if the token
+/// is not a number, Range if the number exceeds `most`.
 #[tactic(auto, unfolding(crate::specs::Number::number_of, crate::specs::Number::at_most))]
 pub fn number_in(most: u64, token: &[u8]) -> Result<u64, TokenFault>
     ensures value { Gives (λ number. number) (number_in most token.now) result }
@@ -84,8 +85,8 @@ pub fn number_in(most: u64, token: &[u8]) -> Result<u64, TokenFault>
     Ok(number)
 }
 
-/// The number that decimal digits write: at least one digit, with leading zeros or none, and no
-/// sign. `None` is any other text, and a number of 2^32 or more.
+/// The number in decimal digits: at least one digit, with or without leading zeros, and no sign.
+/// For any other text, and for 2^32 or more, the result is `None`.
 #[tactic(auto, unfolding(crate::specs::Number::at_most))]
 pub fn decimal(digits: &[u8]) -> Option<u32>
     ensures { result ≡ decimal_of digits.now }
@@ -96,7 +97,7 @@ pub fn decimal(digits: &[u8]) -> Option<u32>
     }
 }
 
-/// The locality of this decimal number, which is 0 to 4.
+/// The locality with this decimal number, 0 to 4.
 pub fn locality(digits: &[u8]) -> Option<Locality>
     ensures { option_map locality_number result
         ≡ option_and_then locality_of (decimal_of digits.now) }

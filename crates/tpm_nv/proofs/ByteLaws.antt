@@ -1,4 +1,5 @@
--- Rows of bytes: a place is opened and closed up by moving bytes from and to the end.
+-- Lists of bytes: a gap is opened by moving bytes into it from the end, and closed by moving its
+-- bytes to the end.
 use Rattle.std.proofs.Common.{◌≡◌, ℕ, ◌+◌, ◌-◌, ◌≤◌, List, ◌++◌, length, take, drop, replicate, refl, sym, append_assoc, arith, length-append, length-drop}
 use Rattle.std.proofs.lemmas.List.{length-replicate, take_at, drop_at, take-append-le, drop-append-le, length-take-le}
 use Rattle.std.specs.List.{copy_within}

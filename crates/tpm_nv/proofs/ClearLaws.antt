@@ -1,4 +1,5 @@
--- TPM2_Clear on indices: which bytes are kept, and which indices they and the heads that stay show.
+-- The effect of TPM2_Clear on indices: which bytes are kept, and which indices the remaining heads
+-- and bytes represent.
 use Rattle.std.proofs.Common.{◌≡◌, ℕ, ◌+◌, ◌-◌, ◌≤◌, Bool, true, false, cond, List, [], ◌∷◌, ◌++◌, length, take, drop, refl, sym, ap, ◌∙◌, arith, append_assoc, length-append, length-drop}
 use Rattle.std.proofs.lemmas.Bool.{cond_both}
 use Rattle.std.proofs.lemmas.List.{drop-drop, drop_at, length-take-le, take_at}
@@ -10,7 +11,7 @@ use Rattle.tpm_nv.specs.Head.{AreHeads, AreKept, index_with, indices_of, kept_by
 use Rattle.tpm_nv.specs.Index.{NvIndex}
 use Rattle.tpm_nv.specs.declared.head.Head.{Head}
 
--- ---- a piece is moved down to the end of what is kept
+-- ---- a piece is moved down to the end of the kept bytes
 
 module _ (start size place : ℕ) (area : List ℕ) (inside : start + size ≤ length area) (lower : place ≤ start) where
   front_long : length (take place area ++ piece_of start size area) ≡ place + size
@@ -23,7 +24,7 @@ module _ (start size place : ℕ) (area : List ℕ) (inside : start + size ≤ l
   moved_back : drop (place + size) (moved_down start size place area) ≡ drop (place + size) area
   moved_back = rw in_two (drop_at (take place area ++ piece_of start size area) (drop (place + size) area) (place + size) front_long)
 
-  -- the bytes after the piece are as they were
+  -- the bytes after the piece are unchanged
   pub moved_behind : drop (start + size) (moved_down start size place area) ≡ drop (start + size) area
   moved_behind =
       let far : start + size ≡ place + size + (start - place) = omega (arith, lower) in
@@ -33,7 +34,7 @@ module _ (start size place : ℕ) (area : List ℕ) (inside : start + size ≤ l
       ∙ drop-drop (start - place) (place + size) area
       )
 
--- ---- the indices that are shown
+-- ---- the indices that heads and bytes represent
 
 show_one : (b : Bool) (e : ℕ × Head) (es : Entries Head) (piece bytes : List ℕ) (shown : Entries NvIndex) → length piece ≡ size_of e.1 → indices_of es bytes ≡ shown → indices_of (cond b (e ∷ es) es) (cond b piece [] ++ bytes) ≡ cond b ((e.0, index_with e.1 piece) ∷ shown) shown
 show_one true e es piece bytes shown long is =

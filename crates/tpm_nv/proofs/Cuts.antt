@@ -1,4 +1,4 @@
--- Heads and the area of their bytes: a change of both is a change of the indices.
+-- Heads and the area of their bytes: changing both changes the indices that they represent.
 use Rattle.std.proofs.Common.{◌≡◌, ◌≢◌, ℕ, ◌+◌, ◌-◌, ◌<◌, ◌≤◌, cond, eqb, leb, zero, suc, List, [], ◌∷◌, ◌++◌, length, get_or, take, drop, replicate, Option, Some, None, refl, sym, ap, subst, ◌∙◌, arith, inl, inr, append_assoc, length-append, length-drop}
 use Rattle.std.proofs.Math.Seq.{drop-append-add, take-append-add}
 use Rattle.std.specs.List.{sum_by}
@@ -24,9 +24,9 @@ drop_front n s area rest fits =
     drop-append-le n (take (n + s) area) rest (omega (arith, length-take-le (n + s) area fits))
     ∙ ap (λ (l : List ℕ). l ++ rest) (drop-take n s area)
 
--- ---- a key that is there
+-- ---- a key that exists
 
--- A key is the first, or is above the first.
+-- A key either equals the first key or is above it.
 data Place (e : ℕ × Head) (es : Entries Head) (key : ℕ) (h : Head) : Type 0 where
   here : e.0 ≡ key → e.1 ≡ h → Place e es key h
   behind : e.0 ≢ key → e.0 < key → at_key es key ≡ Some h → Place e es key h
@@ -50,20 +50,20 @@ place e es key h up there =
           behind apart (above_first e.0 es key h up.0 found) found
     ]
 
--- no key is found that is not above the bound of all keys
+-- a key at or below a bound is not found if all keys are above the bound
 pub none_below : (es : Entries Head) (key low : ℕ) → AllAbove low es → key ≤ low → at_key es key ≡ None
 none_below [] key low above under = refl
 none_below (e ∷ es) key low above under =
     rw (ne_eqb e.0 key (λ same. omega (arith, same, above.0, under))) (none_below es key low above.1 under)
 
--- no key is found after lower keys where the next key is above it
+-- a key is not found from an entry on if the key of that entry is above it
 pub none_from : (es : Entries Head) (i key : ℕ) (d : ℕ × Head) → i < length es → Ascends (drop i es) → key ≤ (get_or es i d).0 → key ≢ (get_or es i d).0 → at_key (drop i es) key ≡ None
 none_from [] i key d in_es up under apart = absurd (omega (arith, in_es))
 none_from (e ∷ es) zero key d in_es up under apart =
     rw (ne_eqb e.0 key (λ same. apart (sym same))) (none_below es key e.0 up.0 under)
 none_from (e ∷ es) (suc i) key d in_es up under apart = none_from es i key d (omega (arith, in_es)) up under apart
 
--- ---- where the bytes of a key begin
+-- ---- the offset of a key's bytes
 
 pub start_fits : (es : Entries Head) (key : ℕ) → start_of es key ≤ total es
 start_fits [] key = omega arith
@@ -83,7 +83,7 @@ piece_fits (e ∷ es) key h up there =
 rest_fits : (e : ℕ × Head) (es : Entries Head) (area : List ℕ) → total (e ∷ es) ≤ length area → total es ≤ length (drop (size_of e.1) area)
 rest_fits e es area fits = omega (arith, fits, length-drop (size_of e.1) area)
 
--- ---- what is found under a key
+-- ---- what is found by a key
 
 pub found_among : (es : Entries Head) (area : List ℕ) (key : ℕ) (h : Head) → Ascends es → at_key es key ≡ Some h → at_key (indices_of es area) key ≡ Some (index_with h (piece_of (start_of es key) (size_of h) area))
 found_among [] area key h up there = absurd cc
@@ -136,7 +136,7 @@ ascends_among (e ∷ es) area up =
     let rest = drop (size_of e.1) area in
     (above_among e.0 es rest up.0, ascends_among es rest up.1)
 
--- ---- one index more
+-- ---- adding an index
 
 pub put_among : (es : Entries Head) (area piece : List ℕ) (key : ℕ) (h : Head) → total es ≤ length area → length piece ≡ size_of h → with_key (indices_of es area) key (index_with h piece) ≡ indices_of (with_key es key h) (take (start_of es key) area ++ (piece ++ drop (start_of es key) area))
 put_among [] area piece key h fits size = rw (take_at piece area (size_of h) size) refl
@@ -156,7 +156,7 @@ put_among (e ∷ es) area piece key h fits size =
       | inr from ↦ rw (le-leb key e.0 from, take_at piece area (size_of h) size, drop_at piece area (size_of h) size) refl
     ]
 
--- ---- one index less
+-- ---- removing an index
 
 pub removed_among : (es : Entries Head) (area : List ℕ) (key : ℕ) (h : Head) → Ascends es → total es ≤ length area → at_key es key ≡ Some h → without_key (indices_of es area) key ≡ indices_of (without_key es key) (closed_up (start_of es key) (size_of h) area)
 removed_among [] area key h up fits there = absurd cc
@@ -180,7 +180,7 @@ removed_among (e ∷ es) area key h up fits there =
           )
     ]
 
--- ---- one index changed
+-- ---- changing an index
 
 pub changed_among : (es : Entries Head) (area piece : List ℕ) (key : ℕ) (h g : Head) → Ascends es → total es ≤ length area → at_key es key ≡ Some h → size_of g ≡ size_of h → length piece ≡ size_of h → changed_key (indices_of es area) key (index_with g piece) ≡ indices_of (changed_key es key g) (put_over (start_of es key) piece area)
 changed_among [] area piece key h g up fits there same_size size = absurd cc
@@ -207,7 +207,7 @@ changed_among (e ∷ es) area piece key h g up fits there same_size size =
           )
     ]
 
--- ---- how many bytes all indices have
+-- ---- the number of bytes of all indices
 
 pub total_put : (es : Entries Head) (key : ℕ) (h : Head) → total (with_key es key h) ≡ total es + size_of h
 total_put [] key h = omega arith
@@ -232,7 +232,7 @@ total_changed (e ∷ es) key h g up there same_size =
       | behind apart lower found ↦ rw (ne_eqb e.0 key apart) (omega (arith, total_changed es key h g up.1 found same_size))
     ]
 
--- ---- what holds of each head
+-- ---- what holds for each head
 
 pub head_at : (es : Entries Head) (key : ℕ) (h : Head) → Ascends es → AreHeads es → at_key es key ≡ Some h → IsHead key h
 head_at [] key h up are there = absurd cc
@@ -264,22 +264,22 @@ heads_changed (e ∷ es) key h are is =
       | inr apart ↦ rw (ne_eqb e.0 key apart) (are.0, heads_changed es key h are.1 is)
     ]
 
--- ---- bytes within a piece
+-- ---- bytes inside a piece
 
 pub length_put : (offset : ℕ) (piece bytes : List ℕ) → offset + length piece ≤ length bytes → length (put_over offset piece bytes) ≡ length bytes
 length_put offset piece bytes fits =
     let back = drop (offset + length piece) bytes in
     omega (arith, fits, length-append (take offset bytes) (piece ++ back), length-append piece back, length-take-le offset bytes (omega arith), length-drop (offset + length piece) bytes)
 
--- a piece that is put over itself changes nothing
+-- overwriting a piece with itself changes nothing
 pub put_back : (start size : ℕ) (area : List ℕ) → start + size ≤ length area → put_over start (piece_of start size area) area ≡ area
 put_back start size area fits =
     let behind = drop start area in
     let many : length (take size behind) ≡ size = length-take-le size behind (omega (arith, fits, length-drop start area)) in
     rw (many, ← drop-drop size start area, take-append-drop size behind, take-append-drop start area) refl
 
--- bytes that are put within a piece, and then the piece over the area, are bytes put within the
--- area
+-- writing bytes into a piece and then the piece into the area is the same as writing the bytes
+-- into the area
 put_inside : (start offset : ℕ) (inner piece area : List ℕ) → start + length piece ≤ length area → offset + length inner ≤ length piece → put_over (start + offset) inner (put_over start piece area) ≡ put_over start (put_over offset inner piece) area
 put_inside start offset inner piece area fits within =
     let front = take start area in
@@ -297,7 +297,7 @@ put_inside start offset inner piece area fits within =
     ∙ drop-append-le (offset + length inner) piece back within in
     rw (first, last, length_put offset inner piece within) (simp append_assoc refl)
 
--- bytes that are put within the piece of an area are put within the area
+-- writing bytes into a piece of an area writes them into the area
 pub put_within : (start size offset : ℕ) (inner area : List ℕ) → start + size ≤ length area → offset + length inner ≤ size → put_over (start + offset) inner area ≡ put_over start (put_over offset inner (piece_of start size area)) area
 put_within start size offset inner area fits within =
     let piece = piece_of start size area in
@@ -308,14 +308,13 @@ put_within start size offset inner area fits within =
 pub put_anew : (start offset : ℕ) (inner piece area : List ℕ) → start + length piece ≤ length area → offset + length inner ≤ length piece → put_over (start + offset) inner (put_over start piece area) ≡ put_over start (put_over offset inner piece) area
 put_anew = put_inside
 
--- bytes that are put over as many are all the bytes
+-- overwriting bytes with a piece of the same length leaves just the piece
 pub put_all : (piece bytes : List ℕ) → length piece ≡ length bytes → put_over 0 piece bytes ≡ piece
 put_all piece bytes same =
     let none : drop (0 + length piece) bytes ≡ [] = drop_all (0 + length piece) bytes (omega arith) in
     rw none (append-nil piece)
 
--- an area into which a piece was put, in a place opened for it, is the same once the place is
--- closed up
+-- opening a gap, filling it with a piece and closing it leaves the area unchanged
 pub closed_again : (start size : ℕ) (piece area : List ℕ) → start ≤ length area → length piece ≡ size → closed_up start size (take start area ++ (piece ++ drop start area)) ≡ area
 closed_again start size piece area inside same =
     let front = take start area in
@@ -326,7 +325,7 @@ closed_again start size piece area inside same =
     ∙ drop_at piece (drop start area) size same in
     rw (take_at front (piece ++ drop start area) start many, behind) (take-append-drop start area)
 
--- a piece, and zeros where it is shorter, put into a place that was opened
+-- putting a piece, padded with zeros if it is shorter, into an opened gap
 pub put_opened : (start size : ℕ) (piece area : List ℕ) → start ≤ length area → length piece ≤ size → put_over start piece (opened start size area) ≡ take start area ++ ((piece ++ replicate (size - length piece) 0) ++ drop start area)
 put_opened start size piece area inside within =
     let front = take start area in

@@ -1,4 +1,4 @@
--- An index that passes the checks of a definition is not written.
+-- An index that passes the checks of a definition does not have WRITTEN set.
 use Rattle.std.proofs.Common.{◌≡◌, Bool, true, false, refl}
 use Rattle.std.specs.Prelude.{◌||◌}
 use Rattle.std.specs.List.{list_any}

@@ -1,5 +1,5 @@
--- Heads and bytes as they are kept, after a change of one index: they are still as they have to be,
--- and show the indices after the change.
+-- Stored heads and bytes after a change of one index: they keep their properties, and represent
+-- the changed indices.
 use Rattle.tpm_types.specs.Limits.{nv_index_limit, nv_space_limit}
 use Rattle.std.proofs.Common.{◌≡◌, ◌≢◌, ℕ, ◌+◌, ◌-◌, ◌<◌, ◌≤◌, ◌^◌, Bool, true, false, cond, List, [], ◌∷◌, ◌++◌, length, take, drop, replicate, Option, Some, None, refl, sym, ap, subst, ◌∙◌, arith, length-append, length-drop}
 use Rattle.std.specs.Prelude.{◌&&◌, not, nat_lt, nat_le, Ok, IfNone, IfSome, IsSomeAnd, option_copied, option_map}
@@ -32,7 +32,7 @@ use Rattle.tpm_nv.specs.declared.head.Head.{Head}
 use Rattle.tpm_nv.specs.declared.place.Found.{Found}
 use Rattle.tpm_nv.proofs.Cuts.{ascends_among, bytes_among, changed_among, found_among, head_at, heads_among, heads_changed, heads_put, heads_removed, length_among, length_put, none_among, piece_fits, put_anew, put_back, put_within, start_fits, total_changed, total_put, total_removed}
 
--- ---- what a lookup of a head says of the index
+-- ---- what a search for a head reveals about the index
 
 pub absent_is : (es : Entries Head) (area : List ℕ) (key : ℕ) (found : Option (Bor Head)) → option_copied found ≡ at_key es key → IfNone found (at_key (indices_of es area) key ≡ None)
 absent_is es area key None is = none_among es area key (sym is)
@@ -53,12 +53,12 @@ there_is es area count handle (Some h) kept is =
       },
     )
 
--- what is known of an index that is there is known of the one that was found
+-- what is known about an index that exists holds for the index that was found
 pub known_of : (P : NvIndex → Type 0) (found : Option NvIndex) (x : NvIndex) → found ≡ Some x → IsSomeAnd found P → P x
 known_of P None x is known = absurd cc
 known_of P (Some y) x is known = let same : y ≡ x = cc in subst P same known
 
--- where one index changes, the contents do so too
+-- changing one index changes the contents accordingly
 pub contents_changed : (es new : Entries Head) (area after : List ℕ) (count : ℕ) (handle : Handle) (shown : NvContents) (x : NvIndex) (f : NvIndex → NvIndex) → (let view : NvContents = record { indices = indices_of es area; max_count = count } in view ≡ shown) → at_key (indices_of es area) handle.number ≡ Some x → indices_of new after ≡ changed_key (indices_of es area) handle.number (f x) → (index : NvIndex) → index_at shown handle ≡ Some index → (let view : NvContents = record { indices = indices_of new after; max_count = count } in view ≡ changed_index shown handle (f index))
 contents_changed es new area after count handle shown x f view found seen index is =
     let there : at_key (indices_of es area) handle.number ≡ Some index = ap (λ (s : NvContents). index_at s handle) view ∙ is in
@@ -91,7 +91,7 @@ is_head_with key h a is named same = record {
 pub is_head_authorized : (key : ℕ) (h : Head) (value : List ℕ) → IsHead key h → IsAuthValue value → IsHead key (record h { auth_value = value })
 is_head_authorized key h value is fits = record { named = is.named; public = is.public; sized = is.sized; auth_value = fits }
 
--- ---- a head changed
+-- ---- changing a head
 
 pub kept_changed : (es : Entries Head) (area after : List ℕ) (key : ℕ) (h g : Head) → AreKept es area → at_key es key ≡ Some h → IsHead key g → size_of g ≡ size_of h → length after ≡ length area → AreKept (changed_key es key g) after
 kept_changed es area after key h g kept there is same_size same_length =
@@ -105,7 +105,7 @@ kept_changed es area after key h g kept there is same_size same_length =
       each = heads_changed es key g kept.each is;
     }
 
--- a head that is changed, and whose bytes stay, shows the index changed
+-- changing a head and leaving its bytes unchanged changes the index that they represent
 pub seen_changed : (es : Entries Head) (area : List ℕ) (key : ℕ) (h g : Head) → AreKept es area → at_key es key ≡ Some h → size_of g ≡ size_of h → indices_of (changed_key es key g) area ≡ changed_key (indices_of es area) key (index_with g (piece_of (start_of es key) (size_of h) area))
 seen_changed es area key h g kept there same_size =
     let s = start_of es key in
@@ -115,7 +115,7 @@ seen_changed es area key h g kept there same_size =
     ap (λ (l : List ℕ). indices_of (changed_key es key g) l) (sym (put_back s n area fits))
     ∙ sym (changed_among es area (piece_of s n area) key h g kept.ascends (omega (arith, kept.whole)) there same_size many)
 
--- ---- an attribute set
+-- ---- setting an attribute
 
 other_bit : (a : NvAttributes) (one : NvAttribute) → attribute_bit one ≢ attribute_bit attribute.Written → has (with_attribute a one) attribute.Written ≡ has a attribute.Written
 other_bit a one apart = are_attributes.set_others a one attribute.Written (λ same. apart (sym same))
@@ -128,14 +128,14 @@ is_head_marked key h one is =
     let a = h.public.attributes in
     is_head_with key h (with_attribute a one) is (are_attributes.set_named a one is.public.attributes) (are_attributes.set_type a one)
 
--- ---- data put
+-- ---- putting data
 
 pub length_filled : (is_written : Bool) (start size byte : ℕ) (area : List ℕ) → start + size ≤ length area → length (filled is_written start size byte area) ≡ length area
 length_filled true start size byte area fits = refl
 length_filled false start size byte area fits =
     length_put start (replicate size byte) area (omega (arith, fits, length-replicate {A = ℕ} size byte))
 
--- bytes that are put over the piece that was there or that was filled
+-- bytes written over a piece that was already there or was filled first
 filled_put : (is_written : Bool) (start size offset byte : ℕ) (bytes area : List ℕ) → start + size ≤ length area → offset + length bytes ≤ size → put_over (start + offset) bytes (filled is_written start size byte area) ≡ put_over start (put_over offset bytes (cond is_written (piece_of start size area) (replicate size byte))) area
 filled_put true start size offset byte bytes area fits within = put_within start size offset bytes area fits within
 filled_put false start size offset byte bytes area fits within =
@@ -145,7 +145,7 @@ filled_put false start size offset byte bytes area fits within =
 abbrev pub written_head : Head → Head
 written_head h = with_attributes h (with_attribute h.public.attributes attribute.Written)
 
--- the data of an index with this head, or before its first write this byte
+-- the data of an index with this head; before its first write, this byte
 data_is : (h : Head) (bytes : List ℕ) (byte : ℕ) → data_or byte (index_with h bytes) ≡ cond (has h.public.attributes attribute.Written) bytes (replicate (size_of h) byte)
 data_is h bytes byte = by (has h.public.attributes attribute.Written)
   where
@@ -193,7 +193,7 @@ kept_put es area bytes key offset byte h kept there within =
     refl
     (length_put_filled es area bytes key offset byte h kept there within)
 
--- a piece that is put, by the variables of the code
+-- writing a piece, stated with the variables of the code
 pub put_is : (after bytes area : List ℕ) (is_written : Bool) (start size offset byte from many : ℕ) (b : Bool) → after ≡ put_over (from + offset) bytes (filled b from many byte area) → b ≡ is_written → from ≡ start → many ≡ size → after ≡ put_over (start + offset) bytes (filled is_written start size byte area)
 put_is after bytes area is_written start size offset byte from many b is written from_is size_is =
     is
@@ -216,7 +216,7 @@ pub seen_head : (es : Entries Head) (area : List ℕ) (key : ℕ) (found : Optio
 seen_head es area key None up is = rw (none_among es area key (sym is)) refl
 seen_head es area key (Some h) up is = rw (found_among es area key h.now up (sym is)) refl
 
--- the head of an index that is there, and what is known of that index
+-- the head of an index that exists, and what is known about that index
 pub head_of_index : (P : NvIndex → Type 0) (es : Entries Head) (area : List ℕ) (count : ℕ) (handle : Handle) (shown : NvContents) → (let view : NvContents = record { indices = indices_of es area; max_count = count } in view ≡ shown) → AreKept es area → IsSomeAnd (index_at shown handle) P → (h : Head) × (at_key es handle.number ≡ Some h) × P (index_with h (piece_of (start_of es handle.number) (size_of h) area))
 head_of_index P es area count handle shown view kept known = by (at_key es handle.number) refl
   where
@@ -226,7 +226,7 @@ head_of_index P es area count handle shown view kept known = by (at_key es handl
         let never : ⊥ = subst (λ (o : Option NvIndex). IsSomeAnd o P) (none_at es area count handle shown view is) known in
         absurd never
 
--- where the bytes of an index begin, by the indices that are shown
+-- the offset of an index's bytes, computed from the indices that are represented
 pub start_is : (es : Entries Head) (area : List ℕ) (count : ℕ) (handle : Handle) (shown : NvContents) → (let view : NvContents = record { indices = indices_of es area; max_count = count } in view ≡ shown) → start_in shown handle ≡ start_of es handle.number
 start_is es area count handle shown view =
     ap (λ (s : NvContents). start_in s handle) (sym view) ∙ ap (λ (l : Entries Head). start_of l handle.number) (sym (heads_among es area))
@@ -234,7 +234,7 @@ start_is es area count handle shown view =
 pub known_some : (P : NvIndex → Type 0) (found : Option NvIndex) (x : NvIndex) → found ≡ Some x → P x → IsSomeAnd found P
 known_some P found x is known = subst (λ (o : Option NvIndex). IsSomeAnd o P) (sym is) known
 
--- what a walk over the heads found of an index
+-- what a pass over the heads found for an index
 module _ (es : Entries Head) (area : List ℕ) (count : ℕ) (handle : Handle) (shown : NvContents) (view : (let kept : NvContents = record { indices = indices_of es area; max_count = count } in kept ≡ shown)) where
   pub found_none : (found : Option Found) → IfNone found (at_key es handle.number ≡ None) → IfNone found (index_at shown handle ≡ None)
   found_none None none = none_at es area count handle shown view none
@@ -246,14 +246,14 @@ module _ (es : Entries Head) (area : List ℕ) (count : ℕ) (handle : Handle) (
       let t = subst (λ (s : NvContents). (old : List ℕ) × IsIndexOf s handle f.head.now old) view (there_is es area count handle (Some f.head) kept (sym some.0)) in
       (t.0, t.1, some.1 ∙ sym (start_is es area count handle shown view))
 
--- the data of an index that is written are its bytes
+-- if an index is written, its data are its bytes
 pub bytes_of : (h : Head) (bytes : List ℕ) (index : NvIndex) → index_with h bytes ≡ index → has index.public.attributes attribute.Written ≡ true → bytes ≡ index.bytes
 bytes_of h bytes index same is =
     let written : has h.public.attributes attribute.Written ≡ true = ap (λ (i : NvIndex). has i.public.attributes attribute.Written) same ∙ is in
     let first : bytes ≡ cond (has h.public.attributes attribute.Written) bytes [] = rw written refl in
     first ∙ ap (λ (i : NvIndex). i.bytes) same
 
--- ---- what holds of all heads and bytes
+-- ---- what holds for all heads and bytes
 
 data_many : (b : Bool) (bytes : List ℕ) (n : ℕ) → length bytes ≡ n → length (cond b bytes []) ≡ cond b n 0
 data_many true bytes n is = is
@@ -282,7 +282,7 @@ contents_are es area count kept small = record {
   max_count = small;
 }
 
--- ---- an index removed
+-- ---- removing an index
 
 pub kept_removed : (es : Entries Head) (area : List ℕ) (key : ℕ) (h : Head) → AreKept es area → at_key es key ≡ Some h → AreKept (without_key es key) (closed_up (start_of es key) (size_of h) area)
 kept_removed es area key h kept there =
@@ -299,7 +299,7 @@ kept_removed es area key h kept there =
       each = heads_removed es key kept.each;
     }
 
--- ---- room, and an index more
+-- ---- adding an index, and room for it
 
 pub room_is : (es : Entries Head) (area : List ℕ) (count size : ℕ) → AreKept es area → has_room (record { indices = indices_of es area; max_count = count }) size ≡ (nat_lt (length es) nv_index_limit && nat_le (length area + size) nv_space_limit)
 room_is es area count size kept = rw (length_among es area, bytes_among es area, kept.whole) refl
@@ -364,7 +364,7 @@ kept_more es area piece key h kept none few fits size is =
       each = heads_put es key h kept.each is;
     }
 
--- ---- the size of an index by its type
+-- ---- the size that an index's type allows
 
 pub data_long : (h : Head) (bytes : List ℕ) (byte : ℕ) → length bytes ≡ size_of h → length (data_or byte (index_with h bytes)) ≡ size_of h
 data_long h bytes byte long = ap length (data_is h bytes byte) ∙ by (has h.public.attributes attribute.Written)
@@ -382,7 +382,7 @@ type_of_writable type index e =
     let a = bind_ok (refused_if (has index.public.attributes attribute.WriteLocked) Locked) (λ _. refused_if (not (is_of index.public.attributes type)) Attributes) tt e in
     not_false (is_of index.public.attributes type) (passed (not (is_of index.public.attributes type)) Attributes tt a.2)
 
--- the size of the data of an index by its type
+-- the size of an index's data, as its type determines it
 pub size_of_type : (p : NvPublic) (kind : NvType) → is_of p.attributes kind ≡ true → has_type_size p ≡ true → is_type_size p (Some kind) ≡ true
 size_of_type p kind is sized =
     let number : type_number p.attributes ≡ nv_type_number kind = eqb-true _ _ is in

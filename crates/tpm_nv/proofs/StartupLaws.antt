@@ -1,4 +1,4 @@
--- A startup, head by head: the heads that have started so far, and the indices that they show.
+-- A startup, head by head: the heads changed so far, and the indices that they represent.
 use Rattle.std.proofs.Common.{◌≡◌, ◌≢◌, ℕ, zero, suc, ◌+◌, ◌<◌, ◌≤◌, Bool, true, false, cond, List, [], ◌∷◌, ◌++◌, length, take, drop, get_or, Some, refl, sym, ap, subst, ◌∙◌, arith}
 use Rattle.std.specs.Prelude.{◌&&◌, map}
 use Rattle.std.proofs.lemmas.Bool.{cond_both, cond-true, cond-false, eq-eqb, ne_eqb}
@@ -18,11 +18,11 @@ use Rattle.tpm_nv.proofs.KeptLaws.{is_head_with}
 abbrev started_entry : ℕ × Head → ℕ × Head
 started_entry e = (e.0, started_head e.1)
 
--- the heads of which the first ones have started
+-- the heads, of which the first ones have been changed by the startup
 abbrev pub started_up_to : ℕ → Entries Head → Entries Head
 started_up_to count es = map started_entry (take count es) ++ drop count es
 
--- ---- the entry in a place
+-- ---- one entry by its position
 
 key_above : (low : ℕ) (es : Entries Head) (i : ℕ) (e : ℕ × Head) → AllAbove low es → i < length es → get_or es i e ≡ e → low < e.0
 key_above low [] i e above inside is = absurd (omega arith)
@@ -34,13 +34,13 @@ entry_there [] i inside = absurd (omega arith)
 entry_there (f ∷ es) zero inside = (f, refl)
 entry_there (f ∷ es) (suc i) inside = entry_there es i (omega arith)
 
--- an entry is as it was while those before it have started
+-- an entry is unchanged while only those before it have been changed
 pub same_in_turn : (es : Entries Head) (i : ℕ) (e : ℕ × Head) → i < length es → get_or (started_up_to i es) i e ≡ get_or es i e
 same_in_turn [] i e inside = absurd (omega arith)
 same_in_turn (f ∷ es) zero e inside = refl
 same_in_turn (f ∷ es) (suc i) e inside = same_in_turn es i e (omega arith)
 
--- an entry is found by its key while those before it have started
+-- an entry is found by its key while only those before it have been changed
 pub found_in_turn : (es : Entries Head) (i : ℕ) (e : ℕ × Head) → Ascends es → i < length es → get_or es i e ≡ e → at_key (started_up_to i es) e.0 ≡ Some e.1
 found_in_turn [] i e up inside is = absurd (omega arith)
 found_in_turn (f ∷ es) zero e up inside is =
@@ -49,7 +49,7 @@ found_in_turn (f ∷ es) (suc i) e up inside is =
     let apart : f.0 ≢ e.0 = λ same. let above = key_above f.0 es i e up.0 (omega arith) is in omega arith in
     cond-false _ _ _ (ne_eqb f.0 e.0 apart) ∙ found_in_turn es i e up.1 (omega arith) is
 
--- where the next entry starts, one more has started
+-- changing the next entry gives the heads with one more of them changed
 pub started_in_turn : (es : Entries Head) (i : ℕ) (e : ℕ × Head) → Ascends es → i < length es → get_or es i e ≡ e → changed_key (started_up_to i es) e.0 (started_head e.1) ≡ started_up_to (suc i) es
 started_in_turn [] i e up inside is = absurd (omega arith)
 started_in_turn (f ∷ es) zero e up inside is =
@@ -81,7 +81,7 @@ unlocked_written a =
     (λ _. first)
     (λ _. second ∙ first)
 
--- an index that is written after a startup was written before it
+-- an index that is written after a startup was also written before it
 kept_bytes : (a : NvAttributes) (bytes : List ℕ) → cond (has (kept_written a) attribute.Written) bytes [] ≡ cond (has (kept_written a) attribute.Written) (cond (has a attribute.Written) bytes []) []
 kept_bytes a bytes =
     cond_both (has a attribute.ClearStClear) (without_attribute a attribute.Written) a (λ (b : NvAttributes). cond (has b attribute.Written) bytes [] ≡ cond (has b attribute.Written) (cond (has a attribute.Written) bytes []) [])
@@ -107,7 +107,7 @@ started_among (e ∷ es) area =
     ap (λ (i : NvIndex). (e.0, i) ∷ indices_of (map started_entry es) (drop n area)) first
     ∙ ap (λ (l : List (ℕ × NvIndex)). (e.0, started_index (index_with e.1 (take n area))) ∷ l) rest
 
--- ---- heads and bytes as they are kept
+-- ---- stored heads and bytes
 
 named_cleared : (a : NvAttributes) (one : NvAttribute) → IsNvAttributes a → IsNvAttributes (without_attribute a one)
 named_cleared = are_attributes.cleared_named

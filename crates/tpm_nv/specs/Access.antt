@@ -1,6 +1,6 @@
--- What reads, changes and locks an NV index. TPM 2.0 Library, Part 3, sections 31.7 to 31.11 and
--- 31.13 to 31.15 (writing, counting, extending, setting bits, reading, the locks, and another
--- authorization value), and Part 1, section 37. Who may do so is not defined here.
+-- How an NV index is read, changed and locked. TPM 2.0 Library, Part 3, sections 31.7 to 31.11 and
+-- 31.13 to 31.15 (writing, counting, extending, setting bits, reading, the locks, and changing the
+-- authorization value), and Part 1, section 37. Who may do so is defined elsewhere.
 use Rattle.std.specs.Prelude.{◌≡◌, ℕ, ◌+◌, ◌^◌, ◌==◌, ◌&&◌, ◌||◌, max, nat_lt, nat_le, not, bit_or}
 use Rattle.std.specs.Prelude.{Bool, List, ◌++◌, length, replicate, Result, Ok, Err, ok_or, if◌then◌else◌}
 use Rattle.std.specs.Int.{w64, from_be_bytes, to_be_bytes}
@@ -22,19 +22,18 @@ use Rattle.tpm_nv.specs.declared.fault.Undefined.{Undefined}
 use Rattle.tpm_nv.specs.declared.fault.WriteFault.{WriteFault}
 use Rattle.tpm_nv.specs.declared.fault.WriteFault.TheVariants as write_fault
 
--- A call left the contents that the definition gives, or was refused with its fault and changed
--- nothing.
+-- A call changed the contents as defined, or failed with the defined fault and changed nothing.
 abbrev pub ChangesContents : {F : Type 0} → Result NvContents F
     → NvContents → Result (Unit {0}) F → NvContents
     → Type 0
 ChangesContents answer old (Ok done) new = answer ≡ Ok new
 ChangesContents answer old (Err fault) new = (answer ≡ Err fault) × (new ≡ old)
 
--- the index of a handle, or this fault where there is none
+-- the index with this handle, or this fault if there is none
 abbrev pub index_or_fault : {F : Type 0} → NvContents → Handle → F → Result NvIndex F
 index_or_fault contents handle fault = ok_or (index_at contents handle) fault
 
--- the fault that there is no index, where nothing else can be refused
+-- the fault of a missing index, for a call that has no other fault
 abbrev pub undefined : Undefined
 undefined = record {}
 
@@ -43,7 +42,7 @@ undefined = record {}
 abbrev pub index_has : NvIndex → NvAttribute → Bool
 index_has index attribute = has index.public.attributes attribute
 
--- an index with one attribute more
+-- an index after one more attribute was set
 abbrev pub marked : NvIndex → NvAttribute → NvIndex
 marked index attribute =
     record index {
@@ -52,24 +51,24 @@ marked index attribute =
       };
     }
 
--- an index with these data, and with WRITTEN
+-- an index with this data, on which WRITTEN is set
 abbrev pub with_data : NvIndex → List ℕ → NvIndex
 with_data index bytes = record (marked index attribute.Written) { bytes = bytes }
 
--- the data of an index, or before its first write this byte, as often as it will have bytes
+-- the data of an index; before the first write, this byte repeated over the size of the index
 abbrev pub data_or : ℕ → NvIndex → List ℕ
 data_or byte index =
     if index_has index attribute.Written then index.bytes else replicate index.public.data_size byte
 
--- the number that the data of an index spells, or before its first write this one
+-- the number encoded by the data of an index; before the first write, this number
 abbrev pub number_or : ℕ → NvIndex → ℕ
 number_or number index =
     if index_has index attribute.Written then from_be_bytes w64 index.bytes else number
 
 -- ---- writing
 
--- the check that a command for this type may write an index: it is not locked against writing, and
--- it is of the type
+-- the check that a command for this type may write an index: the index is not locked against
+-- writing, and it is of this type
 abbrev pub writable : NvType → NvIndex → Result (Unit {0}) WriteFault
 writable type index = do
   unlocked ← refused_if (index_has index attribute.WriteLocked) write_fault.Locked
@@ -80,9 +79,9 @@ check_writable contents handle type = do
   index ← index_or_fault contents handle write_fault.Undefined
   writable type index
 
--- the contents after TPM2_NV_Write: bytes are put over the data from an offset on, within the data,
--- and over all of it where the index has WRITEALL; the other bytes of a first write are FF (this
--- device's own)
+-- the contents after TPM2_NV_Write: the bytes overwrite the data at an offset. They must lie
+-- within the data, and must cover all of it if the index has WRITEALL. A first write sets every
+-- other byte to FF (this device's own choice)
 unfoldable pub written : NvContents → Handle → (offset : ℕ) → List ℕ
     → Result NvContents WriteFault
 written contents handle offset bytes = do
@@ -94,14 +93,15 @@ written contents handle offset bytes = do
       write_fault.Partial
   Ok (changed_index contents handle (with_data index (put_over offset bytes (data_or 0xff index))))
 
--- the contents after a counter took this value: the largest value that any counter ever had rises
--- to it if it was less
+-- the contents after a counter took this value: the largest value that any counter has ever had is
+-- raised to it if it was lower
 abbrev pub counted : NvContents → ℕ → NvContents
 counted contents count = record contents { max_count = max contents.max_count count }
 
--- the contents after TPM2_NV_Increment: a counter becomes one more than it was, or at first one
--- more than any counter ever was (section 31.2); the largest value of any counter rises to it if it
--- was less. A counter that would pass 2^64 - 1 is exhausted (this device's own)
+-- the contents after TPM2_NV_Increment: the counter increments; its first increment makes it one
+-- more than the largest value that any counter has ever had (section 31.2). That largest value is
+-- raised to the counter's value if it was lower. A counter that would pass 2^64 - 1 is exhausted
+-- (this device's own choice)
 unfoldable pub incremented : NvContents → Handle → Result NvContents WriteFault
 incremented contents handle = do
   index ← index_or_fault contents handle write_fault.Undefined
@@ -111,7 +111,7 @@ incremented contents handle = do
   let count : ℕ = number_or contents.max_count index + 1 in
       Ok (counted (changed_index contents handle (with_data index (to_be_bytes w64 count))) count)
 
--- the contents after TPM2_NV_SetBits: bits are set; before the first write none is
+-- the contents after TPM2_NV_SetBits sets these bits; before the first write, all bits are clear
 unfoldable pub bits_set : NvContents → Handle → ℕ → Result NvContents WriteFault
 bits_set contents handle bits = do
   index ← index_or_fault contents handle write_fault.Undefined
@@ -119,8 +119,8 @@ bits_set contents handle bits = do
   let number : ℕ = bit_or (number_or 0 index) bits in
       Ok (changed_index contents handle (with_data index (to_be_bytes w64 number)))
 
--- the contents after TPM2_NV_Extend: the data becomes the digest, by nameAlg, of itself and these
--- bytes; before the first write it is zeros
+-- the contents after TPM2_NV_Extend: the data becomes the digest, by nameAlg, of the old data
+-- followed by these bytes. Before the first write, the old data is zeros
 unfoldable pub extended : NvContents → Handle → List ℕ → Result NvContents WriteFault
 extended contents handle bytes = do
   index ← index_or_fault contents handle write_fault.Undefined
@@ -131,13 +131,13 @@ extended contents handle bytes = do
 -- ---- reading
 
 -- the check that an index may be read: it is not locked against reading, and it is written. A
--- command that reads asks this once its parameters are read, and before it looks at their values
+-- command makes this check after it has parsed its parameters and before it checks their values
 abbrev pub readable : NvIndex → Result (Unit {0}) ReadFault
 readable index = do
   unlocked ← refused_if (index_has index attribute.ReadLocked) read_fault.Locked
   refused_if (not (index_has index attribute.Written)) read_fault.Uninitialized
 
--- a number of bytes of the data of an index, from an offset on
+-- the part of an index's data with this offset and size
 unfoldable pub read_at : NvContents → Handle → (offset size : ℕ) → Result (List ℕ) ReadFault
 read_at contents handle offset size = do
   index ← index_or_fault contents handle read_fault.Undefined
@@ -145,10 +145,10 @@ read_at contents handle offset size = do
   inside ← refused_if (nat_lt index.public.data_size (offset + size)) read_fault.PastData
   Ok (piece_of offset size index.bytes)
 
--- ---- locks, and the authorization value
+-- ---- locks and the authorization value
 
--- the contents after TPM2_NV_WriteLock: an index that has WRITEDEFINE or WRITE_STCLEAR is locked
--- against writing
+-- the contents after TPM2_NV_WriteLock, which locks an index against writing if it has WRITEDEFINE
+-- or WRITE_STCLEAR
 unfoldable pub write_locked : NvContents → Handle → Result NvContents LockFault
 write_locked contents handle = do
   index ← index_or_fault contents handle lock_fault.Undefined
@@ -157,15 +157,15 @@ write_locked contents handle = do
       lock_fault.Attributes
   Ok (changed_index contents handle (marked index attribute.WriteLocked))
 
--- the contents after TPM2_NV_ReadLock: an index that has READ_STCLEAR is locked against reading
+-- the contents after TPM2_NV_ReadLock, which locks an index against reading if it has READ_STCLEAR
 unfoldable pub read_locked : NvContents → Handle → Result NvContents LockFault
 read_locked contents handle = do
   index ← index_or_fault contents handle lock_fault.Undefined
   lockable ← refused_if (not (index_has index attribute.ReadStClear)) lock_fault.Attributes
   Ok (changed_index contents handle (marked index attribute.ReadLocked))
 
--- the contents with another authorization value of an index; that the value is not too long is the
--- command's to check
+-- the contents after the authorization value of an index was replaced. The command, not this
+-- definition, checks the length of the value
 unfoldable pub with_auth_value : NvContents → Handle → List ℕ → Result NvContents Undefined
 with_auth_value contents handle value = do
   index ← index_or_fault contents handle undefined

@@ -1,29 +1,30 @@
 -- Edits of an area of bytes.
 use Rattle.std.specs.Prelude.{ℕ, ◌+◌, ◌-◌, List, ◌++◌, length, take, drop, replicate, Bool, if◌then◌else◌}
 
--- a number of bytes from a place on
+-- the bytes of this size at this offset
 abbrev pub piece_of : (start size : ℕ) → List ℕ → List ℕ
 piece_of start size bytes = take size (drop start bytes)
 
--- a piece put over the bytes from a place on
+-- the bytes after a piece has overwritten those at an offset
 abbrev pub put_over : (start : ℕ) → (piece bytes : List ℕ) → List ℕ
 put_over start piece bytes = take start bytes ++ (piece ++ drop (start + length piece) bytes)
 
--- the bytes before a piece of them is written: where it was never written, each of its bytes is
--- this one
+-- the bytes as they are just before a piece of them is written: if the piece is not written yet,
+-- it is first filled with this byte
 abbrev pub filled : (is_written : Bool) → (start size byte : ℕ) → List ℕ → List ℕ
 filled is_written start size byte bytes =
     if is_written then bytes else put_over start (replicate size byte) bytes
 
--- the bytes with a number of zeros put between them at a place
+-- the bytes after zeros were inserted at an offset
 abbrev pub opened : (start size : ℕ) → List ℕ → List ℕ
 opened start size bytes = take start bytes ++ (replicate size 0 ++ drop start bytes)
 
--- the bytes without a number of them from a place on
+-- the bytes after some were removed at an offset
 abbrev pub closed_up : (start size : ℕ) → List ℕ → List ℕ
 closed_up start size bytes = take start bytes ++ drop (start + size) bytes
 
--- the bytes with a number of them moved from the end to a place, and from a place to the end
+-- the bytes after some were moved from the end to an offset, and after some were moved from an
+-- offset to the end
 unfoldable pub moved_from_end : (start size : ℕ) → List ℕ → List ℕ
 moved_from_end start size bytes =
     let behind : List ℕ = drop start bytes in
@@ -33,7 +34,7 @@ abbrev pub moved_to_end : (start size : ℕ) → List ℕ → List ℕ
 moved_to_end start size bytes =
     take start bytes ++ (drop (start + size) bytes ++ piece_of start size bytes)
 
--- the bytes with a number of them, from a place on, put over those from a lower place on
+-- the bytes after some were copied to a lower offset
 abbrev pub moved_down : (start size place : ℕ) → List ℕ → List ℕ
 moved_down start size place bytes =
     take place bytes ++ (piece_of start size bytes ++ drop (place + size) bytes)

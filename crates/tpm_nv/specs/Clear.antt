@@ -7,12 +7,12 @@ use Rattle.tpm_types_nv.specs.declared.nv_attributes.NvAttribute.TheVariants as 
 use Rattle.tpm_types_nv.specs.declared.nv_public.NvPublic.{NvPublic}
 use Rattle.tpm_nv.specs.Index.{NvContents}
 
--- whether the platform defined an index: PLATFORMCREATE
+-- whether the platform defined an index, as PLATFORMCREATE says
 abbrev pub is_by_platform : NvPublic → Bool
 is_by_platform public = has public.attributes attribute.PlatformCreate
 
--- the contents after TPM2_Clear: only indices that the platform defined stay, and so does the
--- largest value that a counter ever had
+-- the contents after TPM2_Clear: all indices are removed except those that the platform defined;
+-- the largest value that any counter has ever had does not change
 unfoldable pub cleared : NvContents → NvContents
 cleared contents =
     record contents {

@@ -1,7 +1,7 @@
--- The checks of a new NV index, and what its definition does. TPM 2.0 Library, Part 3, section 31.3
--- (TPM2_NV_DefineSpace), and Part 2, section 13.4 (TPMA_NV). The order of the checks and the limits
--- are this device's own: no more data than `nv_data_limit`, and no attribute that this device does
--- not serve.
+-- The checks of a new NV index, and the effect of its definition. TPM 2.0 Library, Part 3, section
+-- 31.3 (TPM2_NV_DefineSpace), and Part 2, section 13.4 (TPMA_NV). The order of the checks and two
+-- limits are this device's own: the data is limited to `nv_data_limit`, and attributes that the
+-- device does not serve are refused.
 use Rattle.tpm_types.specs.Algorithm.{is_policy_size}
 use Rattle.tpm_types.specs.Limits.{nv_data_limit}
 use Rattle.std.specs.Prelude.{◌≡◌, ℕ, ◌==◌, ◌&&◌, nat_lt, nat_le, not, Bool, true, false}
@@ -31,7 +31,7 @@ use Rattle.tpm_nv.specs.declared.definition.DefinitionFault.TheVariants as fault
 abbrev pub has_one : NvAttributes → List NvAttribute → Bool
 has_one attributes these = list_any (λ one. has attributes one) these
 
--- the attributes that say who may write, and those that say who may read
+-- the attributes that allow somebody to write, and those that allow somebody to read
 abbrev pub write_attributes : List NvAttribute
 write_attributes =
     attribute.PpWrite ∷ attribute.OwnerWrite ∷ attribute.AuthWrite ∷ attribute.PolicyWrite ∷ []
@@ -40,17 +40,16 @@ abbrev pub read_attributes : List NvAttribute
 read_attributes =
     attribute.PpRead ∷ attribute.OwnerRead ∷ attribute.AuthRead ∷ attribute.PolicyRead ∷ []
 
--- the attributes that no index may have as it is defined: its state (the first three), and what
--- this device does not serve
+-- the attributes that a definition may not set: those that describe the index's state (the first
+-- three), and those that this device does not serve
 abbrev pub undefinable_attributes : List NvAttribute
 undefinable_attributes =
     attribute.Written ∷ attribute.ReadLocked ∷ attribute.WriteLocked
     ∷ attribute.PolicyDelete ∷ attribute.GlobalLock ∷ attribute.Orderly ∷ []
 
--- which of these faults the attributes of a new index have: a type that is not served; an attribute
--- that no index has as it is defined; an index that nobody may write, or that nobody may read; a
--- counter that a startup clears; PLATFORMCREATE where the owner defines the index, or no
--- PLATFORMCREATE where the platform does
+-- which of these faults the attributes of a new index have: a type that is not served; an
+-- attribute that a definition may not set; nobody may write, or nobody may read; a counter that a
+-- startup clears; PLATFORMCREATE set by the owner, or not set by the platform
 abbrev pub index_attribute_conflicts : (by_platform : Bool) → NvAttributes → List Bool
 index_attribute_conflicts by_platform a =
     not (is_some (index_type a))
@@ -60,7 +59,7 @@ index_attribute_conflicts by_platform a =
     ∷ (is_of a type.Counter && has a attribute.ClearStClear)
     ∷ not (beq (has a attribute.PlatformCreate) by_platform) ∷ []
 
--- whether an index has a size that its type may have
+-- whether an index has a size that its type allows
 abbrev pub is_type_size : NvPublic → Option NvType → Bool
 is_type_size p (Some type.Ordinary) = nat_le p.data_size nv_data_limit
 is_type_size p (Some type.Counter) = p.data_size == 8
@@ -71,9 +70,9 @@ is_type_size p None = false
 abbrev pub has_type_size : NvPublic → Bool
 has_type_size p = is_type_size p (index_type p.attributes)
 
--- whether an index may be defined with this public area and an authorization value of this size,
--- without its trailing zeros, by the platform or else by the owner; or the fault of the first check
--- that it fails
+-- whether the platform, or else the owner, may define an index with this public area and an
+-- authorization value of this size (without trailing zeros). The fault is that of the first check
+-- that fails
 unfoldable pub definition_passes : (by_platform : Bool)
     → NvPublic
     → (auth_size : ℕ)
@@ -86,13 +85,13 @@ definition_passes by_platform p auth_size = do
       fault.Attributes
   refused_if (not (has_type_size p)) fault.DataSize
 
--- ---- what a definition does
+-- ---- the effect of a definition
 
--- an index as it is defined: without data
+-- a newly defined index, which has no data
 abbrev pub defined_index : NvPublic → List ℕ → NvIndex
 defined_index public auth_value = record { public = public; auth_value = auth_value; bytes = [] }
 
--- whether there is room for an index, or why there is none
+-- the result says whether there is room for an index, or why there is not
 abbrev pub HasRoomFor : NvContents → NvPublic → Result (Unit {0}) RestoreFault → Type 0
 HasRoomFor contents public (Ok done) =
     (index_at contents public.nv_index ≡ None) × (has_room contents public.data_size ≡ true)
@@ -101,8 +100,9 @@ HasRoomFor contents public (Err Space) =
     (index_at contents public.nv_index ≡ None) × (has_room contents public.data_size ≡ false)
 HasRoomFor contents public (Err NoMemory) = ⊥
 
--- An index was put under its handle, or nothing changed: the handle has an index already, or there
--- is no room for it, or there was room and memory was refused.
+-- An index was added with its handle, or nothing changed. If nothing changed, the handle already
+-- has an index; or there is no room for the index; or neither is the case, and an allocation
+-- failed.
 abbrev pub Restores : Bool → NvContents → NvIndex → Result (Unit {0}) RestoreFault → NvContents
     → Type 0
 Restores can old index (Ok done) new =
@@ -121,12 +121,12 @@ Restores can old index (Err NoMemory) new =
     × (can ≡ true)
     × (new ≡ old)
 
--- An index can be defined with this public area: it is not written, and has the size of its type.
+-- An index can be defined with this public area: WRITTEN is clear, and its type allows its size.
 abbrev pub IsDefinable : NvPublic → Type 0
 IsDefinable public = (has public.attributes attribute.Written ≡ false) × (has_type_size public ≡ true)
 
--- An index was defined, or nothing changed: it is marked as written, or its size is not that of its
--- type, or it could not be put under its handle.
+-- An index was defined, or nothing changed. If nothing changed, its public area has WRITTEN set,
+-- its type does not allow its size, or it could not be added with its handle.
 abbrev pub Defines : Bool → NvContents → NvIndex → Result (Unit {0}) DefineFault → NvContents
     → Type 0
 Defines can old index (Ok done) new = IsDefinable index.public × Restores can old index (Ok done) new

@@ -1,6 +1,6 @@
--- How NV indices are kept in memory, of which the standard says nothing: their heads by their
--- handles, and the bytes of all in one area, in the order of the handles, as many of each as its
--- head says, whether it is written or not.
+-- How NV indices are stored in memory, which the standard leaves open: the heads are keyed by
+-- handle, and the data of all indices is in one area, in order of handle. Each index occupies as
+-- many bytes as its head says, even before it is written.
 use Rattle.tpm_types.specs.Limits.{nv_index_limit, nv_space_limit}
 use Rattle.std.specs.Prelude.{◌≡◌, ℕ, ◌+◌, ◌≤◌, nat_le, Bool, true, List, [], ◌∷◌, ◌++◌, length, take, drop, Some, if◌then◌else◌, map}
 use Rattle.tpm_containers.specs.SortedMap.{Ascends, Entries}
@@ -20,11 +20,11 @@ use Rattle.tpm_nv.specs.declared.head.Head.{Head}
 abbrev pub head_of : NvIndex → Head
 head_of index = record { public = index.public; auth_value = index.auth_value }
 
--- the heads of all indices, under their handles
+-- the heads of all indices, keyed by handle
 abbrev pub heads_of : NvContents → Entries Head
 heads_of contents = map (λ e. (e.0, head_of e.1)) contents.indices
 
--- the index of this head and these bytes: they are its data where it is written
+-- the index with this head and these bytes, which are its data if it is written
 abbrev pub index_with : Head → List ℕ → NvIndex
 index_with head bytes = record {
   public = head.public;
@@ -32,17 +32,17 @@ index_with head bytes = record {
   bytes = if has head.public.attributes attribute.Written then bytes else [];
 }
 
--- how many bytes of data an index with this head has, or will have
+-- the size of an index's data, before and after it is written
 abbrev pub size_of : Head → ℕ
 size_of head = head.public.data_size
 
--- the indices of these heads and this area
+-- the indices that consist of these heads and this area
 abbrev pub indices_of : Entries Head → List ℕ → Entries NvIndex
 indices_of [] area = []
 indices_of (e ∷ es) area =
     (e.0, index_with e.1 (take (size_of e.1) area)) ∷ indices_of es (drop (size_of e.1) area)
 
--- how many bytes all these indices have, and how many those have whose keys are below this one
+-- the total number of bytes of these indices, and of those with keys below this one
 abbrev pub total : Entries Head → ℕ
 total [] = 0
 total (e ∷ es) = size_of e.1 + total es
@@ -51,11 +51,11 @@ abbrev pub start_of : Entries Head → ℕ → ℕ
 start_of [] key = 0
 start_of (e ∷ es) key = if nat_le key e.0 then 0 else size_of e.1 + start_of es key
 
--- where the bytes of a handle begin in the area of all
+-- the offset of a handle's bytes in the area of all indices
 abbrev pub start_in : NvContents → Handle → ℕ
 start_in contents handle = start_of (heads_of contents) handle.number
 
--- a head under its handle: its public area has a text and the size of its type
+-- a head and its handle: its public area can be encoded, and its type allows its size
 pub record IsHead (key : ℕ) (head : Head) : Type 0 where
   pub named : key ≡ head.public.nv_index.number
   pub public : IsNvPublic head.public
@@ -66,7 +66,7 @@ abbrev pub AreHeads : Entries Head → Type 0
 AreHeads [] = Unit {0}
 AreHeads (e ∷ es) = IsHead e.0 e.1 × AreHeads es
 
--- heads and the area of their bytes, which is as long as they say
+-- heads and the area of their bytes, which is as long as the sum of their sizes
 pub record AreKept (heads : Entries Head) (area : List ℕ) : Type 0 where
   pub ascends : Ascends heads
   pub few : length heads ≤ nv_index_limit
@@ -74,13 +74,13 @@ pub record AreKept (heads : Entries Head) (area : List ℕ) : Type 0 where
   pub small : total heads ≤ nv_space_limit
   pub each : AreHeads heads
 
--- a head with other attributes
+-- a head with these attributes instead of its own
 abbrev pub with_attributes : Head → NvAttributes → Head
 with_attributes head attributes =
     record head { public = record head.public { attributes = attributes } }
 
--- The index of a handle has this head and these bytes, as many as the head says; they are its data
--- where it is written.
+-- The index with this handle consists of this head and these bytes, as many as the head says; they
+-- are its data if it is written.
 pub record IsIndexOf (contents : NvContents) (handle : Handle) (head : Head) (bytes : List ℕ)
     : Type 0
   where
@@ -92,7 +92,7 @@ pub record IsIndexOf (contents : NvContents) (handle : Handle) (head : Head) (by
 abbrev pub started_head : Head → Head
 started_head head = with_attributes head (started_attributes head.public.attributes)
 
--- whether an index stays where TPM2_Clear removes others, and the bytes of those that stay
+-- whether an index remains when TPM2_Clear removes others, and the bytes of those that remain
 abbrev pub stays : Head → Bool
 stays head = is_by_platform head.public
 

@@ -1,4 +1,4 @@
--- What holds of the NV indices of a device, whatever came before.
+-- What always holds for the NV indices of a device.
 use Rattle.tpm_types.specs.Limits.{nv_index_limit, nv_space_limit}
 use Rattle.std.specs.Prelude.{◌≡◌, ℕ, ◌<◌, ◌≤◌, ◌^◌, true, [], ◌∷◌, length, if◌then◌else◌}
 use Rattle.tpm_containers.specs.SortedMap.{Ascends, Entries}
@@ -9,8 +9,8 @@ use Rattle.tpm_types_nv.specs.declared.nv_attributes.NvAttribute.TheVariants as 
 use Rattle.tpm_nv.specs.Definition.{has_type_size}
 use Rattle.tpm_nv.specs.Index.{NvContents, NvIndex, data_bytes}
 
--- An index has its handle as the key: its public area has a text and the size of its type, and the
--- index has as many bytes of data as that says where it is written, and otherwise none.
+-- An index is stored by its handle. Its public area can be encoded, and its type allows its size.
+-- Its data is as long as the public area says if the index is written, and empty otherwise.
 pub record IsIndex (key : ℕ) (index : NvIndex) : Type 0 where
   pub named : key ≡ index.public.nv_index.number
   pub public : IsNvPublic index.public

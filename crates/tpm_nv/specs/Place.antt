@@ -1,4 +1,4 @@
--- Where an index stands in what is kept, which a call finds once and hands on.
+-- The location of an index in the stored state, which a call looks up once and passes on.
 use Rattle.std.specs.Prelude.{◌≡◌, ℕ, List, IsSomeAnd}
 use Rattle.tpm_types.specs.declared.handle.Handle.{Handle}
 use Rattle.tpm_types_nv.specs.NvAttributes.{has}
@@ -10,7 +10,7 @@ use Rattle.tpm_nv.specs.declared.pieces.Piece.{Piece}
 use Rattle.tpm_nv.specs.declared.place.Found.{Found}
 use Rattle.tpm_nv.specs.declared.place.DataPlace.{DataPlace}
 
--- the place of an index with this head, whose bytes begin at this place and are these
+-- the location of an index with this head, whose bytes begin at this offset
 abbrev pub place_of : Head → ℕ → DataPlace
 place_of head start =
     record { attributes = head.public.attributes; start = start; size = size_of head }
@@ -22,13 +22,13 @@ piece_at_place place = record {
   is_written = has place.attributes attribute.Written;
 }
 
--- What the code found of a handle is the head of its index, and where the bytes of that begin.
+-- What the code found for a handle is the head of its index and the offset of its bytes.
 abbrev pub IsFound : NvContents → Handle → Found → Type 0
 IsFound contents handle found =
     (old : List ℕ) × IsIndexOf contents handle found.head.now old
     × (found.start ≡ start_in contents handle)
 
--- There is an index with this handle, and it is in this place.
+-- An index with this handle exists, and this is its location.
 abbrev pub IsPlaceOf : NvContents → Handle → DataPlace → Type 0
 IsPlaceOf contents handle place =
     IsSomeAnd (index_at contents handle) (λ index.

@@ -6,12 +6,12 @@ use Rattle.tpm_types_nv.specs.declared.nv_attributes.NvAttribute.TheVariants as 
 use Rattle.tpm_types_nv.specs.declared.nv_attributes.NvAttributes.{NvAttributes}
 use Rattle.tpm_nv.specs.Index.{NvContents, NvIndex}
 
--- the attributes of an index as CLEAR_STCLEAR clears WRITTEN
+-- the attributes after a startup has cleared WRITTEN, which it does if CLEAR_STCLEAR is set
 abbrev pub kept_written : NvAttributes → NvAttributes
 kept_written a =
     if has a attribute.ClearStClear then without_attribute a attribute.Written else a
 
--- the attributes with READLOCKED cleared, and with WRITELOCKED cleared unless the index has
+-- the attributes after READLOCKED was cleared, and WRITELOCKED too unless the index has
 -- WRITEDEFINE and is still written
 abbrev pub unlocked : NvAttributes → NvAttributes
 unlocked a =
@@ -22,7 +22,7 @@ unlocked a =
 abbrev pub started_attributes : NvAttributes → NvAttributes
 started_attributes a = unlocked (kept_written a)
 
--- an index after a startup with CLEAR: if it is no longer written it has no data
+-- an index after a startup with CLEAR. If it is no longer written, it has no data
 abbrev pub started_index : NvIndex → NvIndex
 started_index index = record {
   public = record index.public { attributes = started_attributes index.public.attributes };
@@ -30,7 +30,7 @@ started_index index = record {
   bytes = if has (kept_written index.public.attributes) attribute.Written then index.bytes else [];
 }
 
--- the contents after a startup with CLEAR, which changes every index so
+-- the contents after a startup with CLEAR, which changes every index this way
 unfoldable pub started : NvContents → NvContents
 started contents =
     record contents { indices = map (λ e. (e.0, started_index e.1)) contents.indices }

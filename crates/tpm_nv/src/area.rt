@@ -1,5 +1,5 @@
-//! The trait of the one area that holds the data of all NV indices, and the moves of bytes that
-//! both kinds of area share.
+//! The trait of the single area that contains the data of all NV indices, and the moves of bytes
+//! that both kinds of area share.
 
 ghost use Rattle.tpm_types.specs.Limits.{nv_space_limit};
 ghost use Rattle.std.specs.Prelude.{◌≡◌, ◌≤◌, ◌+◌, ℕ, [], Bool, List, length, replicate, take};
@@ -15,10 +15,10 @@ pub trait Area: Drop + Sized {
     /// The bytes.
     ghost bytes: { Self → List ℕ };
 
-    /// Whether memory can be refused.
+    /// Whether an allocation can fail.
     ghost can_refuse: { Bool };
 
-    /// An empty area; no memory is taken.
+    /// An empty area; nothing is allocated.
     fn new(alloc: Global) -> Self
         ensures { bytes result ≡ [] };
 
@@ -26,17 +26,17 @@ pub trait Area: Drop + Sized {
     fn as_slice(&self) -> &[u8]
         ensures { result.now ≡ bytes self.now };
 
-    /// Puts a piece over the bytes from a place on.
+    /// Overwrites the bytes at an offset with a piece.
     fn put(&mut self, start: usize, piece: &[u8])
         requires { start + length piece.now ≤ length (bytes self.old) }
         ensures { bytes self.new ≡ put_over start piece.now (bytes self.old) };
 
-    /// Puts one byte a number of times over the bytes from a place on.
+    /// Sets a number of bytes at an offset to one value.
     fn fill(&mut self, start: usize, size: usize, byte: u8)
         requires { start + size ≤ length (bytes self.old) }
         ensures { bytes self.new ≡ put_over start (replicate size byte) (bytes self.old) };
 
-    /// Puts a number of zeros between the bytes at a place.
+    /// Inserts a number of zeros at an offset.
     fn open(&mut self, start: usize, size: usize) -> Result<(), NoMemory>
         requires inside { start ≤ length (bytes self.old) }
         requires fits { length (bytes self.old) + size ≤ nv_space_limit }
@@ -44,24 +44,24 @@ pub trait Area: Drop + Sized {
         ensures unchanged { OnErr result (bytes self.new ≡ bytes self.old) }
         ensures refused { OnErr result (can_refuse ≡ true) };
 
-    /// Removes a number of bytes from a place on.
+    /// Removes a number of bytes at an offset.
     fn close_up(&mut self, start: usize, size: usize)
         requires { start + size ≤ length (bytes self.old) }
         ensures { bytes self.new ≡ closed_up start size (bytes self.old) };
 
-    /// Puts a number of bytes from a place on over those from a lower place on.
+    /// Copies a number of bytes from one offset to a lower one.
     fn move_down(&mut self, start: usize, size: usize, place: usize)
         requires inside { start + size ≤ length (bytes self.old) }
         requires lower { place ≤ start }
         ensures { bytes self.new ≡ moved_down start size place (bytes self.old) };
 
-    /// Removes the bytes from a place on.
+    /// Truncates the area to `size` bytes.
     fn truncate(&mut self, size: usize)
         requires { size ≤ length (bytes self.old) }
         ensures { bytes self.new ≡ take size (bytes self.old) };
 }
 
-/// Puts a piece over the bytes from a place on.
+/// Overwrites the bytes at an offset with a piece.
 pub(crate) fn put_piece(bytes: &mut [u8], start: usize, piece: &[u8])
     requires { start + length piece.now ≤ length bytes.old }
     ensures { bytes.new ≡ put_over start piece.now bytes.old }
@@ -69,7 +69,7 @@ pub(crate) fn put_piece(bytes: &mut [u8], start: usize, piece: &[u8])
     bytes[start..start + piece.len()].copy_from_slice(piece);
 }
 
-/// Puts one byte a number of times over the bytes from a place on.
+/// Sets a number of bytes at an offset to one value.
 pub(crate) fn fill_piece(bytes: &mut [u8], start: usize, size: usize, byte: u8)
     requires { start + size ≤ length bytes.old }
     ensures { bytes.new ≡ put_over start (replicate size byte) bytes.old }
@@ -77,7 +77,7 @@ pub(crate) fn fill_piece(bytes: &mut [u8], start: usize, size: usize, byte: u8)
     bytes[start..start + size].fill(byte);
 }
 
-/// Moves a number of bytes from the end to a place.
+/// Moves a number of bytes from the end to an offset.
 #[tactic(auto, unfolding(crate::specs::Bytes::moved_from_end))]
 pub(crate) fn move_from_end(bytes: &mut [u8], start: usize, size: usize)
     requires { start + size ≤ length bytes.old }
@@ -86,7 +86,7 @@ pub(crate) fn move_from_end(bytes: &mut [u8], start: usize, size: usize)
     bytes[start..].rotate_right(size);
 }
 
-/// Moves a number of bytes from a place to the end.
+/// Moves a number of bytes from an offset to the end.
 pub(crate) fn move_to_end(bytes: &mut [u8], start: usize, size: usize)
     requires { start + size ≤ length bytes.old }
     ensures { bytes.new ≡ moved_to_end start size bytes.old }
@@ -94,7 +94,7 @@ pub(crate) fn move_to_end(bytes: &mut [u8], start: usize, size: usize)
     bytes[start..].rotate_left(size);
 }
 
-/// Puts a number of bytes from a place on over those from a lower place on.
+/// Copies a number of bytes from one offset to a lower one.
 #[tactic(auto, using(crate::proofs::ByteLaws::moved_by_copying))]
 pub(crate) fn copy_down(bytes: &mut [u8], start: usize, size: usize, place: usize)
     requires inside { start + size ≤ length bytes.old }

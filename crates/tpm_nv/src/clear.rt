@@ -1,4 +1,4 @@
-//! What TPM2_Clear keeps of the heads and of the area of bytes.
+//! Keeps the heads and the bytes that survive TPM2_Clear.
 
 ghost use Rattle.tpm_types.specs.Limits.{nv_space_limit};
 ghost use Rattle.std.specs.Prelude.{◌≡◌, ◌≤◌, ◌+◌, ◌++◌, drop, length, take, if◌then◌else◌};
@@ -10,7 +10,7 @@ use crate::head::Head;
 use tpm_containers::Choice;
 use tpm_types_nv::NvAttribute;
 
-/// The choice of the indices that the platform defined.
+/// Selects the indices that the platform defined.
 pub(crate) struct PlatformIndices;
 
 impl Choice<Head> for PlatformIndices {
@@ -23,8 +23,8 @@ impl Choice<Head> for PlatformIndices {
     }
 }
 
-/// Moves the bytes of an index down to the end of those that are kept so far, if the index stays,
-/// and tells how many are kept then.
+/// If the index is kept, moves its bytes down to the end of those kept so far. Returns the number
+/// of bytes kept so far, including them.
 fn keep_piece<R: Area>(area: &mut R, head: &Head, start: usize, kept: usize) -> usize
     requires few { length (R.bytes area.old) ≤ nv_space_limit }
     requires inside { start + size_of head.now ≤ length (R.bytes area.old) }
@@ -44,7 +44,7 @@ fn keep_piece<R: Area>(area: &mut R, head: &Head, start: usize, kept: usize) -> 
     kept + size
 }
 
-/// Keeps the bytes of the indices that stay.
+/// Keeps the bytes of the indices that survive, and removes all others.
 pub(crate) fn keep_bytes<R: Area>(area: &mut R, heads: &[(u32, Head)])
     requires whole { length (R.bytes area.old) ≡ total heads.now }
     requires few { total heads.now ≤ nv_space_limit }

@@ -1,5 +1,5 @@
-//! The check of a public area and an authorization value, before an NV index is defined by them
-//! (TPM 2.0 Library, Part 3, section 31.3).
+//! Checks the public area and authorization value of a new NV index (TPM 2.0 Library, Part 3,
+//! section 31.3).
 
 ghost use Rattle.std.specs.Prelude.{◌≡◌, OnOk, false, true};
 ghost use Rattle.std.specs.List.{list_any};
@@ -10,21 +10,21 @@ ghost use Rattle.tpm_types_nv.specs.declared.nv_attributes.NvAttribute.TheVarian
 use tpm_types::{NV_DATA_LIMIT, is_policy_size};
 use tpm_types_nv::{NvAttribute, NvAttributes, NvPublic, NvType};
 
-/// Why an index is not to be defined with a public area.
+/// Why a public area is refused for a new index.
 #[derive(Clone, Copy, PartialEq, Eq)]
 pub enum DefinitionFault {
-    /// The authorization value is longer than a digest of nameAlg.
+    /// The authorization value is longer than a nameAlg digest.
     AuthValueSize,
-    /// authPolicy is neither empty nor a digest of nameAlg.
+    /// authPolicy is neither empty nor of the size of a nameAlg digest.
     AuthPolicySize,
-    /// There are attributes that no index may have as it is defined, or that do not go together.
+    /// An attribute is set that a definition may not set, or the attributes contradict each other.
     Attributes,
-    /// The size is not one that an index of its type may have.
+    /// An index of this type may not have this size.
     DataSize,
 }
 
-/// Whether an attribute is set that no index may have as it is defined: one of its state, or one
-/// that is not served.
+/// Whether an attribute is set that a definition may not set, because it describes the index's
+/// state or is not served.
 fn is_undefinable(attributes: NvAttributes) -> bool
     ensures { result ≡ has_one attributes undefinable_attributes }
 {
@@ -36,7 +36,7 @@ fn is_undefinable(attributes: NvAttributes) -> bool
         || attributes.has(NvAttribute::Orderly)
 }
 
-/// Whether the attributes let somebody write.
+/// Whether the attributes allow anybody to write the index.
 fn has_writer(attributes: NvAttributes) -> bool
     ensures { result ≡ has_one attributes write_attributes }
 {
@@ -46,7 +46,7 @@ fn has_writer(attributes: NvAttributes) -> bool
         || attributes.has(NvAttribute::PolicyWrite)
 }
 
-/// Whether the attributes let somebody read.
+/// Whether the attributes allow anybody to read the index.
 fn has_reader(attributes: NvAttributes) -> bool
     ensures { result ≡ has_one attributes read_attributes }
 {
@@ -68,7 +68,7 @@ fn has_attribute_conflict(by_platform: bool, attributes: NvAttributes) -> bool
         || attributes.has(NvAttribute::PlatformCreate) != by_platform
 }
 
-/// Whether an index of its type has this size.
+/// Whether the type of the index allows its size.
 pub fn has_type_size(public: &NvPublic) -> bool
     ensures { result ≡ has_type_size public.now }
 {
@@ -81,9 +81,9 @@ pub fn has_type_size(public: &NvPublic) -> bool
     }
 }
 
-/// Whether an index may be defined with this public area and an authorization value of this size,
-/// by the platform or else by the owner (TPM 2.0 Library, Part 3, section 31.3). The first check
-/// that fails refuses the definition.
+/// Checks whether the platform, or else the owner, may define an index with this public area and
+/// an authorization value of this size (TPM 2.0 Library, Part 3, section 31.3). The fault is that
+/// of the first check that fails.
 #[tactic(auto, unfolding(crate::specs::Definition::definition_passes), using(crate::proofs::DefinitionLaws::unwritten_is))]
 pub fn check_definition(
     public: &NvPublic,

@@ -1,70 +1,70 @@
-//! Why a call on an NV index, its definition, or putting it back from what was kept, is refused.
+//! Why an NV index cannot be used, defined, or restored from what was saved.
 
-/// The handle has no index. A change of the authorization value has no other fault.
+/// No index has this handle. Changing an authorization value can only fail for this reason.
 #[derive(Clone, Copy, PartialEq, Eq)]
 pub struct Undefined;
 
-/// Why an index was not written, counted up or extended, or no bits of it were set.
+/// Why an index was not written, incremented or extended, or why its bits were not set.
 #[derive(Clone, Copy, PartialEq, Eq)]
 pub enum WriteFault {
-    /// The handle has no index.
+    /// No index has this handle.
     Undefined,
-    /// The index is locked against writing: it has WRITELOCKED.
+    /// The index is locked against writing: WRITELOCKED is set.
     Locked,
     /// The index is not of the type that the call writes.
     Attributes,
-    /// What would be written goes past the data.
+    /// The write would go past the end of the data.
     PastData,
-    /// Not all of the data would be written, though the index has WRITEALL.
+    /// WRITEALL is set, and the write would not cover all of the data.
     Partial,
-    /// The counter has the largest number that there is.
+    /// The counter has the largest possible value.
     Exhausted,
 }
 
 /// Why an index was not read.
 #[derive(Clone, Copy, PartialEq, Eq)]
 pub enum ReadFault {
-    /// The handle has no index.
+    /// No index has this handle.
     Undefined,
-    /// The index is locked against reading: it has READLOCKED.
+    /// The index is locked against reading: READLOCKED is set.
     Locked,
-    /// The index was not yet written.
+    /// The index is not written yet.
     Uninitialized,
-    /// What would be read goes past the data.
+    /// The read would go past the end of the data.
     PastData,
 }
 
 /// Why an index was not locked.
 #[derive(Clone, Copy, PartialEq, Eq)]
 pub enum LockFault {
-    /// The handle has no index.
+    /// No index has this handle.
     Undefined,
-    /// The index has no attribute that allows this lock.
+    /// The index lacks the attribute that allows this lock.
     Attributes,
 }
 
 /// Why an index was not defined.
 #[derive(Clone, Copy, PartialEq, Eq)]
 pub enum DefineFault {
-    /// The index is marked as written, which no index is as it is defined.
+    /// WRITTEN is set in the public area, which a definition does not allow.
     Written,
-    /// The size is not one that an index of its type may have.
+    /// An index of this type may not have this size.
     DataSize,
-    /// The handle has an index already.
+    /// An index with this handle already exists.
     Defined,
-    /// There are as many indices as there may be, or too few bytes are left.
+    /// The number of indices is at its limit, or too little NV space is left.
     Space,
-    /// Memory was refused.
+    /// An allocation failed.
     NoMemory,
 }
 
-/// Why an index was not put back.
+/// Why an index was not restored.
 #[derive(Clone, Copy, PartialEq, Eq)]
 pub enum RestoreFault {
-    /// The handle has an index already.
+    /// An index with this handle already exists.
     Defined,
-    /// There are as many indices as there may be, or too few bytes are left.
+    /// The number of indices is at its limit, or too little NV space is left.
     Space,
-    /// Memory was refused.
+    /// An allocation failed.
     NoMemory,
 }

@@ -14,7 +14,7 @@ pub struct Head {
 }
 
 impl Default for Head {
-    /// The head in a place that is free.
+    /// The head that fills a free slot.
     fn default() -> Head {
         Head {
             public: NvPublic {

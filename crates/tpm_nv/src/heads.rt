@@ -1,4 +1,4 @@
-//! Changes and searches of the heads alone.
+//! Changes and searches that need only the heads.
 
 ghost use Rattle.tpm_types.specs.Limits.{nv_index_limit, nv_space_limit};
 ghost use Rattle.std.specs.Prelude.{◌≡◌, ◌<◌, ◌≤◌, ℕ, IfNone, IfSome, None, OnErr, OnOk, Some, length};
@@ -15,7 +15,7 @@ use tpm_containers::{KeyFault, SortedMap};
 use tpm_types::{AuthValue, NV_INDEX_LIMIT};
 use tpm_types_nv::NvAttributes;
 
-/// Where the bytes of the index with this key begin in the area of all.
+/// The offset in the common area at which the bytes of the index with this key begin.
 pub(crate) fn start_of(heads: &[(u32, Head)], key: u32) -> usize
     requires { total heads.now ≤ nv_space_limit }
     ensures { result ≡ start_of heads.now key }
@@ -30,7 +30,8 @@ pub(crate) fn start_of(heads: &[(u32, Head)], key: u32) -> usize
     start
 }
 
-/// The head of a key, and where the bytes of its index begin in the area of all, found in one walk.
+/// Finds the head with this key, and the offset of the index's bytes in the common area, in one
+/// pass.
 pub(crate) fn found_at(heads: &[(u32, Head)], key: u32) -> Option<Found<'_>>
     requires ascends { Ascends heads.now }
     requires small { total heads.now ≤ nv_space_limit }
@@ -52,7 +53,7 @@ pub(crate) fn found_at(heads: &[(u32, Head)], key: u32) -> Option<Found<'_>>
     None
 }
 
-/// Gives the index of a key other attributes.
+/// Replaces the attributes of the index with this key.
 pub(crate) fn set_attributes<H: SortedMap<Head, NV_INDEX_LIMIT>>(
     heads: &mut H,
     key: u32,
@@ -67,7 +68,7 @@ pub(crate) fn set_attributes<H: SortedMap<Head, NV_INDEX_LIMIT>>(
     }
 }
 
-/// Gives the index of a key another authorization value.
+/// Replaces the authorization value of the index with this key.
 pub(crate) fn set_auth_value<H: SortedMap<Head, NV_INDEX_LIMIT>>(
     heads: &mut H,
     key: u32,
@@ -82,14 +83,15 @@ pub(crate) fn set_auth_value<H: SortedMap<Head, NV_INDEX_LIMIT>>(
     }
 }
 
-/// Promises what the type of an authorization value says of it. The function does nothing.
+/// Facts that hold for every authorization value because of its type. A proof only: it has no
+/// effect at run time.
 pub(crate) fn auth_value_fits(value: &AuthValue)
     ensures { IsAuthValue value.now }
 {
     let _ = value.as_slice();
 }
 
-/// Puts a head under a free key.
+/// Inserts a head under a key that must be free.
 pub(crate) fn put_head<H: SortedMap<Head, NV_INDEX_LIMIT>>(
     heads: &mut H,
     key: u32,

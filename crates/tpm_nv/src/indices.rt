@@ -1,5 +1,5 @@
-//! The trait of a device's NV indices: every call that defines, changes, reads or removes one, each
-//! by one equation (TPM 2.0 Library, Part 3, section 31).
+//! The trait of a device's NV indices: calls that define, change, read or remove an index, each
+//! specified by one equation (TPM 2.0 Library, Part 3, section 31).
 
 ghost use Rattle.tpm_bytes.specs.Reading.{Gives};
 ghost use Rattle.std.specs.Prelude.{◌≡◌, ◌<◌, ◌≤◌, ◌^◌, ℕ, [], Bool, false, true, is_some, if◌then◌else◌};
@@ -21,47 +21,46 @@ use std::alloc::Global;
 use tpm_types::{AuthValue, Handle};
 use tpm_types_nv::NvPublic;
 
-/// The NV indices of a device by their handles, within the limits on their number and their data. A
-/// refused call changes nothing. These calls do not ask who may read or write.
+/// The NV indices of a device, keyed by handle, within the limits on their number and data. A call
+/// that fails changes nothing. These calls do not check who may read or write.
 pub trait Indices: Drop + Sized {
-    /// The indices, and the largest value that a counter ever had.
+    /// The indices, and the largest value that any counter has ever had.
     ghost contents: { Self → NvContents };
 
-    /// Whether memory can be refused where an index is defined.
+    /// Whether an allocation can fail in a definition.
     ghost can_refuse: { Bool };
 
-    /// No index is there at first; no memory is taken.
+    /// An empty set of indices; nothing is allocated.
     fn new(alloc: Global) -> Self
         ensures { contents result ≡ no_indices };
 
-    /// The public area and the authorization value of an index.
+    /// The public area and authorization value of the index with this handle.
     fn get(&self, handle: Handle) -> Option<&Head>
         ensures { option_copied result ≡ option_map head_of (index_at (contents self.now) handle) };
 
-    /// The public areas and the authorization values of all indices, in ascending order of their
-    /// handles.
+    /// The public areas and authorization values of all indices, in ascending order of handle.
     fn heads(&self) -> &[(u32, Head)]
         ensures { result.now ≡ heads_of (contents self.now) };
 
-    /// The bytes of all indices, in ascending order of their handles: of each as many as its public
-    /// area says, which are its data once it is written.
+    /// The bytes of all indices, in ascending order of handle. Each index occupies as many bytes
+    /// as its public area says; they are its data once it is written.
     fn bytes(&self) -> &[u8]
         ensures seen { indices_of (heads_of (contents self.now)) result.now
             ≡ (contents self.now).indices }
         ensures whole { length result.now ≡ data_bytes (contents self.now) };
 
-    /// The lowest handle of an index from this one on.
+    /// The lowest handle of an index at or above this one.
     fn next(&self, handle: Handle) -> Option<u32>
         ensures { result ≡ next_index (contents self.now) handle.number };
 
-    /// Defines an index, which has no data yet (TPM 2.0 Library, Part 3, section 31.3). The other
-    /// checks of a definition are in [`crate::definition::check_definition`].
+    /// Defines an index, which has no data yet (TPM 2.0 Library, Part 3, section 31.3).
+    /// [`crate::definition::check_definition`] makes the other checks of a definition.
     fn define(&mut self, public: NvPublic, auth_value: AuthValue) -> Result<(), DefineFault>
         requires { IsNvPublic public }
         ensures { Defines can_refuse (contents self.old) (defined_index public auth_value) result
             (contents self.new) };
 
-    /// Puts an index back, with its data if it is written.
+    /// Restores an index, including its data if it is written.
     fn restore(
         &mut self,
         public: NvPublic,
@@ -76,17 +75,17 @@ pub trait Indices: Drop + Sized {
             (record { public = public; auth_value = auth_value; bytes = bytes.now }) result
             (contents self.new) };
 
-    /// Removes an index with its data, and tells whether there was one (Part 3, section 31.4).
+    /// Removes an index and its data. Returns whether there was one (Part 3, section 31.4).
     fn undefine(&mut self, handle: Handle) -> bool
         ensures there { result ≡ is_some (index_at (contents self.old) handle) }
         ensures after { contents self.new ≡ without_index (contents self.old) handle };
 
-    /// Writes data from an offset on (Part 3, section 31.7).
+    /// Writes data at an offset (Part 3, section 31.7).
     fn write(&mut self, handle: Handle, offset: u16, bytes: &[u8]) -> Result<(), WriteFault>
         ensures { ChangesContents (written (contents self.old) handle offset bytes.now)
             (contents self.old) result (contents self.new) };
 
-    /// Raises a counter (Part 3, section 31.8).
+    /// Increments a counter (Part 3, section 31.8).
     fn increment(&mut self, handle: Handle) -> Result<(), WriteFault>
         ensures { ChangesContents (incremented (contents self.old) handle) (contents self.old)
             result (contents self.new) };
@@ -101,7 +100,7 @@ pub trait Indices: Drop + Sized {
         ensures { ChangesContents (extended (contents self.old) handle bytes.now)
             (contents self.old) result (contents self.new) };
 
-    /// A number of bytes of the data from an offset on (Part 3, section 31.13).
+    /// Reads `size` bytes of the data at an offset (Part 3, section 31.13).
     fn read(&self, handle: Handle, offset: u16, size: u16) -> Result<&[u8], ReadFault>
         ensures { Gives (λ bytes. bytes.now)
             (read_at (contents self.now) handle offset size) result };
@@ -116,29 +115,29 @@ pub trait Indices: Drop + Sized {
         ensures { ChangesContents (read_locked (contents self.old) handle) (contents self.old)
             result (contents self.new) };
 
-    /// Gives an index another authorization value (Part 3, section 31.15).
+    /// Replaces the authorization value of an index (Part 3, section 31.15).
     fn change_auth(&mut self, handle: Handle, value: AuthValue) -> Result<(), Undefined>
         ensures { ChangesContents (with_auth_value (contents self.old) handle value)
             (contents self.old) result (contents self.new) };
 
-    /// Does to all indices what a startup with CLEAR does (Part 3, section 9.3).
+    /// Changes all indices as a startup with CLEAR does (Part 3, section 9.3).
     fn startup(&mut self)
         ensures { contents self.new ≡ started (contents self.old) };
 
     /// Removes the indices that the platform did not define, as TPM2_Clear does (Part 3, section
-    /// 24.6); the bytes of those that stay are moved at most once.
+    /// 24.6). Moves the bytes of each remaining index at most once.
     fn clear(&mut self)
         ensures { contents self.new ≡ cleared (contents self.old) };
 
-    /// The largest value that a counter ever had.
+    /// The largest value that any counter has ever had.
     fn max_count(&self) -> u64
         ensures { result ≡ (contents self.now).max_count };
 
-    /// Sets the largest value that a counter ever had.
+    /// Sets the largest value that any counter has ever had.
     fn set_max_count(&mut self, count: u64)
         ensures { contents self.new ≡ record (contents self.old) { max_count = count } };
 
-    /// Promises what holds of the indices, whatever came before. The call does nothing.
+    /// Facts that always hold for the indices. A proof only: it has no effect at run time.
     fn read_sizes(&self)
         ensures { IsContents (contents self.now) };
 }

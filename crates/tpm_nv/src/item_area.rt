@@ -1,5 +1,5 @@
-//! The area of all NV data among items: in a list that grows, and so may be refused memory, or in
-//! one place of fixed size, which never takes memory.
+//! The area of all NV data, as a list that grows, for which an allocation can fail, or with a
+//! fixed size, which never allocates memory.
 
 ghost use Rattle.tpm_types.specs.Limits.{nv_space_limit};
 ghost use Rattle.std.specs.Prelude.{◌≡◌, ◌≤◌, ◌+◌, ◌++◌, length, replicate, true, OnErr, OnOk};
@@ -12,7 +12,7 @@ use tpm_bytes::NoMemory;
 use tpm_containers::Items;
 use tpm_types::NV_SPACE_LIMIT;
 
-/// Bytes as items, with room for all NV data.
+/// A container of bytes with room for all NV data.
 pub trait ByteItems: Items<NV_SPACE_LIMIT, Item = u8> {
     /// Appends a number of zeros.
     fn append_zeros(&mut self, size: usize) -> Result<(), NoMemory>
@@ -42,16 +42,16 @@ impl ByteItems for ArrayVec<u8, NV_SPACE_LIMIT> {
     }
 }
 
-/// An area of bytes that are items.
+/// An area whose bytes are the items of a container.
 #[derive(Drop)]
 pub struct ItemArea<B: ByteItems> {
     bytes: B,
 }
 
-/// An area of bytes in a list that grows.
+/// An area in a list that grows.
 pub type ListArea = ItemArea<Vec<u8>>;
 
-/// An area of bytes of fixed size; no memory is ever taken.
+/// An area of fixed size, which never allocates memory.
 pub type SlotArea = ItemArea<ArrayVec<u8, NV_SPACE_LIMIT>>;
 
 impl<B: ByteItems> Area for ItemArea<B> {

@@ -1,5 +1,5 @@
-//! The laws that make NV indices a map from handles, and that no memory is refused where they are
-//! kept in fixed places.
+//! Laws that show that NV indices form a map keyed by handle, and that indices in fixed-size
+//! storage need no allocation.
 
 ghost use Rattle.std.specs.Prelude.{◌≡◌, false};
 ghost use Rattle.tpm_containers.specs.IsSortedMap.{IsSortedMap};
@@ -8,9 +8,10 @@ ghost use Rattle.tpm_nv.specs.Index.{NvIndex};
 use crate::indices::Indices;
 use crate::stored_indices::SlotIndices;
 
-/// NV indices are a map from handles: what is found after one was defined, changed or removed, that
-/// the handles still ascend, how many there are, and which comes next; and no memory is refused
-/// where they are kept in fixed places. The function does nothing.
+/// NV indices form a map keyed by handle. The laws say what is found after an index was defined,
+/// changed or removed, that the handles still ascend, how many indices there are, and which one
+/// comes next. With fixed-size storage an allocation never fails. A proof only: it has no effect
+/// at run time.
 #[inline(always)]
 #[tactic(auto, using(tpm_containers::proofs::SortedMapLaws::is_map))]
 pub fn index_laws()

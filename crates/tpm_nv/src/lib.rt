@@ -1,17 +1,18 @@
 #![tactic(auto)]
 
-//! The NV indices of a device (TPM 2.0 Library, Part 1, section 37): small memories that outlive a
-//! power cycle, each under a handle, that are written, counted up, whose bits are set, or that are
-//! extended.
+//! The NV indices of a device (TPM 2.0 Library, Part 1, section 37): small memories, each with a
+//! handle, that survive a power cycle. An index is written, incremented or extended, or its bits
+//! are set.
 //!
-//! The crate uses `tpm_types_nv` for their public areas, `tpm_containers` for the map of their
-//! handles, `tpm_mac` for the digest that extends one, and `tpm_bytes` for the number that a
-//! counter is. [`indices::Indices`] is what a device does with them: contracts see a finite map
-//! from handles to public area, authorization value and data, with the largest value that a counter
-//! ever had, and each call is one equation on it. [`stored_indices::StoredIndices`] keeps them, in
-//! lists that grow or in fixed places: the heads in an ascending map, the bytes of all in one area.
-//! Only a definition may take memory; a refused call changes nothing. [`check_definition`] says
-//! what may be defined. Who may read or write an index, other crates say.
+//! The crate uses `tpm_types_nv` for public areas, `tpm_containers` for the map keyed by handle,
+//! `tpm_mac` for the digest of an extend index, and `tpm_bytes` for the number in a counter.
+//! [`indices::Indices`] is what a device can do with indices. In contracts they are a finite map
+//! from handles to public areas, authorization values and data, together with the largest value
+//! that any counter has ever had; each call is one equation on it.
+//! [`stored_indices::StoredIndices`] stores them, in lists that grow or in fixed-size storage: the
+//! heads in a map sorted by handle, and the bytes of all indices in one area. Only a definition
+//! may allocate memory; a call that fails changes nothing. [`check_definition`] checks what may be
+//! defined. Other crates check who may read or write an index.
 
 pub mod area;
 mod clear;

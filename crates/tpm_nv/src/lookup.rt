@@ -1,4 +1,4 @@
-//! The public area and the authorization value of one NV index.
+//! Looks up the public area or the authorization value of one NV index.
 
 ghost use Rattle.std.specs.Prelude.{◌≡◌, option_copied, option_map};
 ghost use Rattle.tpm_nv.specs.Index.{index_at};

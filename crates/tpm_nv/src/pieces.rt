@@ -1,4 +1,4 @@
-//! Changes of the area of bytes, for the piece of one index.
+//! Changes the bytes of one index in the common area.
 
 ghost use Rattle.tpm_types.specs.Limits.{nv_space_limit};
 ghost use Rattle.std.specs.Prelude.{◌≡◌, ◌≤◌, ◌+◌, ◌-◌, ◌++◌, drop, length, replicate, take};
@@ -8,7 +8,7 @@ ghost use Rattle.tpm_nv.specs.Bytes.{filled, piece_of, put_over};
 use crate::area::Area;
 use tpm_bytes::NoMemory;
 
-/// The piece of an index: where its bytes are in the area of all.
+/// The piece of an index: the part of the common area that contains its bytes.
 #[derive(Clone, Copy)]
 pub(crate) struct Piece {
     pub(crate) start: usize,
@@ -16,7 +16,7 @@ pub(crate) struct Piece {
     pub(crate) is_written: bool,
 }
 
-/// A number of bytes from a place on.
+/// The bytes of this size at this offset.
 pub(crate) fn piece_at(bytes: &[u8], start: usize, size: usize) -> &[u8]
     requires { start + size ≤ length bytes.now }
     ensures { result.now ≡ piece_of start size bytes.now }
@@ -24,7 +24,7 @@ pub(crate) fn piece_at(bytes: &[u8], start: usize, size: usize) -> &[u8]
     &bytes[start..start + size]
 }
 
-/// Puts data, or zeros where there are none, between the bytes.
+/// Inserts data at an offset, or zeros if there is no data.
 #[tactic(auto, using(crate::proofs::Cuts::put_opened))]
 pub(crate) fn put_between<R: Area>(
     area: &mut R,
@@ -46,8 +46,8 @@ pub(crate) fn put_between<R: Area>(
     Ok(())
 }
 
-/// Puts bytes into the piece of an index from an offset on; where it is not written yet, the piece
-/// is filled before.
+/// Writes bytes at an offset in the piece of an index. If the index is not written yet, the piece
+/// is filled first.
 #[tactic(auto, using(crate::proofs::Cuts::length_put, crate::proofs::KeptLaws::length_filled))]
 pub(crate) fn put_bytes<R: Area>(area: &mut R, piece: Piece, first: u8, offset: usize, bytes: &[u8])
     requires few { length (R.bytes area.old) ≤ nv_space_limit }

@@ -1,4 +1,4 @@
-//! The place of an index in what is kept, which each call finds once.
+//! The location of an index in the stored state, which each call looks up once.
 
 ghost use Rattle.std.specs.Prelude.{◌≡◌};
 ghost use Rattle.tpm_nv.specs.Place.{piece_at_place, place_of};
@@ -7,14 +7,14 @@ use crate::head::Head;
 use crate::pieces::Piece;
 use tpm_types_nv::{NvAttribute, NvAttributes};
 
-/// An index that was found: its head, and where its bytes begin in the area of all.
+/// An index that was found: its head, and the offset of its bytes in the common area.
 #[derive(Clone, Copy)]
 pub(crate) struct Found<'a> {
     pub(crate) head: &'a Head,
     pub(crate) start: usize,
 }
 
-/// The place of an index, as a change of its data needs it.
+/// The location of an index's data, with everything that is needed to change the data.
 #[derive(Clone, Copy)]
 pub(crate) struct DataPlace {
     pub(crate) attributes: NvAttributes,
@@ -35,7 +35,7 @@ impl Found<'_> {
 }
 
 impl DataPlace {
-    /// The bytes of the index in the area, and whether they are data.
+    /// The index's bytes in the area, and whether they are data already.
     pub(crate) fn piece(&self) -> Piece
         ensures { result ≡ piece_at_place self.now }
     {

@@ -13,7 +13,7 @@ use tpm_containers::SortedMap;
 use tpm_types::NV_INDEX_LIMIT;
 use tpm_types_nv::{NvAttribute, NvAttributes};
 
-/// The attributes without WRITTEN, where the index has CLEAR_STCLEAR.
+/// The attributes, with WRITTEN cleared if the index has CLEAR_STCLEAR.
 fn kept_written(of: NvAttributes) -> NvAttributes
     ensures { result ≡ kept_written of }
 {
@@ -24,7 +24,7 @@ fn kept_written(of: NvAttributes) -> NvAttributes
     }
 }
 
-/// The attributes without the locks that a startup opens.
+/// The attributes after clearing the locks that a startup removes.
 fn unlocked(of: NvAttributes) -> NvAttributes
     ensures { result ≡ unlocked of }
 {
@@ -43,7 +43,7 @@ fn started_attributes(of: NvAttributes) -> NvAttributes
     unlocked(kept_written(of))
 }
 
-/// The key in a place, and the attributes of the index there.
+/// The key of this entry, and the attributes of its NV index.
 fn entry_at(entries: &[(u32, Head)], place: usize) -> (u32, NvAttributes)
     requires { place < length entries.now }
     ensures { (e : ℕ × Head) → slice_index_or entries.now place e ≡ e
@@ -53,7 +53,7 @@ fn entry_at(entries: &[(u32, Head)], place: usize) -> (u32, NvAttributes)
     (entry.0, entry.1.public.attributes)
 }
 
-/// Does to all heads what a startup with CLEAR does.
+/// Changes all heads as a startup with CLEAR does.
 pub(crate) fn start_heads<H: SortedMap<Head, NV_INDEX_LIMIT>>(heads: &mut H)
     requires { Ascends (H.entries heads.old) }
     ensures { H.entries heads.new ≡ map (λ e. (e.0, started_head e.1)) (H.entries heads.old) }

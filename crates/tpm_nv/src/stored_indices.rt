@@ -1,5 +1,5 @@
-//! NV indices as they are kept: their heads in a map by handles, and the data of all in one area.
-//! Both kinds are made of one type: in lists, and in fixed places.
+//! How NV indices are stored: the heads in a map keyed by handle, and the data of all indices in
+//! one area. One type covers both kinds of storage, lists and fixed size.
 
 ghost use Rattle.std.specs.Prelude.{◌≡◌, ◌≢◌, ◌<◌, ◌≤◌, ◌+◌, ◌||◌, ℕ, List, ◌++◌, None, Some, Ok, Err};
 ghost use Rattle.std.specs.Prelude.{IfErr, IfNone, IfOk, IfSome, IsSomeAnd, OnErr, OnOk};
@@ -35,8 +35,9 @@ use tpm_mac::Digest;
 use tpm_types::{AuthValue, Handle, NV_INDEX_LIMIT};
 use tpm_types_nv::{NvAttribute, NvAttributes, NvPublic, NvType};
 
-/// NV indices: their heads in a map by handles, and the bytes of all in one area, in the order of
-/// the handles. Each has its bytes from its definition on, so that no write takes memory.
+/// NV indices: the heads in a map keyed by handle, and the bytes of all indices in one area, in
+/// order of handle. The bytes of an index are reserved when it is defined, so no write allocates
+/// memory.
 #[derive(Drop)]
 pub struct StoredIndices<H: SortedMap<Head, NV_INDEX_LIMIT>, R: Area> {
     heads: H,
@@ -44,12 +45,12 @@ pub struct StoredIndices<H: SortedMap<Head, NV_INDEX_LIMIT>, R: Area> {
     max_count: u64,
 }
 
-/// NV indices in lists that grow. Memory can be refused where an index is defined.
+/// NV indices in lists that grow. A definition can run out of memory.
 pub type ListIndices = StoredIndices<ListMap<Head, NV_INDEX_LIMIT>, ListArea>;
 
-/// NV indices in as many places as there can be. No memory is ever taken, so none can be refused.
-/// The type has some 23,600 bytes, the data of all indices among them: a value is made once, and
-/// lent.
+/// NV indices in fixed-size storage. Nothing is ever allocated, so no allocation can fail. The
+/// type is about 23,600 bytes large, including the data of all indices; therefore a value is
+/// created once and passed by reference.
 pub type SlotIndices = StoredIndices<SlotMap<Head, NV_INDEX_LIMIT>, SlotArea>;
 
 impl<H: SortedMap<Head, NV_INDEX_LIMIT>, R: Area> Model for StoredIndices<H, R> {
@@ -67,7 +68,7 @@ impl<H: SortedMap<Head, NV_INDEX_LIMIT>, R: Area> Model for StoredIndices<H, R> 
 }
 
 impl<H: SortedMap<Head, NV_INDEX_LIMIT>, R: Area> StoredIndices<H, R> {
-    /// The head of an index.
+    /// The head of the index with this handle.
     fn head(&self, handle: Handle) -> Option<&Head>
         ensures absent { IfNone result (index_at self.now handle ≡ None) }
         ensures there { IfSome result (λ head. (old : List ℕ)
@@ -76,7 +77,7 @@ impl<H: SortedMap<Head, NV_INDEX_LIMIT>, R: Area> StoredIndices<H, R> {
         self.heads.get(handle.number)
     }
 
-    /// The head of an index, and where its bytes begin in the area of all.
+    /// The head of an index, and the offset of its bytes in the common area.
     fn find(&self, handle: Handle) -> Option<Found<'_>>
         ensures absent { IfNone result (index_at self.now handle ≡ None) }
         ensures there { IfSome result (λ found. (old : List ℕ)
@@ -86,7 +87,7 @@ impl<H: SortedMap<Head, NV_INDEX_LIMIT>, R: Area> StoredIndices<H, R> {
         found_at(self.heads.as_slice(), handle.number)
     }
 
-    /// An index that a command for this type may write.
+    /// An index, if a command for this type may write it; otherwise the fault.
     fn writable(&self, handle: Handle, kind: NvType) -> Result<Found<'_>, WriteFault>
         ensures refused { IfErr result (λ fault. check_writable self.now handle kind ≡ Err fault) }
         ensures there { IfOk result (λ found. (old : List ℕ)
@@ -106,8 +107,8 @@ impl<H: SortedMap<Head, NV_INDEX_LIMIT>, R: Area> StoredIndices<H, R> {
         Ok(found)
     }
 
-    /// Writes bytes over the data of an index from an offset on. Data of an index that was never
-    /// written count as bytes `first`. The index is written afterwards.
+    /// Overwrites the data of an index at an offset, and marks the index as written. If it is not
+    /// written yet, every other byte of its data becomes `first`.
     fn put_data(&mut self, handle: Handle, place: DataPlace, offset: usize, first: u8, bytes: &[u8])
         requires there { IsPlaceOf self.old handle place }
         requires within { offset + length bytes.now ≤ place.size }
@@ -120,7 +121,7 @@ impl<H: SortedMap<Head, NV_INDEX_LIMIT>, R: Area> StoredIndices<H, R> {
         set_attributes(&mut self.heads, handle.number, written);
     }
 
-    /// Sets one more attribute of an index that has these attributes.
+    /// Sets one more attribute on an index that has these attributes.
     fn mark(&mut self, handle: Handle, of: NvAttributes, attribute: NvAttribute)
         requires there { IsSomeAnd (index_at self.old handle) (λ index.
             of ≡ index.public.attributes) }
@@ -131,7 +132,7 @@ impl<H: SortedMap<Head, NV_INDEX_LIMIT>, R: Area> StoredIndices<H, R> {
         set_attributes(&mut self.heads, handle.number, of.with(attribute));
     }
 
-    /// Puts other data in the place of all data of an index, which is written then.
+    /// Replaces all data of an index, and marks it as written.
     fn set_data(&mut self, handle: Handle, place: DataPlace, bytes: &[u8])
         requires there { IsPlaceOf self.old handle place }
         requires whole { IsSomeAnd (index_at self.old handle) (λ index.
@@ -143,7 +144,7 @@ impl<H: SortedMap<Head, NV_INDEX_LIMIT>, R: Area> StoredIndices<H, R> {
         self.put_data(handle, place, 0, 0, bytes);
     }
 
-    /// Gives an index that is there another authorization value.
+    /// Replaces the authorization value of an index that must exist.
     fn replace_auth(&mut self, handle: Handle, value: AuthValue)
         requires { is_some (index_at self.old handle) ≡ true }
         ensures { (index : NvIndex) → index_at self.old handle ≡ Some index
@@ -153,7 +154,7 @@ impl<H: SortedMap<Head, NV_INDEX_LIMIT>, R: Area> StoredIndices<H, R> {
         set_auth_value(&mut self.heads, handle.number, value);
     }
 
-    /// Whether there is room for an index of this many bytes.
+    /// Whether there is room for an index of this size.
     fn has_room(&self, size: usize) -> bool
         requires { size < 65536 }
         ensures { result ≡ has_room self.now size }
@@ -161,7 +162,7 @@ impl<H: SortedMap<Head, NV_INDEX_LIMIT>, R: Area> StoredIndices<H, R> {
         is_room(self.heads.len(), self.area.as_slice().len(), size)
     }
 
-    /// Whether an index may be put under its handle.
+    /// Checks whether an index may be added with its handle.
     fn check_room(&self, public: &NvPublic) -> Result<(), RestoreFault>
         ensures { HasRoomFor self.now public.now result }
     {
@@ -174,7 +175,7 @@ impl<H: SortedMap<Head, NV_INDEX_LIMIT>, R: Area> StoredIndices<H, R> {
         Ok(())
     }
 
-    /// Puts an index under its handle, where there is room for it.
+    /// Adds an index with its handle; there must be room for it.
     fn add(&mut self, public: NvPublic, auth_value: AuthValue, bytes: &[u8]) -> Result<(), NoMemory>
         requires named { IsNvPublic public }
         requires sized { has_type_size public ≡ true }
@@ -212,7 +213,7 @@ impl<H: SortedMap<Head, NV_INDEX_LIMIT>, R: Area> StoredIndices<H, R> {
         piece_at(self.area.as_slice(), found.start, size)
     }
 
-    /// The number that the data of an index spells, or this one until the index is written.
+    /// The number encoded by the data of an index, or `first` if the index is not written yet.
     fn number(&self, found: Found, first: u64) -> u64
         requires { (handle : Handle) × IsFound self.now handle found }
         ensures { let head = found.entry.head.now in (handle : Handle) (old : List ℕ)
@@ -225,8 +226,8 @@ impl<H: SortedMap<Head, NV_INDEX_LIMIT>, R: Area> StoredIndices<H, R> {
         first
     }
 
-    /// The digest of two parts: the data of an index, or zeros until it is written, and these
-    /// bytes.
+    /// The digest of the old data followed by these bytes. If the index is not written yet, the
+    /// old data is zeros.
     fn extended_digest(&self, found: Found, bytes: &[u8]) -> Digest
         requires { (handle : Handle) × IsFound self.now handle found }
         ensures value { let head = found.entry.head.now in (handle : Handle) (old : List ℕ)

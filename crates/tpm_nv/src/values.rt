@@ -1,4 +1,4 @@
-//! What follows from an index's attributes, sizes and data.
+//! Values derived from an index's attributes, size and data.
 
 ghost use Rattle.tpm_types.specs.Limits.{nv_index_limit, nv_space_limit};
 ghost use Rattle.std.specs.Prelude.{◌≡◌, ◌==◌, ◌<◌, ◌≤◌, ◌+◌, ◌||◌, ◌&&◌, not, nat_lt, nat_le};
@@ -13,21 +13,22 @@ use tpm_mac::{Digest, HashAlg, digest_parts};
 use tpm_types::{NV_INDEX_LIMIT, NV_SPACE_LIMIT};
 use tpm_types_nv::{NvAttribute, NvAttributes};
 
-/// Whether an index of these attributes may be locked against writing.
+/// Whether an index with these attributes may be locked against writing.
 pub(crate) fn is_write_lockable(of: NvAttributes) -> bool
     ensures { result ≡ (has of attributes.WriteDefine || has of attributes.WriteStClear) }
 {
     of.has(NvAttribute::WriteDefine) || of.has(NvAttribute::WriteStClear)
 }
 
-/// Whether a write of this many bytes is only a part of the data of an index that has WRITEALL.
+/// Whether the index has WRITEALL and a write of `count` bytes covers only part of its data.
 pub(crate) fn is_part(of: NvAttributes, count: usize, size: usize) -> bool
     ensures { result ≡ (has of attributes.WriteAll && not (count == size)) }
 {
     of.has(NvAttribute::WriteAll) && count != size
 }
 
-/// Whether an index of this size can be added, where `count` indices have `bytes` bytes of data.
+/// Whether there is room for an index of this size next to `count` indices with `bytes` bytes of
+/// data.
 pub(crate) fn is_room(count: usize, bytes: usize, size: usize) -> bool
     requires few { bytes ≤ nv_space_limit }
     requires small { size < 65536 }
@@ -36,7 +37,7 @@ pub(crate) fn is_room(count: usize, bytes: usize, size: usize) -> bool
     count < NV_INDEX_LIMIT && bytes + size <= NV_SPACE_LIMIT
 }
 
-/// The number that eight bytes spell, the highest first.
+/// The number encoded by eight bytes, in big-endian order.
 pub(crate) fn number_of(bytes: &[u8]) -> u64
     ensures { length bytes.now ≡ 8 → result ≡ from_be_bytes w64 bytes.now }
 {
@@ -46,7 +47,7 @@ pub(crate) fn number_of(bytes: &[u8]) -> u64
     }
 }
 
-/// The digest of two parts, joined.
+/// The digest of the concatenation of two parts.
 pub(crate) fn digest_of(name_alg: HashAlg, first: &[u8], second: &[u8]) -> Digest
     ensures value { result.items ≡ hash_of name_alg (first.now ++ second.now) }
     ensures size { length result.items ≡ digest_size name_alg }

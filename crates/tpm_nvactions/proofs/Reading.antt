@@ -1,4 +1,4 @@
--- The bytes that are read of an NV index are no more than are asked for.
+-- A read of an NV index returns at most the number of bytes that the command requests.
 use Rattle.std.proofs.Common.{arith, ◌≡◌, ◌≤◌, ◌+◌, ℕ, List, length, take, drop, Ok, subst}
 use Rattle.std.proofs.lemmas.List.{length-take}
 use Rattle.std.specs.Prelude.{nat_lt}

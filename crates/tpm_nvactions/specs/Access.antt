@@ -1,6 +1,6 @@
--- What the commands of NV indices have in common: how they refuse who may not read or write, and
--- what may not be written or locked. TPM 2.0 Library, Part 3, section 31 (non-volatile
--- storage). Which code refuses what, and in which order, is this device's own.
+-- What the commands on NV indices have in common: the refusal of an authHandle that may not read
+-- or write, and of an index that cannot be written or locked. TPM 2.0 Library, Part 3, section 31
+-- (non-volatile storage). The response codes and the order of the checks are this device's own.
 use Rattle.tpm_types.specs.declared.action_check.ActionCheck.TheVariants as action
 use Rattle.std.specs.Prelude.{not, Result, Ok}
 use Rattle.tpm_bytes.specs.Reading.{◌>>=◌, refused_if}
@@ -32,9 +32,9 @@ abbrev pub reader_passes : Target → Result (Unit {0}) Refused
 reader_passes target =
     refused_if (not (may_read target)) (action_refusal action.First (plain code.NvAuthorization))
 
--- the refusal of a write after A1. A2: the index is locked against writing; A3: it is not of the
--- command's type; A4: what would be written goes past the data, or is not all of them where
--- WRITEALL is set, or the counter has the largest number that there is. A missing index does not
+-- the refusal of a write after A1. A2: the index is locked against writing. A3: its type does not
+-- match the command. A4: the write extends past the end of the data; or it does not cover all of
+-- the data, although WRITEALL is set; or the counter is at its maximum. A missing index does not
 -- occur here
 abbrev pub writing_refusal : WriteFault → Refused
 writing_refusal write_fault.Locked = action_refusal action.Second (plain code.NvLocked)
@@ -45,19 +45,19 @@ writing_refusal write_fault.Partial = action_refusal action.Fourth (plain code.N
 writing_refusal write_fault.Exhausted = action_refusal action.Fourth (plain code.NvRange)
 writing_refusal write_fault.Undefined = handle_refusal
 
--- the refusal of a lock after A1. A2: the index has no attribute that allows this lock. A missing
--- index does not occur here
+-- the refusal of a lock after A1. A2: no attribute of the index allows this lock. A missing index
+-- does not occur here
 abbrev pub lock_refusal : LockFault → Refused
 lock_refusal lock_fault.Attributes =
     action_refusal action.Second (at (place.Handle 2) (plain code.Attributes))
 lock_refusal lock_fault.Undefined = handle_refusal
 
--- the success of a command that changes NV indices alone
+-- a successful command that changes only NV indices
 abbrev pub changed_nv : Record → NvContents → Success
 changed_nv r nv = record { answer = nothing; after = record r { nv = nv } }
 
--- the row of a command that changes an index by the parameters that it reads: A1, and then what the
--- change refuses
+-- the row of a command that changes an index according to its parameters: A1, then the checks of
+-- the change
 abbrev pub write_row : {P : Type 0} → Record → Request → Result P Refused
     → (P → Handle → Result NvContents WriteFault) → Result Success Refused
 write_row r q read change = do

@@ -21,7 +21,7 @@ use Rattle.tpm_record.specs.rows.Rows.{Success, all_read, parameter}
 use Rattle.tpm_nvactions.specs.declared.nv_define_space.DefinitionParameters.{DefinitionParameters}
 use Rattle.tpm_nvactions.specs.Access.{changed_nv}
 
--- the parameters auth, at most 32 bytes, whose trailing zeros do not count, and publicInfo
+-- the parameters auth, at most 32 bytes, without its trailing zeros, and publicInfo
 pub record Parameters : Type 0 where
   pub auth_value : List ℕ
   pub public : NvPublic
@@ -44,8 +44,8 @@ definition_refusal fault.Attributes = parameter_refusal action.Third 2 code.Attr
 definition_refusal fault.DataSize = parameter_refusal action.Fourth 2 code.Size
 
 -- authHandle (the owner or the platform) is authorized. A1: auth is longer than a digest of
--- nameAlg; A2: the policy does not have the size of a digest; A3: the attributes; A4: the size; A5:
--- there is such an index already; A6: there is no room
+-- nameAlg; A2: the policy is not as long as a digest; A3: the attributes are wrong; A4: the size
+-- is wrong; A5: the index already exists; A6: there is no room for it
 unfoldable pub nv_define_space_row : Record → Request → Result Success Refused
 nv_define_space_row r q = do
   auth_handle ← first_handle q.handles

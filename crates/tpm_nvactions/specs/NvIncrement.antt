@@ -7,8 +7,8 @@ use Rattle.tpm_record.specs.rows.Request.{Request}
 use Rattle.tpm_record.specs.rows.Rows.{Success, all_read}
 use Rattle.tpm_nvactions.specs.Access.{write_row}
 
--- handles authHandle and nvIndex. A1: authHandle may not write the index; A2: the index is locked;
--- A3: it is no counter; A4: it would pass 2^64 - 1
+-- handles authHandle and nvIndex. A1: authHandle may not write the index; A2: the index is
+-- locked; A3: it is not a counter; A4: its value would exceed 2^64 - 1
 unfoldable pub nv_increment_row : Record → Request → Result Success Refused
 nv_increment_row r q =
     write_row r q (all_read q.parameters) (λ ended handle. incremented r.nv handle)

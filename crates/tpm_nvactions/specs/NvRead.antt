@@ -25,8 +25,9 @@ parameters_in text = do
   Ok (record { size = size.0; offset = offset.0 })
 
 -- handles authHandle and nvIndex. A1 to A3: the checks of every command that reads an index; A4:
--- more bytes are asked for than the limit of data; A5: they reach past the index's data, which is
--- all that then refuses the reading (reading_laws of tpm_record). Answered: the bytes
+-- the command requests more bytes than the data limit; A5: the bytes extend past the end of the
+-- index's data. After A4 the read can fail for no other reason (reading_laws of tpm_record).
+-- Returned: the bytes
 unfoldable pub nv_read_row : Record → Request → Result Success Refused
 nv_read_row r q = do
   target ← target_of r q

@@ -12,12 +12,12 @@ use Rattle.tpm_record.specs.rows.Request.{Request, first_handle}
 use Rattle.tpm_record.specs.rows.Rows.{Success, all_read, unchanged}
 use Rattle.tpm_record.specs.rows.Target.{index_or_refusal}
 
--- what TPM2_NV_ReadPublic answers: the public area of an index, and its Name
+-- the answer of TPM2_NV_ReadPublic: the public area of an index, and its Name
 abbrev pub public_body : NvIndex → Body
 public_body index =
     SizedFirst (nv_public_text index.public) (sized_text (nv_name index.public))
 
--- handle nvIndex; answered: the public area and the Name of the index
+-- handle nvIndex; returned: the public area and the Name of the index
 unfoldable pub nv_read_public_row : Record → Request → Result Success Refused
 nv_read_public_row r q = do
   handle ← first_handle q.handles

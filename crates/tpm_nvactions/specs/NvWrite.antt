@@ -14,7 +14,7 @@ use Rattle.tpm_record.specs.rows.Rows.{Success, all_read, parameter}
 use Rattle.tpm_nvactions.specs.declared.nv_write.WriteParameters.{WriteParameters}
 use Rattle.tpm_nvactions.specs.Access.{write_row}
 
--- the parameters data, within the limit of data, and offset
+-- the parameters data, within its size limit, and offset
 pub record Parameters : Type 0 where
   pub bytes : List ℕ
   pub offset : ℕ
@@ -29,9 +29,9 @@ parameters_in text = do
 abbrev pub parameters_of : WriteParameters → Parameters
 parameters_of asked = record { bytes = asked.bytes.now; offset = asked.offset }
 
--- handles authHandle and nvIndex. A1: authHandle may not write the index; A2: the index is locked;
--- A3: it is no ordinary index; A4: the bytes reach past its data, or are not all of them where
--- WRITEALL is set
+-- handles authHandle and nvIndex. A1: authHandle may not write the index; A2: the index is
+-- locked; A3: it is not an ordinary index; A4: the bytes extend past the end of its data, or do
+-- not cover all of it although WRITEALL is set
 unfoldable pub nv_write_row : Record → Request → Result Success Refused
 nv_write_row r q =
     write_row r q (parameters_in q.parameters) (λ p handle. written r.nv handle p.offset p.bytes)

@@ -1,5 +1,5 @@
-//! What the commands on NV indices share: who may write or read an index, and how faults of
-//! writing and locking refuse.
+//! What the commands on NV indices have in common: who may write or read an index, and the
+//! refusals for errors in writing and locking.
 
 ghost use Rattle.std.specs.Prelude.{◌≡◌};
 ghost use Rattle.tpm_nvactions.specs.Access.{lock_refusal, reader_passes, writing_refusal, writer_passes};
@@ -31,7 +31,7 @@ pub fn check_reader(target: &Target) -> Result<(), Refused>
     }
 }
 
-/// The refusal that answers a fault of writing an index.
+/// The refusal for an error in writing an index.
 pub fn writing_refusal(fault: WriteFault) -> Refused
     ensures { result ≡ writing_refusal fault }
 {
@@ -50,7 +50,7 @@ pub fn writing_refusal(fault: WriteFault) -> Refused
     }
 }
 
-/// The refusal that answers a fault of locking an index.
+/// The refusal for an error in locking an index.
 pub fn lock_refusal(fault: LockFault) -> Refused
     ensures { result ≡ lock_refusal fault }
 {

@@ -1,13 +1,14 @@
 #![tactic(auto)]
 
-//! What each command on NV indices does: a file for each command, with one public call that reads
-//! its plain parameters, checks them, and changes the record last (TPM 2.0 Library, Part 3, section
-//! 31). What the commands share, who may read and write an index and how they refuse, is in
-//! [`access`].
+//! What each command on NV indices does. Each file contains one command with one public call,
+//! which decodes the plaintext parameters, checks them, and changes the record last (TPM 2.0
+//! Library, Part 3, section 31). [`access`] contains what the commands have in common: who may
+//! read and write an index, and the refusals.
 //!
-//! The crate uses `tpm_record::rows`, and `tpm_nv` for the indices. `specs/` has a row for each
-//! command under the same name; each call is proved to be its row, for each way of keeping the
-//! record, and a refusal leaves the record. Only TPM2_NV_DefineSpace may be refused memory.
+//! The crate uses `tpm_record::rows`, and `tpm_nv` for the indices. `specs/` contains a row for
+//! each command, with the same name. Each call is proved to do what its row specifies, for every
+//! implementation of the record. A refusal leaves the record unchanged. Only TPM2_NV_DefineSpace
+//! can run out of memory.
 
 mod access;
 pub mod nv_change_auth;

@@ -1,4 +1,4 @@
-//! TPM2_NV_ChangeAuth: sets the authorization value of an index, by its row in
+//! TPM2_NV_ChangeAuth: sets the authorization value of an index, as specified by its row in
 //! `specs/NvChangeAuth`.
 
 ghost use Rattle.std.specs.Prelude.{◌≡◌};

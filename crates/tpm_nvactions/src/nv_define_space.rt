@@ -1,4 +1,4 @@
-//! TPM2_NV_DefineSpace: defines an index, which has no data yet, by its row in
+//! TPM2_NV_DefineSpace: defines an index, which contains no data yet, as specified by its row in
 //! `specs/NvDefineSpace`.
 
 ghost use Rattle.tpm_bytes.specs.Reading.{Gives};
@@ -62,7 +62,7 @@ fn definition_refusal(fault: DefinitionFault) -> Refused
     }
 }
 
-/// TPM2_NV_DefineSpace: defines an index, which has no data yet.
+/// TPM2_NV_DefineSpace: defines an index, which contains no data yet.
 #[tactic(auto, unfolding(crate::specs::NvDefineSpace::nv_define_space_row))]
 pub fn nv_define_space<K: Keep>(
     keep: &mut K,

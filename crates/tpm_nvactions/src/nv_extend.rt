@@ -1,4 +1,4 @@
-//! TPM2_NV_Extend: extends the digest of an index, by its row in `specs/NvExtend`.
+//! TPM2_NV_Extend: extends the digest of an index, as specified by its row in `specs/NvExtend`.
 
 ghost use Rattle.std.specs.Prelude.{◌≡◌};
 ghost use Rattle.tpm_record.specs.rows.Answer.{IsEmpty};

@@ -1,4 +1,4 @@
-//! TPM2_NV_Increment: raises a counter, by its row in `specs/NvIncrement`.
+//! TPM2_NV_Increment: increments a counter, as specified by its row in `specs/NvIncrement`.
 
 ghost use Rattle.std.specs.Prelude.{◌≡◌};
 ghost use Rattle.tpm_record.specs.rows.Answer.{IsEmpty};
@@ -16,7 +16,7 @@ use tpm_record::rows::reading::end;
 use tpm_record::rows::target::target_of;
 use tpm_types::Refused;
 
-/// TPM2_NV_Increment: raises a counter.
+/// TPM2_NV_Increment: increments a counter.
 #[tactic(auto, unfolding(crate::specs::NvIncrement::nv_increment_row))]
 pub fn nv_increment<K: Keep>(keep: &mut K, call: &Call, _answer: &mut Answer) -> Result<(), Refused>
     requires { IsEmpty _answer.old }

@@ -1,4 +1,4 @@
-//! TPM2_NV_Read: answers data of an index, by its row in `specs/NvRead`.
+//! TPM2_NV_Read: returns data from an index, as specified by its row in `specs/NvRead`.
 
 ghost use Rattle.std.specs.Prelude.{◌≡◌};
 ghost use Rattle.tpm_record.specs.rows.Answer.{IsEmpty};
@@ -34,7 +34,7 @@ fn read_parameters(parameters: &[u8]) -> Result<ReadParameters, Refused>
     Ok(ReadParameters { size, offset })
 }
 
-/// TPM2_NV_Read: data of an index.
+/// TPM2_NV_Read: returns data from an index.
 #[tactic(auto, using(crate::proofs::Reading::read_few), unfolding(crate::specs::NvRead::nv_read_row))]
 pub fn nv_read<K: Keep>(keep: &mut K, call: &Call, answer: &mut Answer) -> Result<(), Refused>
     requires { IsEmpty answer.old }

@@ -1,4 +1,5 @@
-//! TPM2_NV_ReadLock: locks an index against reading, by its row in `specs/NvReadLock`.
+//! TPM2_NV_ReadLock: locks an index against reading, as specified by its row in
+//! `specs/NvReadLock`.
 
 ghost use Rattle.std.specs.Prelude.{◌≡◌};
 ghost use Rattle.tpm_record.specs.rows.Answer.{IsEmpty};

@@ -1,5 +1,5 @@
-//! TPM2_NV_ReadPublic: answers the public area of an index and its Name, by its row in
-//! `specs/NvReadPublic`.
+//! TPM2_NV_ReadPublic: returns the public area of an index and its Name, as specified by its row
+//! in `specs/NvReadPublic`.
 
 ghost use Rattle.std.specs.Prelude.{◌≡◌};
 ghost use Rattle.tpm_record.specs.rows.Answer.{IsEmpty};
@@ -16,7 +16,7 @@ use tpm_record::rows::reading::end;
 use tpm_record::rows::refusals::handle_refusal;
 use tpm_types::Refused;
 
-/// TPM2_NV_ReadPublic: the public area of an index, and its Name.
+/// TPM2_NV_ReadPublic: returns the public area of an index, and its Name.
 #[tactic(auto, unfolding(crate::specs::NvReadPublic::nv_read_public_row))]
 pub fn nv_read_public<K: Keep>(
     keep: &mut K,

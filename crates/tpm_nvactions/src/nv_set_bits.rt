@@ -1,4 +1,5 @@
-//! TPM2_NV_SetBits: sets bits of an index that is a bit field, by its row in `specs/NvSetBits`.
+//! TPM2_NV_SetBits: sets bits in an index that is a bit field, as specified by its row in
+//! `specs/NvSetBits`.
 
 ghost use Rattle.std.specs.Prelude.{◌≡◌};
 ghost use Rattle.tpm_record.specs.rows.Answer.{IsEmpty};
@@ -16,7 +17,7 @@ use tpm_record::rows::reading::{end, number};
 use tpm_record::rows::target::target_of;
 use tpm_types::Refused;
 
-/// TPM2_NV_SetBits: sets bits of an index that is a bit field.
+/// TPM2_NV_SetBits: sets bits in an index that is a bit field.
 #[tactic(auto, unfolding(crate::specs::NvSetBits::nv_set_bits_row))]
 pub fn nv_set_bits<K: Keep>(keep: &mut K, call: &Call, _answer: &mut Answer) -> Result<(), Refused>
     requires { IsEmpty _answer.old }

@@ -1,4 +1,4 @@
-//! TPM2_NV_Write: writes data of an ordinary index, by its row in `specs/NvWrite`.
+//! TPM2_NV_Write: writes data to an ordinary index, as specified by its row in `specs/NvWrite`.
 
 ghost use Rattle.tpm_bytes.specs.Reading.{Gives};
 ghost use Rattle.std.specs.Prelude.{◌≡◌};
@@ -35,7 +35,7 @@ fn read_parameters(parameters: &[u8]) -> Result<WriteParameters, Refused>
     Ok(WriteParameters { bytes, offset })
 }
 
-/// TPM2_NV_Write: writes data of an ordinary index.
+/// TPM2_NV_Write: writes data to an ordinary index.
 #[tactic(auto, unfolding(crate::specs::NvWrite::nv_write_row))]
 pub fn nv_write<K: Keep>(keep: &mut K, call: &Call, _answer: &mut Answer) -> Result<(), Refused>
     requires { IsEmpty _answer.old }

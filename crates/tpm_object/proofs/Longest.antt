@@ -1,4 +1,4 @@
--- How many bytes a reading takes at the most: a sensitive area in a sized buffer takes 202.
+-- The largest number of bytes that a read consumes: 202 for a sensitive area in a sized buffer.
 use Rattle.std.proofs.Common.{◌≡◌, ℕ, ◌+◌, ◌≤◌, cond, ltb, List, length, take, drop, Result, Ok, Err, ap, arith}
 use Rattle.std.specs.Prelude.{◌==◌, not, ok_or}
 use Rattle.std.specs.Int.{w16, from_be_bytes}
@@ -19,11 +19,11 @@ use Rattle.tpm_types_object.specs.Sensitive.{sensitive_at}
 use Rattle.tpm_types.proofs.FilledLaws.{or_size_ok}
 use Rattle.tpm_types.proofs.SelectionLaws.{is_equal}
 
--- A reading takes no more than this many bytes.
+-- A read consumes at most this many bytes.
 abbrev Takes_up_to : {A E : Type 0} → ℕ → (List ℕ → Result (A × List ℕ) E) → Type 0
 Takes_up_to {A} most at = (text : List ℕ) (x : A × List ℕ) → at text ≡ Ok x → length text ≤ most + length x.1
 
--- two readings, one after another, take no more than both
+-- two reads in sequence consume at most the sum of what each may consume
 both : {A B E : Type 0} (m n : ℕ) (at : List ℕ → Result (A × List ℕ) E) (behind : A → List ℕ → Result (B × List ℕ) E)
     → Takes_up_to m at → ((a : A) → Takes_up_to n (behind a)) → Takes_up_to (m + n) (λ text. at text >>= λ a. behind a.0 a.1)
 both m n at behind first next text x e =
@@ -63,7 +63,7 @@ buffer_size limit text x e = sized_size limit text x (or_sized_ok (sized_at limi
 buffer_most : (limit : ℕ) → Takes_up_to (2 + limit) (buffer_at limit)
 buffer_most limit text x e = let s = buffer_size limit text x e in omega (arith, s.0, s.1)
 
--- a structure in a sized buffer takes two bytes more than the structure alone
+-- a structure in a sized buffer takes two more bytes than the structure itself
 filled_most : {X : Type 0} (most : ℕ) (at : List ℕ → Result (X × List ℕ) Rc) → Takes_up_to most at → Takes_up_to (2 + most) (filled_by at)
 unfolding filled_by
 filled_most {X} most at inside text x e =

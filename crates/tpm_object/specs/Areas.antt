@@ -11,8 +11,8 @@ use Rattle.tpm_types.specs.Buffer.{is_given}
 use Rattle.tpm_object.specs.Creation.{generated_size}
 use Rattle.tpm_object.specs.declared.areas.Created.{Created}
 
--- the sensitive area of a new object: the type of the template, the authorization value without the
--- zeros at its end, the seed, and the data that the caller gives, or else the key
+-- the sensitive area of a new object: the type of the template, the authorization value without
+-- trailing zeros, the seedValue, and the caller's data or else the key
 abbrev pub new_sensitive : Public → SensitiveValues → (seed key : List ℕ) → Sensitive
 new_sensitive template given seed key = record {
   object_type = object_type template;
@@ -21,24 +21,25 @@ new_sensitive template given seed key = record {
   sensitive = if is_given given.data then given.data else key;
 }
 
--- the public area of a new object: the template, whose unique becomes H(seedValue || sensitive)
+-- the public area of a new object: the template with its unique field set to H(seedValue ||
+-- sensitive)
 abbrev pub new_public : Public → Sensitive → Public
 new_public template area =
     record template { unique = hash_of template.name_alg (area.seed_value ++ area.sensitive) }
 
--- both areas of an object with this seed, and this key where the caller gives no data
+-- both areas of an object with this seedValue, and with this key if the caller provides no data
 unfoldable pub new_object_areas : Public → SensitiveValues → (seed key : List ℕ) → Created
 new_object_areas template given seed key =
     let area : Sensitive = new_sensitive template given seed key in
     record { public = new_public template area; sensitive = area }
 
--- both areas of an object that is made from random bytes: first the key, and then the seed
+-- both areas of an object made from random bytes, which are first the key, then the seedValue
 unfoldable pub created : Public → SensitiveValues → (random : List ℕ) → Created
 created template given random =
     new_object_areas template given
     (take (digest_size template.name_alg) (drop (generated_size template given) random))
     (take (generated_size template given) random)
 
--- the public and the sensitive area are of one type
+-- The public and sensitive areas have the same type.
 abbrev pub AreOfOneType : Created → Type 0
 AreOfOneType areas = object_type areas.public ≡ areas.sensitive.object_type

@@ -1,6 +1,6 @@
--- The checks of what a caller gives to a new object, and the sizes of what the device adds. TPM 2.0
--- Library, Part 1, section 27 (object creation), and Part 3, section 12.1 (TPM2_Create). The order
--- of the checks is this device's own.
+-- The checks of what a caller provides for a new object, and the sizes of what the device adds.
+-- TPM 2.0 Library, Part 1, section 27 (object creation), and Part 3, section 12.1 (TPM2_Create).
+-- The order of the checks is this device's own.
 use Rattle.std.specs.Prelude.{ℕ, ◌+◌, ◌==◌, ◌&&◌, not, nat_lt, Bool, if◌then◌else◌}
 use Rattle.std.specs.Prelude.{List, [], ◌∷◌, length, Result}
 use Rattle.tpm_mac.specs.Digest.{digest_size}
@@ -19,14 +19,13 @@ use Rattle.tpm_object.specs.Object.{is_cipher, is_keyed_hash}
 use Rattle.tpm_object.specs.declared.creation.CreationFault.{CreationFault}
 use Rattle.tpm_object.specs.declared.creation.CreationFault.TheVariants as fault
 
--- whether an authorization value has more bytes than a digest of nameAlg; zeros at its end do not
--- count
+-- whether an authorization value is longer than a nameAlg digest, not counting trailing zeros
 abbrev pub is_long_auth : SensitiveValues → Public → Bool
 is_long_auth given t = nat_lt (digest_size t.name_alg) (length (trimmed given.user_auth))
 
--- what may be wrong with who gives the key or the data to seal: sensitiveDataOrigin says that the
--- device makes the key, but the caller gives one; or neither gives it; or what is sealed would be
--- made by the device
+-- the conflicts of sensitiveDataOrigin: it says that the device generates the key, but the caller
+-- provides one; or neither of them provides the key or data; or the device would have to generate
+-- the data to seal
 abbrev pub origin_conflicts : SensitiveValues → Public → List Bool
 origin_conflicts given t =
     let made : Bool = has t.attributes attribute.SensitiveDataOrigin in
@@ -34,8 +33,8 @@ origin_conflicts given t =
     ∷ (not made && not (is_given given.data))
     ∷ (made && is_keyed_hash t && not (has t.attributes attribute.Sign)) ∷ []
 
--- whether the key that is given for a cipher does not have 16 bytes; where none is given the device
--- makes it
+-- whether the caller provides a key for a cipher that is not 16 bytes long; if the caller provides
+-- none, the device generates it
 abbrev pub has_wrong_key_size : SensitiveValues → Public → Bool
 has_wrong_key_size given t = is_cipher t && is_given given.data && not (length given.data == 16)
 
@@ -45,12 +44,12 @@ creation_checks given t =
     ∷ (one_of (origin_conflicts given t), fault.Attributes)
     ∷ (has_wrong_key_size given t, fault.DataSize) ∷ []
 
--- whether what a caller gives passes, or the fault of the first check that applies
+-- whether the caller's values are accepted; otherwise the fault of the first check that fails
 unfoldable pub creation_passes : SensitiveValues → Public → Result (Unit {0}) CreationFault
 creation_passes given t = first_fault (creation_checks given t)
 
--- how many bytes a key has: 128 bits of AES, or as many as a digest of the scheme's hash algorithm,
--- or of nameAlg where there is no scheme
+-- the size of a key: 128 bits for AES; otherwise the digest size of the scheme's hash algorithm,
+-- or of nameAlg without a scheme
 abbrev pub parameters_key_size : HashAlg → PublicParameters → ℕ
 parameters_key_size name_alg parameters_of.SymCipher = 16
 parameters_key_size name_alg (parameters_of.KeyedHash (Hmac hash)) = digest_size hash
@@ -59,10 +58,10 @@ parameters_key_size name_alg (parameters_of.KeyedHash Null) = digest_size name_a
 abbrev pub key_size : Public → ℕ
 key_size t = parameters_key_size t.name_alg t.parameters
 
--- how many bytes of a key the device makes
+-- the number of key bytes that the device generates
 abbrev pub generated_size : Public → SensitiveValues → ℕ
 generated_size t given = if is_given given.data then 0 else key_size t
 
--- how many random bytes a new object takes: those of its key, and of its seedValue
+-- the number of random bytes that a new object uses, for its key and its seedValue
 abbrev pub drawn_by : Public → SensitiveValues → ℕ
 drawn_by t given = generated_size t given + digest_size t.name_alg

@@ -18,23 +18,23 @@ abbrev pub are_of_cipher : PublicParameters → Bool
 are_of_cipher (parameters_of.KeyedHash scheme) = false
 are_of_cipher parameters_of.SymCipher = true
 
--- whether an object is a SYMCIPHER
+-- whether an object is a SYMCIPHER object
 abbrev pub is_cipher : Public → Bool
 is_cipher p = are_of_cipher p.parameters
 
--- whether an object is a KEYEDHASH
+-- whether an object is a KEYEDHASH object
 abbrev pub is_keyed_hash : Public → Bool
 is_keyed_hash p = not (are_of_cipher p.parameters)
 
--- whether an object is a storage parent, under which other objects can be: a SYMCIPHER that
--- decrypts and does not sign, and is restricted to that
+-- whether an object is a storage parent, under which other objects can be created or loaded: a
+-- SYMCIPHER object that is restricted, decrypts, and does not sign
 abbrev pub is_storage_parent : Public → Bool
 is_storage_parent p =
     is_cipher p && has p.attributes attribute.Restricted && has p.attributes attribute.Decrypt
     && not (has p.attributes attribute.Sign)
 
--- an object with these areas, under a parent with this qualified Name: its authorization value is
--- without the zeros at its end, and its type is that of its public area
+-- an object with these areas, under a parent with this qualified Name. Trailing zeros of its
+-- authorization value are removed, and its type is that of its public area
 abbrev pub loaded_object : HierarchyHandle
     → Public → Sensitive → (parent_qualified_name : List ℕ) → Object
 loaded_object hierarchy public area parent_qualified_name = record {
@@ -47,9 +47,9 @@ loaded_object hierarchy public area parent_qualified_name = record {
       qualified_name public.name_alg parent_qualified_name (object_name public);
 }
 
--- what holds of every loaded object: a public area that has a text, an authorization value, a seed
--- value of at most 32 bytes and a key or data within its limit (Part 2, sections 12.2.4 and
--- 12.3.2.4), and a qualified Name of at most 34
+-- what holds for every loaded object: its public area can be encoded; its authorization value is
+-- one that can be stored; its seed value is at most 32 bytes long and its key or data within the
+-- limit (Part 2, sections 12.2.4 and 12.3.2.4); and its qualified Name is at most 34 bytes long
 pub record IsObject (object : Object) : Type 0 where
   pub public : IsPublic object.public
   pub auth_value : IsAuthValue object.auth_value

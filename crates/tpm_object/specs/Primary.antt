@@ -1,6 +1,6 @@
 -- Primary objects. TPM 2.0 Library, Part 1, section 14 (primary seeds) and section 27 (object
--- creation), and Part 3, section 24.1 (TPM2_CreatePrimary). How a primary object comes from the
--- seed is left to the TPM: here by KDFa over what the caller sends.
+-- creation), and Part 3, section 24.1 (TPM2_CreatePrimary). The standard leaves the derivation
+-- from the seed to the TPM; this device applies KDFa to what the caller sends.
 use Rattle.std.specs.Prelude.{ℕ, ◌+◌, List, [], ◌∷◌, take, drop}
 use Rattle.tpm_mac.specs.Digest.{digest_size, hash_of}
 use Rattle.tpm_mac.specs.Kdf.{kdfa_of}
@@ -16,28 +16,28 @@ use Rattle.tpm_object.specs.Object.{loaded_object}
 use Rattle.tpm_object.specs.declared.areas.Created.{Created}
 use Rattle.tpm_object.specs.declared.object.Object.{Object}
 
--- the label of KDFa for primary objects: "PRIMARY"
+-- the KDFa label for primary objects: "PRIMARY"
 abbrev pub primary_label : List ℕ
 primary_label = 0x50 ∷ 0x52 ∷ 0x49 ∷ 0x4d ∷ 0x41 ∷ 0x52 ∷ 0x59 ∷ []
 
 -- the bytes of a primary object: KDFa(nameAlg, seed, "PRIMARY", H(TPMT_PUBLIC),
--- H(TPMS_SENSITIVE_CREATE), bits), where both texts are as the caller sends them, without their
--- sizes: the template with its unique, the authorization value with zeros at its end
+-- H(TPMS_SENSITIVE_CREATE), bits). Both structures are hashed as the caller sends them, without
+-- their sizes: the template with its unique field, the authorization value with trailing zeros
 unfoldable pub primary_bytes : (seed : List ℕ) → Public → SensitiveValues → List ℕ
 primary_bytes seed template given =
     kdfa_of template.name_alg seed primary_label (hash_of template.name_alg (public_text template))
     (hash_of template.name_alg (sensitive_create_text given))
     (digest_size template.name_alg + generated_size template given)
 
--- both areas of a primary object: the first of its bytes, as many as a digest has, are the
--- seedValue, the others the key
+-- both areas of a primary object: the first bytes, up to the size of a digest, are the seedValue,
+-- and the others are the key
 unfoldable pub primary_areas : (seed : List ℕ) → Public → SensitiveValues → Created
 primary_areas seed template given =
     let bytes : List ℕ = primary_bytes seed template given in
     new_object_areas template given (take (digest_size template.name_alg) bytes)
     (drop (digest_size template.name_alg) bytes)
 
--- an object right under its hierarchy, whose handle takes the place of a parent's qualified Name
+-- an object directly under its hierarchy, whose handle is used as the parent's qualified Name
 abbrev pub under_hierarchy : HierarchyHandle → Created → Object
 under_hierarchy hierarchy areas =
     loaded_object hierarchy areas.public areas.sensitive (handle_name (hierarchy_handle hierarchy))

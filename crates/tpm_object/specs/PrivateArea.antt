@@ -19,7 +19,7 @@ use Rattle.tpm_types_object.specs.declared.sensitive.Sensitive.{Sensitive}
 use Rattle.tpm_object.specs.declared.object.Object.{Object}
 use Rattle.tpm_object.specs.declared.private_area.IntegrityFault.{IntegrityFault}
 
--- the labels of KDFa for the keys of a private area: "STORAGE" and "INTEGRITY"
+-- the KDFa labels for the keys of a private area: "STORAGE" and "INTEGRITY"
 abbrev pub storage_label : List ℕ
 storage_label = 0x53 ∷ 0x54 ∷ 0x4f ∷ 0x52 ∷ 0x41 ∷ 0x47 ∷ 0x45 ∷ []
 
@@ -27,36 +27,36 @@ abbrev pub integrity_label : List ℕ
 integrity_label =
     0x49 ∷ 0x4e ∷ 0x54 ∷ 0x45 ∷ 0x47 ∷ 0x52 ∷ 0x49 ∷ 0x54 ∷ 0x59 ∷ []
 
--- the key that encrypts a private area: KDFa(pNameAlg, seedValue, "STORAGE", name, NULL, 128 bits),
--- by the parent's nameAlg and seedValue
+-- the key that encrypts a private area: KDFa(pNameAlg, seedValue, "STORAGE", name, NULL, 128
+-- bits), with the nameAlg and seedValue of the parent
 unfoldable pub storage_key : (parent : Object) → (name : List ℕ) → List ℕ
 storage_key parent name =
     kdfa_of parent.public.name_alg parent.seed_value storage_label name [] 16
 
--- the HMAC key of a private area: KDFa(pNameAlg, seedValue, "INTEGRITY", NULL, NULL, bits of a
--- digest)
+-- the HMAC key of a private area: KDFa(pNameAlg, seedValue, "INTEGRITY", NULL, NULL, size of a
+-- digest in bits)
 unfoldable pub integrity_key : (parent : Object) → List ℕ
 integrity_key parent =
     kdfa_of parent.public.name_alg parent.seed_value integrity_label [] []
     (digest_size parent.public.name_alg)
 
--- the integrity value of a private area: HMAC(pNameAlg, HMACkey, what is protected || name)
+-- the integrity value of a private area: HMAC(pNameAlg, HMACkey, protected bytes || name)
 unfoldable pub integrity_of : (parent : Object) → (name protected : List ℕ) → List ℕ
 integrity_of parent name protected =
     hmac_of parent.public.name_alg (integrity_key parent) (protected ++ name)
 
 -- ---- writing a private area
 
--- the sensitive area in a sized buffer, encrypted
+-- the encrypted sensitive area, encoded as a sized buffer before its encryption
 unfoldable pub encrypted_area : (parent : Object) → (name iv : List ℕ) → Sensitive → List ℕ
 encrypted_area parent name iv area =
     cfb_encrypt_of (storage_key parent name) iv (sized_text (sensitive_text area))
 
--- what the integrity value protects: the IV in a sized buffer, and the encrypted area
+-- the bytes that the integrity value protects: the IV as a sized buffer, then the encrypted area
 abbrev pub protected_text : (parent : Object) → (name iv : List ℕ) → Sensitive → List ℕ
 protected_text parent name iv area = sized_text iv ++ encrypted_area parent name iv area
 
--- a private area: the integrity value in a sized buffer, and what it protects
+-- a private area: the integrity value as a sized buffer, then the bytes that it protects
 abbrev pub authenticated_text : (parent : Object) → (name protected : List ℕ) → List ℕ
 authenticated_text parent name protected =
     sized_text (integrity_of parent name protected) ++ protected
@@ -65,13 +65,13 @@ unfoldable pub private_text : (parent : Object) → (name iv : List ℕ) → Sen
 private_text parent name iv area =
     authenticated_text parent name (protected_text parent name iv area)
 
--- A parent protects this text of a sensitive area, by some IV.
+-- These bytes are the protected form of this sensitive area under the parent, with some IV.
 abbrev pub IsProtected : (parent : Object) → (name protected : List ℕ) → Sensitive → Type 0
 IsProtected parent name protected area =
     (iv : List ℕ) × (length iv ≡ 16) × (protected ≡ protected_text parent name iv area)
 
--- A text is the private area that the parent makes of this sensitive area, by some IV, for a public
--- area of its type.
+-- A text is the private area of this sensitive area under the parent, with some IV, for a public
+-- area of the same type.
 pub record IsWrapped (parent : Object) (public : Public) (text : List ℕ) (area : Sensitive)
     : Type 0 where
   pub typed : area.object_type ≡ object_type public
@@ -85,7 +85,7 @@ pub record IsWrapped (parent : Object) (public : Public) (text : List ℕ) (area
 abbrev pub integrity_fault : IntegrityFault
 integrity_fault = record {}
 
--- what the integrity value of a private area protects, where the value is right
+-- the protected bytes of a private area, if its integrity value is correct
 unfoldable pub protected_in : (parent : Object)
     → (name text : List ℕ)
     → Result (List ℕ) IntegrityFault
@@ -95,14 +95,14 @@ protected_in parent name text = do
       integrity_fault
   Ok integrity.1
 
--- the sensitive area that a plain text is: one sized buffer, and nothing after it
+-- the sensitive area encoded by a plain text, which must consist of exactly one sized buffer
 unfoldable pub area_in : (plain : List ℕ) → Result Sensitive IntegrityFault
 area_in plain = do
   area ← or_fault (filled_by sensitive_at plain) integrity_fault
   whole ← refused_if (not (length area.1 == 0)) integrity_fault
   Ok area.0
 
--- the sensitive area, decrypted, from an IV of 16 bytes and what stands after it
+-- the decrypted sensitive area, from a 16-byte IV and the bytes after it
 unfoldable pub decrypted_area : (parent : Object)
     → (name protected : List ℕ)
     → Result Sensitive IntegrityFault
@@ -111,7 +111,7 @@ decrypted_area parent name protected = do
   whole ← refused_if (not (length iv.0 == 16)) integrity_fault
   area_in (cfb_decrypt_of (storage_key parent name) iv.0 iv.1)
 
--- the sensitive area in a private area, for this public area and of its type
+-- the sensitive area in a private area, which must belong to this public area and be of its type
 unfoldable pub unwrapped : (parent : Object)
     → Public
     → (text : List ℕ)

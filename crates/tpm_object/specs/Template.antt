@@ -1,7 +1,7 @@
 -- The checks of a template, or of a public area to be loaded. TPM 2.0 Library, Part 1, section 25
 -- (object attributes), and Part 3, section 12.1 (TPM2_Create). The order of the checks is this
--- device's own. No KEYEDHASH decrypts here, since XOR schemes and derivation parents are not
--- served.
+-- device's own. No KEYEDHASH object has decrypt here, since XOR schemes and derivation parents are
+-- not served.
 use Rattle.std.specs.Prelude.{ℕ, ◌&&◌, not, Bool, false, if◌then◌else◌}
 use Rattle.std.specs.Prelude.{List, [], ◌∷◌, length, Result}
 use Rattle.std.specs.Bool.{beq}
@@ -17,14 +17,14 @@ use Rattle.tpm_object.specs.Object.{is_cipher, is_keyed_hash}
 use Rattle.tpm_object.specs.declared.template.TemplateFault.{TemplateFault}
 use Rattle.tpm_object.specs.declared.template.TemplateFault.TheVariants as fault
 
--- whether fixedTPM is wrong: under a hierarchy or a parent with fixedTPM, an object has to have
--- fixedTPM exactly if it has fixedParent; under another parent it may not have it
+-- whether fixedTPM is wrong. Under a hierarchy or a parent with fixedTPM, an object must have
+-- fixedTPM exactly if it has fixedParent; under any other parent it must not have fixedTPM
 abbrev pub has_wrong_fixing : (parent_is_fixed : Bool) → (attributes : ℕ) → Bool
 has_wrong_fixing parent_is_fixed a =
     if parent_is_fixed then not (beq (has a attribute.FixedTpm) (has a attribute.FixedParent))
     else has a attribute.FixedTpm
 
--- the conflicts that the attributes of a template can have
+-- the possible conflicts among the attributes of a template
 abbrev pub object_attribute_conflicts : (parent_is_fixed : Bool) → Public → List Bool
 object_attribute_conflicts parent_is_fixed t =
     let restricted : Bool = has t.attributes attribute.Restricted in
@@ -37,8 +37,8 @@ object_attribute_conflicts parent_is_fixed t =
     ∷ (is_cipher t && not sign && not decrypt)
     ∷ (is_cipher t && restricted && sign) ∷ []
 
--- whether the attributes do not fit the scheme: a scheme HMAC without sign, or a restricted
--- KEYEDHASH without a scheme
+-- whether attributes and scheme contradict each other: an HMAC scheme without sign, or a
+-- restricted KEYEDHASH object without a scheme
 abbrev pub has_wrong_scheme : PublicParameters → (attributes : ℕ) → Bool
 has_wrong_scheme (parameters_of.KeyedHash (Hmac hash)) a = not (has a attribute.Sign)
 has_wrong_scheme (parameters_of.KeyedHash Null) a = has a attribute.Restricted
@@ -50,7 +50,7 @@ template_checks parent_is_fixed t =
     ∷ (one_of (object_attribute_conflicts parent_is_fixed t), fault.Attributes)
     ∷ (has_wrong_scheme t.parameters t.attributes, fault.Scheme) ∷ []
 
--- whether a template passes, or the fault of the first check that applies
+-- whether a template is accepted; otherwise the fault of the first check that fails
 unfoldable pub template_passes : (parent_is_fixed : Bool)
     → Public
     → Result (Unit {0}) TemplateFault

@@ -1,5 +1,5 @@
-//! The public and the sensitive area of a new object, made from random bytes or from a seed (TPM
-//! 2.0 Library, Part 1, section 27).
+//! The public and sensitive areas of a new object, made from random bytes or from a seed (TPM 2.0
+//! Library, Part 1, section 27).
 
 ghost use Rattle.std.specs.Prelude.{◌≡◌, ◌≤◌, ℕ, length, List};
 ghost use Rattle.tpm_types_object.specs.SensitiveCreate.{SensitiveValues, sensitive_values_of};
@@ -20,8 +20,8 @@ pub struct Created {
 ghost use Rattle.tpm_object.specs.Areas.{AreOfOneType, created, new_object_areas, new_public, new_sensitive};
 ghost use Rattle.tpm_object.specs.Primary.{primary_areas};
 
-/// The sensitive area of an object with this seedValue, and this key where the caller gives no
-/// data.
+/// The sensitive area of an object with this seedValue. Contains this key if the caller provides
+/// no data.
 fn new_sensitive(template: &Public, given: &SensitiveCreate, seed: &[u8], key: &[u8]) -> Sensitive
     requires seed { length seed.now ≤ 32 }
     requires key { length key.now ≤ 32 }
@@ -37,7 +37,7 @@ fn new_sensitive(template: &Public, given: &SensitiveCreate, seed: &[u8], key: &
     }
 }
 
-/// The public area that goes with a sensitive area: the template with a `unique` made of that area.
+/// The public area for a sensitive area: the template, with a `unique` computed from that area.
 fn new_public(template: &Public, area: &Sensitive) -> Public
     ensures { result ≡ new_public template.now area.now }
 {
@@ -52,7 +52,7 @@ fn new_public(template: &Public, area: &Sensitive) -> Public
     }
 }
 
-/// Both areas of an object with this seed, and this key where the caller gives no data.
+/// Both areas of an object with this seedValue, and with this key if the caller provides no data.
 #[tactic(auto, unfolding(crate::specs::Areas::new_object_areas))]
 pub(crate) fn new_object_areas(
     template: &Public,
@@ -70,8 +70,8 @@ pub(crate) fn new_object_areas(
     Created { public, sensitive }
 }
 
-/// The areas of a new object (TPM 2.0 Library, Part 1, section 27), whose key, and then its seed,
-/// are drawn from the front of `random`: `drawn_by` bytes of it.
+/// The areas of a new object (TPM 2.0 Library, Part 1, section 27). The first `drawn_by` bytes of
+/// `random` are its key, then its seedValue.
 #[tactic(auto, unfolding(crate::specs::Areas::created))]
 pub fn create(template: &Public, given: &SensitiveCreate, random: &[u8; 256]) -> Created
     ensures { result ≡ created template.now (sensitive_values_of given.now) random.now }
@@ -81,8 +81,9 @@ pub fn create(template: &Public, given: &SensitiveCreate, random: &[u8; 256]) ->
     new_object_areas(template, given, seed, key)
 }
 
-/// Both areas of an object that is made, by random bytes or by a seed, are of one type: so the
-/// sensitive area that a parent wraps is unwrapped for the public one. The function does nothing.
+/// The public and sensitive areas of a new object have the same type, whether made from random
+/// bytes or from a seed. So the private area that the parent makes can be unwrapped again with
+/// that public area. A proof only: it has no effect at run time.
 #[inline(always)]
 #[tactic(auto, unfolding(crate::specs::Areas::created, crate::specs::Areas::new_object_areas, crate::specs::Primary::primary_areas))]
 pub fn area_laws()

@@ -1,5 +1,5 @@
-//! The check of what a caller gives for a new object, and how many bytes of a key the device adds
-//! (TPM 2.0 Library, Part 1, section 27).
+//! Checks what a caller provides for a new object, and computes the size of the key that the
+//! device adds (TPM 2.0 Library, Part 1, section 27).
 
 ghost use Rattle.std.specs.Prelude.{◌≡◌, ◌≤◌};
 ghost use Rattle.tpm_types_object.specs.SensitiveCreate.{sensitive_values_of};
@@ -14,18 +14,18 @@ use tpm_types_object::{
     KeyedHashScheme, ObjectAttribute, Public, PublicParameters, SensitiveCreate,
 };
 
-/// Why what the caller gives to a new object is refused.
+/// Why the caller's values for a new object are refused.
 #[derive(Clone, Copy, PartialEq, Eq)]
 pub enum CreationFault {
-    /// The authorization value is longer than a digest of nameAlg.
+    /// The authorization value is longer than a nameAlg digest.
     AuthValueSize,
-    /// sensitiveDataOrigin does not go with the data, or with the use of the object.
+    /// sensitiveDataOrigin contradicts the caller's data or the use of the object.
     Attributes,
-    /// The key does not have the size of the cipher's.
+    /// The key does not have the key size of the cipher.
     DataSize,
 }
 
-/// Whether the caller gives the key or the data to seal.
+/// Whether the caller provides a key, or data to seal.
 pub(crate) fn is_given(given: &SensitiveCreate) -> bool
     ensures { result ≡ is_given given.now.data.now }
 {
@@ -54,8 +54,8 @@ fn has_wrong_key_size(given: &SensitiveCreate, template: &Public) -> bool
     is_cipher(template) && is_given(given) && given.data.len() != 16
 }
 
-/// Whether what the caller gives goes with the template (TPM 2.0 Library, Part 1, section 27). The
-/// first check that fails refuses the creation.
+/// Checks the caller's values against the template (TPM 2.0 Library, Part 1, section 27). The
+/// fault is that of the first check that fails.
 #[tactic(auto, unfolding(crate::specs::Creation::creation_passes))]
 pub fn check_creation(given: &SensitiveCreate, template: &Public) -> Result<(), CreationFault>
     ensures { result ≡ creation_passes (sensitive_values_of given.now) template.now }
@@ -83,7 +83,7 @@ fn parameters_key_size(name_alg: HashAlg, parameters: PublicParameters) -> usize
     }
 }
 
-/// How many bytes the key of an object with this template has, where the device makes it.
+/// The size of the key that the device generates for an object with this template.
 pub fn key_size(template: &Public) -> usize
     ensures value { result ≡ key_size template.now }
     ensures small { result ≤ 32 }
@@ -91,7 +91,7 @@ pub fn key_size(template: &Public) -> usize
     parameters_key_size(template.name_alg, template.parameters)
 }
 
-/// How many bytes of a key the device makes: none where the caller gives the key or data.
+/// The number of key bytes that the device generates: none if the caller provides the key or data.
 pub fn generated_size(template: &Public, given: &SensitiveCreate) -> usize
     ensures value { result ≡ generated_size template.now (sensitive_values_of given.now) }
     ensures small { result ≤ 32 }
@@ -103,7 +103,7 @@ pub fn generated_size(template: &Public, given: &SensitiveCreate) -> usize
     }
 }
 
-/// How many random bytes `create` takes: those of the key and of the seedValue.
+/// The number of random bytes that `create` uses, for the key and the seedValue.
 pub fn drawn_by(template: &Public, given: &SensitiveCreate) -> usize
     ensures value { result ≡ drawn_by template.now (sensitive_values_of given.now) }
     ensures small { result ≤ 64 }

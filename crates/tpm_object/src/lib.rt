@@ -1,13 +1,13 @@
 #![tactic(auto)]
 
-//! Objects (TPM 2.0 Library, Part 1, sections 22 to 28): the checks of a new object, how it is made
-//! from a seed or from random bytes, and how its sensitive area is protected by its parent.
+//! Objects (TPM 2.0 Library, Part 1, sections 22 to 28): the checks of a new object, how it is
+//! made from a seed or from random bytes, and how its parent protects its sensitive area.
 //!
-//! The crate uses `tpm_types_object` for the areas of objects, `tpm_mac` and `tpm_aes` for digests,
-//! keys and encryption, `tpm_types_name` for Names, and `tpm_types`. Each call equals its
-//! definition in `specs/`. Unwrapping a private area gives back the sensitive area that was wrapped
-//! for a public area of its type, and the two areas of each object that is made are of one type.
-//! Unwrapping accepts nothing but what the parent wraps. No call here takes memory.
+//! The crate uses `tpm_types_object` for the areas of objects, `tpm_mac` and `tpm_aes` for
+//! digests, keys and encryption, `tpm_types_name` for Names, and `tpm_types`. Each call equals its
+//! definition in `specs/`. Unwrapping a private area returns the sensitive area that was wrapped
+//! for a public area of its type, and accepts only what the parent wraps. The two areas of a new
+//! object always have the same type. No call here allocates memory.
 
 mod areas;
 mod creation;

@@ -1,4 +1,4 @@
-//! A loaded object, with its areas and its Names, and whether it can be the parent of others (TPM
+//! A loaded object: its areas and Names, and whether it can be the parent of other objects (TPM
 //! 2.0 Library, Part 1, section 23).
 
 ghost use Rattle.std.specs.Prelude.{◌≡◌};
@@ -14,15 +14,16 @@ use tpm_types_object::{ObjectAttribute, ObjectAttributes, Public, PublicParamete
 /// A loaded object.
 #[derive(Drop)]
 pub struct Object {
-    /// The hierarchy to which the object belongs.
+    /// The hierarchy of the object.
     pub hierarchy: HierarchyHandle,
     pub public: Public,
     pub auth_value: AuthValue,
-    /// The seedValue, with which a storage parent encrypts, and which makes other objects unique.
+    /// The seedValue. A storage parent encrypts with it; in any other object it makes the object
+    /// unique.
     pub seed_value: Octets<32>,
-    /// The object's key, or the data that it seals.
+    /// The object's key or sealed data.
     pub sensitive: Octets<SENSITIVE_LIMIT>,
-    /// The object's Name under the Names of all its ancestors.
+    /// The qualified Name, which covers the Names of the object and of all its ancestors.
     pub qualified_name: Name,
 }
 
@@ -35,22 +36,22 @@ fn are_of_cipher(parameters: PublicParameters) -> bool
     }
 }
 
-/// Whether the object is a SYMCIPHER.
+/// Whether the object is a SYMCIPHER object.
 pub(crate) fn is_cipher(public: &Public) -> bool
     ensures { result ≡ is_cipher public.now }
 {
     are_of_cipher(public.parameters)
 }
 
-/// Whether the object is a KEYEDHASH.
+/// Whether the object is a KEYEDHASH object.
 pub fn is_keyed_hash(public: &Public) -> bool
     ensures { result ≡ is_keyed_hash public.now }
 {
     !are_of_cipher(public.parameters)
 }
 
-/// Whether other objects can be under this one: a SYMCIPHER that decrypts and does not sign, and is
-/// restricted to that (TPM 2.0 Library, Part 1, section 23).
+/// Whether other objects can be created or loaded under this one: it must be a SYMCIPHER object
+/// that is restricted, decrypts, and does not sign (TPM 2.0 Library, Part 1, section 23).
 pub fn is_storage_parent(public: &Public) -> bool
     ensures { result ≡ is_storage_parent public.now }
 {
@@ -63,7 +64,7 @@ pub fn is_storage_parent(public: &Public) -> bool
 /// The highest byte of a transient object's handle.
 pub const TRANSIENT_BYTE: u32 = 0x80;
 
-/// Loaded objects have the handles of transient objects.
+/// Loaded objects have transient handles.
 impl Kinded for Object {
     ghost use Rattle.tpm_object.specs.Object.{transient_byte};
 
@@ -92,7 +93,7 @@ impl Sizes for Object {
 }
 
 impl Default for Object {
-    /// The object in a place that is free.
+    /// The object that fills a free slot.
     fn default() -> Object {
         Object {
             hierarchy: HierarchyHandle::Null,
@@ -126,7 +127,7 @@ impl Object {
         Object::loaded_named(hierarchy, public, &name, sensitive, parent_qualified_name)
     }
 
-    /// The loaded object with these areas, where its Name is known already.
+    /// The loaded object with these areas, for callers that already know its Name.
     pub fn loaded_named(
         hierarchy: HierarchyHandle,
         public: Public,
@@ -167,7 +168,7 @@ impl Object {
         }
     }
 
-    /// The object's Name, which is made of its public area.
+    /// The object's Name, computed from its public area.
     pub fn name(&self) -> Name
         ensures { result ≡ object_name self.now.public }
     {

@@ -1,5 +1,5 @@
-//! Primary objects, which the seed of a hierarchy gives for a template, the same each time (TPM 2.0
-//! Library, Part 3, section 24.1).
+//! Primary objects, which are derived from a hierarchy's seed and a template. The result is always
+//! the same (TPM 2.0 Library, Part 3, section 24.1).
 
 ghost use Rattle.std.specs.Prelude.{◌≡◌, ◌+◌, ◌≤◌, length};
 ghost use Rattle.tpm_mac.specs.Digest.{digest_size};
@@ -15,10 +15,10 @@ use tpm_name::Name;
 use tpm_types::HierarchyHandle;
 use tpm_types_object::{Public, SensitiveCreate};
 
-/// The label of the keys of primary objects.
+/// The KDFa label for the keys of primary objects.
 const PRIMARY_LABEL: &[u8] = b"PRIMARY";
 
-/// Fills `out` with the bytes of a primary object: those of its seedValue, and then of its key.
+/// Fills `out` with the bytes of a primary object: its seedValue, then its key.
 #[tactic(auto, unfolding(crate::specs::Primary::primary_bytes))]
 fn derive(seed: &[u8; 32], template: &Public, given: &SensitiveCreate, out: &mut [u8])
     requires size { length out.old ≡ digest_size template.now.name_alg
@@ -51,7 +51,7 @@ fn primary_areas(seed: &[u8; 32], template: &Public, given: &SensitiveCreate) ->
     new_object_areas(template, given, seed_value, key)
 }
 
-/// The object right under its hierarchy with these areas.
+/// The object with these areas, directly under its hierarchy.
 fn under_hierarchy(hierarchy: HierarchyHandle, areas: Created) -> Object
     ensures { result ≡ under_hierarchy hierarchy areas }
 {
@@ -60,8 +60,8 @@ fn under_hierarchy(hierarchy: HierarchyHandle, areas: Created) -> Object
     Object::loaded(hierarchy, public, &sensitive, above.as_slice())
 }
 
-/// The primary object that a hierarchy's seed gives for a template (TPM 2.0 Library, Part 3,
-/// section 24.1): the same each time.
+/// The primary object derived from a hierarchy's seed and a template (TPM 2.0 Library, Part 3,
+/// section 24.1). The result is always the same.
 #[tactic(auto, unfolding(crate::specs::Primary::primary_object))]
 pub fn derive_primary(
     hierarchy: HierarchyHandle,

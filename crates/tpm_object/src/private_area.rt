@@ -1,5 +1,5 @@
 //! Private areas: a parent encrypts and authenticates the sensitive area of its child, and accepts
-//! nothing else back (TPM 2.0 Library, Part 1, section 22).
+//! only areas that it protected itself (TPM 2.0 Library, Part 1, section 22).
 
 ghost use Rattle.tpm_bytes.specs.Reading.{AreBytes, Gives};
 ghost use Rattle.std.specs.Prelude.{◌≡◌, ◌≢◌, ◌≤◌, length, Ok, Err, IfOk};
@@ -19,22 +19,22 @@ use tpm_mac::{Digest, hmac_parts, kdfa};
 use tpm_name::Name;
 use tpm_types_object::{Public, Sensitive};
 
-/// The private area is not one that the parent wrapped for this public area.
+/// The parent did not wrap this private area for this public area.
 #[derive(Clone, Copy, PartialEq, Eq)]
 pub struct IntegrityFault;
 
-/// The most bytes of a sensitive area in a sized buffer, encrypted or not.
+/// The largest size in bytes of a sensitive area as a sized buffer, encrypted or not.
 const AREA_LIMIT: usize = 202;
 
-/// The label of the keys by which a parent encrypts.
+/// The KDFa label for the keys that encrypt.
 const STORAGE_LABEL: &[u8] = b"STORAGE";
 
-/// The label of the keys by which a parent authenticates.
+/// The KDFa label for the keys that authenticate.
 const INTEGRITY_LABEL: &[u8] = b"INTEGRITY";
 
 ghost use Rattle.tpm_object.specs.PrivateArea.{IsProtected, IsWrapped, area_in, decrypted_area, encrypted_area, integrity_fault, integrity_key, integrity_of, private_text, protected_in, protected_text, authenticated_text, storage_key, unwrapped};
 
-/// The key by which a parent encrypts the sensitive area of the object of this Name.
+/// The key that encrypts the sensitive area of the object with this Name.
 #[tactic(auto, unfolding(crate::specs::PrivateArea::storage_key))]
 fn storage_key(parent: &Object, name: &Name) -> [u8; 16]
     ensures { result ≡ storage_key parent.now name.now }
@@ -52,7 +52,7 @@ fn storage_key(parent: &Object, name: &Name) -> [u8; 16]
     key
 }
 
-/// The key by which a parent authenticates private areas.
+/// The key that authenticates the private areas under a parent.
 #[tactic(auto, unfolding(crate::specs::PrivateArea::integrity_key))]
 fn integrity_key(parent: &Object) -> ArrayVec<u8, 32>
     ensures { result.items ≡ integrity_key parent.now }
@@ -67,7 +67,7 @@ fn integrity_key(parent: &Object) -> ArrayVec<u8, 32>
     bytes
 }
 
-/// The integrity value of what a parent protects for the object of this Name.
+/// The integrity value over the protected bytes of the object with this Name.
 #[tactic(auto, unfolding(crate::specs::PrivateArea::integrity_of))]
 fn integrity(parent: &Object, name: &Name, protected: &[u8]) -> Digest
     ensures value { result.items ≡ integrity_of parent.now name.now protected.now }
@@ -81,7 +81,7 @@ fn integrity(parent: &Object, name: &Name, protected: &[u8]) -> Digest
     )
 }
 
-/// The sensitive area in a sized buffer, encrypted.
+/// The encrypted sensitive area, encoded as a sized buffer before its encryption.
 #[tactic(auto, unfolding(crate::specs::PrivateArea::encrypted_area))]
 fn encrypted_area(
     parent: &Object,
@@ -99,7 +99,7 @@ fn encrypted_area(
     bytes
 }
 
-/// The IV in a sized buffer, and the encrypted area.
+/// The IV as a sized buffer, then the encrypted area.
 fn protected_text(parent: &Object, name: &Name, sensitive: &Sensitive, iv: &[u8; 16]) -> Sink<220>
     ensures value { result ≡ protected_text parent.now name.now iv.now sensitive.now }
     ensures fits { IsSensitive sensitive.now }
@@ -111,33 +111,33 @@ fn protected_text(parent: &Object, name: &Name, sensitive: &Sensitive, iv: &[u8;
     text
 }
 
-/// The private area of the object with this public area: its sensitive area, encrypted and
-/// authenticated by its parent (TPM 2.0 Library, Part 1, section 22).
+/// The private area for an object with this public area: its sensitive area, encrypted and
+/// authenticated by the parent (TPM 2.0 Library, Part 1, section 22).
 pub fn wrap(parent: &Object, public: &Public, sensitive: &Sensitive, iv: &[u8; 16]) -> Sink<256>
     ensures value { result
         ≡ private_text parent.now (object_name public.now) iv.now sensitive.now }
     ensures small { length result ≤ 254 }
-    // Unwrapping gives back the sensitive area, where both areas are of one type.
+    // Unwrapping returns the sensitive area again if both areas have the same type.
     ensures undone { object_type public.now ≡ sensitive.now.object_type
         → unwrapped parent.now public.now result ≡ Ok sensitive.now }
-    // Where the two areas are not of one type, unwrapping refuses the private area.
+    // Unwrapping fails if the two areas have different types.
     ensures other_type { object_type public.now ≢ sensitive.now.object_type
         → unwrapped parent.now public.now result ≡ Err integrity_fault }
 {
     wrap_named(parent, &tpm_name::of_object(public), sensitive, iv)
 }
 
-/// The private area of the object of this Name, where the Name is known already.
+/// The private area of the object with this Name, for callers that already know the Name.
 #[tactic(auto, unfolding(crate::specs::PrivateArea::private_text))]
 pub fn wrap_named(parent: &Object, name: &Name, sensitive: &Sensitive, iv: &[u8; 16]) -> Sink<256>
     ensures value { result ≡ private_text parent.now name.now iv.now sensitive.now }
     ensures small { length result ≤ 254 }
-    // Unwrapping for a public area of this Name gives back the sensitive area, where both areas are
-    // of one type.
+    // Unwrapping with a public area of this Name returns the sensitive area again if both areas
+    // have the same type.
     ensures undone { (public : Public) → name.now ≡ object_name public
         → object_type public ≡ sensitive.now.object_type
         → unwrapped parent.now public result ≡ Ok sensitive.now }
-    // Where the two areas are not of one type, unwrapping refuses the private area.
+    // Unwrapping fails if the two areas have different types.
     ensures other_type { (public : Public) → name.now ≡ object_name public
         → object_type public ≢ sensitive.now.object_type
         → unwrapped parent.now public result ≡ Err integrity_fault }
@@ -150,7 +150,7 @@ pub fn wrap_named(parent: &Object, name: &Name, sensitive: &Sensitive, iv: &[u8;
     text
 }
 
-/// What the integrity value at the front of a private area protects, where the value is right.
+/// The protected bytes of a private area, if the integrity value at its front is correct.
 #[tactic(auto, unfolding(crate::specs::PrivateArea::protected_in))]
 fn protected_in<'a>(
     parent: &Object,
@@ -170,7 +170,7 @@ fn protected_in<'a>(
     Ok(protected)
 }
 
-/// The sensitive area that a plain text is: one sized buffer, and nothing after it.
+/// The sensitive area encoded by a plain text, which must consist of exactly one sized buffer.
 #[tactic(auto, unfolding(crate::specs::PrivateArea::area_in))]
 fn area_in(plain: &[u8]) -> Result<Sensitive, IntegrityFault>
     ensures value { result ≡ area_in plain.now }
@@ -185,7 +185,7 @@ fn area_in(plain: &[u8]) -> Result<Sensitive, IntegrityFault>
     Ok(area)
 }
 
-/// The sensitive area's bytes, decrypted by the parent's key.
+/// The bytes of the sensitive area, decrypted with the parent's key.
 fn decrypted(parent: &Object, name: &Name, iv: &[u8; 16], cipher: &[u8]) -> ArrayVec<u8, AREA_LIMIT>
     requires { length cipher.now ≤ AREA_LIMIT }
     ensures value { result.items
@@ -199,7 +199,7 @@ fn decrypted(parent: &Object, name: &Name, iv: &[u8; 16], cipher: &[u8]) -> Arra
     bytes
 }
 
-/// The sensitive area, decrypted, from an IV of 16 bytes and what stands after it.
+/// The decrypted sensitive area, from a 16-byte IV and the bytes after it.
 #[tactic(auto, unfolding(crate::specs::PrivateArea::decrypted_area))]
 fn decrypted_area(
     parent: &Object,
@@ -225,21 +225,21 @@ fn decrypted_area(
     area_in(plain.as_slice())
 }
 
-/// The sensitive area in a private area for this public area (TPM 2.0 Library, Part 1, section 22).
-/// The integrity value is compared before anything is decrypted.
+/// The sensitive area in a private area, given the object's public area (TPM 2.0 Library, Part 1,
+/// section 22). Checks the integrity value before decrypting anything.
 pub fn unwrap(parent: &Object, public: &Public, private: &[u8]) -> Result<Sensitive, IntegrityFault>
     ensures value { result ≡ unwrapped parent.now public.now private.now }
-    // A private area is accepted only if the parent wraps it for a public area of that Name and
-    // type.
+    // A private area is accepted only if the parent wrapped it for a public area with this Name
+    // and type.
     ensures found { IfOk result (λ area. IsWrapped parent.now public.now private.now area) }
-    // Every private area that the parent wraps so is accepted.
+    // Every private area that the parent wrapped this way is accepted.
     ensures only { (area : Sensitive) → IsWrapped parent.now public.now private.now area
         → result ≡ Ok area }
 {
     unwrap_named(parent, public, &tpm_name::of_object(public), private)
 }
 
-/// Unwraps the private area of an object whose Name is known.
+/// Unwraps the private area of an object, for callers that already know its Name.
 #[tactic(auto, unfolding(crate::specs::PrivateArea::unwrapped))]
 pub fn unwrap_named(
     parent: &Object,

@@ -1,4 +1,4 @@
-//! The check of the template of a new object: its policy, its attributes and its scheme (TPM 2.0
+//! Checks the template of a new object: its policy, its attributes and its scheme (TPM 2.0
 //! Library, Part 1, section 25).
 
 ghost use Rattle.std.specs.Prelude.{◌≡◌};
@@ -14,15 +14,15 @@ use tpm_types_object::{
 /// Why a template is refused.
 #[derive(Clone, Copy, PartialEq, Eq)]
 pub enum TemplateFault {
-    /// authPolicy is neither empty nor a digest of nameAlg.
+    /// authPolicy is neither empty nor of the size of a nameAlg digest.
     AuthPolicySize,
-    /// There are attributes that do not go together, or not with the type or the parent.
+    /// The attributes conflict with each other, with the type, or with the parent.
     Attributes,
-    /// The scheme does not go with the attributes.
+    /// The scheme contradicts the attributes.
     Scheme,
 }
 
-/// Whether fixedTPM does not go with the parent and with fixedParent.
+/// Whether fixedTPM contradicts fixedParent or the parent.
 fn has_wrong_fixing(parent_is_fixed: bool, attributes: ObjectAttributes) -> bool
     ensures { result ≡ has_wrong_fixing parent_is_fixed attributes }
 {
@@ -52,7 +52,7 @@ fn has_attribute_conflict(parent_is_fixed: bool, template: &Public) -> bool
         || is_cipher(template) && restricted && sign
 }
 
-/// Whether the scheme does not go with the attributes.
+/// Whether the attributes contradict the scheme.
 fn has_wrong_scheme(parameters: PublicParameters, attributes: ObjectAttributes) -> bool
     ensures { result ≡ has_wrong_scheme parameters attributes }
 {
@@ -67,9 +67,9 @@ fn has_wrong_scheme(parameters: PublicParameters, attributes: ObjectAttributes) 
     }
 }
 
-/// Whether a template can be one of a new object under a hierarchy or a parent with fixedTPM, or
-/// else under another parent (TPM 2.0 Library, Part 1, section 25). The first check that fails
-/// refuses the template.
+/// Checks the template of an object to be created or loaded, under a hierarchy or a parent with
+/// fixedTPM, or else under another parent (TPM 2.0 Library, Part 1, section 25). The fault is that
+/// of the first check that fails.
 #[tactic(auto, unfolding(crate::specs::Template::template_passes))]
 pub fn check_template(template: &Public, parent_is_fixed: bool) -> Result<(), TemplateFault>
     ensures { result ≡ template_passes parent_is_fixed template.now }

@@ -1,4 +1,4 @@
--- The values of selected PCRs, joined one by one and bank by bank.
+-- Concatenating the values of selected PCRs, one by one and bank by bank.
 use Rattle.tpm_bytes.specs.Numbers.{numbers_below}
 use Rattle.std.proofs.Common.{◌≡◌, ℕ, ◌+◌, ◌<◌, Bool, true, false, cond, List, [], ◌∷◌, ◌++◌, add-one, ap, append-nil, append_assoc, filter, get_or, length, map, refl, subst, sym, take, ◌∙◌}
 use Rattle.std.proofs.lemmas.Grind.{flat_map-append}
@@ -14,12 +14,12 @@ use Rattle.tpm_types.specs.declared.pcr_selection.BankSelection.{BankSelection}
 use Rattle.tpm_pcr.specs.Banks.{all_pcrs, pcr_value, selected_pcrs, selected_values}
 use Rattle.tpm_pcr.specs.Values.{BankValues}
 
--- the values of a bank's selected PCRs below a number, joined
+-- the concatenated values of a bank's selected PCRs below a number
 abbrev pub text_below : BankValues → BankSelection → ℕ → List ℕ
 text_below all bank n =
     concat (map (pcr_value all bank.hash) (filter (is_selected bank.select) (numbers_below n)))
 
--- the joined lists of chosen numbers, and of one more, which may be chosen
+-- concatenating the lists of the chosen numbers, after one more number that may be chosen
 joined_cond : (f : ℕ → List ℕ) (front : List ℕ) (n : ℕ) (b : Bool)
     → concat (map f (front ++ cond b (n ∷ []) [])) ≡ concat (map f front) ++ cond b (f n) []
 joined_cond f front n true =
@@ -29,7 +29,7 @@ joined_cond f front n true =
 joined_cond f front n false =
     ap (λ (pcrs : List ℕ). concat (map f pcrs)) (append-nil front) ∙ sym (append-nil (concat (map f front)))
 
--- the text of one PCR more, where it is selected
+-- the value of one more PCR is appended if the PCR is selected
 text_below_more : (all : BankValues) (bank : BankSelection) (n : ℕ)
     → text_below all bank (n + 1) ≡ text_below all bank n ++ cond (is_selected bank.select n) (pcr_value all bank.hash n) []
 text_below_more all bank n =
@@ -37,13 +37,13 @@ text_below_more all bank n =
     ∙ ap (λ (pcrs : List ℕ). concat (map (pcr_value all bank.hash) pcrs)) (filter-append (is_selected bank.select) (numbers_below n) (n ∷ []))
     ∙ joined_cond (pcr_value all bank.hash) (filter (is_selected bank.select) (numbers_below n)) n (is_selected bank.select n)
 
--- the text of all of a bank's selected PCRs is that of those below 24
+-- the values of all selected PCRs in a bank are those of the selected PCRs below 24
 text_below_all : (all : BankValues) (bank : BankSelection)
     → text_below all bank 24 ≡ concat (selected_values all bank)
 unfolding selected_pcrs all_pcrs
 text_below_all all bank = refl
 
--- the text of one bank more
+-- the values of one more bank are appended
 banks_joined_more : (all : BankValues) (banks : List BankSelection) (i : ℕ) (bank : BankSelection)
     → i < length banks
     → concat (flat_map (selected_values all) (take (i + 1) banks))
@@ -54,7 +54,7 @@ banks_joined_more all banks i bank below =
     ∙ concat-append (flat_map (selected_values all) (take i banks)) _
     ∙ ap (λ (l : List (List ℕ)). concat (flat_map (selected_values all) (take i banks)) ++ concat l) (append-nil (selected_values all (get_or banks i bank)))
 
--- a hasher that took the values below a number, and then that of one PCR more
+-- feeding the value of one more PCR to a hasher that was fed those below a number
 pub taken_more : (all : BankValues) (bank : BankSelection) (n pcr : ℕ) (start before after : Hasher) → pcr ≡ n
     → Takes start (text_below all bank n) before
     → Takes before (cond (is_selected bank.select pcr) (pcr_value all bank.hash pcr) []) after
@@ -67,13 +67,13 @@ taken_more all bank n pcr start before after is so_far one algorithm message hel
     ∙ ap (λ (text : List ℕ). message ++ text) (sym (text_below_more all bank n)) in
     subst (Holds after algorithm) whole (one algorithm _ (so_far algorithm message held))
 
--- a hasher that took the values below 24 took those of all selected PCRs
+-- a hasher that was fed the values below 24 was fed those of all selected PCRs
 pub taken_all : (all : BankValues) (bank : BankSelection) (n : ℕ) (start after : Hasher) → n ≡ 24
     → Takes start (text_below all bank n) after → Takes start (concat (selected_values all bank)) after
 taken_all all bank n start after done so_far =
     subst (λ (text : List ℕ). Takes start text after) (ap (text_below all bank) done ∙ text_below_all all bank) so_far
 
--- a hasher that holds the values of the first banks, and then took those of one bank more
+-- feeding the values of one more bank to a hasher that was fed those of the first banks
 pub held_more : (all : BankValues) (banks : List BankSelection) (i : ℕ) (bank : BankSelection) (hash : HashAlg)
     (before after : Hasher) → i < length banks → bank ≡ get_or banks i bank
     → Holds before hash (concat (flat_map (selected_values all) (take i banks)))

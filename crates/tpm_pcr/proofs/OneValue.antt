@@ -1,4 +1,4 @@
--- The value of one PCR, and the count of updates, as banks change.
+-- How changes of the banks affect the value of one PCR and the update counter.
 use Rattle.std.proofs.Common.{arith, ◌≡◌, ℕ, zero, suc, ◌+◌, ◌<◌, ◌++◌, Bool, true, false, cond, List, [], ◌∷◌, length, fold, get_or, set, refl, ap, sym, ◌∙◌}
 use Rattle.std.proofs.lemmas.Bool.Decides.{nat_tests}
 use Rattle.std.proofs.lemmas.Grind.{common_steps}
@@ -34,9 +34,9 @@ unfolding starting_values all_pcrs
 new_values alg.Sha1 pcr below = get_or-map (starting_value alg.Sha1) (numbers_below 24) pcr 0 [] below ∙ ap (starting_value alg.Sha1) (below_at 24 pcr below)
 new_values alg.Sha256 pcr below = get_or-map (starting_value alg.Sha256) (numbers_below 24) pcr 0 [] below ∙ ap (starting_value alg.Sha256) (below_at 24 pcr below)
 
--- ---- one value that is replaced
+-- ---- replacing one value
 
--- whether two banks are one
+-- whether two banks are the same bank
 abbrev same_bank : HashAlg → HashAlg → Bool
 same_bank alg.Sha1 alg.Sha1 = true
 same_bank alg.Sha1 alg.Sha256 = false
@@ -58,7 +58,7 @@ with_value_at banks alg.Sha1 alg.Sha256 i n v h below = refl
 with_value_at banks alg.Sha256 alg.Sha1 i n v h below = refl
 with_value_at banks alg.Sha256 alg.Sha256 i n v h below = let k = h alg.Sha256 in set_at banks.sha256 i n v (omega arith)
 
--- the value of a PCR after zeros replaced one in both banks
+-- the value of a PCR after a value was replaced by zeros in both banks
 pub zeros_at : (pcr : ℕ) (banks : BankValues) (bank : HashAlg) (n : ℕ) → HaveAll banks → n < 24 → pcr_value (with_value alg.Sha256 pcr (replicate 32 0) (with_value alg.Sha1 pcr (replicate 20 0) banks)) bank n ≡ cond (pcr == n) (replicate (digest_size bank) 0) (pcr_value banks bank n)
 zeros_at pcr banks alg.Sha1 n h below = with_value_at banks alg.Sha1 alg.Sha1 pcr n (replicate 20 0) h below
 zeros_at pcr banks alg.Sha256 n h below = with_value_at banks alg.Sha256 alg.Sha256 pcr n (replicate 32 0) h below
@@ -69,7 +69,7 @@ both_same : (b : Bool) (x : List ℕ) → x ≡ cond b x x
 both_same true x = refl
 both_same false x = refl
 
--- where two numbers are one, a function makes the same of both
+-- if two numbers are equal, a function returns the same result for both
 at_pcr : (i n : ℕ) (f : ℕ → List ℕ) (old : List ℕ) → cond (i == n) (f i) old ≡ cond (i == n) (f n) old
 at_pcr i n f old = grind (arith, nat_tests)
 
@@ -97,7 +97,7 @@ extensions_at pcr (d ∷ ds) banks bank n h below =
     ∙ ap (λ (v : List ℕ). cond (pcr == n) (fold (value_extended bank) v ds) v) (extension_at pcr banks d bank n h below)
     ∙ first_extended (pcr == n) bank (pcr_value banks bank n) d ds
 
--- the digests of an event extend each bank by the bank's own
+-- the digests of an event extend each bank by the digest for that bank
 pub event_digest : (bank : HashAlg) (old event : List ℕ) → fold (value_extended bank) old (event_digests event) ≡ hash_of bank (old ++ hash_of bank event)
 event_digest alg.Sha1 old event = refl
 event_digest alg.Sha256 old event = refl

@@ -1,5 +1,5 @@
--- PCR banks. TPM 2.0 Library, Part 1, section 17, and Part 3, section 22.4 (TPM2_PCR_Read); how
--- many PCRs there are and what each starts with, as in the PC Client Platform TPM Profile.
+-- PCR banks. TPM 2.0 Library, Part 1, section 17, and Part 3, section 22.4 (TPM2_PCR_Read). The
+-- number of PCRs and their starting values follow the PC Client Platform TPM Profile.
 use Rattle.tpm_bytes.specs.Numbers.{numbers_below}
 use Rattle.std.specs.Prelude.{◌≡◌, ◌<◌, ℕ, zero, suc, ◌-◌, nat_le, ◌&&◌, if◌then◌else◌, List, [], ◌∷◌, ◌++◌}
 use Rattle.std.specs.Prelude.{length, take, map, filter, fold, replicate, slice_index_or}
@@ -15,8 +15,8 @@ use Rattle.tpm_pcr.specs.Values.{BankValues}
 unfoldable pub all_pcrs : List ℕ
 all_pcrs = numbers_below 24
 
--- the value with which a PCR starts: all ones from 17 to 22, until a dynamic launch, and otherwise
--- zeros
+-- the starting value of a PCR: for 17 to 22, all bits are set until a dynamic launch; for all
+-- others, the value is zeros
 abbrev pub starting_value : HashAlg → ℕ → List ℕ
 starting_value bank pcr =
     replicate (digest_size bank) (if nat_le 17 pcr && nat_le pcr 22 then 0xff else 0)
@@ -24,7 +24,7 @@ starting_value bank pcr =
 unfoldable pub starting_values : HashAlg → List (List ℕ)
 starting_values bank = map (starting_value bank) all_pcrs
 
--- the banks at manufacture and after a power cycle
+-- the banks after manufacture and after a power cycle
 abbrev pub new_banks : BankValues
 new_banks =
     record { sha1 = starting_values Sha1; sha256 = starting_values Sha256; update_count = 0 }
@@ -40,35 +40,35 @@ pcr_value banks bank pcr = slice_index_or (bank_values banks bank) pcr []
 abbrev pub PcrValues : Type 0
 PcrValues = HashAlg → ℕ → List ℕ
 
--- Each bank has a value for each of the 24 PCRs.
+-- Each bank contains a value for each of the 24 PCRs.
 abbrev pub HaveAll : BankValues → Type 0
 HaveAll banks = (bank : HashAlg) → length (bank_values banks bank) ≡ 24
 
--- Both banks have these values.
+-- Both banks contain these values.
 abbrev pub HaveValues : BankValues → PcrValues → Type 0
 HaveValues banks values =
     (bank : HashAlg) (pcr : ℕ) → pcr < 24 → pcr_value banks bank pcr ≡ values bank pcr
 
--- ---- what TPM2_PCR_Read answers
+-- ---- what TPM2_PCR_Read returns
 
--- the PCRs that a bank's selection names, ascending, and their values
+-- the PCRs that a bank's selection names, in ascending order, and their values
 unfoldable pub selected_pcrs : BankSelection → List ℕ
 selected_pcrs bank = filter (is_selected bank.select) all_pcrs
 
 abbrev pub selected_values : BankValues → BankSelection → List (List ℕ)
 selected_values banks bank = map (pcr_value banks bank.hash) (selected_pcrs bank)
 
--- the number that selects just these PCRs: each of them is added in turn
+-- the number that selects exactly these PCRs, computed by adding them one by one
 abbrev pub select_with : List ℕ → ℕ
 select_with pcrs = fold with_pcr 0 pcrs
 
--- the values of the PCRs of a selection, in its order, as many as there is room for
+-- the values of the PCRs in a selection, in its order, up to this number of values
 unfoldable pub read_values : BankValues → ℕ → List BankSelection → List (List ℕ)
 read_values banks room selection = take room (flat_map (selected_values banks) selection)
 
--- the selection of just the values that read_values gives: each bank keeps the first PCRs that
--- there is room for, and takes that room, down to none, from the banks after it; a bank with none
--- left stays in the list
+-- the selection of exactly the values that read_values returns. Each bank keeps its first PCRs, up
+-- to this number; what is left of the number applies to the banks after it, down to zero. A bank
+-- that keeps no PCR remains in the list
 abbrev pub answer_selection : ℕ → List BankSelection → List BankSelection
 answer_selection room [] = []
 answer_selection room (bank ∷ selection) =
@@ -76,7 +76,8 @@ answer_selection room (bank ∷ selection) =
     ∷ answer_selection (room - length (selected_pcrs bank)) selection
 
 -- the digest of the selected PCRs: the hash of all their values, bank by bank in the selection's
--- order and within a bank ascending (TPM 2.0 Library, Part 3, section 23.7, TPM2_PolicyPCR)
+-- order, and in ascending order within a bank (TPM 2.0 Library, Part 3, section 23.7,
+-- TPM2_PolicyPCR)
 unfoldable pub select_digest_of : BankValues → HashAlg → List BankSelection → List ℕ
 select_digest_of banks hash selection =
     hash_of hash (concat (flat_map (selected_values banks) selection))

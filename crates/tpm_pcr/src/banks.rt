@@ -1,4 +1,4 @@
-//! The PCR banks: the value of each PCR by each hash algorithm, the update counter, and how
+//! The PCR banks: the value of each PCR for each hash algorithm, the update counter, and how
 //! values are read, hashed, saved and restored.
 
 ghost use Rattle.std.specs.Prelude.{◌≡◌, ◌+◌, ◌-◌, [], ◌∷◌, ◌++◌, ◌&&◌, nat_lt, if◌then◌else◌};
@@ -23,7 +23,7 @@ use tpm_bytes::append;
 use tpm_mac::{Digest, HashAlg, Hasher};
 use tpm_types::{BankSelection, DigestList, PCR_COUNT, PcrIndex, PcrSelect, PcrSelection};
 
-/// The values of all PCRs, bank by bank, and how often a value was written.
+/// The values of all PCRs, bank by bank, and the update counter.
 #[derive(Drop)]
 pub struct Banks {
     sha1: [[u8; 20]; 24],
@@ -42,8 +42,8 @@ impl Model for Banks {
         record { sha1 = b.sha1; sha256 = b.sha256; update_count = b.update_count } };
 }
 
-/// The answer to a read of PCRs: their values in the order of the selection, at most eight, and the
-/// selection of just these.
+/// The result of reading PCRs: their values in the order of the selection, at most eight, and a
+/// selection of exactly these PCRs.
 #[derive(Drop)]
 pub struct PcrReading {
     pub selection: PcrSelection,
@@ -53,7 +53,7 @@ pub struct PcrReading {
 impl Banks {
     ghost use Rattle.tpm_pcr.specs.Values.{IsBanks};
 
-    /// The banks at manufacture and after a power cycle.
+    /// The banks after manufacture and after a power cycle.
     #[tactic(auto, unfolding(crate::specs::Banks::all_pcrs, crate::specs::Banks::starting_values))]
     pub fn new() -> Banks
         ensures { result ≡ new_banks }
@@ -65,11 +65,11 @@ impl Banks {
         }
     }
 
-    /// The update counter: how many bank values were written since the last TPM2_Startup, with one
-    /// more for each TPM2_Clear.
+    /// The update counter: the number of values written to a bank since the last TPM2_Startup,
+    /// plus one for each TPM2_Clear.
     pub fn update_count(&self) -> u64
         ensures value { result ≡ self.now.update_count }
-        // Each bank has 24 values of its digests' size.
+        // Each bank contains 24 values of the size of its digests.
         ensures is_banks { IsBanks self.now }
     {
         self.update_count
@@ -89,7 +89,7 @@ impl Banks {
         &self.sha256
     }
 
-    /// Puts a PCR's value into the SHA-1 bank. The update counter stays.
+    /// Sets a PCR's value in the SHA-1 bank, without changing the update counter.
     pub fn put_sha1(&mut self, place: usize, value: [u8; 20])
         requires { place < 24 }
         ensures { self.new ≡ record self.old { sha1 = slice_set self.old.sha1 place value } }
@@ -97,7 +97,7 @@ impl Banks {
         self.sha1[place] = value;
     }
 
-    /// Puts a PCR's value into the SHA-256 bank. The update counter stays.
+    /// Sets a PCR's value in the SHA-256 bank, without changing the update counter.
     pub fn put_sha256(&mut self, place: usize, value: [u8; 32])
         requires { place < 24 }
         ensures { self.new ≡ record self.old { sha256 = slice_set self.old.sha256 place value } }
@@ -105,14 +105,14 @@ impl Banks {
         self.sha256[place] = value;
     }
 
-    /// Sets the update counter. The values stay.
+    /// Sets the update counter, without changing any PCR.
     pub fn set_update_count(&mut self, update_count: u64)
         ensures { self.new ≡ record self.old { update_count = update_count } }
     {
         self.update_count = update_count;
     }
 
-    /// Writes a PCR's value in the SHA-1 bank.
+    /// Sets a PCR's value in the SHA-1 bank and counts an update.
     pub(crate) fn write_sha1(&mut self, pcr: PcrIndex, value: [u8; 20])
         requires { self.old.update_count < 2 ^ 64 - 1 }
         ensures { self.new ≡ with_value Sha1 pcr value self.old }
@@ -121,7 +121,7 @@ impl Banks {
         self.update_count += 1;
     }
 
-    /// Writes a PCR's value in the SHA-256 bank.
+    /// Sets a PCR's value in the SHA-256 bank and counts an update.
     pub(crate) fn write_sha256(&mut self, pcr: PcrIndex, value: [u8; 32])
         requires { self.old.update_count < 2 ^ 64 - 1 }
         ensures { self.new ≡ with_value Sha256 pcr value self.old }
@@ -130,7 +130,7 @@ impl Banks {
         self.update_count += 1;
     }
 
-    /// Counts one update more.
+    /// Counts one more update.
     pub(crate) fn count_update(&mut self)
         requires { self.old.update_count < 2 ^ 64 - 1 }
         ensures { self.new ≡ record self.old { update_count = self.old.update_count + 1 } }
@@ -138,14 +138,14 @@ impl Banks {
         self.update_count += 1;
     }
 
-    /// Begins to count updates anew, as TPM2_Startup does.
+    /// Resets the update counter to zero, as TPM2_Startup does.
     pub fn restart_update_count(&mut self)
         ensures { self.new ≡ record self.old { update_count = 0 } }
     {
         self.update_count = 0;
     }
 
-    /// The value of a PCR in a bank.
+    /// The value of this PCR in this bank.
     pub fn value(&self, bank: HashAlg, pcr: PcrIndex) -> Digest
         ensures { result.items ≡ pcr_value self.now bank pcr }
     {
@@ -160,7 +160,7 @@ impl Banks {
 }
 
 impl Banks {
-    /// Reads the PCRs of a selection, the first eight of them (Part 3, section 22.4).
+    /// Reads the first eight PCRs in a selection (Part 3, section 22.4).
     pub fn read(&self, selection: &PcrSelection) -> PcrReading
         ensures selection { result.selection.banks.items
             ≡ answer_selection 8 selection.now.banks.items }
@@ -182,8 +182,8 @@ impl Banks {
         }
     }
 
-    /// Reads the PCRs of one bank's selection while there is room, and gives the selection of those
-    /// that were read.
+    /// Reads the PCRs in one bank's selection until there are eight values. Returns the selection
+    /// of those that were read.
     fn read_bank(&self, bank: &BankSelection, values: &mut ArrayVec<Digest, 8>) -> PcrSelect
         ensures select { result
             ≡ select_with (take (8 - length values.old.items) (selected_pcrs bank.now)) }
@@ -199,7 +199,7 @@ impl Banks {
         select
     }
 
-    /// Reads one PCR where it is selected and there is room.
+    /// Reads one PCR if it is selected and fewer than eight values have been read.
     fn read_pcr(
         &self,
         bank: &BankSelection,
@@ -223,8 +223,8 @@ impl Banks {
 }
 
 impl Banks {
-    /// The digest of the values of all PCRs of a selection, however many, in its order (Part 3,
-    /// section 23.7). No value is copied beyond its own turn.
+    /// The digest of the values of all PCRs in a selection, in its order and without a limit (Part
+    /// 3, section 23.7). Only the value that is being hashed is copied.
     #[tactic(auto, unfolding(crate::specs::Banks::select_digest_of))]
     pub fn select_digest(&self, hash: HashAlg, selection: &PcrSelection) -> Digest
         ensures value { result.items
@@ -238,7 +238,7 @@ impl Banks {
         hasher.finish()
     }
 
-    /// Hands the hasher the values of one bank's selection.
+    /// Feeds the values of one bank's selection to the hasher.
     fn hash_bank(&self, bank: &BankSelection, hasher: &mut Hasher)
         ensures { Takes hasher.old (concat (selected_values self.now bank.now)) hasher.new }
     {
@@ -248,7 +248,7 @@ impl Banks {
         }
     }
 
-    /// Hands the hasher the value of one PCR, where it is selected.
+    /// Feeds the value of one PCR to the hasher, if the PCR is selected.
     fn hash_pcr(&self, bank: &BankSelection, pcr: PcrIndex, hasher: &mut Hasher)
         ensures { Takes hasher.old
             (if is_selected bank.now.select pcr then pcr_value self.now bank.now.hash pcr else [])
@@ -261,7 +261,7 @@ impl Banks {
 }
 
 impl Banks {
-    /// Saves the values of the PCRs 0 to 15.
+    /// Saves the values of PCRs 0 to 15.
     pub fn save(&self, saved: &mut SavedPcrs)
         ensures { saved.new ≡ saved_of self.now }
     {
@@ -272,8 +272,7 @@ impl Banks {
         saved.sha256 = sha256;
     }
 
-    /// Gives the PCRs 0 to 15 the values that were saved. The other PCRs and the update counter
-    /// stay.
+    /// Sets PCRs 0 to 15 to the saved values. The other PCRs and the update counter do not change.
     pub fn restore(&mut self, saved: &SavedPcrs)
         ensures { self.new ≡ restored_in saved.now self.old }
     {
@@ -285,8 +284,8 @@ impl Banks {
     }
 }
 
-/// The value with which each PCR starts: `high` for 17 to 22, until a dynamic launch, and `low` for
-/// the others.
+/// The starting value of each PCR: `high` for 17 to 22 until a dynamic launch, and `low` for the
+/// others.
 fn starting_values<T: Copy>(low: T, high: T) -> [T; 24]
     ensures { result ≡ replicate 17 low ++ replicate 6 high ++ low ∷ [] }
 {

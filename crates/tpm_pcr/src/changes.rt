@@ -1,5 +1,5 @@
-//! The changes of PCRs by commands, TPM2_PCR_Extend, TPM2_PCR_Event and TPM2_PCR_Reset, and from
-//! which localities each PCR allows them (TPM 2.0 Library, Part 1, section 17).
+//! The commands that change PCRs, TPM2_PCR_Extend, TPM2_PCR_Event and TPM2_PCR_Reset, and the
+//! localities from which each PCR allows them (TPM 2.0 Library, Part 1, section 17).
 
 ghost use Rattle.std.specs.Prelude.{◌≡◌, ◌+◌, ◌-◌, ◌<◌, ◌^◌, ◌++◌};
 ghost use Rattle.std.specs.Prelude.{List, ℕ, [], ◌∷◌, fold, length, replicate};
@@ -22,22 +22,22 @@ use tpm_types::{DigestValue, DigestValues, Locality, PcrIndex};
 pub enum ChangeFault {
     /// The PCR does not allow this change from this locality.
     Locality,
-    /// The count of updates would pass 2^64 - 1.
+    /// The update counter would pass 2^64 - 1.
     Failure,
 }
 
-/// What a PCR is for, which decides from where it may be changed.
+/// The use of a PCR, which determines the localities from which it may be changed.
 #[derive(Clone, Copy, PartialEq, Eq)]
 pub enum PcrUse {
-    /// PCRs 0 to 15 measure the platform's start. They are extended from any locality, and never
-    /// reset.
+    /// PCRs 0 to 15 measure the platform's startup. They may be extended from any locality, and
+    /// never reset.
     Static,
-    /// PCR 16 is for debugging. It is extended and reset from any locality.
+    /// PCR 16 is for debugging. It may be extended and reset from any locality.
     Debug,
-    /// PCRs 17 to 22 measure a dynamic launch. They are extended from localities 2 to 4, and reset
-    /// from 4.
+    /// PCRs 17 to 22 measure a dynamic launch. They may be extended from localities 2 to 4, and
+    /// reset from locality 4.
     Dynamic,
-    /// PCR 23 is the applications'. It is extended and reset from any locality.
+    /// PCR 23 is for applications. It may be extended and reset from any locality.
     Application,
 }
 
@@ -108,8 +108,8 @@ fn check(banks: &Banks, may: bool, updates: u64) -> Result<(), ChangeFault>
 }
 
 impl Banks {
-    /// Extends a PCR by each digest in turn (TPM2_PCR_Extend): Locality where the PCR may not be
-    /// extended from this locality, then Failure where the updates could not be counted.
+    /// Extends a PCR by each digest in turn (TPM2_PCR_Extend). The fault is Locality if the PCR
+    /// may not be extended from this locality, else Failure if the update counter would overflow.
     #[tactic(auto, unfolding(crate::specs::Changes::extend_of))]
     pub fn extend(
         &mut self,
@@ -131,8 +131,8 @@ impl Banks {
         Ok(())
     }
 
-    /// Extends a PCR by the digests of the data (TPM2_PCR_Event), and answers the digests; the
-    /// refusals are those of `extend`.
+    /// Extends a PCR by the digests of the data (TPM2_PCR_Event), and returns the digests. The
+    /// faults are those of `extend`.
     pub fn event(
         &mut self,
         pcr: PcrIndex,
@@ -148,8 +148,8 @@ impl Banks {
         Ok(digests)
     }
 
-    /// Makes a PCR zeros in both banks (TPM2_PCR_Reset): Locality where the PCR may not be reset
-    /// from this locality, then Failure where the updates could not be counted.
+    /// Sets a PCR to zeros in both banks (TPM2_PCR_Reset). The fault is Locality if the PCR may
+    /// not be reset from this locality, else Failure if the update counter would overflow.
     #[tactic(auto, unfolding(crate::specs::Changes::reset_of))]
     pub fn reset(&mut self, pcr: PcrIndex, locality: Locality) -> Result<(), ChangeFault>
         ensures { ChangesBanks (reset_of pcr (locality_number locality) self.old)
@@ -161,8 +161,8 @@ impl Banks {
         Ok(())
     }
 
-    /// Counts a TPM2_Clear as an update, which changes no value: Failure where the update could not
-    /// be counted.
+    /// Counts a TPM2_Clear as an update, which changes no value. The fault is Failure if the
+    /// update counter would overflow.
     #[tactic(auto, unfolding(crate::specs::Changes::clear_counted))]
     pub fn count_clear(&mut self) -> Result<(), ChangeFault>
         ensures { ChangesBanks (clear_counted self.old) self.old result self.new }

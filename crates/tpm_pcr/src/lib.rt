@@ -1,12 +1,13 @@
 #![tactic(auto)]
 
-//! The PCR banks of the device: the values of 24 PCRs for each hash algorithm, and the counter of
-//! their updates (TPM 2.0 Library, Part 1, section 17).
+//! The PCR banks of the device: the values of 24 PCRs for each hash algorithm, and the update
+//! counter (TPM 2.0 Library, Part 1, section 17).
 //!
-//! [`banks::Banks`] reads the values, [`changes`] changes them as each PCR allows it from a
+//! [`banks::Banks`] reads the values, [`changes`] changes them if the PCR allows it from the
 //! locality, and [`saved::SavedPcrs`] are the values that a shutdown saves. The crate uses
 //! `tpm_types` for selections and `tpm_mac` for digests. Each call equals its definition in
-//! `specs/`; a refused change leaves the banks, and no call here takes memory.
+//! `specs/`. A change that is refused leaves the banks unchanged, and no call here allocates
+//! memory.
 
 pub mod banks;
 pub mod changes;

@@ -1,11 +1,11 @@
-//! The values of the PCRs 0 to 15, as TPM2_Shutdown(STATE) saves them for TPM2_Startup(STATE).
+//! The values of PCRs 0 to 15 that TPM2_Shutdown(STATE) saves for TPM2_Startup(STATE).
 
 ghost use Rattle.std.specs.Prelude.{◌≡◌, ◌<◌, slice_set};
 ghost use Rattle.tpm_pcr.specs.Saved.{IsSavedBank};
 
 use std::marker::Model;
 
-/// The values of the PCRs 0 to 15 in each bank, as TPM2_Shutdown(STATE) saves them for
+/// The values of PCRs 0 to 15 in each bank that TPM2_Shutdown(STATE) saves for
 /// TPM2_Startup(STATE).
 #[derive(Drop)]
 pub struct SavedPcrs {
@@ -26,7 +26,7 @@ impl Model for SavedPcrs {
 impl SavedPcrs {
     ghost use Rattle.tpm_pcr.specs.Saved.{IsSaved, no_values};
 
-    /// Saved values that are all zeros, until others are saved.
+    /// The initial saved values, which are all zeros.
     pub fn new() -> SavedPcrs
         ensures { result ≡ no_values }
     {
@@ -36,7 +36,7 @@ impl SavedPcrs {
         }
     }
 
-    /// Saves another value of a PCR in the bank of SHA-1.
+    /// Sets the saved value of a PCR in the SHA-1 bank.
     pub fn set_sha1(&mut self, place: usize, value: [u8; 20])
         requires { place < 16 }
         ensures { self.new ≡ record self.old { sha1 = slice_set self.old.sha1 place value } }
@@ -44,7 +44,7 @@ impl SavedPcrs {
         self.sha1[place] = value;
     }
 
-    /// Saves another value of a PCR in the bank of SHA-256.
+    /// Sets the saved value of a PCR in the SHA-256 bank.
     pub fn set_sha256(&mut self, place: usize, value: [u8; 32])
         requires { place < 16 }
         ensures { self.new ≡ record self.old { sha256 = slice_set self.old.sha256 place value } }
@@ -52,22 +52,22 @@ impl SavedPcrs {
         self.sha256[place] = value;
     }
 
-    /// The saved values in the bank of SHA-1.
+    /// The saved values in the SHA-1 bank.
     pub fn sha1(&self) -> &[[u8; 20]; 16]
         ensures { result.now ≡ self.now.sha1 }
     {
         &self.sha1
     }
 
-    /// The saved values in the bank of SHA-256.
+    /// The saved values in the SHA-256 bank.
     pub fn sha256(&self) -> &[[u8; 32]; 16]
         ensures { result.now ≡ self.now.sha256 }
     {
         &self.sha256
     }
 
-    /// Promises what the types of the values say of them: there are sixteen of their hash's size in
-    /// each bank. The call only reads.
+    /// Facts that follow from the types of the values: each bank contains sixteen, of the size of
+    /// its digests. A proof only: it has no effect at run time.
     #[inline(always)]
     pub fn read_sizes(&self)
         ensures { IsSaved self.now }

@@ -1,4 +1,4 @@
--- Numbers that bytes of one size spell: the first byte in which two of them differ decides.
+-- For two numbers encoded in the same size, the first byte that differs decides which is less.
 use Rattle.std.proofs.Common.{◌≡◌, ℕ, suc, zero, ◌+◌, ◌-◌, ◌*◌, ◌%◌, ◌^◌, ◌<◌, ◌≤◌, Bool, true, false, ◌==◌, ◌&&◌, ◌||◌, nat_le, nat_lt, int_lt, List, [], ◌∷◌, length, drop, take, length-drop, slice_index, pos, negsuc, ◌-ℤ◌, refl, ap, arith, subst, sym, ◌∙◌}
 use Rattle.std.proofs.lemmas.Bool.{eq-eqb, eqb-true, eqb-false, ne_eqb, le-ltb, leb-false, leb-true, lt-ltb, ltb-false, ltb-true}
 use Rattle.std.proofs.Math.Seq.{take-length}
@@ -10,11 +10,12 @@ use Rattle.tpm_policy.specs.Comparison.{signed_number, unsigned_number}
 abbrev pub AreBytes : List ℕ → Type 0
 AreBytes bytes = (i : ℕ) → slice_index bytes i < 256
 
--- the number that bytes spell after this number
+-- the number encoded by these bytes after a prefix that encodes this number
 abbrev number_after : ℕ → List ℕ → ℕ
 number_after n bytes = number_from_digits_after 256 n bytes
 
--- the lesser of two numbers stays the lesser, whatever bytes come after the two
+-- if one number is less than another, it stays less after the same number of bytes is appended to
+-- each
 number_after_lt : (m n : ℕ) (xs ys : List ℕ) → length xs ≡ length ys → AreBytes xs → m < n
     → number_after m xs < number_after n ys
 number_after_lt m n [] [] same fit less = less
@@ -24,13 +25,13 @@ number_after_lt m n (x ∷ xs) (y ∷ ys) same fit less =
     let small : x < 256 = fit 0 in
     number_after_lt (m * 256 + x) (n * 256 + y) xs ys (omega arith) (λ i. fit (suc i)) (omega arith)
 
--- whether a number is less than another: the first byte in which they differ decides
+-- whether a number is less than another: the first byte that differs decides
 abbrev is_less : List ℕ → List ℕ → Bool
 is_less [] others = false
 is_less (byte ∷ bytes) [] = false
 is_less (byte ∷ bytes) (other ∷ others) = nat_lt byte other || (byte == other && is_less bytes others)
 
--- one step of the comparison, after the same number
+-- one step of the comparison, if all earlier bytes are equal
 step_is : (m x y : ℕ) (xs ys : List ℕ) (lt eq : Bool) → length xs ≡ length ys
     → AreBytes xs → AreBytes ys
     → ((n : ℕ) → nat_lt (number_after n xs) (number_after n ys) ≡ is_less xs ys)
@@ -61,7 +62,7 @@ less_after (x ∷ xs) (y ∷ ys) same fit fits m =
     step_is m x y xs ys (nat_lt x y) (x == y) rest (λ i. fit (suc i)) (λ i. fits (suc i))
     (less_after xs ys rest (λ i. fit (suc i)) (λ i. fits (suc i))) refl refl
 
--- the lesser of two numbers by their first bytes, and by the others where these are the same
+-- of two numbers, the first bytes decide which is less; if they are equal, the remaining bytes do
 less_by_first : (x y : ℕ) (xs ys : List ℕ) → length xs ≡ length ys
     → AreBytes (x ∷ xs) → AreBytes (y ∷ ys)
     → nat_lt (unsigned_number (x ∷ xs)) (unsigned_number (y ∷ ys))
@@ -71,7 +72,7 @@ less_by_first x y xs ys same fit fits =
     ∙ ap (λ (less : Bool). nat_lt x y || (x == y && less))
     (sym (less_after xs ys same (λ i. fit (suc i)) (λ i. fits (suc i)) 0))
 
--- two tests that compare numbers of the same order agree
+-- two comparisons agree if their operands are ordered in the same way
 same_lt : (a b x y : ℕ) → (x < y → a < b) → (y ≤ x → b ≤ a) → nat_lt a b ≡ nat_lt x y
 same_lt a b x y up down = by (nat_lt x y) refl
   where
@@ -90,16 +91,16 @@ all_below : (bytes : List ℕ) → AreBytes bytes → AllBelowBase 256 bytes
 all_below [] fit = tt
 all_below (x ∷ xs) fit = (fit 0, all_below xs (λ i. fit (suc i)))
 
--- a natural number less a larger one, as an integer
+-- a natural number minus a larger one, as an integer
 below_zero : (n whole : ℕ) → n < whole → pos n -ℤ pos whole ≡ negsuc (whole - suc n)
 below_zero n zero below = absurd (omega arith)
 below_zero n (suc more) below = rw (lt-ltb n (suc more) below) refl
 
--- a byte raised by half of the range of bytes
+-- a byte plus half of a byte's range (128), wrapping around
 abbrev raised : ℕ → ℕ
 raised byte = (byte + 128) % 256
 
--- the first bytes decide as before where both are raised by as much
+-- adding the same number to both first bytes does not change which is less
 raised_alike : (x y : ℕ) (less : Bool) → (raised x + y ≡ raised y + x)
     → (nat_lt x y || (x == y && less)) ≡ (nat_lt (raised x) (raised y) || (raised x == raised y && less))
 raised_alike x y less alike =
@@ -155,13 +156,13 @@ rest_of bytes = take (length bytes - 1) (drop 1 bytes)
 rest_is : (x : ℕ) (xs : List ℕ) → rest_of (x ∷ xs) ≡ xs
 rest_is x xs = let size : length (x ∷ xs) - 1 ≡ length xs = omega arith in rw (size) (take-length xs)
 
--- the bytes after the first bytes of two texts are as many
+-- if two texts have the same size, so have their bytes after the first
 pub rest-length : (bytes others : List ℕ) → length bytes ≡ length others
     → length (rest_of bytes) ≡ length (rest_of others)
 rest-length bytes others same = simp (length-take, length-drop, same) refl
 
--- the lesser of two texts that are not empty: by the first bytes, and by the others where these are
--- the same
+-- for two texts that are not empty, the first bytes decide which is less; if they are equal, the
+-- remaining bytes do
 pub unsigned_less : (bytes others : List ℕ) → 1 ≤ length bytes → length bytes ≡ length others
     → AreBytes bytes → AreBytes others
     → nat_lt (unsigned_number bytes) (unsigned_number others)

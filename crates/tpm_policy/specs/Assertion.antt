@@ -1,8 +1,9 @@
--- The assertions of policies. TPM 2.0 Library, Part 3, section 23, and Part 1, section 19.7: each
--- changes the policy digest, and most record what is compared when the session authorizes. In a
--- trial session TPM2_PolicyPCR compares nothing with the PCRs, TPM2_PolicyOR nothing with the
--- digest so far, TPM2_PolicySecret nothing with nonceTPM and a recorded cpHash, and TPM2_PolicyNV
--- nothing with the index. The order of the checks is this device's own.
+-- The assertions of policies. TPM 2.0 Library, Part 3, section 23, and Part 1, section 19.7. Each
+-- assertion changes the policy digest; most also record a value to compare later, when the
+-- session authorizes a command. A trial session skips these comparisons: TPM2_PolicyPCR's with
+-- the PCRs, TPM2_PolicyOR's with the current digest, TPM2_PolicySecret's with nonceTPM and a
+-- recorded cpHash, and TPM2_PolicyNV's with the index. The order of the checks is this device's
+-- own.
 use Rattle.tpm_commands.specs.declared.command_code.CommandCode.{CommandCode as ServedCommand}
 use Rattle.tpm_commands.specs.CommandCode.{code_number, is_served}
 use Rattle.tpm_commands.specs.declared.command_code.CommandCode.TheVariants as served
@@ -32,16 +33,16 @@ use Rattle.tpm_policy.specs.declared.secret.SecretAssertion.{SecretAssertion}
 use Rattle.tpm_policy.specs.declared.state.Demand.{Demand}
 use Rattle.tpm_policy.specs.declared.state.Demand.TheVariants as demand
 
--- what TPM2_PolicyPCR is about: the digest that the caller gives, the selection's text, the digest
--- of the values of the selected PCRs, and how often PCRs have been changed
+-- the data of TPM2_PolicyPCR: the digest in the command, the encoded selection, the digest of the
+-- values of the selected PCRs, and how often PCRs have been changed
 pub record PcrParts : Type 0 where
   pub given : List ℕ
   pub selection : List ℕ
   pub digest : List ℕ
   pub update_count : ℕ
 
--- what TPM2_PolicySecret is about: the Name of the entity whose authorization is shown, the nonce
--- that the caller gives, the session's nonceTPM, cpHashA, policyRef, and expiration
+-- the data of TPM2_PolicySecret: the Name of the entity that is authorized, the nonce in the
+-- command, the session's nonceTPM, cpHashA, policyRef, and expiration
 pub record SecretParts : Type 0 where
   pub name : List ℕ
   pub nonce : List ℕ
@@ -50,8 +51,9 @@ pub record SecretParts : Type 0 where
   pub reference : List ℕ
   pub expiration : ℕ
 
--- what TPM2_PolicyNV is about: the Name of the index, the operand, the offset from which it is
--- compared, how, and as many bytes of the index as the operand has, or why they cannot be read
+-- the data of TPM2_PolicyNV: the Name of the index, the operand, the offset of the compared
+-- bytes, the operation, and the compared bytes of the index, of the same size as the operand, or
+-- why they cannot be read
 pub record NvParts : Type 0 where
   pub name : List ℕ
   pub operand : List ℕ
@@ -59,7 +61,7 @@ pub record NvParts : Type 0 where
   pub operation : Operation
   pub compared : Result (List ℕ) ActionFault
 
--- the parts of an assertion of PCRs, wherever its bytes lie in memory
+-- the data of a PCR assertion, as values
 abbrev pub pcr_parts : PcrAssertion → PcrParts
 pcr_parts asserted = record {
   given = asserted.given.now;
@@ -91,7 +93,7 @@ nv_parts asserted = record {
   compared = compared_bytes asserted.compared;
 }
 
--- an assertion, with what it speaks of
+-- an assertion with its data
 pub data Assertion : Type 0 where
   Pcr : PcrParts → Assertion
   Or : (digests : List (List ℕ)) → Assertion
@@ -104,7 +106,7 @@ pub data Assertion : Type 0 where
   Secret : SecretParts → Assertion
   Nv : NvParts → Assertion
 
--- whether another value than this one is recorded
+-- whether a value other than this one is recorded
 abbrev pub is_other : Option ℕ → ℕ → Bool
 is_other None number = false
 is_other (Some recorded) number = not (recorded == number)
@@ -113,24 +115,24 @@ abbrev pub is_other_hash : Option (List ℕ) → List ℕ → Bool
 is_other_hash None hash = false
 is_other_hash (Some recorded) hash = not (bytes_eq recorded hash)
 
--- whether one state of an index, written or not yet written, is recorded, and another is found;
--- where there is no index, no state is found
+-- whether the policy requires a written index, or an unwritten one, and the index is in the other
+-- state or absent
 abbrev pub is_other_written : Option Bool → Option Bool → Bool
 is_other_written None found = false
 is_other_written (Some recorded) None = true
 is_other_written (Some true) (Some found) = not found
 is_other_written (Some false) (Some found) = found
 
--- the policy after an assertion extends its digest: H(policyDigest || commandCode || what the
--- assertion is about)
+-- the policy after an assertion extends its digest: H(policyDigest || commandCode || the
+-- assertion's data)
 abbrev pub extended : HashAlg → ServedCommand → (about : List ℕ) → Policy → Policy
 extended hash command about policy =
     record policy {
       digest = hash_of hash (policy.digest ++ to_be_bytes w32 (code_number command) ++ about);
     }
 
--- TPM2_PolicyPCR (section 23.7): the digest that is asserted of the PCRs is that of their values;
--- in a trial session it is the given one, if one is given
+-- TPM2_PolicyPCR (section 23.7): the assertion uses the digest of the PCRs' values; a trial
+-- session uses the digest in the command, unless that is empty
 abbrev pub taken_digest : (trial : Bool) → PcrParts → List ℕ
 taken_digest trial pcr = if trial && is_given pcr.given then pcr.given else pcr.digest
 
@@ -145,8 +147,8 @@ pcr_asserted hash trial pcr policy = do
     update_count = Some pcr.update_count;
   })
 
--- TPM2_PolicyOR (section 23.6): the policy digest is among these digests, and becomes the hash of
--- zeros and all of them; what was recorded stays
+-- TPM2_PolicyOR (section 23.6): the list contains the policy digest. The new digest is the hash
+-- of zeros and the whole list; recorded values stay unchanged
 unfoldable pub or_digest : HashAlg → (digests : List (List ℕ)) → List ℕ
 or_digest hash digests =
     hash_of hash (replicate (digest_size hash) 0 ++ to_be_bytes w32 (code_number served.PolicyOr)
@@ -159,9 +161,9 @@ or_asserted hash trial digests policy = do
       (parameter_fault action.First 1 code.Value)
   Ok (record policy { digest = or_digest hash digests })
 
--- TPM2_PolicyAuthValue (section 23.17), and TPM2_PolicyPassword (section 23.18), which extends the
--- digest in the same way: both demand the authorization value of the entity, in an HMAC's key or in
--- plain
+-- TPM2_PolicyAuthValue (section 23.17), and TPM2_PolicyPassword (section 23.18), which extends
+-- the digest in the same way. The first demands the entity's authorization value in an HMAC key,
+-- the second in plaintext
 abbrev demanding : HashAlg → Demand → Policy → Policy
 demanding hash wanted policy = record (extended hash served.PolicyAuthValue [] policy) { demand = wanted }
 
@@ -171,8 +173,8 @@ auth_value_asserted hash policy = demanding hash demand.AuthValue policy
 unfoldable pub password_asserted : HashAlg → Policy → Policy
 password_asserted hash policy = demanding hash demand.Password policy
 
--- TPM2_PolicyCommandCode (section 23.11): only this command is allowed. Both checks are made in a
--- trial session too (this device's own)
+-- TPM2_PolicyCommandCode (section 23.11): only this command is allowed. A trial session makes
+-- both checks too (this device's own choice)
 unfoldable pub command_code_asserted : HashAlg → (number : ℕ)
     → Policy → Result Policy ActionFault
 command_code_asserted hash number policy = do
@@ -180,9 +182,9 @@ command_code_asserted hash number policy = do
   a2 ← refused_if (not (is_served number)) (parameter_fault action.Second 1 code.PolicyCc)
   Ok (record (extended hash served.PolicyCommandCode (to_be_bytes w32 number) policy) { command = Some number })
 
--- TPM2_PolicyLocality (section 23.8): only those of these localities are allowed that were still
--- allowed. One has to be left, in a trial session too (this device's own); extended localities, 32
--- and up, are not served
+-- TPM2_PolicyLocality (section 23.8): removes every allowed locality that the parameter does not
+-- select. At least one must remain, in a trial session too (this device's own choice). Extended
+-- localities, 32 and up, are not supported
 unfoldable pub locality_asserted : HashAlg → (localities : ℕ)
     → Policy → Result Policy ActionFault
 locality_asserted hash localities policy = do
@@ -193,8 +195,9 @@ locality_asserted hash localities policy = do
     localities = bit_and policy.localities localities;
   })
 
--- TPM2_PolicyCpHash (section 23.13): only the command with this cpHash is allowed. Its size is
--- checked, and that no other cpHash is recorded, in a trial session too (this device's own)
+-- TPM2_PolicyCpHash (section 23.13): only the command with this cpHash is allowed. Its size must
+-- be right, and no other cpHash may be recorded, in a trial session too (this device's own
+-- choice)
 unfoldable pub cp_hash_asserted : HashAlg → (cp_hash : List ℕ)
     → Policy → Result Policy ActionFault
 cp_hash_asserted hash cp_hash policy = do
@@ -202,13 +205,13 @@ cp_hash_asserted hash cp_hash policy = do
   a2 ← refused_if (is_other_hash policy.cp_hash cp_hash) (plain_fault action.Second code.Cphash)
   Ok (record (extended hash served.PolicyCpHash cp_hash policy) { cp_hash = Some cp_hash })
 
--- the byte of a yes (1) or a no (0) (Part 2, section 9.2, TPMI_YES_NO)
+-- the byte of yes (1) or no (0) (Part 2, section 9.2, TPMI_YES_NO)
 abbrev pub yes_no_text : Bool → List ℕ
 yes_no_text true = 1 ∷ []
 yes_no_text false = 0 ∷ []
 
--- TPM2_PolicyNvWritten (section 23.20): only an index that is written may be used, or only one that
--- is not. That the other is not recorded is checked in a trial session too (this device's own)
+-- TPM2_PolicyNvWritten (section 23.20): only a written index may be used, or only an unwritten
+-- one. A trial session too checks that the opposite is not recorded (this device's own choice)
 unfoldable pub nv_written_asserted : HashAlg → (is_written : Bool)
     → Policy → Result Policy ActionFault
 nv_written_asserted hash is_written policy = do
@@ -218,9 +221,9 @@ nv_written_asserted hash is_written policy = do
     nv_written = Some is_written;
   })
 
--- TPM2_PolicySecret (section 23.4): policyRef is hashed after the rest, also where it is empty. No
--- policy expires: expiration must be 0, in a trial session too, where the size of cpHashA is
--- checked as well (this device's own)
+-- TPM2_PolicySecret (section 23.4): policyRef is hashed last, even if it is empty. Policies never
+-- expire: expiration must be 0. A trial session checks that too, and the size of cpHashA (this
+-- device's own choice)
 abbrev pub secret_digest : HashAlg → (digest name reference : List ℕ) → List ℕ
 secret_digest hash digest name reference =
     hash_of hash (hash_of hash (digest ++ to_be_bytes w32 (code_number served.PolicySecret) ++ name) ++ reference)
@@ -240,15 +243,15 @@ secret_asserted hash trial secret policy = do
     cp_hash = if is_given secret.cp_hash then Some secret.cp_hash else policy.cp_hash;
   })
 
--- TPM2_PolicyNV (section 23.9): the comparison of the index with the operand holds; in a trial
--- session nothing is checked
+-- TPM2_PolicyNV (section 23.9): the comparison of the index with the operand holds. A trial
+-- session checks nothing
 abbrev pub nv_compared : (trial : Bool) → NvParts → Result (Unit {0}) ActionFault
 nv_compared true nv = Ok tt
 nv_compared false nv = do
   bytes ← nv.compared
   refused_if (not (compares nv.operation bytes nv.operand)) (plain_fault action.Fifth code.Policy)
 
--- the arguments of TPM2_PolicyNV, hashed: H(operand || offset || operation)
+-- the hash of TPM2_PolicyNV's arguments: H(operand || offset || operation)
 abbrev pub nv_arguments : HashAlg → NvParts → List ℕ
 nv_arguments hash nv =
     hash_of hash (nv.operand ++ to_be_bytes w16 nv.offset
@@ -260,7 +263,7 @@ nv_asserted hash trial nv policy = do
   compared ← nv_compared trial nv
   Ok (extended hash served.PolicyNv (nv_arguments hash nv ++ nv.name) policy)
 
--- the policy that an assertion makes of a policy, or the first check that refuses the assertion
+-- the policy after an assertion, or the error of the first check that fails
 abbrev pub asserted : HashAlg → (trial : Bool) → Assertion → Policy → Result Policy ActionFault
 asserted hash trial (Pcr pcr) policy = pcr_asserted hash trial pcr policy
 asserted hash trial (Or digests) policy = or_asserted hash trial digests policy
@@ -273,7 +276,7 @@ asserted hash trial (NvWritten is_written) policy = nv_written_asserted hash is_
 asserted hash trial (Secret secret) policy = secret_asserted hash trial secret policy
 asserted hash trial (Nv nv) policy = nv_asserted hash trial nv policy
 
--- The code made of the policy what the definition says, or refused the assertion as it says; a
+-- The code changed the policy as defined, or refused the assertion with the defined error. A
 -- refusal changes nothing.
 abbrev pub Asserts : Result Policy ActionFault
     → Policy → Result (Unit {0}) ActionFault → Policy → Type 0

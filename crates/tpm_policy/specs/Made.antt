@@ -1,5 +1,5 @@
--- What each assertion makes of a policy, where it passes its checks. TPM 2.0 Library, Part 3,
--- section 23, and Part 1, section 19.7.
+-- The policy after an assertion that passes its checks. TPM 2.0 Library, Part 3, section 23, and
+-- Part 1, section 19.7.
 use Rattle.std.specs.Prelude.{◌++◌, bit_and, Bool, [], ◌∷◌, Some, if◌then◌else◌}
 use Rattle.std.specs.Int.{w32, to_be_bytes}
 use Rattle.tpm_mac.specs.declared.algorithm.HashAlg.{HashAlg}

@@ -1,17 +1,17 @@
 -- The state of a policy session. TPM 2.0 Library, Part 1, section 19.7 (enhanced authorization):
--- the policy digest, and what assertions record besides, which is compared when the session
--- authorizes.
+-- the policy digest, and the values that assertions record, to be compared when the session
+-- authorizes a command.
 use Rattle.std.specs.Prelude.{ℕ, ◌<◌, ◌≤◌, ◌^◌, IfSome, List, length, Option, None, replicate, Bool}
 use Rattle.tpm_mac.specs.Digest.{digest_size}
 use Rattle.tpm_mac.specs.declared.algorithm.HashAlg.{HashAlg}
 use Rattle.tpm_policy.specs.declared.state.Demand.{Demand}
 use Rattle.tpm_policy.specs.declared.state.Demand.TheVariants as demand
 
--- the state of a policy: its digest; the update counter of PCRs at the last TPM2_PolicyPCR, the
--- number of the one command that is allowed, its cpHash, and whether the index has to be written
--- already, each where an assertion recorded it; the localities that are allowed, bit n for locality
--- n; and what is demanded in addition to the digest. Timeouts, name hashes and physical presence
--- are not served
+-- the state of a policy session: the digest; the values that assertions may have recorded (the
+-- update counter of PCRs at the last TPM2_PolicyPCR, the code and the cpHash of the only command
+-- that is allowed, and whether the index must have been written); the localities that are
+-- allowed, bit n for locality n; and what is demanded in addition to the digest. Timeouts, name
+-- hashes and physical presence are not supported
 pub record Policy : Type 0 where
   pub digest : List ℕ
   pub update_count : Option ℕ
@@ -21,8 +21,8 @@ pub record Policy : Type 0 where
   pub localities : ℕ
   pub demand : Demand
 
--- What holds of every state of a policy: digests have at most 32 bytes, numbers their widths, and
--- no locality beyond 4 is allowed.
+-- True for every policy state: digests are at most 32 bytes long, every number fits its integer
+-- type, and only localities 0 to 4 can be allowed.
 pub record IsPolicy (policy : Policy) : Type 0 where
   pub digest : length policy.digest ≤ 32
   pub update_count : IfSome policy.update_count (λ count. count < 2 ^ 64)
@@ -30,8 +30,8 @@ pub record IsPolicy (policy : Policy) : Type 0 where
   pub cp_hash : IfSome policy.cp_hash (λ hash. length hash ≤ 32)
   pub localities : policy.localities ≤ 31
 
--- the policy with which a session starts: a digest of zeros, and everything is allowed from
--- localities 0 to 4
+-- the initial policy of a session: a digest of all zeros, and everything allowed from localities
+-- 0 to 4
 abbrev pub starting : HashAlg → Policy
 starting hash = record {
   digest = replicate (digest_size hash) 0;

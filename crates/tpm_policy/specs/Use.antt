@@ -1,6 +1,6 @@
--- The use of a policy session to authorize. TPM 2.0 Library, Part 1, section 19.7, and Part 3,
--- section 5.6 (authorization checks). The order of the checks is this device's own: what was
--- recorded is compared, and then the digest.
+-- The use of a policy session to authorize a command. TPM 2.0 Library, Part 1, section 19.7, and
+-- Part 3, section 5.6 (authorization checks). The order of the checks is this device's own: the
+-- recorded values first, then the digest.
 use Rattle.std.specs.Prelude.{ℕ, ◌==◌, ◌&&◌, ◌||◌, not, Bool, false, List, Option, Some, None, is_none, option_map, Result, Ok}
 use Rattle.std.specs.Int.{bit_at}
 use Rattle.std.specs.Str.{bytes_eq}
@@ -26,10 +26,10 @@ pub record EntityParts : Type 0 where
   pub hash : HashAlg
   pub digest : List ℕ
 
--- what is known of a use, wherever its bytes lie in memory: the number of the entry, the session's
--- type and hash, whether the entity is available, how often PCRs have been changed, the command's
--- number, the role in which it is authorized, its cpHash, whether the entity is written where it is
--- an NV index, where the command comes from, and the entity's policy, if it has one
+-- the input of the checks: the number of the entry, the session's type and hash, whether the
+-- entity is available, how often PCRs have been changed, the command code, the role of the
+-- authorization, the cpHash, whether the entity has been written if it is an NV index, the
+-- command's locality, and the entity's policy, if it has one
 pub record UseParts : Type 0 where
   pub entry : ℕ
   pub kind : SessionType
@@ -61,12 +61,13 @@ parts_of u = record {
   entity = option_map entity_parts u.entity;
 }
 
--- whether a policy lacks the name of a command, which the role ADMIN requires
+-- whether the role is ADMIN, which requires the policy to name a command, and the policy names
+-- none
 abbrev pub lacks_command : Role → Option ℕ → Bool
 lacks_command role.User command = false
 lacks_command role.Admin command = is_none command
 
--- whether the digest of a session of this hash is the policy of an entity: the hash is the entity's
+-- whether a session's hash and digest are the policy of an entity: the hash is the entity's
 -- nameAlg, and the digest its authPolicy
 abbrev pub is_policy_of : HashAlg → List ℕ → Option EntityParts → Bool
 is_policy_of hash digest None = false

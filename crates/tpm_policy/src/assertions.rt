@@ -1,4 +1,4 @@
-//! The assertions of a policy that speak of no other part of the device: PolicyOR, PolicyAuthValue,
+//! The assertions that need no other part of the device: PolicyOR, PolicyAuthValue,
 //! PolicyPassword, PolicyCommandCode, PolicyCpHash, PolicyNvWritten and PolicyLocality.
 
 ghost use Rattle.tpm_commands.specs.CommandCode.{code_number};
@@ -18,11 +18,11 @@ use tpm_commands::CommandCode;
 use tpm_mac::{Digest, HashAlg, digest_parts};
 use tpm_types::{ActionCheck, ActionFault, DigestList, ResponseCode};
 
-/// The most that TPM2_PolicyLocality may name: localities 0 to 4, each by its bit.
+/// The largest parameter of TPM2_PolicyLocality: localities 0 to 4, one bit each.
 const LOCALITIES_LIMIT: u8 = 31;
 
-/// The policy digest after an assertion: the hash of a digest, a command code, and what the
-/// assertion is about.
+/// The policy digest after an assertion: the hash of the old digest, the command code, and the
+/// assertion's data.
 fn extended_digest(hash: HashAlg, digest: &[u8], command: CommandCode, about: &[u8]) -> Digest
     ensures { result.items
         ≡ hash_of hash (digest.now ++ to_be_bytes w32 (code_number command) ++ about.now) }
@@ -30,7 +30,7 @@ fn extended_digest(hash: HashAlg, digest: &[u8], command: CommandCode, about: &[
     digest_parts(hash, &[digest, &command.number().to_be_bytes(), about])
 }
 
-/// Whether the digest is one of these digests.
+/// Whether the list contains the digest.
 fn is_among(digest: &[u8], digests: &[Digest]) -> bool
     ensures { result ≡ list_any (λ other. bytes_eq other digest.now) (digests_of digests.now) }
 {
@@ -40,7 +40,7 @@ fn is_among(digest: &[u8], digests: &[Digest]) -> bool
     }
 }
 
-/// The policy digest after TPM2_PolicyOR for these digests.
+/// The policy digest after TPM2_PolicyOR with these digests.
 #[tactic(auto, unfolding(crate::specs::Assertion::or_digest))]
 fn or_digest(hash: HashAlg, list: &DigestList) -> Digest
     ensures { result.items ≡ or_digest hash (digests_of list.now.digests.items) }
@@ -57,7 +57,7 @@ fn or_digest(hash: HashAlg, list: &DigestList) -> Digest
 }
 
 impl PolicyState {
-    /// Whether another number than this is recorded for the command.
+    /// Whether the policy has recorded a different command code.
     pub(crate) fn records_other_code(&self, number: u32) -> bool
         ensures { result ≡ is_other self.now.command number }
     {
@@ -73,8 +73,8 @@ impl PolicyState {
         self.digest = extended_digest(hash, self.digest.as_slice(), command, about);
     }
 
-    /// TPM2_PolicyOR: VALUE where the policy digest is none of these. A trial session takes any
-    /// list.
+    /// TPM2_PolicyOR: returns VALUE if the list does not contain the policy digest. A trial
+    /// session accepts any list.
     #[tactic(auto, unfolding(crate::specs::Assertion::or_asserted))]
     pub fn or(&mut self, hash: HashAlg, trial: bool, list: &DigestList) -> Result<(), ActionFault>
         ensures { Asserts (or_asserted hash trial (digests_of list.now.digests.items) self.old)
@@ -88,7 +88,7 @@ impl PolicyState {
         Ok(())
     }
 
-    /// TPM2_PolicyAuthValue: the entity's authorization value is to be in the key of an HMAC.
+    /// TPM2_PolicyAuthValue: the HMAC key must include the entity's authorization value.
     #[tactic(auto, unfolding(crate::specs::Assertion::auth_value_asserted))]
     pub fn auth_value(&mut self, hash: HashAlg)
         ensures { self.new ≡ auth_value_asserted hash self.old }
@@ -97,7 +97,8 @@ impl PolicyState {
         self.demand = Demand::AuthValue;
     }
 
-    /// TPM2_PolicyPassword: the entity's authorization value is to be given in plain.
+    /// TPM2_PolicyPassword: the entity's authorization value must be sent as a plaintext
+    /// password.
     #[tactic(auto, unfolding(crate::specs::Assertion::password_asserted))]
     pub fn password(&mut self, hash: HashAlg)
         ensures { self.new ≡ password_asserted hash self.old }
@@ -106,8 +107,8 @@ impl PolicyState {
         self.demand = Demand::Password;
     }
 
-    /// TPM2_PolicyCommandCode: VALUE where another command is recorded, POLICY_CC where no command
-    /// that is served has this code.
+    /// TPM2_PolicyCommandCode: returns VALUE if the policy already names another command, and
+    /// POLICY_CC if no implemented command has this code.
     #[tactic(auto, unfolding(crate::specs::Assertion::command_code_asserted))]
     pub fn command_code(&mut self, hash: HashAlg, number: u32) -> Result<(), ActionFault>
         ensures { Asserts (command_code_asserted hash number self.old) self.old result self.new }
@@ -125,8 +126,8 @@ impl PolicyState {
         Ok(())
     }
 
-    /// TPM2_PolicyCpHash: SIZE where the hash does not have the size of the session's algorithm,
-    /// CPHASH where that of another command is recorded.
+    /// TPM2_PolicyCpHash: returns SIZE if the hash is not as long as a digest of the session's
+    /// algorithm, and CPHASH if another command's cpHash is recorded.
     #[tactic(auto, unfolding(crate::specs::Assertion::cp_hash_asserted))]
     pub fn cp_hash(&mut self, hash: HashAlg, cp_hash: &[u8]) -> Result<(), ActionFault>
         ensures { Asserts (cp_hash_asserted hash cp_hash.now self.old) self.old result self.new }
@@ -143,7 +144,7 @@ impl PolicyState {
         Ok(())
     }
 
-    /// TPM2_PolicyNvWritten: VALUE where the other value is recorded.
+    /// TPM2_PolicyNvWritten: returns VALUE if the opposite value is recorded.
     #[tactic(auto, unfolding(crate::specs::Assertion::nv_written_asserted))]
     pub fn nv_written(&mut self, hash: HashAlg, is_written: bool) -> Result<(), ActionFault>
         ensures { Asserts (nv_written_asserted hash is_written self.old) self.old result self.new }
@@ -157,8 +158,8 @@ impl PolicyState {
         Ok(())
     }
 
-    /// TPM2_PolicyLocality: RANGE where no locality is named, an extended one, or none of those
-    /// that are still allowed.
+    /// TPM2_PolicyLocality: returns RANGE if the parameter selects no locality, an extended
+    /// locality, or only localities that are no longer allowed.
     #[tactic(auto, unfolding(crate::specs::Assertion::locality_asserted))]
     pub fn locality(&mut self, hash: HashAlg, localities: u8) -> Result<(), ActionFault>
         ensures { Asserts (locality_asserted hash localities self.old) self.old result self.new }

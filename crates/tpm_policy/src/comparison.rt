@@ -1,5 +1,5 @@
-//! How TPM2_PolicyNV compares the bytes of an NV index with an operand, as numbers, signed or not,
-//! or bit by bit.
+//! How TPM2_PolicyNV compares the bytes of an NV index with an operand: as unsigned numbers, as
+//! signed numbers, or bit by bit.
 
 ghost use Rattle.std.specs.Prelude.{◌≡◌, ◌+◌, ◌%◌, int_lt, length, nat_lt};
 ghost use Rattle.tpm_policy.specs.Comparison.{compares, has_clear, has_set, signed_number, unsigned_number};
@@ -7,8 +7,7 @@ ghost use Rattle.tpm_policy.specs.Comparison.{compares, has_clear, has_set, sign
 use tpm_bytes::is_equal;
 use tpm_types::Operation;
 
-/// Whether a number is less than another of the same size: the first byte in which they differ
-/// decides.
+/// Whether a number is less than another of the same size. The first byte that differs decides.
 fn is_less(bytes: &[u8], others: &[u8]) -> bool
     ensures { length bytes.now ≡ length others.now
         → result ≡ nat_lt (unsigned_number bytes.now) (unsigned_number others.now) }
@@ -22,8 +21,8 @@ fn is_less(bytes: &[u8], others: &[u8]) -> bool
     byte < other || byte == other && is_less(bytes, others)
 }
 
-/// The first byte of a signed number, raised by half of the range of its size: so the least number
-/// becomes zero, and signed numbers have the order of unsigned ones.
+/// The first byte of a signed number, plus half of a byte's range (128). The least signed number
+/// then starts with zero, so signed numbers compare like unsigned ones.
 fn raised_byte(byte: u8) -> u8
     ensures { result ≡ (byte + 128) % 256 }
 {
@@ -45,7 +44,7 @@ fn is_signed_less(bytes: &[u8], others: &[u8]) -> bool
     byte < other || byte == other && is_less(bytes, others)
 }
 
-/// Whether each bit that is set in the operand is set in the bytes.
+/// Whether every bit that is set in the operand is also set in the bytes.
 fn has_set(bytes: &[u8], operand: &[u8]) -> bool
     ensures { result ≡ has_set bytes.now operand.now }
 {
@@ -58,7 +57,7 @@ fn has_set(bytes: &[u8], operand: &[u8]) -> bool
     byte & mask == *mask && has_set(bytes, operand)
 }
 
-/// Whether each bit that is set in the operand is clear in the bytes.
+/// Whether every bit that is set in the operand is clear in the bytes.
 fn has_clear(bytes: &[u8], operand: &[u8]) -> bool
     ensures { result ≡ has_clear bytes.now operand.now }
 {
@@ -71,7 +70,7 @@ fn has_clear(bytes: &[u8], operand: &[u8]) -> bool
     byte & mask == 0 && has_clear(bytes, operand)
 }
 
-/// Whether this comparison of the bytes of an NV index with an operand holds.
+/// Whether the comparison of an NV index's bytes with an operand holds.
 #[tactic(auto, unfolding(crate::specs::Comparison::compares))]
 pub(crate) fn compares(operation: Operation, bytes: &[u8], operand: &[u8]) -> bool
     ensures { result ≡ compares operation bytes.now operand.now }

@@ -1,4 +1,4 @@
-//! The assertion of TPM2_PolicyNV, that the comparison of an NV index with an operand holds.
+//! The assertion of TPM2_PolicyNV: a comparison of an NV index with an operand holds.
 
 ghost use Rattle.std.specs.Prelude.{◌≡◌};
 ghost use Rattle.tpm_policy.specs.Assertion as assertion;
@@ -11,7 +11,7 @@ use tpm_mac::{Digest, HashAlg, digest_parts};
 use tpm_types::{ActionCheck, ActionFault, Operation, ResponseCode};
 use tpm_types_name::Name;
 
-/// The parts of the assertion of TPM2_PolicyNV.
+/// The data of a TPM2_PolicyNV assertion.
 #[derive(Clone, Copy)]
 pub struct NvAssertion<'a> {
     /// The Name of the index.
@@ -19,13 +19,13 @@ pub struct NvAssertion<'a> {
     pub operand: &'a [u8],
     pub offset: u16,
     pub operation: Operation,
-    /// The bytes of the index that are compared, as many as the operand has, or why they cannot be
-    /// read.
+    /// The bytes of the index to compare, of the same size as the operand, or the reason why they
+    /// cannot be read.
     pub compared: Result<&'a [u8], ActionFault>,
 }
 
 impl NvAssertion<'_> {
-    /// The digest of operand, offset and operation.
+    /// The digest of the operand, the offset and the operation.
     fn arguments(&self, hash: HashAlg) -> Digest
         ensures { result.items ≡ nv_arguments hash (nv_parts self.now) }
     {
@@ -36,8 +36,8 @@ impl NvAssertion<'_> {
         digest_parts(hash, &[self.operand, &offset, &operation])
     }
 
-    /// Refuses bytes that cannot be read, or whose comparison with the operand does not hold; in a
-    /// trial session refuses nothing.
+    /// Returns an error if the bytes cannot be read or the comparison does not hold. A trial
+    /// session always passes.
     fn check(&self, trial: bool) -> Result<(), ActionFault>
         ensures { result ≡ nv_compared trial (nv_parts self.now) }
     {
@@ -53,8 +53,8 @@ impl NvAssertion<'_> {
 }
 
 impl PolicyState {
-    /// TPM2_PolicyNV: what refuses the reading of the index, or POLICY where the comparison does
-    /// not hold. A trial session takes any index and operand.
+    /// TPM2_PolicyNV: returns the error from reading the index, or POLICY if the comparison does
+    /// not hold. A trial session accepts any index and operand.
     #[tactic(auto, unfolding(crate::specs::Assertion::nv_asserted))]
     pub fn nv(&mut self, hash: HashAlg, trial: bool, about: &NvAssertion) -> Result<(), ActionFault>
         ensures { Asserts (asserted hash trial (assertion.Nv (nv_parts about.now)) self.old)

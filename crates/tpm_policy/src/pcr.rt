@@ -1,4 +1,4 @@
-//! The assertion of TPM2_PolicyPCR, that selected PCRs have the values of a digest.
+//! The assertion of TPM2_PolicyPCR: the values of the selected PCRs have this digest.
 
 ghost use Rattle.tpm_commands.specs.CommandCode.{code_number};
 ghost use Rattle.tpm_commands.specs.declared.command_code.CommandCode.TheVariants as served;
@@ -15,10 +15,10 @@ use tpm_commands::CommandCode;
 use tpm_mac::{Digest, HashAlg, digest_parts};
 use tpm_types::{ActionCheck, ActionFault, PcrSelection, ResponseCode};
 
-/// The parts of the assertion of TPM2_PolicyPCR.
+/// The data of a TPM2_PolicyPCR assertion.
 #[derive(Clone, Copy)]
 pub struct PcrAssertion<'a> {
-    /// The digest that the caller gives, which may be empty.
+    /// The digest in the command, which may be empty.
     pub given: &'a [u8],
     pub selection: &'a PcrSelection,
     /// The digest of the values of the selected PCRs.
@@ -28,7 +28,8 @@ pub struct PcrAssertion<'a> {
 }
 
 impl<'a> PcrAssertion<'a> {
-    /// The digest that is asserted of the PCRs: in a trial session the given one, if one is given.
+    /// The digest that the assertion uses: the digest of the PCRs. In a trial session it is the
+    /// digest in the command, unless that is empty.
     fn taken(&self, trial: bool) -> &'a [u8]
         ensures { result.now ≡ taken_digest trial (pcr_parts self.now) }
     {
@@ -41,7 +42,7 @@ impl<'a> PcrAssertion<'a> {
 }
 
 impl PolicyState {
-    /// Whether the recorded update counter of PCRs is another than this.
+    /// Whether the policy has recorded a different update counter of the PCRs.
     pub(crate) fn records_other_count(&self, update_count: u64) -> bool
         ensures { result ≡ is_other self.now.update_count update_count }
     {
@@ -51,7 +52,7 @@ impl PolicyState {
         }
     }
 
-    /// The policy digest after the assertion of PCRs.
+    /// The policy digest after a PCR assertion.
     fn pcr_digest(&self, hash: HashAlg, trial: bool, about: &PcrAssertion) -> Digest
         ensures { result.items ≡ hash_of hash
             (self.now.digest ++ to_be_bytes w32 (code_number served.PolicyPcr)
@@ -65,9 +66,9 @@ impl PolicyState {
         digest_parts(hash, &[digest, &code, selection.as_slice(), taken])
     }
 
-    /// TPM2_PolicyPCR: PCR_CHANGED where PCRs changed since the session's first TPM2_PolicyPCR,
-    /// VALUE where their values have another digest than the given one. A trial session takes any
-    /// digest.
+    /// TPM2_PolicyPCR: returns PCR_CHANGED if a PCR has changed since the session's first
+    /// TPM2_PolicyPCR, and VALUE if the digest of the PCRs differs from the one in the command. A
+    /// trial session accepts any digest.
     #[tactic(auto, unfolding(crate::specs::Assertion::pcr_asserted))]
     pub fn pcr(
         &mut self,

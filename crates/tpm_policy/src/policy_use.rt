@@ -1,5 +1,5 @@
-//! Whether a policy session authorizes a use of an entity, and what it still demands: the first
-//! condition that does not hold refuses.
+//! Whether a policy session authorizes a use of an entity, and what the policy still demands. The
+//! first condition that fails causes the refusal.
 
 ghost use Rattle.std.specs.Prelude.{◌≡◌, ◌==◌, option_map};
 ghost use Rattle.std.specs.Int.{bit_at};
@@ -21,7 +21,7 @@ pub struct EntityPolicy<'a> {
     pub digest: &'a [u8],
 }
 
-/// The use that a policy session is to authorize.
+/// The use that a policy session has to authorize.
 #[derive(Clone, Copy)]
 pub struct Use<'a> {
     /// The number of the authorization entry.
@@ -34,13 +34,13 @@ pub struct Use<'a> {
     pub available: bool,
     /// The update counter of the PCRs.
     pub update_count: u64,
-    /// The number of the command.
+    /// The command code.
     pub command: u32,
     /// The role in which the entity is authorized.
     pub role: Role,
     /// The cpHash of the command.
     pub cp_hash: &'a [u8],
-    /// Whether the entity is written, where it is an NV index.
+    /// If the entity is an NV index: whether it has been written.
     pub written: Option<bool>,
     pub locality: Locality,
     /// The policy of the entity, if it has one.
@@ -48,7 +48,7 @@ pub struct Use<'a> {
 }
 
 impl PolicyState {
-    /// Whether the role requires a policy that names the command, and this one names none.
+    /// Whether the role requires the policy to name the command, but this policy names none.
     fn lacks_command(&self, role: Role) -> bool
         ensures { result ≡ lacks_command role self.now.command }
     {
@@ -58,8 +58,8 @@ impl PolicyState {
         }
     }
 
-    /// Whether the policy wants an NV index that is written, or one that is not, and the entity is
-    /// no such index.
+    /// Whether the policy requires a written NV index, or an unwritten one, and the entity is not
+    /// such an index.
     pub(crate) fn records_other_written(&self, found: Option<bool>) -> bool
         ensures { result ≡ is_other_written self.now.nv_written found }
     {
@@ -70,7 +70,7 @@ impl PolicyState {
         }
     }
 
-    /// Whether commands from this locality are not allowed.
+    /// Whether the policy forbids commands from this locality.
     #[tactic(auto, using(std::proofs::lemmas::Nat::Bits::shr_and_one))]
     fn forbids(&self, locality: Locality) -> bool
         ensures { result ≡ (bit_at self.now.localities (locality_number locality) == 0) }
@@ -78,7 +78,7 @@ impl PolicyState {
         (self.localities >> locality.number()) & 1 == 0
     }
 
-    /// Whether the policy of a session with this hash is the entity's.
+    /// Whether the session's policy is that of the entity: hash and digest are equal.
     fn is_policy_of(&self, hash: HashAlg, entity: Option<EntityPolicy>) -> bool
         ensures { result
             ≡ is_policy_of hash self.now.digest (option_map entity_parts entity.entry) }
@@ -92,11 +92,11 @@ impl PolicyState {
         }
     }
 
-    /// Tells whether the policy authorizes this use, and what it demands in addition. The first
-    /// condition that does not hold refuses: ATTRIBUTES for a trial session, AUTH_UNAVAILABLE,
-    /// PCR_CHANGED, POLICY_CC for another command, POLICY_FAIL for the role, another cpHash, or an
-    /// entity that is not written as it is to be, LOCALITY, and POLICY_FAIL for another policy than
-    /// the entity's.
+    /// Checks whether the policy authorizes this use, and returns what it demands in addition.
+    /// The first condition that fails determines the error: ATTRIBUTES for a trial session;
+    /// AUTH_UNAVAILABLE; PCR_CHANGED; POLICY_CC for another command; POLICY_FAIL for the role,
+    /// another cpHash, or an index in the wrong written state; LOCALITY; POLICY_FAIL if the
+    /// policy is not that of the entity.
     #[tactic(auto, unfolding(crate::specs::Use::use_passes))]
     pub fn check_use(&self, asked: &Use) -> Result<Demand, Rc>
         ensures { result ≡ use_passes self.now (parts_of asked.now) }

@@ -1,4 +1,4 @@
-//! The assertion of TPM2_PolicySecret, that the authorization value of an entity is known.
+//! The assertion of TPM2_PolicySecret: the caller knows the authorization value of an entity.
 
 ghost use Rattle.std.specs.Prelude.{◌≡◌};
 ghost use Rattle.tpm_policy.specs.Assertion as assertion;
@@ -11,23 +11,23 @@ use tpm_mac::{Digest, HashAlg, digest_parts};
 use tpm_types::{ActionCheck, ActionFault, ResponseCode};
 use tpm_types_name::Name;
 
-/// The parts of the assertion of TPM2_PolicySecret. An empty buffer gives nothing.
+/// The data of a TPM2_PolicySecret assertion. An empty buffer means that the parameter is absent.
 #[derive(Clone, Copy)]
 pub struct SecretAssertion<'a> {
-    /// The Name of the entity whose authorization is shown.
+    /// The Name of the entity that is authorized.
     pub name: &'a Name,
-    /// The nonce that the caller gives.
+    /// The nonce in the command.
     pub nonce: &'a [u8],
     /// The session's nonceTPM.
     pub nonce_tpm: &'a [u8],
-    /// cpHashA: the cpHash of the one command that is to be allowed.
+    /// cpHashA: the cpHash of the only command that is allowed.
     pub cp_hash: &'a [u8],
     /// The parameter policyRef.
     pub reference: &'a [u8],
     pub expiration: u32,
 }
 
-/// The policy digest after the assertion of a secret.
+/// The policy digest after TPM2_PolicySecret.
 fn secret_digest(hash: HashAlg, digest: &[u8], name: &Name, reference: &[u8]) -> Digest
     ensures { result.items ≡ secret_digest hash digest.now name.now reference.now }
 {
@@ -37,7 +37,7 @@ fn secret_digest(hash: HashAlg, digest: &[u8], name: &Name, reference: &[u8]) ->
 }
 
 impl PolicyState {
-    /// Whether the cpHash of another command is recorded.
+    /// Whether the policy has recorded the cpHash of another command.
     pub(crate) fn records_other_hash(&self, cp_hash: &[u8]) -> bool
         ensures { result ≡ is_other_hash self.now.cp_hash cp_hash.now }
     {
@@ -47,10 +47,9 @@ impl PolicyState {
         }
     }
 
-    /// TPM2_PolicySecret: VALUE where expiration is not 0, SIZE where cpHashA does not have the
-    /// size of a digest, NONCE where another nonce than the session's is given, CPHASH where
-    /// another command's cpHash is recorded. A trial session takes any nonce and any cpHashA of
-    /// that size.
+    /// TPM2_PolicySecret: returns VALUE if expiration is not 0, SIZE if cpHashA is not as long as
+    /// a digest, NONCE if the nonce is not the session's, and CPHASH if another command's cpHash
+    /// is recorded. A trial session accepts any nonce, and any cpHashA of that size.
     #[tactic(auto, unfolding(crate::specs::Assertion::secret_asserted))]
     pub fn secret(
         &mut self,

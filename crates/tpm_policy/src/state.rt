@@ -12,26 +12,26 @@ use tpm_mac::{Digest, HashAlg};
 /// What a policy demands in addition to its digest.
 #[derive(Clone, Copy, PartialEq, Eq)]
 pub enum Demand {
-    /// Nothing is demanded in addition.
+    /// Nothing more.
     None,
-    /// An HMAC whose key has the entity's authorization value.
+    /// An HMAC whose key includes the entity's authorization value.
     AuthValue,
     /// The entity's authorization value as a password.
     Password,
 }
 
-/// The state of a policy session (TPM 2.0 Library, Part 1, section 19.7). Contracts see the state
-/// as a `Policy`, a plain record.
+/// The state of a policy session (TPM 2.0 Library, Part 1, section 19.7). Contracts treat the
+/// state as a `Policy`, a plain record.
 #[derive(Drop)]
 pub struct PolicyState {
     pub(crate) digest: Digest,
     /// The update counter of PCRs at the last TPM2_PolicyPCR.
     pub(crate) update_count: Option<u64>,
-    /// The number of the one command that is allowed.
+    /// The code of the only command that is allowed.
     pub(crate) command: Option<u32>,
-    /// The cpHash of the one command that is allowed.
+    /// The cpHash of the only command that is allowed.
     pub(crate) cp_hash: Option<Digest>,
-    /// Whether the NV index has to be written already.
+    /// Whether the NV index must have been written.
     pub(crate) nv_written: Option<bool>,
     /// The localities that are allowed, bit n for locality n.
     pub(crate) localities: u8,
@@ -60,7 +60,7 @@ impl Model for PolicyState {
 /// All localities that can be allowed: 0 to 4.
 const ALL_LOCALITIES: u8 = 0x1f;
 
-/// A policy digest of zeros.
+/// A policy digest of all zeros.
 fn zeros(hash: HashAlg) -> Digest
     ensures { result.items ≡ replicate (digest_size hash) 0 }
 {
@@ -72,7 +72,7 @@ fn zeros(hash: HashAlg) -> Digest
 impl PolicyState {
     ghost use Rattle.tpm_policy.specs.State.{IsPolicy, starting};
 
-    /// The state in which a session starts.
+    /// The initial state of a session.
     pub fn new(hash: HashAlg) -> PolicyState
         ensures { result ≡ starting hash }
     {
@@ -87,7 +87,7 @@ impl PolicyState {
         }
     }
 
-    /// The state of these parts.
+    /// A state made of these parts.
     pub fn of(
         digest: Digest,
         update_count: Option<u64>,
@@ -126,21 +126,21 @@ impl PolicyState {
         self.update_count
     }
 
-    /// The number of the one command that is allowed.
+    /// The code of the only command that is allowed.
     pub fn recorded_command(&self) -> Option<u32>
         ensures { result ≡ self.now.command }
     {
         self.command
     }
 
-    /// The cpHash of the one command that is allowed.
+    /// The cpHash of the only command that is allowed.
     pub fn recorded_cp_hash(&self) -> Option<&Digest>
         ensures { option_map (λ hash. hash.now.items) result ≡ self.now.cp_hash }
     {
         self.cp_hash.as_ref()
     }
 
-    /// Whether the NV index has to be written already.
+    /// Whether the NV index must have been written.
     pub fn recorded_nv_written(&self) -> Option<bool>
         ensures { result ≡ self.now.nv_written }
     {
@@ -154,7 +154,7 @@ impl PolicyState {
         self.localities
     }
 
-    /// Makes this the state in which a session starts.
+    /// Resets this to the initial state of a session.
     pub fn restart(&mut self, hash: HashAlg)
         ensures { self.new ≡ starting hash }
     {
@@ -191,7 +191,7 @@ impl PolicyState {
         }
     }
 
-    /// The hash of the one command that is allowed has at most 32 bytes.
+    /// The cpHash is at most 32 bytes long.
     #[inline(always)]
     fn read_cp_hash(&self)
         ensures { IfSome self.now.cp_hash (λ hash. length hash ≤ 32) }
@@ -201,7 +201,7 @@ impl PolicyState {
         }
     }
 
-    /// The numbers have their widths.
+    /// Each number fits its integer type.
     #[inline(always)]
     fn read_update_count(&self)
         ensures { IfSome self.now.update_count (λ count. count < 2 ^ 64) }
@@ -220,7 +220,8 @@ impl PolicyState {
         }
     }
 
-    /// Promises what the types of the state's fields say of them. The call only reads.
+    /// A proof only: states the bounds that the types of the fields guarantee. It has no effect
+    /// at run time.
     #[inline(always)]
     pub fn read_sizes(&self)
         ensures { IsPolicy self.now }

@@ -1,4 +1,4 @@
--- An accepted TPM2_PolicyNV compared what holds.
+-- The comparison of an accepted TPM2_PolicyNV holds.
 use Rattle.std.proofs.Common.{◌≡◌, ◌⊎◌, inl, inr, ℕ, Bool, true, false, List, ◌++◌, Result, Ok, Err, refl, ap, ◌∙◌}
 use Rattle.std.specs.Prelude.{not}
 use Rattle.tpm_bytes.proofs.Fields.{ok_is}
@@ -33,7 +33,7 @@ was_ok : {X F : Type 0} (refusal : F → Refused) (x : Result X F) (y : X) → o
 was_ok refusal (Ok x) y e = ap Ok (ok_is {E = Refused} x y e)
 was_ok refusal (Err fault) y e = absurd cc
 
--- Bytes are there, and the comparison holds of them; or nothing was compared.
+-- The bytes exist and their comparison holds; or nothing was compared.
 abbrev HoldsOf : (trial : Bool) → NvParts → Type 0
 HoldsOf trial nv = (trial ≡ true) ⊎ ((bytes : List ℕ) × (nv.compared ≡ Ok bytes) × (compares nv.operation bytes nv.operand ≡ true))
 

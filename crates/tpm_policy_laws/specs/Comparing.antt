@@ -13,8 +13,9 @@ use Rattle.tpm_types.specs.declared.handle.Handle.{Handle}
 use Rattle.tpm_actions_policy.specs.Assertions.{assertion_row, policy_session}
 use Rattle.tpm_actions_policy.specs.PolicyNv.{Parameters, compared, nv_parameters}
 
--- A request compares an index with its operand on a session: the index's data, from the offset on,
--- are there, and the comparison holds of them and the operand; or the session is a trial one.
+-- A request compares an index with its operand on a session. The index contains the compared
+-- data, from the offset on, and the comparison of this data with the operand holds; or the
+-- session is a trial session.
 pub record Compares (r : Record) (q : Request) : Type 0 where
   pub handle : Handle
   pub third : third_handle q.handles ≡ Ok handle
@@ -28,7 +29,7 @@ pub record Compares (r : Record) (q : Request) : Type 0 where
       ⊎ ((bytes : List ℕ) × (compared r target parameters ≡ Ok bytes)
       × (compares parameters.operation bytes parameters.operand ≡ true))
 
--- TPM2_PolicyNV is accepted only where it compares so.
+-- TPM2_PolicyNV is accepted only if the request satisfies Compares.
 abbrev pub ComparisonHolds : Type 0
 ComparisonHolds = (r : Record) (q : Request) (s : Success)
     → assertion_row command.PolicyNv r q ≡ Ok s → Compares r q

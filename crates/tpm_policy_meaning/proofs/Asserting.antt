@@ -1,5 +1,5 @@
--- Assertions of a policy and of a session with the same texts: the session asserted what the policy
--- says.
+-- If assertions of a policy and of a session have the same texts, the session asserted what the
+-- policy says.
 use Rattle.std.proofs.Common.{◌≡◌, ◌⊎◌, ◌<◌, ◌^◌, ℕ, Bool, true, false, List, [], ◌∷◌, ◌++◌, take, drop, ◌==◌, Some, refl, ap, sym, ◌∙◌, inl}
 use Rattle.std.proofs.lemmas.Bool.{false≢true}
 use Rattle.std.proofs.lemmas.Nat.{from_be_bytes-to_be_bytes_2, from_be_bytes-to_be_bytes_4}
@@ -22,7 +22,7 @@ use Rattle.tpm_policy_meaning.specs.PolicyDigest.{nv_arguments_text, or_update, 
 use Rattle.tpm_policy_meaning.proofs.Chains.{Breaking, Said, same_backs, same_fronts, same_hashed, unless_broken}
 use Rattle.tpm_policy_meaning.proofs.Spelled.{said_of}
 
--- ---- texts that tell their assertion
+-- ---- texts that determine their assertion
 
 yes_no_same : (a b : Bool) → yes_no_text a ≡ yes_no_text b → a ≡ b
 yes_no_same true true is = refl
@@ -59,7 +59,7 @@ arguments_same parts operand offset operation small less is =
     let inner = same_backs operand (to_be_bytes w16 offset) parts.operand (to_be_bytes w16 parts.offset) refl outer.0 in
     (sym inner.0, number_same_2 parts.offset offset small less (sym inner.1), operation_same parts.operation operation (sym outer.1))
 
--- the code of the command in front of a text
+-- the command code at the start of a text
 abbrev code_in : List ℕ → ℕ
 code_in text = from_be_bytes w32 (take 4 text)
 
@@ -75,8 +75,8 @@ module _ (hash : HashAlg) (Broken : Type 0) (One Other : List ℕ → Type 0) (b
       by : name ≡ parts.name → ArgumentsAre parts operand offset operation → Says (assertion.Nv parts) (PolicyNv name operand offset operation) ⊎ Broken
       by named are = inl (sym named, are.0, are.1, are.2)
 
-  -- where the texts and policyRefs of an assertion of a policy and of one of a session are the
-  -- same, the session's says the policy's
+  -- if an assertion of a policy and one of a session have the same texts and policyRefs, they say
+  -- the same
   text_asserts : (written : PolicyAssertion) (one : Assertion) → IsPolicyAssertion hash written → HasWidths hash one → ((t : List ℕ) → IsAmong t (update_of hash written).apart → One t) → ((t : List ℕ) → IsAmong t (update_by hash one).apart → Other t) → update_text (update_of hash written) ≡ update_text (update_by hash one) → (update_of hash written).reference ≡ (update_by hash one).reference → Says one written ⊎ Broken
   text_asserts (PolicyPcr selection digest) (assertion.Pcr parts) fits widths ours theirs is refs =
       let halves = same_backs (selection_text selection) digest parts.selection parts.digest (fits ∙ sym widths) (ap (drop 4) is) in
@@ -105,7 +105,8 @@ module _ (hash : HashAlg) (Broken : Type 0) (One Other : List ℕ → Type 0) (b
 
 -- ---- TPM2_PolicyOR
 
--- An assertion with the text of a TPM2_PolicyOR is one, of digests that are the same when joined.
+-- An assertion with the text of a TPM2_PolicyOR is itself a TPM2_PolicyOR, with the same
+-- concatenation of digests.
 abbrev pub IsOrOf : (digests : List (List ℕ)) → Assertion → Type 0
 IsOrOf digests one =
     (given : List (List ℕ)) × (one ≡ assertion.Or given)

@@ -1,5 +1,4 @@
--- Chains of hashes: where two chains have one digest, they have the same steps, or a hash is
--- broken.
+-- If two chains of hashes end in the same digest, they have the same steps, or a hash is broken.
 use Rattle.std.proofs.Common.{◌≡◌, ◌≢◌, ◌⊎◌, ℕ, arith, Bool, true, false, cond, List, [], ◌∷◌, ◌++◌, length, length-append, take, drop, Option, Some, None, is_some, refl, ap, sym, ◌∙◌, inl, inr}
 use Rattle.std.proofs.lemmas.Bool.{false≢true}
 use Rattle.std.proofs.lemmas.List.{drop_at, length-replicate, take_at}
@@ -14,7 +13,7 @@ use Rattle.tpm_policy_meaning.specs.PolicyDigest.{digest_after, with_reference, 
 
 -- ---- lists of texts
 
--- two texts that are cut at one place are the same only with the same parts
+-- if two texts are split at the same offset and are equal, so are their parts
 pub same_fronts : (a b c d : List ℕ) → length a ≡ length c → a ++ b ≡ c ++ d → (a ≡ c) × (b ≡ d)
 same_fronts a b c d size is = (
   sym (take_at a b (length a) refl) ∙ ap (take (length a)) is ∙ take_at c d (length a) (sym size),
@@ -38,7 +37,7 @@ pub among_either : {X Elsewhere : Type 0} (x : X) (front back : List X) → IsAm
 among_either x front back (inl among) there = among_front x front back among
 among_either x front back (inr elsewhere) there = among_back x front back (there elsewhere)
 
--- Two texts are the same or not; and a text is among others or not.
+-- Two texts are either equal or different; and a text is either in a list or not.
 pub is_same_or_not : (t u : List ℕ) → (t ≡ u) ⊎ (t ≢ u)
 is_same_or_not t u = by (bytes_eq t u) refl
   where
@@ -66,7 +65,7 @@ unless_broken (inr broken) next = inr broken
 
 -- ---- chains of steps
 
--- the digest of a chain of steps, the latest first; and the texts that are hashed for them
+-- the digest of a chain of steps, the latest first; and the texts that are hashed for these steps
 abbrev pub chain : HashAlg → List (List ℕ) → List ℕ
 chain hash [] = zeros hash
 chain hash (step ∷ earlier) = hash_of hash (chain hash earlier ++ step)
@@ -79,13 +78,13 @@ pub length-chain : (hash : HashAlg) (steps : List (List ℕ)) → length (chain 
 length-chain hash [] = length-replicate (digest_size hash) 0
 length-chain hash (step ∷ earlier) = length-hash_of hash _
 
--- A hash is broken by a text of one kind and a text of another.
+-- A hash is broken by a text of one kind and a text of the other.
 pub record Breaking (hash : HashAlg) (Broken : Type 0) (One Other : List ℕ → Type 0) : Type 0 where
   pub collision : (t u : List ℕ) → One t → Other u → t ≢ u → hash_of hash t ≡ hash_of hash u → Broken
   pub of_zeros : (t : List ℕ) → One t ⊎ Other t → hash_of hash t ≡ zeros hash → Broken
 
 module _ (hash : HashAlg) (Broken : Type 0) (One Other : List ℕ → Type 0) (breaking : Breaking hash Broken One Other) where
-  -- two texts with one hash are the same, or a hash is broken
+  -- two texts with the same hash are equal, or a hash is broken
   pub same_hashed : (t u : List ℕ) → One t → Other u → hash_of hash t ≡ hash_of hash u → (t ≡ u) ⊎ Broken
   same_hashed t u one other is = by (is_same_or_not t u)
     where
@@ -109,7 +108,7 @@ module _ (hash : HashAlg) (Broken : Type 0) (One Other : List ℕ → Type 0) (b
 
 -- ---- steps of assertions
 
--- what an assertion says: its policyRef, where it has one, and its text
+-- what an assertion says: its policyRef, if it has one, and its text
 abbrev pub Said : Type 0
 Said = Option (List ℕ) × List ℕ
 
@@ -121,7 +120,7 @@ abbrev pub all_steps : List Said → List (List ℕ)
 all_steps [] = []
 all_steps (said ∷ earlier) = steps_of said.0 said.1 ++ all_steps earlier
 
--- whether a text is that of TPM2_PolicySecret, which alone has a policyRef
+-- whether a text is that of TPM2_PolicySecret, the only command with a policyRef
 abbrev pub is_secret : List ℕ → Bool
 is_secret text = bytes_eq (take 4 text) (to_be_bytes w32 0x151)
 
@@ -132,7 +131,7 @@ abbrev pub AllFit : List Said → Type 0
 AllFit [] = Unit {0}
 AllFit (said ∷ earlier) = Fits said × AllFit earlier
 
--- whether a policyRef is to come after these steps; it is not after the steps of whole assertions
+-- whether a policyRef must follow these steps; none must follow if the assertions are complete
 abbrev awaits : List (List ℕ) → Bool
 awaits [] = false
 awaits (step ∷ earlier) = cond (awaits earlier) false (is_secret step)
@@ -159,7 +158,7 @@ latest_aligned (Some r) None t u xs ys st su ax ay is =
     let rest : t ∷ xs ≡ ys = cc in
     absurd (false≢true (sym ay ∙ ap awaits (sym rest) ∙ rw (ax, st) refl))
 
--- two lists of assertions with the same steps say the same
+-- if two lists of assertions have the same steps, they say the same
 pub aligned : (xs ys : List Said) → AllFit xs → AllFit ys → all_steps xs ≡ all_steps ys → xs ≡ ys
 aligned [] [] fx fy is = refl
 aligned [] (y ∷ ys) fx fy is = absurd (some_steps y.0 y.1 (all_steps ys) (sym is))

@@ -1,5 +1,5 @@
--- A policy session with the digest of a policy asserted what the policy says, or the hash is
--- broken.
+-- If a policy session's digest is that of a policy, the session asserted what the policy says, or
+-- the hash is broken.
 use Rattle.std.proofs.Common.{◌≡◌, ◌≢◌, ◌⊎◌, ℕ, List, [], ◌∷◌, ◌++◌, append_assoc, length, refl, ap, sym, subst, ◌∙◌, inl, inr}
 use Rattle.tpm_mac.specs.Digest.{digest_size}
 use Rattle.tpm_mac.specs.declared.algorithm.HashAlg.{HashAlg}
@@ -15,7 +15,7 @@ use Rattle.tpm_policy_meaning.proofs.Astride.{HaveSize, joined, stands_astride}
 use Rattle.tpm_policy_meaning.proofs.Chains.{Breaking, Said, aligned, all_steps, among_back, among_front, is_among_or_not, length-chain, same_chain, unless_broken}
 use Rattle.tpm_policy_meaning.proofs.Spelled.{policy_chain, policy_chain_texts, policy_fits, policy_said, said_before, said_of, session_chain, session_chain_texts, session_fits, session_said}
 
--- A digest that is one of some digests is within them joined.
+-- A digest in a list occurs in the concatenation of that list.
 abbrev StandsIn : (digest whole : List ℕ) → Type 0
 StandsIn digest whole = (front : List ℕ) × (back : List ℕ) × (whole ≡ front ++ digest ++ back)
 
@@ -39,7 +39,7 @@ same_latest x y xs ys is = (cc, cc)
 none_said : (x : Said) (xs : List Said) → x ∷ xs ≡ [] → ⊥
 none_said x xs is = absurd cc
 
--- a session's assertion that says one of a written policy is no TPM2_PolicyOR
+-- if a session's assertion says the same as one of a written policy, it is not a TPM2_PolicyOR
 earlier_said : (one : Assertion) (written : PolicyAssertion) (said : List Said) → Says one written → said_before one said ≡ said
 earlier_said (assertion.Or digests) written said asserts = absurd asserts
 earlier_said _ written said asserts = refl
@@ -61,7 +61,7 @@ module _ (hash : HashAlg) (whole : PolicyExpression) (all : List Assertion) wher
   breaking : Breaking hash Broken One Other
   breaking = record { collision = Collision; of_zeros = HashOfZeros }
 
-  -- ---- parts of the policy, and what the session asserted up to a time
+  -- ---- parts of the policy, and what the session had asserted at some time
 
   record Within (policy : PolicyExpression) : Type 0 where
     pub written : IsPolicyExpression hash policy
@@ -131,7 +131,7 @@ module _ (hash : HashAlg) (whole : PolicyExpression) (all : List Assertion) wher
   latest_digest [] = inl refl
   latest_digest (latest ∷ earlier) = inl refl
 
-  -- ---- equal digests are said by the same assertions
+  -- ---- equal digests come from the same assertions
 
   same_said : (policy : PolicyExpression) (assertions : List Assertion) → Within policy → UpTo assertions → session_digest hash assertions ≡ policy_digest hash policy → (policy_said hash policy ≡ session_said hash assertions) ⊎ Broken
   same_said policy assertions within up is =
@@ -142,7 +142,7 @@ module _ (hash : HashAlg) (whole : PolicyExpression) (all : List Assertion) wher
       (sym (policy_chain hash policy) ∙ sym is ∙ session_chain hash assertions))
       (λ steps. inl (aligned (policy_said hash policy) (session_said hash assertions) (policy_fits hash policy) (session_fits hash assertions) steps))
 
-  -- ---- along the assertions of the policy
+  -- ---- the assertions of the policy, one by one
 
   then_holds : (before : PolicyExpression) (written : PolicyAssertion) (latest : Assertion) (earlier : List Assertion) → Within (Then before written) → UpTo (latest ∷ earlier) → (said_of (update_of hash written) ≡ said_of (update_by hash latest)) × (policy_said hash before ≡ said_before latest (session_said hash earlier)) → (policy_said hash before ≡ session_said hash earlier → IsMet (IsAsserted all) before ⊎ Broken) → IsMet (IsAsserted all) (Then before written) ⊎ Broken
   then_holds before written latest earlier within up same next =

@@ -1,4 +1,5 @@
--- The laws of accepted assertions: what they found and demand.
+-- Laws of accepted assertions: the list of a TPM2_PolicyOR contains the digest, and the demand
+-- follows from the assertions.
 use Rattle.std.proofs.Common.{◌≡◌, ◌⊎◌, ℕ, Bool, true, false, not, List, [], ◌∷◌, Ok, refl, sym, subst, inl, inr}
 use Rattle.std.proofs.lemmas.Bool.{false≢true}
 use Rattle.std.proofs.lemmas.Slice.Eq.{bytes_eq-Decides}

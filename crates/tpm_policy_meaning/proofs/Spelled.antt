@@ -1,5 +1,5 @@
--- A policy and a session by what their assertions say: their digests and texts are those of their
--- steps.
+-- A policy and a session, both represented by what their assertions say: their digests and texts
+-- are those of the steps.
 use Rattle.std.proofs.Common.{◌≡◌, ℕ, List, [], ◌∷◌, ◌++◌, append_assoc, Option, Some, None, refl, ap, ◌∙◌, inl, inr}
 use Rattle.std.specs.Int.{w32, to_be_bytes}
 use Rattle.std.specs.List.{flat_map}
@@ -53,7 +53,7 @@ policy_chain_texts hash (PolicyOr branches) text (inr among) = absurd among
 
 -- ---- the steps of a session
 
--- what was said before an assertion; nothing before TPM2_PolicyOR counts
+-- what was said before an assertion; TPM2_PolicyOR discards everything before it
 abbrev pub said_before : Assertion → List Said → List Said
 said_before (assertion.Or digests) said = []
 said_before _ said = said

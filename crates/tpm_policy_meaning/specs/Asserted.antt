@@ -1,5 +1,5 @@
--- The assertions of a session, and the texts of which its digest is made. TPM 2.0 Library, Part 1,
--- section 19.7, and Part 3, section 23.
+-- The assertions of a session, and the texts from which its digest is computed. TPM 2.0 Library,
+-- Part 1, section 19.7, and Part 3, section 23.
 use Rattle.std.specs.Prelude.{◌≡◌, ◌⊎◌, ◌<◌, ◌^◌, ℕ, Bool, false, List, [], ◌∷◌, ◌++◌, length, Ok}
 use Rattle.tpm_mac.specs.Digest.{digest_size}
 use Rattle.tpm_mac.specs.declared.algorithm.HashAlg.{HashAlg}
@@ -25,23 +25,22 @@ abbrev pub IsAmong : {X : Type 0} → X → List X → Type 0
 IsAmong x [] = ⊥
 IsAmong x (y ∷ ys) = (x ≡ y) ⊎ IsAmong x ys
 
--- the policy that these assertions make, the latest first, from the policy with which a session
--- starts
+-- the policy of a session after these assertions, the latest first
 abbrev pub evaluated : HashAlg → (trial : Bool) → List Assertion → Policy
 evaluated hash trial [] = starting hash
 evaluated hash trial (latest ∷ earlier) =
     policy_with hash trial latest (evaluated hash trial earlier)
 
--- the digest of a policy session on which these were asserted, the latest first
+-- the digest of a policy session after these assertions, the latest first
 abbrev pub session_digest : HashAlg → List Assertion → List ℕ
 session_digest hash assertions = (evaluated hash false assertions).digest
 
 -- ---- assertions of a session and of a written policy
 
--- An assertion of a session says what one of a written policy says. TPM2_PolicyAuthValue and
--- TPM2_PolicyPassword have one digest, and so each says what the other does: which of the two a use
--- must meet is what the session demands, and either way the authorization value is shown
--- (`DemandsValue`).
+-- An assertion of a session says the same as one of a written policy. TPM2_PolicyAuthValue and
+-- TPM2_PolicyPassword extend the digest in the same way, so each says what the other says. The
+-- session's demand decides how a use must prove the authorization value; either way it must prove
+-- it (`DemandsValue`).
 abbrev pub Says : Assertion → PolicyAssertion → Type 0
 Says (assertion.Pcr parts) (PolicyPcr selection digest) =
     (parts.selection ≡ selection_text selection) × (parts.digest ≡ digest)
@@ -60,29 +59,29 @@ Says (assertion.Nv parts) (PolicyNv name operand offset operation) =
     × (parts.operation ≡ operation)
 Says _ _ = ⊥
 
--- One of these assertions says what that of a written policy says.
+-- One of these assertions says the same as this assertion of a written policy.
 abbrev pub IsAsserted : List Assertion → PolicyAssertion → Type 0
 IsAsserted assertions written =
     (one : Assertion) × IsAmong one assertions × Says one written
 
--- ---- what is known of assertions that a session accepted
+-- ---- facts about assertions that a session accepted
 
--- The numbers of an assertion have their widths: the digest of PCRs is one of the session's hash, a
--- command code has 32 bits, and an offset 16.
+-- The values of an assertion have the right sizes: a PCR digest is as long as a digest of the
+-- session's hash, a command code fits in 32 bits, and an offset in 16.
 abbrev pub HasWidths : HashAlg → Assertion → Type 0
 HasWidths hash (assertion.Pcr parts) = length parts.digest ≡ digest_size hash
 HasWidths hash (assertion.CommandCode number) = number < 2 ^ 32
 HasWidths hash (assertion.Nv parts) = parts.offset < 2 ^ 16
 HasWidths hash _ = Unit {0}
 
--- TPM2_PolicyOR found the digest before it among its digests.
+-- The list of TPM2_PolicyOR contains the session's digest after the earlier assertions.
 abbrev pub FindsDigest : HashAlg → Assertion → (earlier : List Assertion) → Type 0
 FindsDigest hash (assertion.Or digests) earlier =
     IsAmong (session_digest hash earlier) digests
 FindsDigest hash _ earlier = Unit {0}
 
--- Each of these assertions, the latest first, has its widths, and if it is a TPM2_PolicyOR it found
--- the digest before it.
+-- The values of each of these assertions, the latest first, have the right sizes. The list of
+-- each TPM2_PolicyOR contains the session's digest after the earlier assertions.
 abbrev pub AreAccepted : HashAlg → List Assertion → Type 0
 AreAccepted hash [] = Unit {0}
 AreAccepted hash (latest ∷ earlier) =
@@ -90,7 +89,7 @@ AreAccepted hash (latest ∷ earlier) =
 
 -- ---- what a session hashes
 
--- what an assertion puts into the digest
+-- what an assertion contributes to the digest
 abbrev pub update_by : HashAlg → Assertion → PolicyUpdate
 update_by hash (assertion.Pcr parts) =
     plain_update command.PolicyPcr (parts.selection ++ parts.digest)
@@ -108,12 +107,13 @@ update_by hash (assertion.Secret parts) = secret_update parts.name parts.referen
 update_by hash (assertion.Nv parts) =
     nv_update hash parts.name (nv_arguments_text parts.operand parts.offset parts.operation)
 
--- the digest after which an assertion is hashed: TPM2_PolicyOR begins with zeros again
+-- the digest that an assertion extends: zeros for TPM2_PolicyOR, otherwise the session's digest
 abbrev pub digest_before : HashAlg → Assertion → (earlier : List Assertion) → List ℕ
 digest_before hash (assertion.Or digests) earlier = zeros hash
 digest_before hash _ earlier = session_digest hash earlier
 
--- the texts that a session hashed, the latest first, and the digests that it had
+-- the texts that a session hashed, the latest first; and the session's digests, also the latest
+-- first
 abbrev pub session_texts : HashAlg → List Assertion → List (List ℕ)
 session_texts hash [] = []
 session_texts hash (latest ∷ earlier) =
@@ -127,21 +127,21 @@ session_digests hash (latest ∷ earlier) =
 
 -- ---- laws of the digest of a session
 
--- The digest of a policy session is that of the texts that it hashed.
+-- A policy session's digest is the digest of the texts that it hashed.
 abbrev pub SessionHashesTexts : Type 0
 SessionHashesTexts =
     (hash : HashAlg) (assertions : List Assertion)
     → session_digest hash assertions ≡ digest_after hash (session_texts hash assertions)
 
--- A TPM2_PolicyOR that a policy session accepts finds the digest before it among its digests.
+-- If a policy session accepts a TPM2_PolicyOR, its digest at that time is in the list.
 abbrev pub AcceptedFindDigest : Type 0
 AcceptedFindDigest =
     (hash : HashAlg) (latest : Assertion) (earlier : List Assertion) (made : Policy)
     → asserted hash false latest (evaluated hash false earlier) ≡ Ok made
     → FindsDigest hash latest earlier
 
--- Where TPM2_PolicyAuthValue or TPM2_PolicyPassword was asserted the session demands the
--- authorization value, in an HMAC's key or as a password.
+-- If TPM2_PolicyAuthValue or TPM2_PolicyPassword was asserted, the session demands the
+-- authorization value, in an HMAC key or as a password.
 abbrev pub DemandsValue : Type 0
 DemandsValue =
     (hash : HashAlg) (trial : Bool) (assertions : List Assertion)

@@ -1,8 +1,8 @@
--- Examples of policies with their digests. TPM 2.0 Library, Part 1, section 19.7. The digest of
--- TPM2_PolicySecret by the endorsement hierarchy is printed in the TCG EK Credential Profile for
--- TPM Family 2.0, as the authPolicy of its templates (PolicyA_SHA256); that of TPM2_PolicyAuthValue
--- alone is in use by many programs. All are computed by Python's hashlib too, from the bytes of
--- their texts.
+-- Examples of policies with their digests. TPM 2.0 Library, Part 1, section 19.7. The TCG EK
+-- Credential Profile for TPM Family 2.0 prints the digest of TPM2_PolicySecret with the
+-- endorsement hierarchy, as the authPolicy of its templates (PolicyA_SHA256). Many programs use
+-- the digest of TPM2_PolicyAuthValue on its own. Python's hashlib also computes all of these
+-- digests from the hashed bytes.
 use Rattle.std.specs.Prelude.{◌≡◌, ℕ, List, [], ◌∷◌}
 use Rattle.tpm_mac.specs.declared.algorithm.HashAlg.TheVariants as alg
 use Rattle.tpm_types.specs.declared.operation.Operation.TheVariants as operation
@@ -12,7 +12,7 @@ use Rattle.tpm_policy_meaning.specs.Expression.{PolicyPcr, PolicyAuthValue, Poli
 use Rattle.tpm_policy_meaning.specs.Expression.{PolicySecret, PolicyNv}
 use Rattle.tpm_policy_meaning.specs.PolicyDigest.{policy_digest}
 
--- the policy of TPM2_PolicyAuthValue alone, and its digest
+-- the policy that consists only of TPM2_PolicyAuthValue, and its digest
 abbrev pub by_value : PolicyExpression
 by_value = Then Nothing PolicyAuthValue
 
@@ -35,14 +35,14 @@ by_endorsement_digest =
     ∷ 0xfd ∷ 0x52 ∷ 0xd7 ∷ 0x6e ∷ 0x06 ∷ 0x52 ∷ 0x0b ∷ 0x64
     ∷ 0xf2 ∷ 0xa1 ∷ 0xda ∷ 0x1b ∷ 0x33 ∷ 0x14 ∷ 0x69 ∷ 0xaa ∷ []
 
--- the digest, with SHA-1, of the policy that allows TPM2_Unseal, 15E, alone
+-- the SHA-1 digest of the policy that allows only TPM2_Unseal, command code 15E
 abbrev pub unsealing_digest : List ℕ
 unsealing_digest =
     0x4e ∷ 0xbd ∷ 0x9e ∷ 0x4f ∷ 0x77 ∷ 0x9e ∷ 0x20 ∷ 0x23
     ∷ 0x80 ∷ 0x60 ∷ 0xdf ∷ 0x3d ∷ 0x7f ∷ 0xb5 ∷ 0xc5 ∷ 0x01
     ∷ 0xec ∷ 0xca ∷ 0x28 ∷ 0xc9 ∷ []
 
--- the hash of 64 zeros, which is the digest of two PCRs of zeros
+-- the hash of 64 zeros: the digest of two PCRs that are all zeros
 abbrev pub two_zero_pcrs : List ℕ
 two_zero_pcrs =
     0xf5 ∷ 0xa5 ∷ 0xfd ∷ 0x42 ∷ 0xd1 ∷ 0x6a ∷ 0x20 ∷ 0x30
@@ -50,8 +50,8 @@ two_zero_pcrs =
     ∷ 0x43 ∷ 0x00 ∷ 0x3d ∷ 0x23 ∷ 0x20 ∷ 0xd9 ∷ 0xf0 ∷ 0xe8
     ∷ 0xea ∷ 0x98 ∷ 0x31 ∷ 0xa9 ∷ 0x27 ∷ 0x59 ∷ 0xfb ∷ 0x4b ∷ []
 
--- the policy that PCR 7 and 11 of the bank of SHA-256 have these values, and that the authorization
--- value is given
+-- the policy that requires these values of PCRs 7 and 11 of the SHA-256 bank, and the
+-- authorization value
 abbrev pub by_pcrs_and_value : PolicyExpression
 by_pcrs_and_value =
     let selection = record { hash = alg.Sha256; select = 0x000880 } ∷ [] in
@@ -64,7 +64,7 @@ by_pcrs_and_value_digest =
     ∷ 0x35 ∷ 0x06 ∷ 0xb1 ∷ 0x17 ∷ 0xee ∷ 0x0a ∷ 0xd5 ∷ 0x52
     ∷ 0xd9 ∷ 0x61 ∷ 0xf4 ∷ 0x69 ∷ 0xb4 ∷ 0xb7 ∷ 0x97 ∷ 0x1c ∷ []
 
--- the policy of TPM2_PolicyOR for the two policies above
+-- TPM2_PolicyOR of the two policies above
 abbrev pub by_either : PolicyExpression
 by_either = PolicyOr (Branch by_pcrs_and_value (Branch by_endorsement NoBranch))
 
@@ -75,7 +75,7 @@ by_either_digest =
     ∷ 0x43 ∷ 0x61 ∷ 0x42 ∷ 0xe1 ∷ 0x65 ∷ 0xcf ∷ 0xdf ∷ 0x51
     ∷ 0x45 ∷ 0x82 ∷ 0xb0 ∷ 0x5f ∷ 0x8b ∷ 0xb9 ∷ 0x22 ∷ 0xd9 ∷ []
 
--- the policy that eight bytes of the index of this Name are at least 5
+-- the policy that requires eight bytes of the index with this Name to be at least 5
 abbrev pub index_name : List ℕ
 index_name =
     0x00 ∷ 0x0b ∷ 0x00 ∷ 0x01 ∷ 0x02 ∷ 0x03 ∷ 0x04 ∷ 0x05

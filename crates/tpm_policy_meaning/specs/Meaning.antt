@@ -1,6 +1,7 @@
--- What the digest of a policy session says. TPM 2.0 Library, Part 1, section 19.7. Where the digest
--- is that of a policy, the session asserted what that policy says, along one branch at each
--- TPM2_PolicyOR; or the hash is broken, by texts that the policy and the session spell.
+-- The meaning of a policy session's digest. TPM 2.0 Library, Part 1, section 19.7. If a session's
+-- digest is that of a policy, the session asserted what the policy says, taking one branch at
+-- each TPM2_PolicyOR; otherwise texts that can be computed from the policy and the session break
+-- the hash.
 use Rattle.std.specs.Prelude.{◌≡◌, ◌≢◌, ◌⊎◌, ◌<◌, ◌^◌, ℕ, List, [], ◌∷◌, ◌++◌, length}
 use Rattle.tpm_mac.specs.Digest.{digest_size, hash_of}
 use Rattle.tpm_mac.specs.declared.algorithm.HashAlg.{HashAlg}
@@ -14,7 +15,8 @@ use Rattle.tpm_policy_meaning.specs.Expression.{PolicyBranches, NoBranch, Branch
 use Rattle.tpm_policy_meaning.specs.PolicyDigest.{branch_digests, policy_digest, policy_texts}
 use Rattle.tpm_policy_meaning.specs.PolicyDigest.{zeros}
 
--- A policy is met: each of its assertions has P, along one branch at each TPM2_PolicyOR.
+-- A policy is met: each of its assertions has the property P, for one branch at each
+-- TPM2_PolicyOR.
 abbrev mutual
   pub IsMet : (P : PolicyAssertion → Type 0) → PolicyExpression → Type 0
   IsMet P Nothing = Unit {0}
@@ -25,8 +27,8 @@ abbrev mutual
   IsOneMet P NoBranch = ⊥
   IsOneMet P (Branch policy branches) = IsMet P policy ⊎ IsOneMet P branches
 
--- An assertion of a written policy has a text: the digest of PCRs is one of the policy's hash, a
--- command code has 32 bits, and an offset 16.
+-- An assertion of a written policy can be encoded: a PCR digest is as long as a digest of the
+-- policy's hash, a command code fits in 32 bits, and an offset in 16.
 abbrev pub IsPolicyAssertion : HashAlg → PolicyAssertion → Type 0
 IsPolicyAssertion hash (PolicyPcr selection digest) = length digest ≡ digest_size hash
 IsPolicyAssertion hash (PolicyCommandCode number) = number < 2 ^ 32
@@ -45,7 +47,7 @@ abbrev mutual
   ArePolicyBranches hash (Branch policy branches) =
       IsPolicyExpression hash policy × ArePolicyBranches hash branches
 
--- the digests of the branches of each TPM2_PolicyOR of a policy
+-- the branch digests of each TPM2_PolicyOR in a policy
 abbrev mutual
   pub branch_lists : HashAlg → PolicyExpression → List (List (List ℕ))
   branch_lists hash Nothing = []
@@ -58,8 +60,8 @@ abbrev mutual
   lists_within hash (Branch policy branches) =
       branch_lists hash policy ++ lists_within hash branches
 
--- A text is none of these texts, but astride two neighbours: it is the end of the one and the
--- beginning of the next.
+-- A text is not in this list, but lies across two neighbours: it consists of the end of one and
+-- the start of the next.
 pub record IsAstride (text : List ℕ) (texts : List (List ℕ)) : Type 0 where
   pub before : List (List ℕ)
   pub front : List ℕ
@@ -73,12 +75,13 @@ pub record IsAstride (text : List ℕ) (texts : List (List ℕ)) : Type 0 where
   pub has_beginning : beginning ≢ []
   pub is_none : IsAmong text texts → ⊥
 
--- The hash is broken, by what a policy and the assertions of a session spell. Collision: two texts
--- have one hash, one hashed for the policy and another by the session. HashOfZeros: a text has a
--- hash of zeros, with which a session starts. AstrideBranches: a digest that the session had is
--- astride the digests of two branches, one after the other, of a TPM2_PolicyOR of the policy.
--- TPM2_PolicyOR hashes its digests joined, and no sizes, so that a session may hand the same bytes
--- to it cut elsewhere.
+-- The hash is broken, by texts that a policy and a session's assertions determine.
+-- Collision: two different texts have the same hash; one was hashed for the policy, the other by
+-- the session.
+-- HashOfZeros: the hash of a text is all zeros, the initial digest of a session.
+-- AstrideBranches: a digest of the session lies across the digests of two neighbouring branches
+-- of a TPM2_PolicyOR in the policy. TPM2_PolicyOR hashes the concatenation of its digests without
+-- their sizes, so a session may pass the same bytes split at other offsets.
 pub data BreaksHash (hash : HashAlg) (policy : PolicyExpression) (assertions : List Assertion)
     : Type 0
   where
@@ -93,8 +96,8 @@ pub data BreaksHash (hash : HashAlg) (policy : PolicyExpression) (assertions : L
         → IsAmong digests (branch_lists hash policy) → IsAstride digest digests
         → BreaksHash hash policy assertions
 
--- A policy session with the digest of a policy asserted what the policy says, or the hash is
--- broken.
+-- If a policy session's digest is that of a policy, the session asserted what the policy says, or
+-- the hash is broken.
 abbrev pub DigestMeans : Type 0
 DigestMeans =
     (hash : HashAlg) (policy : PolicyExpression) (assertions : List Assertion)

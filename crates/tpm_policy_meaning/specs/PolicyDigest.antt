@@ -1,6 +1,6 @@
--- The digest of a policy, as an authPolicy has it. TPM 2.0 Library, Part 3, section 23.2.3 (policy
--- digest update function), and the section of each assertion. It is the end of a chain of texts,
--- each of which begins with the hash of the one before.
+-- The digest of a policy, as used in an authPolicy. TPM 2.0 Library, Part 3, section 23.2.3
+-- (policy digest update function), and the section of each assertion. The digest is the end of a
+-- chain of texts, each of which starts with the hash of the one before.
 use Rattle.std.specs.Prelude.{ℕ, List, [], ◌∷◌, ◌++◌, replicate, Option, Some, None}
 use Rattle.std.specs.Int.{w16, w32, to_be_bytes}
 use Rattle.std.specs.List.{flat_map}
@@ -20,8 +20,8 @@ use Rattle.tpm_policy_meaning.specs.Expression.{PolicyNv}
 use Rattle.tpm_policy_meaning.specs.Expression.{PolicyExpression, Nothing, Then, PolicyOr}
 use Rattle.tpm_policy_meaning.specs.Expression.{PolicyBranches, NoBranch, Branch}
 
--- what an assertion puts into the digest: the code of its command, what it is about, and policyRef,
--- where it has one; and where it is about the hash of a text, that text
+-- what an assertion contributes to the digest: its command code, its data, and policyRef, if it
+-- has one; and if the data is the hash of a text, that text
 pub record PolicyUpdate : Type 0 where
   pub code : CommandCode
   pub about : List ℕ
@@ -31,16 +31,17 @@ pub record PolicyUpdate : Type 0 where
 abbrev pub plain_update : CommandCode → (about : List ℕ) → PolicyUpdate
 plain_update code about = record { code = code; about = about; reference = None; apart = [] }
 
--- the update of TPM2_PolicyOR: the joined digests of its branches, without their sizes
+-- the update of TPM2_PolicyOR: the concatenated digests of its branches, without their sizes
 abbrev pub or_update : (digests : List (List ℕ)) → PolicyUpdate
 or_update digests = plain_update command.PolicyOr (flat_map (λ digest. digest) digests)
 
--- the update of TPM2_PolicySecret, which has a policyRef, perhaps an empty one
+-- the update of TPM2_PolicySecret, which always has a policyRef, though it may be empty
 abbrev pub secret_update : (name reference : List ℕ) → PolicyUpdate
 secret_update name reference =
     record (plain_update command.PolicySecret name) { reference = Some reference }
 
--- the arguments of TPM2_PolicyNV, whose hash its update has: operandB || offset || operation
+-- the arguments of TPM2_PolicyNV, whose hash is part of its update: operandB || offset ||
+-- operation
 abbrev pub nv_arguments_text : (operand : List ℕ) → (offset : ℕ) → Operation → List ℕ
 nv_arguments_text operand offset operation =
     operand ++ to_be_bytes w16 offset ++ to_be_bytes w16 (operation_number operation)
@@ -51,7 +52,7 @@ nv_update hash name arguments =
       apart = arguments ∷ [];
     }
 
--- the update of an assertion; TPM2_PolicyPassword has the code of TPM2_PolicyAuthValue
+-- the update of an assertion; TPM2_PolicyPassword uses the command code of TPM2_PolicyAuthValue
 abbrev pub update_of : HashAlg → PolicyAssertion → PolicyUpdate
 update_of hash (PolicyPcr selection digest) =
     plain_update command.PolicyPcr (selection_text selection ++ digest)
@@ -70,22 +71,22 @@ update_of hash (PolicyNv name operand offset operation) =
 
 -- ---- the texts that are hashed for a policy
 
--- the text of an update: the code, and what the assertion is about
+-- the text of an update: the command code and the assertion's data
 abbrev pub update_text : PolicyUpdate → List ℕ
 update_text update = to_be_bytes w32 (code_number update.code) ++ update.about
 
--- a text of an assertion, and where the assertion has a policyRef a second one: the hash of the
--- first, and policyRef
+-- an assertion's text and, if the assertion has a policyRef, a second one: the hash of the first,
+-- then policyRef
 abbrev pub with_reference : HashAlg → Option (List ℕ) → (text : List ℕ) → List (List ℕ)
 with_reference hash None text = text ∷ []
 with_reference hash (Some reference) text = (hash_of hash text ++ reference) ∷ text ∷ []
 
--- the texts that are hashed for an assertion after a digest, the latest first
+-- the texts that are hashed when an assertion extends this digest, the latest first
 abbrev pub texts_after : HashAlg → (digest : List ℕ) → PolicyUpdate → List (List ℕ)
 texts_after hash digest update =
     with_reference hash update.reference (digest ++ update_text update) ++ update.apart
 
--- the zeros with which the digest of a policy begins
+-- the zeros from which the digest of a policy starts
 abbrev pub zeros : HashAlg → List ℕ
 zeros hash = replicate (digest_size hash) 0
 
@@ -94,8 +95,8 @@ abbrev pub digest_after : HashAlg → (texts : List (List ℕ)) → List ℕ
 digest_after hash [] = zeros hash
 digest_after hash (text ∷ earlier) = hash_of hash text
 
--- the texts that are hashed for a policy, those of its branches too, the latest first; the text of
--- TPM2_PolicyOR begins with zeros again
+-- the texts that are hashed for a policy and for its branches, the latest first; the text of
+-- TPM2_PolicyOR starts from zeros again
 abbrev mutual
   pub policy_texts : HashAlg → PolicyExpression → List (List ℕ)
   policy_texts hash Nothing = []

@@ -13,8 +13,8 @@ use Rattle.tpm_policy_meaning.specs.Expression.{PolicyExpression, Nothing, Then,
 use Rattle.tpm_policy_meaning.specs.Meaning.{IsPolicyExpression}
 use Rattle.tpm_policy_meaning.specs.PolicyDigest.{branch_digests, policy_digest}
 
--- what a trial session asserts for an assertion of a written policy, where this is the digest that
--- the PCRs of the device have now
+-- what a trial session asserts for an assertion of a written policy, if this is the current
+-- digest of the device's PCRs
 abbrev pub assertion_of : (pcrs_now : List ℕ) → PolicyAssertion → Assertion
 assertion_of pcrs_now (PolicyPcr selection digest) = assertion.Pcr (record {
   given = digest;
@@ -44,8 +44,8 @@ assertion_of pcrs_now (PolicyNv name operand offset operation) = assertion.Nv (r
   compared = Ok [];
 })
 
--- what a trial session asserts for a policy, the latest first; TPM2_PolicyOR passes there without
--- any of its branches
+-- what a trial session asserts for a policy, the latest first; a trial session accepts
+-- TPM2_PolicyOR without making the assertions of any branch
 abbrev pub assertions_of : HashAlg → (pcrs_now : List ℕ) → PolicyExpression → List Assertion
 assertions_of hash pcrs_now Nothing = []
 assertions_of hash pcrs_now (Then before written) =
@@ -53,8 +53,8 @@ assertions_of hash pcrs_now (Then before written) =
 assertions_of hash pcrs_now (PolicyOr branches) =
     assertion.Or (branch_digests hash branches) ∷ []
 
--- A trial session on which a policy is asserted has the digest of the policy, whatever values the
--- PCRs have.
+-- Asserting a policy on a trial session yields the policy's digest, whatever the current values
+-- of the PCRs are.
 abbrev pub TrialComputes : Type 0
 TrialComputes =
     (hash : HashAlg) (pcrs_now : List ℕ) (policy : PolicyExpression)

@@ -1,4 +1,4 @@
--- The examples of two devices, computed.
+-- Computes the examples of two devices.
 use Rattle.std.proofs.Common.{◌≡◌, ◌≢◌, ℕ, [], ◌∷◌, List, get_or, refl, ap, arith}
 use Rattle.tpm_record.specs.Entity.{entity_at, object_of}
 use Rattle.tpm_record.specs.Hierarchy.{manufactured_hierarchies}

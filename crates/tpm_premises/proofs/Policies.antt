@@ -1,4 +1,4 @@
--- Each assertion is one of a written policy.
+-- A written policy can contain every assertion.
 use Rattle.tpm_premises.specs.Policies.{EachIsWritten}
 
 pub each_is_written : EachIsWritten

@@ -1,4 +1,4 @@
--- The example of a replay, computed.
+-- Computes the example of a replay.
 use Rattle.std.proofs.Common.{◌≡◌, ◌≢◌, [], ◌∷◌, Some, None, Ok, refl, sym, ◌∙◌}
 use Rattle.tpm_commands.specs.CommandCode.{code_named, shape_of}
 use Rattle.tpm_actions_device.specs.StartAuthSession.{parameters_in}

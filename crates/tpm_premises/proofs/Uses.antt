@@ -1,4 +1,4 @@
--- The example of a use, computed.
+-- Computes the example of a use.
 use Rattle.std.proofs.Common.{refl}
 use Rattle.tpm_commands.specs.CommandCode.{shape_of}
 use Rattle.tpm_types.specs.Handle.{numbered}

@@ -1,20 +1,20 @@
--- Two devices with one history, and two that differ in secrets.
+-- Two devices with the same history, and two that differ in secrets.
 use Rattle.std.specs.Prelude.{◌≢◌, ℕ, true, [], ◌∷◌, replicate}
 use Rattle.tpm_record.specs.Record.{Record, manufactured}
 use Rattle.tpm_row_secrecy.specs.Secrecy.{DifferInSecrets, of_data}
 use Rattle.tpm_step.specs.Alike.{AreAlike}
 use Rattle.tpm_step.specs.FailedRun.{protected_index, tried}
 
--- a device whose seeds and proofs are of this byte
+-- a device whose seeds and proofs consist only of this byte
 abbrev pub seeded : (byte : ℕ) → Record
 seeded byte = manufactured (replicate 256 byte)
 
--- Two devices with different seeds are alike after no command.
+-- Two devices with different seeds are alike before any command.
 pub record AreTwoDevices : Type 0 where
   pub alike : AreAlike (seeded 0) (seeded 1) []
   pub differ : seeded 0 ≢ seeded 1
 
--- a device with an index that holds this byte eight times
+-- a device with an index that contains this byte eight times
 abbrev pub holding : (byte : ℕ) → Record
 holding byte =
     let r : Record = tried 0 0 0 in
@@ -24,7 +24,7 @@ holding byte =
       };
     }
 
--- Two devices differ in the data of an index, which is secret, and in nothing else.
+-- Two devices differ only in the data of an index, which is secret.
 pub record AreTwoSecrets : Type 0 where
   pub secrets : DifferInSecrets (of_data (λ number. true) (λ public. true)) (holding 0) (holding 1)
   pub differ : holding 0 ≢ holding 1

@@ -1,4 +1,4 @@
--- Each assertion has its place in written policies. TPM 2.0 Library, Part 1, section 19.7.
+-- A written policy can contain every assertion. TPM 2.0 Library, Part 1, section 19.7.
 use Rattle.std.specs.Prelude.{◌≡◌, ℕ, ◌<◌, ◌^◌, Bool, List, length}
 use Rattle.tpm_mac.specs.Digest.{digest_size}
 use Rattle.tpm_mac.specs.declared.algorithm.HashAlg.{HashAlg}
@@ -11,12 +11,12 @@ use Rattle.tpm_policy_meaning.specs.Expression.{PolicyCommandCode, PolicyLocalit
 use Rattle.tpm_policy_meaning.specs.Expression.{PolicyNvWritten, PolicySecret, PolicyNv}
 use Rattle.tpm_policy_meaning.specs.Meaning.{IsPolicyExpression}
 
--- A policy can be written that demands this after another one.
+-- A policy can be written that adds this assertion to another policy.
 abbrev pub IsWrittenAfter : HashAlg → PolicyExpression → PolicyAssertion → Type 0
 IsWrittenAfter hash before assertion = IsPolicyExpression hash (Then before assertion)
 
--- Each assertion can be written after a policy: the digest of PCRs has the size of the policy's
--- hash, the number of a command has 32 bits, and an offset has 16.
+-- Each assertion can be added to a policy: a PCR digest is as long as a digest of the policy's
+-- hash, a command code fits in 32 bits, and an offset in 16.
 pub record WritesEach (hash : HashAlg) (before : PolicyExpression) : Type 0 where
   pub pcr : (selection : List BankSelection) (digest : List ℕ) → length digest ≡ digest_size hash
       → IsWrittenAfter hash before (PolicyPcr selection digest)

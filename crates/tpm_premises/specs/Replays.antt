@@ -1,4 +1,4 @@
--- An example of a buffer that a history has twice.
+-- An example of a buffer that occurs twice in a history.
 use Rattle.std.specs.Prelude.{List, ℕ, [], ◌∷◌, ◌++◌, Some, None, replicate}
 use Rattle.tpm_mac.specs.declared.algorithm.HashAlg.TheVariants as alg
 use Rattle.tpm_commands.specs.declared.command_code.CommandCode.TheVariants as command
@@ -21,7 +21,7 @@ abbrev pub start_parameters : List ℕ
 start_parameters =
     0x00 ∷ 0x10 ∷ replicate 16 0 ++ 0x00 ∷ 0x00 ∷ 0x00 ∷ 0x00 ∷ 0x10 ∷ 0x00 ∷ 0x0b ∷ []
 
--- TPM2_StartAuthSession, which started a session under the handle 02000000
+-- TPM2_StartAuthSession, which started a session with the handle 02000000
 abbrev pub starting : AcceptedCommand
 starting = record {
   command = record {
@@ -64,14 +64,14 @@ entry = record {
   hmac = 1 ∷ 2 ∷ 3 ∷ 4 ∷ [];
 }
 
--- TPM2_GetRandom of eight bytes with this entry
+-- TPM2_GetRandom for eight bytes, with this entry
 abbrev pub buffer : List ℕ
 buffer =
     0x80 ∷ 0x02 ∷ 0x00 ∷ 0x00 ∷ 0x00 ∷ 0x1d ∷ 0x00 ∷ 0x00 ∷ 0x01 ∷ 0x7b
     ∷ 0x00 ∷ 0x00 ∷ 0x00 ∷ 0x0d ∷ 0x02 ∷ 0x00 ∷ 0x00 ∷ 0x00 ∷ 0x00 ∷ 0x00 ∷ 0x01
     ∷ 0x00 ∷ 0x04 ∷ 1 ∷ 2 ∷ 3 ∷ 4 ∷ 0x00 ∷ 0x08 ∷ []
 
--- the command of this buffer, as a history has it
+-- the command in this buffer, as a history records it
 abbrev pub asking : AcceptedCommand
 asking = record {
   command = record {
@@ -92,6 +92,6 @@ asking = record {
   sensitive = None;
 }
 
--- The buffer is twice in a history, and is a replay the second time.
+-- The buffer occurs twice in a history, and the second time it is a replay.
 abbrev pub HasReplay : Type 0
 HasReplay = IsReplay buffer (Done starting ∷ []) asking [] asking 0 entry session

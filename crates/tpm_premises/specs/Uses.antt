@@ -1,4 +1,4 @@
--- An example of a use of an object by its policy.
+-- An example of using an object through its policy.
 use Rattle.std.specs.Prelude.{[], ◌∷◌, None, replicate}
 use Rattle.tpm_mac.specs.declared.algorithm.HashAlg.TheVariants as alg
 use Rattle.tpm_commands.specs.declared.command_code.CommandCode.TheVariants as command
@@ -13,8 +13,8 @@ use Rattle.tpm_step.specs.History.{AcceptedCommand}
 use Rattle.tpm_step.specs.PolicyReviews.{UsesObject}
 use Rattle.tpm_step.specs.View.{OfObject}
 
--- the public area of sealed data whose authPolicy is that of TPM2_PolicyAuthValue; of the
--- attributes it has fixedTPM and fixedParent alone
+-- the public area of sealed data whose authPolicy is the policy of TPM2_PolicyAuthValue; its only
+-- attributes are fixedTPM and fixedParent
 abbrev pub sealed_data : Public
 sealed_data = record {
   name_alg = alg.Sha256;
@@ -24,7 +24,7 @@ sealed_data = record {
   unique = [];
 }
 
--- TPM2_Unseal of the object, as a history has it
+-- TPM2_Unseal of the object, as a history records it
 abbrev pub unsealing : AcceptedCommand
 unsealing = record {
   command = record {

@@ -1,10 +1,11 @@
 #![tactic(auto)]
 
-//! Examples that meet the premises of laws: of policies, of uses of objects, of replays, of two
-//! devices with one history, of devices that differ in secrets, and of journals.
+//! Examples that satisfy the premises of laws: about policies, uses of objects, replays, two
+//! devices with one history, devices that differ in secrets, and journals.
 //!
-//! A law says nothing where nobody can meet its premise. Each example here meets one, and is
-//! computed. Each law is the contract of a function that does nothing. No crate uses this one.
+//! A law whose premise can never be satisfied says nothing. Each example here satisfies one
+//! premise, by computation. Each law is the contract of a function that has no effect at run
+//! time. No crate depends on this one.
 
 ghost use Rattle.tpm_premises.specs.Devices.{AreTwoDevices, AreTwoSecrets};
 ghost use Rattle.tpm_premises.specs.Journals.{HasOneEntry};
@@ -12,32 +13,31 @@ ghost use Rattle.tpm_premises.specs.Policies.{EachIsWritten};
 ghost use Rattle.tpm_premises.specs.Replays.{HasReplay};
 ghost use Rattle.tpm_premises.specs.Uses.{HasUse};
 
-/// Each assertion can be the next one of a written policy, and two policies can be the branches of
-/// one.
+/// Every assertion can come next in a written policy, and two policies can be the branches of
+/// another.
 #[inline(always)]
 #[tactic(auto, using(crate::proofs::Policies::each_is_written))]
 pub fn policy_premise()
     ensures { EachIsWritten }
 {}
 
-/// A command uses an object that has no userWithAuth, and whose authPolicy is the digest of a
-/// policy.
+/// A command uses an object without userWithAuth, whose authPolicy is the digest of a policy.
 #[inline(always)]
 #[tactic(auto, using(crate::proofs::Uses::has_use))]
 pub fn use_premise()
     ensures { HasUse }
 {}
 
-/// One buffer spells two commands of a history, whose entry has an HMAC and names an HMAC session
-/// that lives all the while.
+/// The same buffer is executed as two commands of a history. Its entry has an HMAC, and names an
+/// HMAC session that survives in between.
 #[inline(always)]
 #[tactic(auto, using(crate::proofs::Replays::has_replay))]
 pub fn replay_premise()
     ensures { HasReplay }
 {}
 
-/// Two devices with different seeds are alike, and two with different data of an index differ in
-/// secrets alone.
+/// Two devices with different seeds are alike, and two with different data in an index differ
+/// only in secrets.
 #[inline(always)]
 #[tactic(auto, using(crate::proofs::Devices::are_two_devices, crate::proofs::Devices::are_two_secrets))]
 pub fn device_premises()
@@ -45,7 +45,7 @@ pub fn device_premises()
     ensures secrets { AreTwoSecrets }
 {}
 
-/// A journal has an entry of a command that a device executed.
+/// A journal contains an entry for a command that a device executed.
 #[inline(always)]
 #[tactic(auto, using(crate::proofs::Journals::has_one_entry))]
 pub fn journal_premise()

@@ -1,2 +1,2 @@
--- Laws of what the rows of all commands are made of.
+-- Laws of the parts that the rows of all commands share.
 pub mod TargetLaws

@@ -1,6 +1,6 @@
--- What TPM2_Clear does to objects, transient and persistent: those of the owner and of the
--- endorsement hierarchy are gone. TPM 2.0 Library, Part 3, section 24.6. What the command does to
--- the hierarchies is defined in Hierarchy, and what it does to NV indices in tpm_nv/Clear.
+-- What TPM2_Clear does to transient and persistent objects: it removes those in the owner and
+-- endorsement hierarchies. TPM 2.0 Library, Part 3, section 24.6. Its effect on the hierarchies is
+-- defined in Hierarchy, and its effect on NV indices in tpm_nv/Clear.
 use Rattle.std.specs.Prelude.{◌≡◌, ◌≤◌, ℕ, Bool, true, false, not, List, Option, Some, None, map, if◌then◌else◌}
 use Rattle.tpm_containers.specs.SortedMap.{Entries, kept_entries}
 use Rattle.tpm_object.specs.Object.{transient_byte}
@@ -10,35 +10,35 @@ use Rattle.tpm_containers.specs.Slots.{taken_count}
 use Rattle.tpm_types.specs.declared.handle.HierarchyHandle.{HierarchyHandle}
 use Rattle.tpm_types.specs.declared.handle.HierarchyHandle.TheVariants as hierarchy
 
--- whether TPM2_Clear removes the objects of a hierarchy
+-- whether TPM2_Clear removes the objects in a hierarchy
 abbrev pub is_cleared : HierarchyHandle → Bool
 is_cleared hierarchy.Owner = true
 is_cleared hierarchy.Endorsement = true
 is_cleared hierarchy.Platform = false
 is_cleared hierarchy.Null = false
 
--- whether there is an object in a place that TPM2_Clear removes
+-- whether a slot contains an object that TPM2_Clear removes
 abbrev pub is_place_cleared : Option Object → Bool
 is_place_cleared (Some object) = is_cleared object.hierarchy
 is_place_cleared None = false
 
--- a place after TPM2_Clear: free, if its object was removed
+-- a slot after TPM2_Clear, which frees it if its object is removed
 abbrev pub cleared_place : Option Object → Option Object
 cleared_place place = if is_place_cleared place then None else place
 
 unfoldable pub cleared_objects : List (Option Object) → List (Option Object)
 cleared_objects places = map cleared_place places
 
--- whether a persistent object outlasts TPM2_Clear: its hierarchy is another
+-- whether a persistent object survives TPM2_Clear, because it belongs to another hierarchy
 abbrev pub outlasts : Object → Bool
 outlasts object = not (is_cleared object.hierarchy)
 
 abbrev pub cleared_persistent : Entries Object → Entries Object
 cleared_persistent objects = kept_entries outlasts objects
 
--- the laws of the objects that are found after TPM2_Clear
+-- laws about the objects found after TPM2_Clear
 pub record ClearingLaws : Type 0 where
-  -- an object of a hierarchy that is cleared is gone, and any other stays as it was
+  -- an object in a cleared hierarchy is gone, and any other object is unchanged
   pub gone : (places : List (Option Object)) (number : ℕ) (object : Object)
       → at_number transient_byte places number ≡ Some object
       → is_cleared object.hierarchy ≡ true
@@ -47,7 +47,8 @@ pub record ClearingLaws : Type 0 where
       → at_number transient_byte places number ≡ Some object
       → is_cleared object.hierarchy ≡ false
       → at_number transient_byte (cleared_objects places) number ≡ Some object
-  -- where no object was, there is none after it, and no more places are taken
+  -- if there was no object with this handle, there is still none, and the number of taken slots
+  -- does not grow
   pub absent : (places : List (Option Object)) (number : ℕ)
       → at_number transient_byte places number ≡ None
       → at_number transient_byte (cleared_objects places) number ≡ None

@@ -1,4 +1,4 @@
--- The record that containers of any kind keep.
+-- The record that is stored in containers of any kind.
 use Rattle.std.specs.Prelude.{List, Option}
 use Rattle.tpm_containers.specs.SortedMap.{Entries}
 use Rattle.tpm_nv.specs.Index.{NvContents}
@@ -9,7 +9,7 @@ use Rattle.tpm_record.specs.Objects.{objects_of}
 use Rattle.tpm_record.specs.Record.{Record}
 use Rattle.tpm_record.specs.declared.kept.Kept.{Kept}
 
--- the record of these containers, by functions that show the places of the sessions and of the
+-- the record in these containers, given functions that return the slots of the sessions and of the
 -- transient objects, the persistent objects, and the NV indices
 abbrev pub kept_record : {S O P N : Type 0}
     → (S → List (Option Session)) → (O → List (Option Object)) → (P → Entries Object)

@@ -1,4 +1,4 @@
--- The transient objects of a device by their handles. TPM 2.0 Library, Part 1, section 15.6
+-- The transient objects of a device, keyed by handle. TPM 2.0 Library, Part 1, section 15.6
 -- (transient objects), and Part 2, section 7.2 (TPM_HT_TRANSIENT: a handle whose highest byte is
 -- 80).
 use Rattle.std.specs.Prelude.{◌≡◌, ℕ, Bool, true, List, Option, Some, option_map, Result, Ok, Err, None, slice_set}
@@ -11,31 +11,32 @@ use Rattle.tpm_containers.specs.declared.slots.SlotFault.TheVariants.{Full, NoMe
 use Rattle.tpm_types.specs.declared.handle.Handle.{Handle}
 use Rattle.tpm_record.specs.declared.objects.Objects.{Objects}
 
--- the places of the transient objects, by a function that shows those of their container
+-- the slots of the transient objects, given a function that returns the slots of their container
 abbrev pub objects_of : {O : Type 0}
     → (O → List (Option Object)) → Objects O → List (Option Object)
 objects_of places objects = places objects.places
 
--- the object of a handle
+-- the object with this handle
 unfoldable pub object_at : List (Option Object) → Handle → Option Object
 object_at places handle = at_number transient_byte places handle.number
 
--- the handle of an object in a place, and that which the next object takes
+-- the handle of the object in a slot, and the handle that the next object gets
 abbrev pub object_handle : ℕ → Handle
 object_handle place = record { number = number_of 0x80 place }
 
 abbrev pub next_handle : List (Option Object) → Option Handle
 next_handle places = option_map object_handle (lowest_free places)
 
--- the places with an object in one of them
+-- the slots after an object was put into one of them
 abbrev pub with_object : List (Option Object) → ℕ → Object → List (Option Object)
 with_object places place object = slice_set places place (Some object)
 
--- the places without the object of a handle
+-- the slots without the object with this handle
 unfoldable pub without_object : List (Option Object) → Handle → List (Option Object)
 without_object places handle = without_number transient_byte places handle.number
 
--- An object took the lowest free place, unless all were taken or memory was refused.
+-- An object was put into the lowest free slot, or was refused because all slots were taken or an
+-- allocation failed.
 abbrev pub Adds : Bool → List (Option Object) → Object
     → Result Handle SlotFault → List (Option Object) → Type 0
 Adds can old object (Ok handle) new =

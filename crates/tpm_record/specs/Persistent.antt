@@ -1,6 +1,6 @@
--- The persistent objects of a device by their handles, in ascending order of these. TPM 2.0
--- Library, Part 1, section 37.3 (owner and platform evict objects), and Part 2, section 7.2
--- (TPM_HT_PERSISTENT: a handle whose highest byte is 81).
+-- The persistent objects of a device, in ascending order of handle. TPM 2.0 Library, Part 1,
+-- section 37.3 (owner and platform evict objects), and Part 2, section 7.2 (TPM_HT_PERSISTENT: a
+-- handle whose highest byte is 81).
 use Rattle.tpm_types.specs.Limits.{persistent_limit}
 use Rattle.std.specs.Prelude.{◌≡◌, ℕ, ◌≤◌, Bool, true, false, [], length, Option}
 use Rattle.tpm_containers.specs.SortedMap.{AreEach, Ascends, Entries, at_key, key_from, with_key, without_key}
@@ -14,36 +14,36 @@ use Rattle.tpm_types.specs.declared.handle.HierarchyHandle.TheVariants as hierar
 abbrev pub no_persistent : Entries Object
 no_persistent = []
 
--- the object of a handle
+-- the object with this handle
 abbrev pub persistent_at : Entries Object → Handle → Option Object
 persistent_at objects handle = at_key objects handle.number
 
--- the persistent objects with one more, and without one
+-- the persistent objects after one was added, and after one was removed
 abbrev pub with_persistent : Entries Object → Handle → Object → Entries Object
 with_persistent objects handle object = with_key objects handle.number object
 
 abbrev pub without_persistent : Entries Object → Handle → Entries Object
 without_persistent objects handle = without_key objects handle.number
 
--- the lowest handle of a persistent object from a number on
+-- the lowest handle of a persistent object at or above this number
 abbrev pub next_persistent : Entries Object → ℕ → Option ℕ
 next_persistent objects number = key_from objects number
 
--- whether objects of a hierarchy can be persistent: not those of the null hierarchy, which is made
--- anew at each TPM Reset
+-- whether objects in a hierarchy can be made persistent: not those in the null hierarchy, whose
+-- secrets are replaced at each TPM Reset
 abbrev pub can_persist : HierarchyHandle → Bool
 can_persist hierarchy.Owner = true
 can_persist hierarchy.Endorsement = true
 can_persist hierarchy.Platform = true
 can_persist hierarchy.Null = false
 
--- What holds of a persistent object under its handle.
+-- What holds for a persistent object and its handle.
 pub record IsPersistent (number : ℕ) (object : Object) : Type 0 where
   pub named : is_persistent (numbered number) ≡ true
   pub owned : can_persist object.hierarchy ≡ true
   pub sized : IsObject object
 
--- What holds of all persistent objects.
+-- What holds for all persistent objects.
 pub record ArePersistent (objects : Entries Object) : Type 0 where
   pub ascends : Ascends objects
   pub few : length objects ≤ persistent_limit

@@ -1,4 +1,4 @@
--- Handles with what they name, which is looked up once.
+-- Handles and what they name, which is looked up once.
 use Rattle.std.specs.Prelude.{◌≡◌, List, map}
 use Rattle.tpm_types.specs.declared.handle.Handle.{Handle}
 use Rattle.tpm_record.specs.Entity.{Entity, entity_at, entity_seen}
@@ -16,15 +16,15 @@ found_at r handle = record { handle = handle; entity = entity_at r handle }
 abbrev pub entities_at : Record → List Handle → List Found
 entities_at r handles = map (found_at r) handles
 
--- a handle and what the code found that it names, wherever that lies in memory
+-- a handle and the entity that the code found for it, regardless of where it is in memory
 abbrev pub found_by : Resolved → Found
 found_by resolved =
     record { handle = resolved.handle; entity = entity_seen resolved.entity }
 
--- What the code found under a handle is what the record has there.
+-- What the code found for a handle is what the record contains for it.
 abbrev pub IsFound : Record → Resolved → Type 0
 IsFound r resolved = entity_seen resolved.entity ≡ entity_at r resolved.handle
 
--- What the code found under these handles is what the record has there.
+-- What the code found for each of these handles is what the record contains for it.
 abbrev pub AreFound : Record → List Resolved → List Handle → Type 0
 AreFound r resolved handles = map found_by resolved ≡ entities_at r handles

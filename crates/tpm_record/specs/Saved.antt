@@ -1,5 +1,5 @@
--- What the last TPM2_Shutdown saved for the next TPM2_Startup. TPM 2.0 Library, Part 1, section
--- 12.2.3, and Part 3, sections 9.3 and 9.4.
+-- The state that the last TPM2_Shutdown saved for the next TPM2_Startup. TPM 2.0 Library, Part 1,
+-- section 12.2.3, and Part 3, sections 9.3 and 9.4.
 use Rattle.std.specs.Prelude.{Option, Some, None}
 use Rattle.tpm_pcr.specs.Saved.{IsSaved, SavedValues, restored_in, saved_of}
 use Rattle.tpm_pcr.specs.Values.{BankValues}
@@ -8,19 +8,20 @@ use Rattle.tpm_types.specs.declared.startup_type.StartupType.TheVariants as type
 use Rattle.tpm_record.specs.declared.saved.SavedKind.{SavedKind}
 use Rattle.tpm_record.specs.declared.saved.SavedKind.TheVariants as kind
 
--- what is saved: nothing, as there was no TPM2_Shutdown, or since it was cancelled; that there was
--- one with CLEAR; or the values of the PCRs that one with STATE saved
+-- the saved state: nothing, if there was no TPM2_Shutdown or it was cancelled; for a shutdown with
+-- CLEAR, only the fact that it happened; for one with STATE, the values of the PCRs
 pub data SavedState : Type 0 where
   Nothing : SavedState
   Clear : SavedState
   State : SavedValues → SavedState
 
--- what a TPM2_Shutdown saves
+-- the state that a TPM2_Shutdown of this type saves
 abbrev pub saved_by : StartupType → BankValues → SavedState
 saved_by type.Clear banks = Clear
 saved_by type.State banks = State (saved_of banks)
 
--- what is saved, from its kind and from values that count only where the kind is STATE
+-- the saved state, given its kind and the stored values, which are ignored unless the kind is
+-- STATE
 abbrev pub state_kept : SavedKind → SavedValues → SavedState
 state_kept kind.Nothing values = Nothing
 state_kept kind.Clear values = Clear
@@ -32,19 +33,19 @@ kind_of Nothing = kind.Nothing
 kind_of Clear = kind.Clear
 kind_of (State values) = kind.State
 
--- the values that are saved, if any are
+-- the saved values, if there are any
 abbrev pub values_of : SavedState → Option SavedValues
 values_of Nothing = None
 values_of Clear = None
 values_of (State values) = Some values
 
--- the banks with the values that are saved, if any are
+-- the banks after the saved values, if there are any, were restored
 abbrev pub restored_from : SavedState → BankValues → BankValues
 restored_from Nothing banks = banks
 restored_from Clear banks = banks
 restored_from (State values) banks = restored_in values banks
 
--- What holds of all that is saved.
+-- What holds for every saved state.
 abbrev pub IsSavedState : SavedState → Type 0
 IsSavedState Nothing = Unit {0}
 IsSavedState Clear = Unit {0}

@@ -1,4 +1,4 @@
--- What the rows of all commands are made of.
+-- What the rows of all commands share.
 pub mod Request
 pub mod Draws
 pub mod Answer

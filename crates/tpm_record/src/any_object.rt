@@ -1,5 +1,5 @@
-//! Objects of a device's state, transient and persistent, added, removed and found one after
-//! another by one call each.
+//! The objects in a device's state, transient and persistent: adding one, removing one, and
+//! finding the next one.
 
 ghost use Rattle.std.specs.Prelude.{◌≡◌, is_some, true};
 ghost use Rattle.tpm_record.specs.AnyObject.{AddsObject, AddsPersistent, next_object, next_transient};
@@ -14,14 +14,14 @@ use tpm_containers::{KeyFault, SlotFault, numbered};
 use tpm_object::{Object, TRANSIENT_BYTE};
 use tpm_types::{Handle, OBJECT_LIMIT};
 
-/// Adds a transient object under the lowest free handle, which it gives.
+/// Adds a transient object with the lowest free handle, and returns the handle.
 pub fn add_object<K: Keep>(keep: &mut K, object: Object) -> Result<Handle, SlotFault>
     ensures { AddsObject K.can_refuse (K.record_of keep.old) object result (K.record_of keep.new) }
 {
     keep.objects_mut().add(object)
 }
 
-/// Adds a persistent object under a handle that is free.
+/// Adds a persistent object with a handle that must be free.
 pub fn add_persistent<K: Keep>(keep: &mut K, handle: Handle, object: Object) -> Result<(), KeyFault>
     requires named { is_persistent handle ≡ true }
     requires owned { can_persist object.hierarchy ≡ true }
@@ -31,7 +31,7 @@ pub fn add_persistent<K: Keep>(keep: &mut K, handle: Handle, object: Object) -> 
     keep.persistent_mut().add(handle, object)
 }
 
-/// Removes the object of a handle, transient or persistent, and tells whether there was one.
+/// Removes the transient or persistent object with this handle. Returns whether there was one.
 #[tactic(auto, unfolding(crate::specs::Entity::object_of))]
 pub fn remove_object<K: Keep>(keep: &mut K, handle: Handle) -> bool
     ensures there { result ≡ is_some (object_of (K.record_of keep.old) handle) }
@@ -44,7 +44,8 @@ pub fn remove_object<K: Keep>(keep: &mut K, handle: Handle) -> bool
     }
 }
 
-/// The number of the lowest handle of an object, transient or persistent, from this one on.
+/// The number of the lowest handle at or above this one that belongs to a transient or persistent
+/// object.
 pub fn next_object<K: Keep>(keep: &K, from: Handle) -> Option<u32>
     ensures { result ≡ next_object (K.record_of keep.now) from.number }
 {
@@ -54,7 +55,7 @@ pub fn next_object<K: Keep>(keep: &K, from: Handle) -> Option<u32>
     }
 }
 
-/// The number of the lowest handle of a transient object, from this one on.
+/// The number of the lowest handle at or above this one that belongs to a transient object.
 #[tactic(auto, using(crate::proofs::Searching::none_more, crate::proofs::Searching::found_least))]
 fn next_transient<K: Keep>(keep: &K, from: Handle) -> Option<u32>
     ensures { result ≡ next_transient (K.record_of keep.now).objects from.number }

@@ -1,4 +1,4 @@
-//! What TPM2_Clear does to objects, transient and persistent.
+//! What TPM2_Clear does to transient and persistent objects.
 
 ghost use Rattle.std.specs.Prelude.{◌≡◌, None, if◌then◌else◌, length, option_copied, slice_set};
 ghost use Rattle.tpm_containers.specs.Slots.{at_place};
@@ -9,7 +9,7 @@ use tpm_containers::{Choice, Slots};
 use tpm_object::Object;
 use tpm_types::{HierarchyHandle, OBJECT_LIMIT};
 
-/// Whether TPM2_Clear removes the objects of a hierarchy.
+/// Whether TPM2_Clear removes the objects in a hierarchy.
 fn is_cleared(hierarchy: HierarchyHandle) -> bool
     ensures { result ≡ is_cleared hierarchy }
 {
@@ -19,7 +19,7 @@ fn is_cleared(hierarchy: HierarchyHandle) -> bool
     }
 }
 
-/// Whether there is an object in a place that TPM2_Clear removes.
+/// Whether a slot contains an object that TPM2_Clear removes.
 fn is_place_cleared(object: Option<&Object>) -> bool
     ensures { result ≡ is_place_cleared (option_copied object.entry) }
 {
@@ -29,13 +29,13 @@ fn is_place_cleared(object: Option<&Object>) -> bool
     }
 }
 
-/// Frees a place, if TPM2_Clear removes its object.
+/// Frees a slot if TPM2_Clear removes its object.
 fn clear_place<O: Slots<Object, OBJECT_LIMIT>>(places: &mut O, place: usize)
     ensures cleared { O.places places.new
         ≡ (if is_place_cleared (at_place (O.places places.old) place)
         then slice_set (O.places places.old) place None
         else O.places places.old) }
-    // There are always as many places as there may be objects.
+    // The number of slots is always `object_limit`.
     ensures all { length (O.places places.old) ≡ object_limit }
 {
     if is_place_cleared(places.get(place)) {
@@ -43,7 +43,7 @@ fn clear_place<O: Slots<Object, OBJECT_LIMIT>>(places: &mut O, place: usize)
     }
 }
 
-/// The choice of the persistent objects that TPM2_Clear leaves: those of the other hierarchies.
+/// Selects the persistent objects that TPM2_Clear keeps: those in the other hierarchies.
 pub(crate) enum Outlasting {}
 
 impl Choice<Object> for Outlasting {
@@ -56,7 +56,7 @@ impl Choice<Object> for Outlasting {
     }
 }
 
-/// Frees each place with an object that TPM2_Clear removes.
+/// Frees each slot that contains an object that TPM2_Clear removes.
 #[tactic(auto, unfolding(crate::specs::Clear::cleared_objects), using(crate::proofs::ClearLaws::all_cleared))]
 pub(crate) fn clear_places<O: Slots<Object, OBJECT_LIMIT>>(places: &mut O)
     ensures { O.places places.new ≡ cleared_objects (O.places places.old) }

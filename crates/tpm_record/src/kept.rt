@@ -1,5 +1,5 @@
-//! A type that implements `Keep` over containers of any kind, as over lists that grow. The state in
-//! fixed places, which never takes memory, is in tpm_slots.
+//! A type that implements `Keep` with any kind of containers, for example with lists that grow.
+//! The state with fixed-size storage, which never allocates memory, is in tpm_slots.
 
 ghost use Rattle.std.specs.Prelude.{◌≡◌};
 
@@ -15,8 +15,8 @@ use tpm_object::Object;
 use tpm_session::{Session, Sessions};
 use tpm_types::{OBJECT_LIMIT, SESSION_LIMIT};
 
-/// The device's state, with its sessions, its objects, transient and persistent, and its NV indices
-/// in containers of any kind.
+/// The device's state, with any kind of containers for its sessions, its transient and persistent
+/// objects, and its NV indices.
 #[derive(Drop)]
 pub struct Kept<
     S: Slots<Session, SESSION_LIMIT>,
@@ -31,8 +31,8 @@ pub struct Kept<
     nv: N,
 }
 
-/// The device's state in lists that grow. Memory can be refused to a session, to an object or to an
-/// NV index.
+/// The device's state in lists that grow. Adding a session, object or NV index can run out of
+/// memory.
 pub type ListKeep = Kept<
     ListSlots<Session, SESSION_LIMIT>,
     ListSlots<Object, OBJECT_LIMIT>,

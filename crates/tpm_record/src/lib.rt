@@ -1,17 +1,19 @@
 #![tactic(auto)]
 
-//! The device's state: the record that contracts see, and the trait by which it is kept.
+//! The device's state: the record that contracts refer to, and the trait of the types that store
+//! it.
 //!
-//! [`keep::Keep`] is the trait, [`kept::Kept`] a type that implements it, with containers of any
-//! kind: [`kept::ListKeep`] in lists that grow; tpm_slots has the type that keeps the state in
-//! fixed places, and takes no memory. [`fixed::Fixed`] is the part that does not grow,
-//! [`saved::Saved`] in it what a shutdown saved, [`objects::Objects`] are the transient objects,
-//! [`persistent::PersistentObjects`] the persistent ones; NV indices are tpm_nv's. [`tick::tick`]
-//! and [`cycle::power_cycle`] are what happens to a record whatever the command, [`entity`] has
+//! [`keep::Keep`] is the trait. [`kept::Kept`] implements it with any kind of containers, for
+//! example [`kept::ListKeep`] with lists that grow; tpm_slots contains the type with fixed-size
+//! storage, which allocates no memory. [`fixed::Fixed`] is the part of fixed size, which includes
+//! what a shutdown saved ([`saved::Saved`]). [`objects::Objects`] are the transient objects and
+//! [`persistent::PersistentObjects`] the persistent ones; NV indices are in tpm_nv. [`tick::tick`]
+//! and [`cycle::power_cycle`] change a record independently of commands, and [`entity`] looks up
 //! the entity of a handle. The crate uses `tpm_lockout`, `tpm_pcr`, `tpm_session`, `tpm_object`
-//! and `tpm_nv`, and `tpm_containers` for the places of sessions and transient objects and for the
-//! map of persistent ones. Each call on a type that implements the trait equals its definition in
-//! `specs/`, on the record. [`rows`] has what the commands share that act on it.
+//! and `tpm_nv`, and `tpm_containers` for the slots of sessions and transient objects and for the
+//! map of persistent objects. Each call on a type that implements the trait does to the record
+//! what its definition in `specs/` says. [`rows`] contains what is shared by the commands that act
+//! on the record.
 
 pub mod any_object;
 mod clear;

@@ -1,5 +1,4 @@
-//! The transient objects of a device by their handles, with the laws that make them
-//! a map.
+//! The transient objects of a device, keyed by handle, with laws that show that they form a map.
 
 ghost use Rattle.tpm_types.specs.Limits.{object_limit};
 ghost use Rattle.std.specs.Prelude.{◌≡◌, ◌<◌, is_some, length, option_copied};
@@ -16,14 +15,14 @@ use tpm_containers::{SlotFault, Slots, numbered};
 use tpm_object::{Object, TRANSIENT_BYTE};
 use tpm_types::{Handle, OBJECT_LIMIT};
 
-/// The transient objects of a device, at most [`OBJECT_LIMIT`], by their handles. `O` holds their
-/// places.
+/// The transient objects of a device, at most [`OBJECT_LIMIT`], keyed by handle. `O` contains
+/// their slots.
 #[derive(Drop)]
 pub struct Objects<O: Slots<Object, OBJECT_LIMIT>> {
     places: O,
 }
 
-/// The handle of an object in a place.
+/// The handle of the object in this slot.
 fn handle_of(place: usize) -> Handle
     requires { place < object_limit }
     ensures { result ≡ object_handle place }
@@ -34,7 +33,7 @@ fn handle_of(place: usize) -> Handle
 }
 
 impl<O: Slots<Object, OBJECT_LIMIT>> Objects<O> {
-    /// No object is there at first; no memory is taken.
+    /// An empty set of objects; nothing is allocated.
     pub fn new(alloc: Global) -> Objects<O>
         ensures { objects_of O.places result ≡ no_objects }
     {
@@ -43,35 +42,35 @@ impl<O: Slots<Object, OBJECT_LIMIT>> Objects<O> {
         }
     }
 
-    /// The object of a handle.
+    /// The object with this handle.
     #[tactic(auto, unfolding(crate::specs::Objects::object_at))]
     pub fn get(&self, handle: Handle) -> Option<&Object>
         ensures object { option_copied result ≡ object_at (objects_of O.places self.now) handle }
-        // There are always as many places as there may be transient objects.
+        // The number of slots is always `object_limit`.
         ensures all { length (objects_of O.places self.now) ≡ object_limit }
     {
         numbered::get(&self.places, handle.number)
     }
 
-    /// The handle that the next object takes, if there is a place for one.
+    /// The handle that the next object gets, or None if no slot is free.
     pub fn free(&self) -> Option<Handle>
         ensures { result ≡ next_handle (objects_of O.places self.now) }
     {
         Some(handle_of(self.places.free()?))
     }
 
-    /// Promises what the types of each object's fields say of them, and how many places there are.
-    /// The call only reads.
+    /// Facts that follow from the types of each object's fields, and the number of slots. A proof
+    /// only: it has no effect at run time.
     #[inline(always)]
     pub fn read_sizes(&self)
         ensures each { AreAll IsObject (objects_of O.places self.now) }
-        // There are always as many places as there may be transient objects.
+        // The number of slots is always `object_limit`.
         ensures all { length (objects_of O.places self.now) ≡ object_limit }
     {
         numbered::read_sizes(&self.places);
     }
 
-    /// Puts an object into the lowest free place, and gives its handle.
+    /// Puts an object into the lowest free slot and returns its handle.
     pub fn add(&mut self, object: Object) -> Result<Handle, SlotFault>
         ensures { Adds O.can_refuse (objects_of O.places self.old) object result
             (objects_of O.places self.new) }
@@ -79,14 +78,14 @@ impl<O: Slots<Object, OBJECT_LIMIT>> Objects<O> {
         Ok(handle_of(self.places.insert(object)?))
     }
 
-    /// The object in a place.
+    /// The object in this slot.
     pub fn in_place(&self, place: usize) -> Option<&Object>
         ensures { option_copied result ≡ at_place (objects_of O.places self.now) place }
     {
         self.places.get(place)
     }
 
-    /// Puts an object into a place, over one that is there.
+    /// Puts an object into this slot, replacing any object already there.
     pub fn put(&mut self, place: usize, object: Object) -> Result<(), SlotFault>
         requires { place < object_limit }
         ensures { Puts O.can_refuse (objects_of O.places self.old) place object result
@@ -95,7 +94,7 @@ impl<O: Slots<Object, OBJECT_LIMIT>> Objects<O> {
         self.places.put(place, object)
     }
 
-    /// Removes the object of a handle, and tells whether there was one.
+    /// Removes the object with this handle. Returns whether there was one.
     #[tactic(auto, unfolding(crate::specs::Objects::object_at, crate::specs::Objects::without_object))]
     pub fn remove(&mut self, handle: Handle) -> bool
         ensures there { result ≡ is_some (object_at (objects_of O.places self.old) handle) }
@@ -105,8 +104,8 @@ impl<O: Slots<Object, OBJECT_LIMIT>> Objects<O> {
         numbered::remove(&mut self.places, handle.number)
     }
 
-    /// Removes the objects of the owner and of the endorsement hierarchy, as TPM2_Clear does (TPM
-    /// 2.0 Library, Part 3, section 24.6).
+    /// Removes the objects in the owner and endorsement hierarchies, as TPM2_Clear does (TPM 2.0
+    /// Library, Part 3, section 24.6).
     pub fn clear_hierarchies(&mut self)
         ensures { objects_of O.places self.new ≡ cleared_objects (objects_of O.places self.old) }
     {
@@ -121,16 +120,16 @@ impl<O: Slots<Object, OBJECT_LIMIT>> Objects<O> {
     }
 }
 
-/// The transient objects of a device are a map from handles: what is found after one was added or
-/// removed. The function does nothing.
+/// The transient objects of a device form a map keyed by handle. The laws say what is found after
+/// an object was added or removed. A proof only: it has no effect at run time.
 pub fn object_laws()
     ensures { MapLaws transient_byte }
 {
     numbered::numbered_laws::<Object>()
 }
 
-/// Of the objects that are found before TPM2_Clear, those of the owner and of the endorsement
-/// hierarchy are gone after it, and all others are found as before. The function does nothing.
+/// After TPM2_Clear, the objects in the owner and endorsement hierarchies are gone, and all others
+/// are unchanged. A proof only: it has no effect at run time.
 #[tactic(auto, using(crate::proofs::ClearLaws::are_cleared))]
 pub fn clearing_laws()
     ensures { ClearingLaws }

@@ -1,4 +1,4 @@
-//! The facts of an entity by its handle alone, which is looked up for each of them.
+//! Facts about the entity of a handle; each call looks the handle up again.
 
 ghost use Rattle.std.specs.Prelude.{◌≡◌, ◌≤◌, length};
 ghost use Rattle.tpm_types.specs.AuthValue.{trimmed};
@@ -10,7 +10,7 @@ use tpm_name::Name;
 use tpm_session::Protection;
 use tpm_types::{AuthValue, Handle};
 
-/// Whether what a handle names is there.
+/// Whether the entity of a handle exists.
 #[tactic(auto, unfolding(crate::specs::Entity::is_present))]
 pub fn is_present<K: Keep>(keep: &K, handle: Handle) -> bool
     ensures { result ≡ is_present (K.record_of keep.now) handle }
@@ -18,7 +18,7 @@ pub fn is_present<K: Keep>(keep: &K, handle: Handle) -> bool
     resolve(keep, handle).is_present(keep)
 }
 
-/// The Name of the entity that a handle names.
+/// The Name of a handle's entity.
 #[tactic(auto, unfolding(crate::specs::Entity::name_of))]
 pub fn name_of<K: Keep>(keep: &K, handle: Handle) -> Name
     ensures { result ≡ name_of (K.record_of keep.now) handle }
@@ -26,7 +26,7 @@ pub fn name_of<K: Keep>(keep: &K, handle: Handle) -> Name
     resolve(keep, handle).name()
 }
 
-/// The authorization value of the entity that a handle names, without trailing zeros.
+/// The authorization value of a handle's entity, without trailing zeros.
 #[tactic(auto, unfolding(crate::specs::Entity::auth_value_of))]
 pub fn auth_value_of<'a, K: Keep>(keep: &'a K, handle: Handle) -> &'a [u8]
     ensures value { result.now ≡ auth_value_of (K.record_of keep.now) handle }
@@ -36,14 +36,14 @@ pub fn auth_value_of<'a, K: Keep>(keep: &'a K, handle: Handle) -> &'a [u8]
     resolve(keep, handle).auth_value(keep)
 }
 
-/// The authorization value of the entity that a handle names, without trailing zeros, as a copy.
+/// A copy of the authorization value of a handle's entity, without trailing zeros.
 pub fn copied_auth_value<K: Keep>(keep: &K, handle: Handle) -> AuthValue
     ensures { result ≡ auth_value_of (K.record_of keep.now) handle }
 {
     AuthValue::of(auth_value_of(keep, handle))
 }
 
-/// How the authorization value of the entity that a handle names is protected.
+/// How the authorization value of a handle's entity is protected.
 #[tactic(auto, unfolding(crate::specs::Entity::protection_of))]
 pub fn protection_of<K: Keep>(keep: &K, handle: Handle) -> Protection
     ensures { result ≡ protection_of (K.record_of keep.now) handle }

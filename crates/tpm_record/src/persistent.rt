@@ -1,4 +1,5 @@
-//! The persistent objects of a device by their handles: the trait, and the types that implement it.
+//! The persistent objects of a device, keyed by handle: the trait, and the types that implement
+//! it.
 
 ghost use Rattle.tpm_types.specs.Limits.{persistent_limit};
 ghost use Rattle.std.specs.Prelude.{◌≡◌, Bool, is_some, length, option_copied, true};
@@ -15,20 +16,20 @@ use tpm_containers::{KeyFault, ListMap, Sizes, SlotMap, SortedMap};
 use tpm_object::Object;
 use tpm_types::{Handle, PERSISTENT_LIMIT};
 
-/// The persistent objects of a device by their handles, at most [`PERSISTENT_LIMIT`]. These calls
-/// do not ask who may make an object persistent, or remove it.
+/// The persistent objects of a device, at most [`PERSISTENT_LIMIT`], keyed by handle. These calls
+/// do not check who may make an object persistent or remove it.
 pub trait PersistentObjects: Drop + Sized {
     /// The handles in ascending order, each with its object.
     ghost entries: { Self → Entries ObjectParts };
 
-    /// Whether memory can be refused where an object is added.
+    /// Whether an allocation can fail when an object is added.
     ghost can_refuse: { Bool };
 
-    /// No object is there at first; no memory is taken.
+    /// An empty set of objects; nothing is allocated.
     fn new(alloc: Global) -> Self
         ensures { entries result ≡ no_persistent };
 
-    /// How many persistent objects there are.
+    /// The number of persistent objects.
     fn len(&self) -> usize
         ensures { result ≡ length (entries self.now) };
 
@@ -36,47 +37,46 @@ pub trait PersistentObjects: Drop + Sized {
     fn as_slice(&self) -> &[(u32, Object)]
         ensures { result.now ≡ entries self.now };
 
-    /// The object of a handle.
+    /// The object with this handle.
     fn get(&self, handle: Handle) -> Option<&Object>
         ensures { option_copied result ≡ persistent_at (entries self.now) handle };
 
-    /// The lowest handle of an object from this one on.
+    /// The lowest handle of an object at or above this one.
     fn next(&self, handle: Handle) -> Option<u32>
         ensures { result ≡ next_persistent (entries self.now) handle.number };
 
-    /// Puts an object under a handle that is free.
+    /// Adds an object with a handle that must be free.
     fn add(&mut self, handle: Handle, object: Object) -> Result<(), KeyFault>
         requires named { is_persistent handle ≡ true }
         requires owned { can_persist object.hierarchy ≡ true }
         ensures { PutsKey persistent_limit can_refuse (entries self.old) handle.number object result
             (entries self.new) };
 
-    /// Removes the object of a handle, and tells whether there was one.
+    /// Removes the object with this handle. Returns whether there was one.
     fn remove(&mut self, handle: Handle) -> bool
         ensures there { result ≡ is_some (persistent_at (entries self.old) handle) }
         ensures after { entries self.new ≡ without_persistent (entries self.old) handle };
 
-    /// Removes the objects of the owner and of the endorsement hierarchy, as TPM2_Clear does (TPM
-    /// 2.0 Library, Part 3, section 24.6).
+    /// Removes the objects in the owner and endorsement hierarchies, as TPM2_Clear does (TPM 2.0
+    /// Library, Part 3, section 24.6).
     fn clear_hierarchies(&mut self)
         ensures { entries self.new ≡ cleared_persistent (entries self.old) };
 
-    /// Promises what holds of the objects, whatever came before. The call does nothing.
+    /// Facts that always hold for the objects. A proof only: it has no effect at run time.
     fn read_sizes(&self)
         ensures { ArePersistent (entries self.now) };
 }
 
-/// Persistent objects in a map by handles.
+/// Persistent objects in a map keyed by handle.
 #[derive(Drop)]
 pub struct StoredObjects<P: SortedMap<Object, PERSISTENT_LIMIT>> {
     objects: P,
 }
 
-/// Persistent objects in a list that grows. Memory can be refused where one is added.
+/// Persistent objects in a list that grows. Adding an object can run out of memory.
 pub type ListObjects = StoredObjects<ListMap<Object, PERSISTENT_LIMIT>>;
 
-/// Persistent objects in as many places as there can be. No memory is ever taken, so none can be
-/// refused.
+/// Persistent objects in fixed-size storage. Nothing is ever allocated, so no allocation can fail.
 pub type SlotObjects = StoredObjects<SlotMap<Object, PERSISTENT_LIMIT>>;
 
 impl<P: SortedMap<Object, PERSISTENT_LIMIT>> Model for StoredObjects<P> {

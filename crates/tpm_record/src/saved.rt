@@ -1,5 +1,5 @@
-//! What the last TPM2_Shutdown saved for the next TPM2_Startup, until it is cancelled (TPM 2.0
-//! Library, Part 3, sections 9.3 and 9.4).
+//! The state that the last TPM2_Shutdown saved for the next TPM2_Startup, unless it was cancelled
+//! (TPM 2.0 Library, Part 3, sections 9.3 and 9.4).
 
 ghost use Rattle.std.specs.Prelude.{◌≡◌, option_copied};
 ghost use Rattle.tpm_record.specs.Saved.{Clear, IsSavedState, Nothing, State, kind_of, restored_from, saved_by, values_of};
@@ -8,7 +8,7 @@ use std::marker::Model;
 use tpm_pcr::{Banks, SavedPcrs};
 use tpm_types::StartupType;
 
-/// The kind of the last TPM2_Shutdown, if there was one that was not cancelled.
+/// The kind of the last TPM2_Shutdown, or none if there was no shutdown or it was cancelled.
 #[derive(Clone, Copy, PartialEq, Eq)]
 pub enum SavedKind {
     Nothing,
@@ -16,8 +16,8 @@ pub enum SavedKind {
     State,
 }
 
-/// What the last TPM2_Shutdown saved for the next TPM2_Startup (TPM 2.0 Library, Part 3, sections
-/// 9.3 and 9.4). When the values are cancelled they stay where they are, and count no more.
+/// The state that the last TPM2_Shutdown saved for the next TPM2_Startup (TPM 2.0 Library, Part 3,
+/// sections 9.3 and 9.4). Cancelled values remain in memory but are ignored.
 #[derive(Drop)]
 pub struct Saved {
     kind: SavedKind,
@@ -33,7 +33,7 @@ impl Model for Saved {
 }
 
 impl Saved {
-    /// What is saved where there was no TPM2_Shutdown: nothing.
+    /// The saved state without a TPM2_Shutdown: nothing.
     pub fn nothing() -> Saved
         ensures { result ≡ Nothing }
     {
@@ -43,7 +43,7 @@ impl Saved {
         }
     }
 
-    /// What is saved by a TPM2_Shutdown with CLEAR: that there was one.
+    /// The saved state after a TPM2_Shutdown with CLEAR: only the fact that there was one.
     pub fn clear() -> Saved
         ensures { result ≡ Clear }
     {
@@ -53,7 +53,7 @@ impl Saved {
         }
     }
 
-    /// What is saved by a TPM2_Shutdown with STATE: these values.
+    /// The saved state after a TPM2_Shutdown with STATE: these values.
     pub fn state(pcrs: SavedPcrs) -> Saved
         ensures { result ≡ State pcrs }
     {
@@ -63,7 +63,7 @@ impl Saved {
         }
     }
 
-    /// The values that are saved, if a TPM2_Shutdown with STATE saved some.
+    /// The saved values, if the last TPM2_Shutdown was one with STATE.
     pub fn values(&self) -> Option<&SavedPcrs>
         ensures { option_copied result ≡ values_of self.now }
     {
@@ -80,7 +80,7 @@ impl Saved {
         self.kind
     }
 
-    /// Saves what a TPM2_Shutdown of this type saves.
+    /// Saves what a TPM2_Shutdown of this type has to save.
     pub fn shut_down(&mut self, kind: StartupType, banks: &Banks)
         ensures { self.new ≡ saved_by kind banks.now }
     {
@@ -100,7 +100,7 @@ impl Saved {
         self.kind = SavedKind::Nothing;
     }
 
-    /// Gives the PCRs 0 to 15 the values that are saved, if there are any.
+    /// Sets PCRs 0 to 15 to their saved values, if there are any.
     pub fn restore(&self, banks: &mut Banks)
         ensures { banks.new ≡ restored_from self.now banks.old }
     {
@@ -109,7 +109,8 @@ impl Saved {
         }
     }
 
-    /// Promises what the types of the saved values say of them. The call only reads.
+    /// Facts that follow from the types of the saved values. A proof only: it has no effect at run
+    /// time.
     #[inline(always)]
     pub fn read_sizes(&self)
         ensures { IsSavedState self.now }

@@ -1,4 +1,4 @@
--- How steps keep two results alike.
+-- Steps that keep two results alike.
 use Rattle.std.proofs.Common.{ap, refl, subst, sym, ◌∙◌}
 use Rattle.std.proofs.lemmas.Bool.{false≢true}
 use Rattle.std.specs.Prelude.{Bool, Err, None, Ok, Option, Result, Some, false, is_ok, ok_or, option_map, true, ◌&&◌, ◌≡◌}
@@ -23,16 +23,16 @@ pub alike_step : {A B C E : Type 0} (see : B → C) (x : Result A E) (f g : A �
 alike_step see (Ok a) f g more = more a
 alike_step see (Err e) f g more = record { is = refl }
 
--- a step of which the success is known
+-- a step whose success is known
 pub alike_step_is : {A B C E : Type 0} (see : B → C) (x : Result A E) (f g : A → Result B E) → ((a : A) → x ≡ Ok a → Alike see (f a) (g a)) → Alike see (x >>= f) (x >>= g)
 alike_step_is see (Ok a) f g more = more a refl
 alike_step_is see (Err e) f g more = record { is = refl }
 
--- a step that is the same on both
+-- a step that is equal for both
 pub alike_both : {A B C E : Type 0} (see : B → C) (x y : Result A E) (f g : A → Result B E) → x ≡ y → ((a : A) → Alike see (f a) (g a)) → Alike see (x >>= f) (y >>= g)
 alike_both see x y f g same more = subst (λ (z : Result _ _). Alike see (z >>= f) (y >>= g)) (sym same) (alike_step see y f g more)
 
--- a step that is alike on both
+-- a step that is alike for both
 pub alike_after : {A B C D E : Type 0} (first : A → B) (see : C → D) (x y : Result A E) (f g : A → Result C E) → Alike first x y → ((a b : A) → first a ≡ first b → Alike see (f a) (g b)) → Alike see (x >>= f) (y >>= g)
 alike_after {B = B} {E = E} first see (Ok a) (Ok b) f g alike more = more a b (ap seen alike.is)
   where
@@ -47,7 +47,7 @@ alike_after {B = B} {E = E} first see (Err e) (Err h) f g alike more = subst (λ
     fault (Ok c) = e
     fault (Err k) = k
 
--- the value of something that is there on both, or on none
+-- the value of something that is present in both, or absent from both
 pub alike_found : {X A B E : Type 0} (see : A → B) (change : X → X) (one other : Option X) (e : E) (f g : X → Result A E) → one ≡ option_map change other → ((x : X) → other ≡ Some x → Alike see (f (change x)) (g x)) → Alike see (ok_or one e >>= f) (ok_or other e >>= g)
 alike_found {X = X} see change one other e f g same more =
     subst (λ (found : Option X). Alike see (ok_or found e >>= f) (ok_or other e >>= g)) (sym same) (by other refl)
@@ -72,9 +72,9 @@ fault_outcome see refused (Err e) = refl
 pub alike_fault : {A B F : Type 0} (see : A → B) (refused : Refused) (x y : Result A F) → Alike see x y → Alike see (or_fault x refused) (or_fault y refused)
 alike_fault {B = B} {F = F} see refused x y alike = record { is = fault_outcome see refused x ∙ ap (λ (z : Result B F). or_fault z refused) alike.is ∙ sym (fault_outcome see refused y) }
 
--- ---- what is not seen at all
+-- ---- nothing is visible
 
--- of a success nothing is seen but that it is one
+-- of a success, only the fact that it is one is visible
 abbrev pub success : {A : Type 0} → A → Unit {0}
 success a = tt
 
@@ -85,7 +85,7 @@ both_succeed {A = A} {E = E} x y alike = sym (unseen x) ∙ ap is_ok alike.is �
     unseen (Ok a) = refl
     unseen (Err e) = refl
 
--- what is refused on both is so alike, whatever is seen of a success
+-- if both results are refusals, they are equal, whatever is visible of a success
 pub refused_alike : {A B E : Type 0} (see : A → B) (x y : Result A E) → Alike success x y → is_ok y ≡ false → Alike see x y
 refused_alike see (Ok a) (Ok b) alike refused = absurd (false≢true (sym refused))
 refused_alike see (Ok a) (Err e) alike refused = let never = alike.is in absurd cc
@@ -96,12 +96,12 @@ refused_alike {E = E} see (Err e) (Err h) alike refused = subst (λ (k : E). Ali
     fault (Ok c) = e
     fault (Err k) = k
 
--- where what reads a secret is an accepted command: it reads none, or is refused
+-- if only an accepted command reads a secret, a command either reads none or is refused
 pub either_free : {P : Type 0} (a b : Bool) → (a && b) ≡ false → (a ≡ false → P) → (b ≡ false → P) → P
 either_free false b free unread refused = unread refl
 either_free true b free unread refused = refused free
 
--- steps in a step
+-- steps within a step
 pub alike_nested : {A B C D E : Type 0} (see : C → D) (x y : Result A E) (f g : A → Result B E) (h k : B → Result C E) → Alike see (x >>= λ a. f a >>= h) (y >>= λ a. g a >>= k) → Alike see ((x >>= f) >>= h) ((y >>= g) >>= k)
 alike_nested see (Ok a) (Ok b) f g h k alike = alike
 alike_nested see (Ok a) (Err e) f g h k alike = alike

@@ -1,5 +1,5 @@
--- A device without its secrets: that is the same if it is done again, and two such devices are the
--- same where each of their parts is.
+-- A device with its secrets erased: erasing them twice is the same as erasing them once. Two such
+-- devices are equal if all their parts are.
 use Rattle.std.proofs.Common.{ap, refl, sym, ◌∙◌}
 use Rattle.std.proofs.lemmas.Bool.{false≢true}
 use Rattle.std.specs.Prelude.{Bool, List, None, Option, Some, [], false, option_map, true, ℕ, ◌≡◌}
@@ -29,7 +29,7 @@ unless_none true = refl
 unless_none false = refl
 
 module _ (s : Secrecy) where
-  -- ---- once is twice
+  -- ---- erasing twice is erasing once
 
   pub object_again : (o : Object) → bare_object s (bare_object s o) ≡ bare_object s o
   object_again o = rw (unless_again _ o.auth_value, unless_again _ o.seed_value, unless_again _ o.sensitive) refl
@@ -83,7 +83,7 @@ module _ (s : Secrecy) where
   pub record_again : (r : Record) → without_secrets s (without_secrets s r) ≡ without_secrets s r
   record_again r = same_parts (without_secrets s r) r (fixed_again r.fixed) (sessions_again r.sessions) (objects_again r.objects) (persistent_again r.persistent) (nv_again r.nv)
 
-  -- a record of which one part is changed, and its secrets are taken before or after that
+  -- a record with one part changed, with the secrets erased before or after the change
   module _ (r : Record) where
     pub with_fixed : (f g : Fixed) → bare_fixed s f ≡ bare_fixed s g → without_secrets s (record (without_secrets s r) { fixed = f }) ≡ without_secrets s (record r { fixed = g })
     with_fixed f g same = same_parts (record (without_secrets s r) { fixed = f }) (record r { fixed = g }) same (sessions_again r.sessions) (objects_again r.objects) (persistent_again r.persistent) (nv_again r.nv)

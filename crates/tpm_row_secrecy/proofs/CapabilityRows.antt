@@ -1,4 +1,4 @@
--- The row of TPM2_GetCapability tells nothing of what is secret.
+-- The row of TPM2_GetCapability reveals nothing about secrets.
 use Rattle.std.proofs.Common.{ap, refl, ◌∙◌}
 use Rattle.std.specs.List.{flat_map}
 use Rattle.std.specs.Option.{option_map_or}

@@ -1,4 +1,4 @@
--- The rows of the device itself, of PCRs and of hierarchies tell nothing of what is secret.
+-- The rows for the device itself, for PCRs and for hierarchies reveal nothing about secrets.
 use Rattle.std.proofs.Common.{ap, refl}
 use Rattle.std.specs.Option.{option_map_or}
 use Rattle.std.specs.Prelude.{Bool, List, None, Ok, Option, Some, [], cond, drop, false, option_map, take, true, ℕ, ◌≡◌}
@@ -69,7 +69,7 @@ module _ (s : Secrecy) (r : Record) (q : Request) where
   unfolding pcr_read_row
   pcr_read_tells = search same_steps depth 12
 
-  -- ---- a change of the fixed part, apart from hierarchies
+  -- ---- a change of the fixed part, except hierarchies
 
   banks_end : (answer : AnswerParts) (banks : BankValues) → Same s (Ok (record { answer = answer; after = with_banks (without_secrets s r) banks })) (Ok (record { answer = answer; after = with_banks r banks }))
   banks_end answer banks = same_change s r answer (λ t. with_banks t banks) (λ t. refl)

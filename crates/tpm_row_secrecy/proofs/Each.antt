@@ -1,4 +1,4 @@
--- Entries under keys, and places, after a function of each of their values.
+-- Entries with keys, and slots, after a function is applied to each of their values.
 use Rattle.std.proofs.Common.{ap, eqb, leb, refl, sym, ◌∙◌}
 use Rattle.std.specs.List.{prefix_len}
 use Rattle.std.specs.Option.{option_map_or}
@@ -7,7 +7,7 @@ use Rattle.tpm_containers.specs.Numbered.{at_number, changed_at, if_of_kind, kin
 use Rattle.tpm_containers.specs.Slots.{at_place, free, lowest_free}
 use Rattle.tpm_containers.specs.SortedMap.{Entries, at_key, changed_key, kept_entries, with_key, without_key}
 
--- a function of what a test chooses is the choice of its values
+-- applying a function to a chosen value is choosing between the function's values
 pub chosen : {A B : Type 0} (g : A → B) (b : Bool) (x y : A) → cond b (g x) (g y) ≡ g (cond b x y)
 chosen g true x y = refl
 chosen g false x y = refl
@@ -53,14 +53,14 @@ module _ {X Y : Type 0} (f : X → Y) where
   length_each [] = refl
   length_each (e ∷ es) = ap (λ (n : ℕ). suc n) (length_each es)
 
--- two functions, one after the other, that make a third
+-- applying two functions in turn, whose composition is a third
 pub each_twice : {X Y Z : Type 0} (g : Y → Z) (f : X → Y) (h : X → Z) → ((x : X) → g (f x) ≡ h x) → (es : Entries X) → each g (each f es) ≡ each h es
 each_twice g f h same [] = refl
 each_twice {Z = Z} g f h same (e ∷ es) =
     ap (λ (z : Z). (e.0, z) ∷ each g (each f es)) (same e.1)
     ∙ ap (λ (others : Entries Z). (e.0, h e.1) ∷ others) (each_twice g f h same es)
 
--- ---- places
+-- ---- slots
 
 module _ {X Y : Type 0} (f : X → Y) where
   abbrev pub places : List (Option X) → List (Option Y)
@@ -99,7 +99,7 @@ module _ {X Y : Type 0} (f : X → Y) where
   free_each zero = refl
   free_each (suc n) = ap (λ (others : List (Option Y)). None ∷ others) (free_each n)
 
-  -- where the function keeps the kind of a value
+  -- if the function preserves the kind of a value
   module _ (kind : Y → ℕ) (was : X → ℕ) (kept : (x : X) → kind (f x) ≡ was x) where
     of_kind : (number : ℕ) (found : Option X) → option_and_then (if_of_kind kind number) (option_map f found) ≡ option_map f (option_and_then (if_of_kind was number) found)
     of_kind number None = refl
@@ -137,7 +137,7 @@ places_twice {Z = Z} g f h same (Some x ∷ xs) =
     ap (λ (z : Z). Some z ∷ places g (places f xs)) (same x)
     ∙ ap (λ (others : List (Option Z)). Some (h x) ∷ others) (places_twice g f h same xs)
 
--- ---- a function that changes nothing when it comes again, before and after a change
+-- ---- a function that changes nothing when applied again, before and after a change
 
 module _ {X : Type 0} (f : X → X) (again : (x : X) → f (f x) ≡ f x) where
   pub places_again : (xs : List (Option X)) → places f (places f xs) ≡ places f xs

@@ -1,5 +1,5 @@
--- The rows of NV indices tell nothing of what is secret, but for an accepted TPM2_NV_Read, and
--- TPM2_NV_Increment of a counter.
+-- The rows for NV indices reveal nothing about secrets, except those of an accepted TPM2_NV_Read,
+-- and of TPM2_NV_Increment of a counter.
 use Rattle.std.proofs.Common.{ap, refl, sym, ◌∙◌}
 use Rattle.std.specs.Int.{w64}
 use Rattle.std.specs.Prelude.{Bool, List, Ok, Result, false, is_ok, is_some, length, nat_lt, not, ℕ, ◌==◌, ◌≡◌}
@@ -60,7 +60,7 @@ module _ (s : Secrecy) (r : Record) (q : Request) where
       same_step s (all_read q.parameters) _ _ (λ ended.
       same_unchanged s r _)))
 
-  -- ---- an index comes or goes
+  -- ---- an index is defined or removed
 
   pub nv_define_space_tells : Same s (nv_define_space_row (without_secrets s r) q) (nv_define_space_row r q)
   unfolding nv_define_space_row

@@ -1,4 +1,5 @@
--- The rows of policies tell nothing of what is secret, but for TPM2_PolicyNV on a policy session.
+-- The rows for policies reveal nothing about secrets, except that of TPM2_PolicyNV on a policy
+-- session.
 use Rattle.std.proofs.Common.{ap, refl, sym, ◌∙◌}
 use Rattle.std.proofs.lemmas.Bool.{false≢true, not-false}
 use Rattle.std.specs.Int.{w32, w8}
@@ -65,7 +66,7 @@ module _ (s : Secrecy) (r : Record) (q : Request) where
   abbrev kept_after : CommandCode → Record → List (Option Session) → Result Success Refused
   kept_after c t sessions = Ok (record { answer = answer_of (body_of c); after = record t { sessions = sessions } })
 
-  -- what is asserted on the session of a handle, and what comes of it
+  -- an assertion on the session with this handle, and its result
   asserted_end : (c : CommandCode) (handle : Handle) (a b : Session → Assertion) → ((x : Session) → session_at r.sessions handle ≡ Some x → asserted x.hash (is_trial x.kind) (a (bare_session s x)) x.policy ≡ asserted x.hash (is_trial x.kind) (b x) x.policy) → Same s (with_assertion (places (bare_session s) r.sessions) handle a >>= kept_after c (without_secrets s r)) (with_assertion r.sessions handle b >>= kept_after c r)
   asserted_end c handle a b same =
       alike_after (places (bare_session s)) (bare_success s) _ _ _ _
@@ -74,7 +75,7 @@ module _ (s : Secrecy) (r : Record) (q : Request) where
       alike_end (places (bare_session s)) _ _ (policy_set handle policy))))
       (λ xs ys alike. same_end s _ _ _ (with_sessions s r xs ys alike))
 
-  -- a command that reads its parameters, and asserts something of them
+  -- a command that decodes its parameters, and makes an assertion from them
   by_parameters : {P : Type 0} (c : CommandCode) (x : Result P Refused) (f : P → Session → Assertion) → ((p : P) (y : Session) → f p (bare_session s y) ≡ f p y) → Same s (session_handle c q.handles >>= λ handle. (x >>= λ p. Ok (f p)) >>= λ a. with_assertion (places (bare_session s) r.sessions) handle a >>= kept_after c (without_secrets s r)) (session_handle c q.handles >>= λ handle. (x >>= λ p. Ok (f p)) >>= λ a. with_assertion r.sessions handle a >>= kept_after c r)
   by_parameters c x f same =
       same_step s (session_handle c q.handles) _ _ (λ handle.
@@ -154,7 +155,7 @@ module _ (s : Secrecy) (r : Record) (q : Request) where
   is_trial_session : (handle : Handle) (x : Session) → session_at r.sessions handle ≡ Some x → names_policy_session r handle ≡ false → is_trial x.kind ≡ true
   is_trial_session handle x is free = not-false (is_trial x.kind) (sym (ap (λ (found : Option Session). option_map_or (λ (y : Session). not (is_trial y.kind)) found false) is) ∙ free)
 
-  -- the row, where what is asserted comes to the same
+  -- the row, if the assertions have the same result
   nv_row : ((handle : Handle) → third_handle q.handles ≡ Ok handle → (target : Target) → second_handle q.handles ≡ Ok target.handle → (p : of_index.Parameters) (x : Session) → session_at r.sessions handle ≡ Some x → nv_asserted x.hash (is_trial x.kind) (nv_parts_of (without_secrets s r) target p) x.policy ≡ nv_asserted x.hash (is_trial x.kind) (nv_parts_of r target p) x.policy) → Same s (assertion_row command.PolicyNv (without_secrets s r) q) (assertion_row command.PolicyNv r q)
   unfolding assertion_row
   nv_row same =
@@ -173,7 +174,7 @@ module _ (s : Secrecy) (r : Record) (q : Request) where
       (λ trial. nv_row (λ handle named target second p x is.
       trial_same (is_trial x.kind) x.hash target p x.policy (is_trial_session handle x is (sym (ap (handle_passes (names_policy_session r)) named) ∙ trial))))
 
-  -- ---- the other commands of policies
+  -- ---- the other policy commands
 
   pub policy_get_digest_tells : Same s (policy_get_digest_row (without_secrets s r) q) (policy_get_digest_row r q)
   unfolding policy_get_digest_row

@@ -1,4 +1,4 @@
--- A command reads what is secret of a device, or does not, whatever the secrets are.
+-- Whether a command reads secrets on a device does not depend on the values of the secrets.
 use Rattle.std.proofs.Common.{ap, refl, ◌∙◌}
 use Rattle.std.specs.Option.{option_map_or}
 use Rattle.std.specs.Prelude.{Bool, Err, None, Ok, Option, Result, Some, false, not, option_map, ◌&&◌, ◌≡◌}

@@ -1,4 +1,4 @@
--- The rows that start and end sessions tell nothing of what is secret.
+-- The rows for starting and ending sessions reveal nothing about secrets.
 use Rattle.std.proofs.Common.{ap, refl, sym, ◌∙◌}
 use Rattle.std.proofs.lemmas.Bool.{false≢true}
 use Rattle.std.proofs.lemmas.Option.{same_Some}
@@ -29,7 +29,7 @@ use Rattle.tpm_row_secrecy.specs.Secrecy.{CoversKeys, Secrecy, bare_binding, bar
 use Rattle.tpm_types.specs.declared.action_check.ActionCheck.TheVariants as action
 use Rattle.tpm_types.specs.declared.rc.ResponseCode.TheVariants as code
 
--- a binding to something that is not secret
+-- a binding to an entity that is not secret
 shown_binding : (s : Secrecy) (b : Binding) → s.bound_names b.name ≡ false → bare_binding s b ≡ b
 shown_binding s b shown = ap (λ (value : List ℕ). record b { auth_value = value }) (unless_open _ b.auth_value shown)
 
@@ -39,7 +39,7 @@ module _ (s : Secrecy) (covers : CoversKeys s) (r : Record) (q : Request) where
   abbrev bound : (name value : List ℕ) → Protection → Binding
   bound name value protection = record { name = name; auth_value = value; protection = protection }
 
-  -- where its value is secret the Name is among those whose sessions' keys are
+  -- if an entity's authorization value is secret, sessions bound to its Name have secret keys
   value_open : (bind : Handle) (b : Bool) → s.bound_names (name_of r bind) ≡ b → unless b (auth_value_of (without_secrets s r) bind) ≡ unless b (auth_value_of r bind)
   value_open bind true is = refl
   value_open bind false is = value_bare s r bind (by (has_secret_value s r bind) refl)
@@ -65,7 +65,7 @@ module _ (s : Secrecy) (covers : CoversKeys s) (r : Record) (q : Request) where
   abbrev new : Parameters → Option Binding → Session
   new p b = session_with p b (take (length p.nonce_caller) q.random)
 
-  -- the keys that are made of two bindings which differ in what is secret alone
+  -- the keys derived from two bindings that differ only in secrets
   key_same : (p : Parameters) (b c : Option Binding) → option_map (bare_binding s) b ≡ option_map (bare_binding s) c → unless (has_secret_key s b) (new p b).key ≡ unless (has_secret_key s c) (new p c).key
   key_same p None None same = refl
   key_same p None (Some c) same = absurd cc

@@ -1,24 +1,24 @@
--- When two rows tell the same: they are refused alike, or answer the same, and leave two records
--- that differ in what is secret alone.
+-- When two rows look the same: both are the same refusal, or both have the same answer and leave
+-- records that differ only in secrets.
 use Rattle.std.specs.Prelude.{Err, Ok, Result, ◌≡◌}
 use Rattle.tpm_record.specs.rows.Rows.{Success}
 use Rattle.tpm_types.specs.declared.refused.Refused.{Refused}
 use Rattle.tpm_row_secrecy.specs.Secrecy.{Secrecy, without_secrets}
 
--- a result, with what is seen of its success
+-- a result, of which a success shows only what `see` returns
 abbrev pub outcome : {A B E : Type 0} → (A → B) → Result A E → Result B E
 outcome see (Ok a) = Ok (see a)
 outcome see (Err e) = Err e
 
--- Two results are the same refusal, or two successes of which the same is seen.
+-- Two results are the same refusal, or two successes that look the same.
 pub record Alike {A B E : Type 0} (see : A → B) (x y : Result A E) : Type 0 where
   pub is : outcome see x ≡ outcome see y
 
--- a success without the secrets of the record after it
+-- a success, with the secrets erased from the record after it
 abbrev pub bare_success : Secrecy → Success → Success
 bare_success s x = record { answer = x.answer; after = without_secrets s x.after }
 
--- Two rows are refused alike, or answer the same, and leave two records that differ in what is
--- secret alone.
+-- Two rows are the same refusal, or have the same answer and leave records that differ only in
+-- secrets.
 abbrev pub Same : Secrecy → Result Success Refused → Result Success Refused → Type 0
 Same s x y = Alike (bare_success s) x y

@@ -20,16 +20,17 @@ use Rattle.tpm_row_secrecy.specs.Secrecy.{Secrecy, has_secret_data}
 use Rattle.tpm_commands.specs.declared.command_code.CommandCode.TheVariants as command
 use Rattle.tpm_types_nv.specs.declared.nv_type.NvType.TheVariants as type
 
--- whether a command has this handle, and it passes a test
+-- whether a command has this handle, and the handle passes a test
 abbrev pub handle_passes : (Handle → Bool) → Result Handle Refused → Bool
 handle_passes test (Ok handle) = test handle
 handle_passes test (Err e) = false
 
--- whether a handle names an object that seals secret data, or has a secret key
+-- whether a handle names an object with secret sealed data, or with a secret key
 abbrev pub names_secret_object : Secrecy → Record → Handle → Bool
 names_secret_object s r handle = option_map_or (has_secret_data s) (object_of r handle) false
 
--- whether an NV index has secret data, and is a counter with a secret value
+-- whether the data of an NV index is secret; and whether the index is a counter with a secret
+-- value
 abbrev pub is_secret_index : Secrecy → NvIndex → Bool
 is_secret_index s i = s.index_data i.public.nv_index.number
 
@@ -40,17 +41,17 @@ is_secret_counter s i = is_secret_index s i && is_of i.public.attributes type.Co
 abbrev pub names_index : (NvIndex → Bool) → Record → Handle → Bool
 names_index test r handle = option_map_or test (index_at r.nv handle) false
 
--- whether a handle names a policy session, which is no trial session
+-- whether a handle names a policy session that is not a trial session
 abbrev pub names_policy_session : Record → Handle → Bool
 names_policy_session r handle =
     option_map_or (λ (x : Session). not (is_trial x.kind)) (session_at r.sessions handle) false
 
--- Whether a command that is authorized reads secret data. TPM2_Unseal and TPM2_HMAC of an object,
--- and TPM2_NV_Read of an NV index, read them where they are accepted, and tell nothing where they
--- are refused. TPM2_PolicyNV on a policy session compares the data of its index: that the
--- comparison fails tells of them too. TPM2_NV_Increment of a counter is refused at the largest
--- number, and raises the largest value that any counter ever had, which is not secret. No other
--- command reads them.
+-- Whether an authorized command reads secret data. TPM2_Unseal and TPM2_HMAC with an object, and
+-- TPM2_NV_Read of an NV index, read it if they are accepted, and reveal nothing if they are
+-- refused. TPM2_PolicyNV on a policy session compares the data of its index; a failed comparison
+-- also reveals something about the data. TPM2_NV_Increment of a counter reads it, because the
+-- command is refused at the largest number; it also raises the largest value that any counter
+-- ever had, which is not secret. No other command reads secret data.
 abbrev pub reads_secret : Secrecy → Record → CommandCode → Request → Bool
 reads_secret s r command.Unseal q =
     handle_passes (names_secret_object s r) (first_handle q.handles) && is_ok (unseal_row r q)

@@ -1,5 +1,5 @@
--- What a device keeps secret, and the device without it. TPM 2.0 Library, Part 1, sections 19
--- (authorizations), 23 (the protected storage hierarchy) and 37 (NV memory).
+-- What a device keeps secret, and the device with its secrets erased. TPM 2.0 Library, Part 1,
+-- sections 19 (authorizations), 23 (the protected storage hierarchy) and 37 (NV memory).
 use Rattle.std.specs.Option.{option_map_or}
 use Rattle.std.specs.Prelude.{Bool, List, Option, [], false, if◌then◌else◌, map, option_map, true, ℕ, ◌&&◌, ◌≡◌}
 use Rattle.tpm_name.specs.NvName.{nv_name}
@@ -22,32 +22,33 @@ use Rattle.tpm_types_nv.specs.declared.nv_public.NvPublic.{NvPublic}
 use Rattle.tpm_types_object.specs.declared.public.Public.{Public}
 use Rattle.tpm_types.specs.declared.handle.HierarchyAuth.TheVariants as auth
 
--- what is secret of a device, each kind by what everybody may know of the entity
+-- what is secret on a device; each kind of secret is selected by public facts about its entity
 pub record Secrecy : Type 0 where
-  -- the NV indices whose data are secret, by the numbers of their handles
+  -- the NV indices whose data is secret, by handle number
   pub index_data : ℕ → Bool
-  -- the KEYEDHASH objects whose sealed data, or HMAC key, is secret, by their public areas
+  -- the KEYEDHASH objects whose sealed data or HMAC key is secret, by public area
   pub object_data : Public → Bool
-  -- the NV indices, the objects and the hierarchies, or lockout, with a secret authorization value
+  -- the NV indices, the objects, and the hierarchies or lockout, whose authorization value is
+  -- secret
   pub index_values : ℕ → Bool
   pub object_values : Public → Bool
   pub hierarchy_values : HierarchyAuth → Bool
-  -- the Names such that the key of a session that was bound to one is secret, since it is made of
+  -- the Names of entities whose bound sessions have secret keys, because the key is derived from
   -- the authorization value
   pub bound_names : List ℕ → Bool
 
--- bytes, or none of them where they are secret
+-- the bytes, or no bytes if they are secret
 abbrev pub unless : Bool → List ℕ → List ℕ
 unless secret bytes = if secret then [] else bytes
 
 -- ---- objects
 
--- whether what an object seals, or its HMAC key, is secret
+-- whether an object's sealed data or HMAC key is secret
 abbrev pub has_secret_data : Secrecy → Object → Bool
 has_secret_data s o = is_keyed_hash o.public && s.object_data o.public
 
--- an object without its secrets: its authorization value; and the data that it seals, or its key,
--- with the seedValue, of which `unique` is made together with them
+-- an object with its secrets erased: its authorization value; and its sealed data or key,
+-- together with the seedValue, because `unique` is computed from both
 abbrev pub bare_object : Secrecy → Object → Object
 bare_object s o = record o {
   auth_value = unless (s.object_values o.public) o.auth_value;
@@ -57,7 +58,8 @@ bare_object s o = record o {
 
 -- ---- NV indices
 
--- an index without its secrets, under its own handle; the largest value of any counter stays
+-- an index with its secrets erased, together with its handle; the largest value of any counter is
+-- unchanged
 abbrev pub bare_index : Secrecy → NvIndex → NvIndex
 bare_index s i = record i {
   auth_value = unless (s.index_values i.public.nv_index.number) i.auth_value;
@@ -84,14 +86,15 @@ bare_hierarchies s h = record h {
 abbrev pub bare_fixed : Secrecy → Fixed → Fixed
 bare_fixed s f = record f { hierarchies = bare_hierarchies s f.hierarchies }
 
--- whether the key of a session is secret, by what the session was bound to
+-- whether the key of a session is secret, because of the entity to which the session was bound
 abbrev pub has_secret_key : Secrecy → Option Binding → Bool
 has_secret_key s binding = option_map_or (λ (b : Binding). s.bound_names b.name) binding false
 
 abbrev pub bare_binding : Secrecy → Binding → Binding
 bare_binding s b = record b { auth_value = unless (s.bound_names b.name) b.auth_value }
 
--- a session without its secrets: its key, and the authorization value of what it was bound to
+-- a session with its secrets erased: its key, and the authorization value of the entity to which
+-- it was bound
 abbrev pub bare_session : Secrecy → Session → Session
 bare_session s x = record x {
   key = unless (has_secret_key s x.binding) x.key;
@@ -100,8 +103,8 @@ bare_session s x = record x {
 
 -- ---- the device
 
--- the record without what is secret; all else stays: which entities there are, with their public
--- areas and Names, the sessions and their policies, the PCRs, failed tries, the seeds
+-- the record with its secrets erased; everything else is unchanged: the entities with their
+-- public areas and Names, the sessions and their policies, the PCRs, failed tries, the seeds
 abbrev pub without_secrets : Secrecy → Record → Record
 without_secrets s r = record {
   fixed = bare_fixed s r.fixed;
@@ -111,13 +114,13 @@ without_secrets s r = record {
   nv = bare_nv s r.nv;
 }
 
--- Two devices differ in what is secret, and in nothing else.
+-- Two devices differ only in secrets.
 abbrev pub DifferInSecrets : Secrecy → Record → Record → Type 0
 DifferInSecrets s one other = without_secrets s one ≡ without_secrets s other
 
 -- ---- what may be secret
 
--- whether the authorization value of what a handle names is secret
+-- whether the authorization value of a handle's entity is secret
 abbrev pub entity_has_secret_value : Secrecy → Handle → Entity → Bool
 entity_has_secret_value s handle (AnObject o) = s.object_values o.public
 entity_has_secret_value s handle (AnIndex i) = s.index_values i.public.nv_index.number
@@ -127,7 +130,7 @@ entity_has_secret_value s handle Permanent =
 abbrev pub has_secret_value : Secrecy → Record → Handle → Bool
 has_secret_value s r handle = entity_has_secret_value s handle (entity_at r handle)
 
--- Where an authorization value is secret, so are the keys of sessions that were bound to its
+-- If an authorization value is secret, so are the keys of the sessions that were bound to its
 -- entity.
 pub record CoversKeys (s : Secrecy) : Type 0 where
   pub indices : (public : NvPublic)
@@ -138,7 +141,7 @@ pub record CoversKeys (s : Secrecy) : Type 0 where
       → option_map_or s.hierarchy_values (hierarchy_auth_of handle) false ≡ true
       → s.bound_names (handle_name handle) ≡ true
 
--- the secrecy of data alone: of NV indices, and of objects
+-- the secrecy in which only data is secret: that of NV indices and of objects
 abbrev pub of_data : (ℕ → Bool) → (Public → Bool) → Secrecy
 of_data indices objects = record {
   index_data = indices;

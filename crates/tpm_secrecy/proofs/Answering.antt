@@ -1,4 +1,4 @@
--- The answer to a success, of which no entry uses anything secret, tells nothing of it.
+-- If no entry of a successful command uses a secret, its answer reveals nothing about secrets.
 use Rattle.std.proofs.Common.{ap, refl, sym, ◌∙◌}
 use Rattle.std.proofs.lemmas.Bool.{true≢false}
 use Rattle.std.specs.List.{find}
@@ -83,7 +83,7 @@ module _ (s : Secrecy) (covers : CoversKeys s) where
   encryption_asked direction.Decrypt e is = ap (λ (b : Bool). b || encrypts e) is
   encryption_asked direction.Encrypt e is = or_second (decrypts e) (encrypts e) is
 
-  -- encryption uses the value of what an entry authorizes
+  -- encryption uses the value of the entity that an entry authorizes
   value_same : (r : Record) (x : Session) (e : Entry) (g : Option Grant) → session_uses s r x e g ≡ false → uses_encryption e ≡ true → granted_value (without_secrets s r) g ≡ granted_value r g
   value_same r x e None free asked = refl
   value_same r x e (Some g) free asked = by (has_secret_value s r g.handle) refl
@@ -94,7 +94,7 @@ module _ (s : Secrecy) (covers : CoversKeys s) where
           let parts = neither (has_secret_key s x.binding) _ free in
           absurd (true≢false (sym (or_second (is_hmac_session x.kind || demands_value (Some g)) (uses_encryption e) asked) ∙ not_second _ _ parts.1 is))
 
-  -- what is made of the session of an entry that uses nothing secret
+  -- what is computed from the session of an entry that uses no secret
   of_session : {X : Type 0} (r : Record) (e : Entry) (g : Option Grant) (none : X) (f h : Session → X) → uses_secret s r e g ≡ false → ((x : Session) → session_uses s r x e g ≡ false → f x ≡ h x) → option_map_or f (session_of (without_secrets s r) e) none ≡ option_map_or h (session_of r e) none
   of_session {X} r e g none f h free same =
       ap (λ (found : Option Session). option_map_or f found none) (session_at_bare s r.sessions e.session) ∙ by (session_of r e) (λ x is. session_unused s r e g x free is)
@@ -126,7 +126,7 @@ module _ (s : Secrecy) (covers : CoversKeys s) where
   request_same r c grants locality random none =
       ap (λ (text : List ℕ). let x : Request = record { handles = c.handles; locality = locality; parameters = text; random = random } in x) (parameters_same direction.Decrypt r (granted_entries c grants) c.parameters none)
 
-  -- ---- what is answered to each entry
+  -- ---- the answer to each entry
 
   session_answer_same : (r : Record) (hashed : HashedParts) (g : Option Grant) (e : Entry) (x : Session) → session_uses s r x e g ≡ false → session_answer (without_secrets s r) hashed g e x ≡ session_answer r hashed g e x
   unfolding session_answer answer_mac

@@ -1,4 +1,4 @@
--- The answer to an accepted command uses nothing secret, if its entries used nothing before.
+-- The answer to an accepted command uses no secret, if its entries used none before.
 use Rattle.std.proofs.Common.{ap, inl, inr, refl, subst, sym, ◌∙◌}
 use Rattle.std.proofs.lemmas.Bool.{cases_Bool, false≢true}
 use Rattle.std.proofs.lemmas.Option.{same_Some}
@@ -162,8 +162,8 @@ module _ (s : Secrecy) (r new : Record) where
 
 -- ---- an accepted command
 
--- the record of which the answer to an accepted command is made: after its effect, and with the new
--- nonces of its sessions
+-- the record from which an accepted command's answer is computed: after the command's effect, and
+-- with the new nonces of its sessions
 abbrev pub answering : Accepted → (random : List ℕ) → Record
 answering a random = (entries_rolled a.success.after a.command.entries (drop a.success.answer.drawn random)).after
 
@@ -187,7 +187,7 @@ module _ (s : Secrecy) (r : Record) (locality : ℕ) (random : List ℕ) (a : Ac
       (first_stays s a.command.code r a.request (subst (HandlesFit r (shape_of a.command.code).handles) (sym handles_same) accepts.fits)) accepts.row
       h (ap first_handle handles_same ∙ first)
 
-  -- the effect, and new nonces
+  -- the effect, and the new nonces
   rolled_open : (h : Handle) (es : List Entry) (left : List ℕ) (t : Record) → has_secret_value s (entries_rolled t es left).after h ≡ has_secret_value s t h
   unfolding entity_at object_of entry_rolled
   rolled_open h [] left t = refl

@@ -1,4 +1,4 @@
--- What reads sealed data of a device whose history nobody knows.
+-- The commands that read sealed data on a device with an unknown history.
 use Rattle.std.proofs.Common.{ap, arith, inl, inr, refl, subst, sym, ◌∙◌}
 use Rattle.std.proofs.lemmas.Bool.{and_parts, cases_Bool, false≢true}
 use Rattle.std.proofs.lemmas.Slice.Eq.{bytes_eq-Decides}
@@ -56,7 +56,7 @@ use Rattle.tpm_types_object.specs.declared.object_attributes.ObjectAttribute.The
 
 -- ---- an entry that authorizes an object without userWithAuth
 
--- a policy session, with the hash and the digest of an object's policy
+-- a policy session with the hash and the digest of an object's policy
 record IsOfPolicy (r : Record) (o : Object) (e : Entry) : Type 0 where
   session : Session
   there : session_of r e ≡ Some session

@@ -1,5 +1,6 @@
--- What is authorized on a device is authorized on it without its secrets, where a guess is taken to
--- be wrong; so devices that differ in their secrets authorize alike while all guesses are wrong.
+-- If every guess is assumed wrong, a device authorizes the same commands with its secrets and
+-- with its secrets erased. Therefore devices that differ in their secrets authorize the same
+-- commands while all guesses are wrong.
 use Rattle.std.proofs.Common.{ap, inl, inr, refl, sym, ◌∙◌}
 use Rattle.std.proofs.lemmas.Bool.{false≢true, true≢false}
 use Rattle.std.proofs.lemmas.Slice.Eq.{bytes_eq-Decides}
@@ -48,7 +49,7 @@ use Rattle.tpm_types.specs.declared.handle.SessionKind.TheVariants as kind
 use Rattle.tpm_types.specs.declared.session_type.SessionType.TheVariants as type
 use Rattle.tpm_record.specs.declared.entity.Means.TheVariants as means
 
--- steps that are the same, and are followed by the same
+-- equal steps, followed by equal steps
 pub then_same : {A B E : Type 0} (x y : Result A E) (f g : A → Result B E) → x ≡ y → ((a : A) → f a ≡ g a) → (x >>= f) ≡ (y >>= g)
 then_same {A} {B} {E} x y f g first same = ap (λ (z : Result A E). z >>= f) first ∙ by y
   where
@@ -103,7 +104,7 @@ other_name one other apart = by (bytes_eq one other) refl
     by true is = absurd (apart ((bytes_eq-Decides one other).0 is))
     by false is = refl
 
--- a comparison that is taken to fail
+-- a comparison that is assumed to fail
 abbrev pub wrong_comparison : Record → ℕ → Option Grant → Session → Result (Option Grant) Refused
 wrong_comparison t n g x =
     may_be_tried t.fixed.lockout g (entry_protection t x g) >>= λ tried.
@@ -113,7 +114,7 @@ module _ (s : Secrecy) (covers : CoversKeys s) (r : Record) where
   abbrev bare : Record
   bare = without_secrets s r
 
-  -- ---- what both have
+  -- ---- what both devices have in common
 
   pub seen_session : {X : Type 0} (see : Option Session → X) → ((found : Option Session) → see (option_map (bare_session s) found) ≡ see found) → (h : Handle) → see (session_at bare.sessions h) ≡ see (session_at r.sessions h)
   seen_session see same h = ap see (session_at_bare s r.sessions h) ∙ same (session_at r.sessions h)
@@ -136,8 +137,8 @@ module _ (s : Secrecy) (covers : CoversKeys s) (r : Record) where
   nonce_seen None = refl
   nonce_seen (Some x) = refl
 
-  -- the authorization value of an entity that is not secret, and whether a session that is not
-  -- secret is bound to an entity
+  -- the authorization value of an entity if it is not secret; and whether a session without a
+  -- secret key is bound to an entity
   bound_by : Record → Binding → Handle → Bool
   bound_by t b h = bytes_eq b.name (name_of t h) && bytes_eq b.auth_value (auth_value_of t h)
 
@@ -169,7 +170,7 @@ module _ (s : Secrecy) (covers : CoversKeys s) (r : Record) where
   unfolding takes_value
   takes_same x g shown = ap (λ (b : Bool). has_value_in_key x.kind b g.demand) (bound_same x g.handle shown)
 
-  -- ---- what is used of an entry is the same, if it is nothing secret
+  -- ---- an entry that uses no secret uses the same on both devices
 
   pub used_same : (x : Session) (e : Entry) (g : Option Grant) → session_uses s r x e g ≡ false → used_auth_value bare x g ≡ used_auth_value r x g
   unfolding used_auth_value takes_value
@@ -266,7 +267,7 @@ module _ (s : Secrecy) (covers : CoversKeys s) (r : Record) where
     unfolding demanded
     demanded_same n h x = bare_demand x.kind n h x ∙ demand_same x.kind n h x
 
-    -- ---- a comparison that uses nothing secret
+    -- ---- a comparison that uses no secret
 
     authentic_same : (n : ℕ) (g : Option Grant) (e : Entry) (x : Session) → session_uses s r x e g ≡ false → is_authentic bare c n g e x ≡ is_authentic r c n g e x
     unfolding is_authentic
@@ -298,7 +299,7 @@ module _ (s : Secrecy) (covers : CoversKeys s) (r : Record) where
         ∙ ap (λ (p : Protection). compared_with n g p (comparison_holds bare c n g e x)) (shown_protection x g shown)
         ∙ ap (compared_with n g (entry_protection r x g)) (holds_same n g e x free)
 
-    -- ---- a guess that is taken to be wrong
+    -- ---- a guess that is assumed wrong
 
     fails_so : (x : Result (Unit {0}) Refused) (e : Refused) (g : Option Grant) (holds : Bool) → is_ok (x >>= λ tried. refused_if (not holds) e >>= λ compared. let y : Result (Option Grant) Refused = Ok g in y) ≡ false → (x >>= λ tried. refused_if (not holds) e >>= λ compared. let y : Result (Option Grant) Refused = Ok g in y) ≡ (x >>= λ tried. Err e)
     fails_so (Err f) e g holds fails = refl

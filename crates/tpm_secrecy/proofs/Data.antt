@@ -1,4 +1,4 @@
--- Where data alone are secret, no entry uses anything secret, and no guess is one of them.
+-- If only data is secret, no entry uses a secret, and no entry is a guess.
 use Rattle.std.proofs.Common.{ap, refl, sym, ◌∙◌}
 use Rattle.std.proofs.lemmas.Bool.{false≢true}
 use Rattle.std.specs.Option.{option_map_or}
@@ -129,7 +129,7 @@ module _ (indices : ℕ → Bool) (objects : Public → Bool) where
       by (Err e) free = tt
   event_keeps r Cycled free = tt
 
-  -- ---- an event reads data of both devices, or of none
+  -- ---- an event reads the data on both devices, or on neither
 
   module _ (r t : Record) (differ : DifferInSecrets data_alone r t) where
     granted_both : (c : Whole) (locality : ℕ) (random : List ℕ) (x : Result (List (Option Grant)) Refused) → granted_reads data_alone r c locality random x ≡ granted_reads data_alone t c locality random x

@@ -1,4 +1,4 @@
--- Wrong guesses tell nothing, and few of them fail.
+-- Wrong guesses reveal nothing, and the number of failed tries is limited.
 use Rattle.std.specs.Prelude.{true}
 use Rattle.tpm_step.proofs.FewTries.{fails_within}
 use Rattle.tpm_secrecy.proofs.Data.{covers}

@@ -1,5 +1,5 @@
--- The authorization of a command in which each guess is taken to be wrong; it is the authorization,
--- where each is.
+-- The authorization of a command with every guess assumed wrong; it equals the real authorization
+-- if every guess is wrong.
 use Rattle.std.proofs.Common.{ap, arith, length-append, refl, subst, sym, ◌∙◌}
 use Rattle.std.proofs.lemmas.Bool.{true≢false}
 use Rattle.std.specs.List.{list_any}
@@ -37,7 +37,7 @@ use Rattle.tpm_types.specs.declared.rc.Place.TheVariants as place
 use Rattle.tpm_types.specs.declared.rc.ResponseCode.TheVariants as code
 use Rattle.tpm_record.specs.declared.entity.Means.TheVariants as means
 
--- ---- guesses are taken to be wrong
+-- ---- guesses are assumed wrong
 
 module _ (s : Secrecy) (c : Whole) (locality : ℕ) (t : Record) where
   abbrev doubted : ℕ → Option Grant → Entry → Session → Result (Option Grant) Refused
@@ -82,7 +82,7 @@ module _ (s : Secrecy) (c : Whole) (locality : ℕ) (t : Record) where
       refused_if (list_any decrypts c.entries && not (has_first_buffer c.parameters)) (refusal check.Others (at (place.Parameter 1) (plain code.Insufficient))) >>= λ whole.
       Ok grants
 
--- ---- they are wrong
+-- ---- the guesses are wrong
 
 module _ (s : Secrecy) (covers : CoversKeys s) (r : Record) (c : Whole) (locality : ℕ) where
   abbrev bare : Record

@@ -1,4 +1,4 @@
--- The sessions that a command may have stay what they were at their start, in the command's effect.
+-- A command's effect does not change what its sessions had at their start.
 use Rattle.std.proofs.Common.{ap, inl, inr, refl, sym, ◌∙◌}
 use Rattle.std.proofs.lemmas.Bool.{cases_eq, false≢true}
 use Rattle.std.proofs.lemmas.Option.{same_Some}
@@ -37,17 +37,17 @@ use Rattle.tpm_row_secrecy.proofs.Each.{at_number_each, places, set_each}
 use Rattle.tpm_commands.specs.declared.command_code.CommandCode.TheVariants as command
 use Rattle.tpm_commands.specs.Part as part
 
--- a session as it was at its start, without its latest nonce
+-- a session at its start, without its latest nonce
 abbrev pub start_of_session : Session → Session
 start_of_session x = record x { nonce_tpm = []; policy = starting x.hash }
 
--- Each session that was there is what it was, but for its nonce and its policy.
+-- Each session that existed stays the same, except for its nonce and its policy.
 abbrev pub SessionsKeep : List (Option Session) → List (Option Session) → Type 0
 SessionsKeep old new =
     (h : Handle) → is_some (session_at old h) ≡ true
     → option_map start_of_session (session_at new h) ≡ option_map start_of_session (session_at old h)
 
--- ---- a session is changed in its place
+-- ---- a session is changed in its slot
 
 set_itself : (xs : List (Option Session)) (n : ℕ) (x : Session) → at_place xs n ≡ Some x → slice_set xs n (Some x) ≡ xs
 set_itself [] n x is = refl
@@ -149,7 +149,7 @@ restart_keeps r q =
     ok_bind _ (policy_session r.sessions handle) _ (λ x.
     starts_keep r.sessions (with_session_policy r.sessions handle (starting x.hash)) (policy_starts r.sessions handle (starting x.hash)))))
 
--- a success that touches none of the sessions
+-- a successful command that changes no session
 abbrev has_no_session : Part → Bool
 has_no_session part.Sessions = false
 has_no_session part.SessionsAndObjects = false
@@ -203,7 +203,7 @@ flush_forbids : (shape_of command.FlushContext).forbids_sessions ≡ true
 unfolding shape_of
 flush_forbids = refl
 
--- TPM2_FlushContext has no sessions
+-- TPM2_FlushContext takes no sessions
 pub sessions_keep : (c : CommandCode) (r : Record) (q : Request) → (shape_of c).forbids_sessions ≡ false → IfOk (row_of r c q) (RowKeeps r)
 sessions_keep command.FlushContext r q allows = absurd (false≢true (sym allows ∙ flush_forbids))
 sessions_keep command.StartAuthSession r q allows = started_row_keeps r q

@@ -1,4 +1,5 @@
--- What a command authorizes has no secret value after its effect that it had not before.
+-- If the entity that a command authorizes has a secret value after the command's effect, it had
+-- one before.
 use Rattle.std.proofs.Common.{ap, inl, inr, refl, subst, sym, ◌∙◌}
 use Rattle.std.proofs.lemmas.Bool.{cases_eq, eqb-true, false≢true, or_cases}
 use Rattle.std.proofs.lemmas.Option.{same_Some}
@@ -72,7 +73,7 @@ use Rattle.tpm_types.specs.declared.handle.HierarchyHandle.TheVariants as hierar
 abbrev number_in : NvIndex → ℕ
 number_in i = i.public.nv_index.number
 
--- each index has the number under its handle that it had before
+-- the index of each handle keeps its number
 abbrev KeepsNumbers : NvContents → NvContents → Type 0
 KeepsNumbers old new = (h : Handle) → option_map number_in (index_at new h) ≡ option_map number_in (index_at old h)
 
@@ -201,7 +202,7 @@ hierarchy_permanent h is = by (h.number == owner_handle.number) (h.number == end
     by false false false true owner other third fourth is = number_kept_not h null_handle.number fourth
     by false false false false owner other third fourth is = absurd (false≢true is)
 
--- ---- the parts of a record that have entities
+-- ---- the parts of a record that contain entities
 
 abbrev is_apart : Part → Bool
 is_apart part.Nothing = true
@@ -214,7 +215,7 @@ is_apart part.DisableClear = true
 is_apart _ = false
 
 module _ (s : Secrecy) where
-  -- An entity has no secret value, if it had none before.
+  -- An entity has no secret value if it had none before.
   abbrev pub StaysOpen : Record → Record → Handle → Type 0
   StaysOpen old new h = has_secret_value s old h ≡ false → has_secret_value s new h ≡ false
 
@@ -255,7 +256,7 @@ module _ (s : Secrecy) where
   permanent_stays : (old new : Record) (h : Handle) → names_kept h ≡ false → StaysOpen old new h
   permanent_stays old new h kept shown = permanent_value new h kept ∙ sym (permanent_value old h kept) ∙ shown
 
-  -- an object that is there is in another place than the one that was free
+  -- an existing object is not in the slot that was free
   placed_same : (r : Record) (n : ℕ) (new o : Object) (h : Handle) → object_of r h ≡ Some o → lowest_free r.objects ≡ Some n → object_of (record r { objects = with_object r.objects n new }) h ≡ object_of r h
   unfolding object_of object_at at_number
   placed_same r n new o h found free = by (is_persistent h) found
@@ -281,7 +282,7 @@ module _ (s : Secrecy) where
 
   -- ---- each command
 
-  -- What the first handle of a command names stays open, where the command succeeds.
+  -- The entity of a command's first handle still has no secret value after the command succeeds.
   abbrev pub FirstStays : Record → Request → Success → Type 0
   FirstStays r q x = (h : Handle) → first_handle q.handles ≡ Ok h → StaysOpen r x.after h
 

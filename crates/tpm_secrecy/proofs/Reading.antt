@@ -1,4 +1,4 @@
--- A command that reads sealed data is an accepted TPM2_Unseal or TPM2_HMAC of such an object.
+-- A command that reads sealed data is an accepted TPM2_Unseal or TPM2_HMAC with such an object.
 use Rattle.tpm_types_object.specs.ObjectAttributes.{has}
 use Rattle.std.proofs.Common.{ap, inl, inr, refl, sym, ◌∙◌}
 use Rattle.std.proofs.lemmas.Bool.{and_parts, eqb-true, false≢true, or_cases}
@@ -44,8 +44,8 @@ use Rattle.tpm_actions_object.specs.Hmac as keyed
 abbrev pub reading_code : Public → CommandCode
 reading_code public = if has public.attributes attribute.Sign then command.Hmac else command.Unseal
 
--- A command of this code, with this request, succeeds by its row, and reads what an object holds
--- that is among these.
+-- A command with this code and this request succeeds by its row, and reads the secret data of one
+-- of these objects.
 pub record ReadsObject (objects : Public → Bool) (r : Record) (code : CommandCode) (q : Request) : Type 0 where
   pub handle : Handle
   pub first : first_handle q.handles ≡ Ok handle
@@ -57,7 +57,7 @@ pub record ReadsObject (objects : Public → Bool) (r : Record) (code : CommandC
   pub succeeds : row_of r code q ≡ Ok success
   pub code_is : code ≡ reading_code object.public
 
--- ---- what a row that succeeds has passed
+-- ---- the checks that a successful row has passed
 
 unseal_unsigned : (r : Record) (q : Request) (handle : Handle) (o : Object) → first_handle q.handles ≡ Ok handle → object_of r handle ≡ Some o → IfOk (unseal_row r q) (λ x. has o.public.attributes attribute.Sign ≡ false)
 unfolding unseal_row
@@ -79,7 +79,7 @@ hmac_signs r q handle o first found =
     ok_bind _ (ok_or (chosen_hash scheme p.hash) (action_refusal action.Fourth (at (place.Parameter 2) (plain code.Value)))) _ (λ hash.
     asked _ _ a3 is))))))
 
--- ---- what reads
+-- ---- commands that read sealed data
 
 has_success : (x : Result Success Refused) → is_ok x ≡ true → (y : Success) × (x ≡ Ok y)
 has_success (Ok y) is = (y, refl)
@@ -145,7 +145,7 @@ module _ (objects : Public → Bool) (r : Record) (q : Request) where
   reads_object command.NvIncrement is = absurd (no_counter (second_handle q.handles) is)
   reads_object _ is = absurd (false≢true is)
 
--- ---- what everybody may read of the object
+-- ---- what is public about the object
 
 not_of_index : (t : ℕ) → (t == 0x80 || t == 0x81) ≡ true → (t == 0x01) ≡ false
 not_of_index t kind =
@@ -164,7 +164,7 @@ pub object_viewed : (r : Record) (handle : Handle) (o : Object) → is_of_kind h
 unfolding view_of
 object_viewed r handle o kind found = ap (entity_view handle) (object_entity r handle o kind found)
 
--- ---- its handle is an object's, and is authorized
+-- ---- its handle names an object, and is authorized
 
 pub object_handle_fits : (r : Record) (b : Bool) (handles : List Handle) (handle : Handle) → HandlesFit r (shape_of (if b then command.Hmac else command.Unseal)).handles handles → first_handle handles ≡ Ok handle → is_of_kind handle_kind.Object handle ≡ true
 unfolding shape_of
@@ -187,7 +187,7 @@ pub first_viewed : (r : Record) (handles : List Handle) (handle : Handle) → fi
 first_viewed r [] handle first = absurd (no_first handle first)
 first_viewed r (h ∷ hs) handle first = ap (λ (x : Handle). Some (view_of r x)) (first_is h handle hs first)
 
--- neither of the two commands grows anything
+-- neither of the two commands ever needs memory
 pub never_grows : (b : Bool) → (shape_of (if b then command.Hmac else command.Unseal)).grows ≡ false
 unfolding shape_of
 never_grows true = refl

@@ -1,4 +1,5 @@
--- What objects seal, and their keys, leave a device by accepted commands that met their policies.
+-- Sealed data and keys leave a device only through accepted commands that met the objects'
+-- policies.
 use Rattle.tpm_types_object.specs.ObjectAttributes.{has}
 use Rattle.std.proofs.Common.{ap, inl, inr, refl, subst, sym, ◌∙◌}
 use Rattle.std.proofs.lemmas.Bool.{cases_Bool, false≢true}
@@ -42,7 +43,7 @@ use Rattle.tpm_secrecy.specs.SealedData.{FollowedDataNeedPolicy, FollowedDataSta
 use Rattle.tpm_secrecy.specs.Tells.{TellsNothing, decoded_reads, granted_reads, is_reading}
 use Rattle.tpm_types_object.specs.declared.object_attributes.ObjectAttribute.TheVariants as attribute
 
--- ---- what tells nothing
+-- ---- events that reveal nothing
 
 pub unread_tells_nothing : (objects : Public → Bool) (can : Bool) (old : Record) (event : PlainEvent) (x : Stepped) → Steps can old event x → is_reading (sealed objects) old event ≡ false → TellsNothingSealed objects can old event x
 unread_tells_nothing objects can old event x steps free other differ = (
@@ -52,9 +53,9 @@ unread_tells_nothing objects can old event x steps free other differ = (
       (data_told_nothing (λ number. false) objects old other steps.0 event differ free),
 )
 
--- ---- what reads
+-- ---- commands that read sealed data
 
--- a command that a buffer spells, that is authorized, and that reads what is sealed
+-- a command in a buffer, which is authorized and reads sealed data
 pub record IsRead (objects : Public → Bool) (r : Record) (buffer : List ℕ) (locality : ℕ) (random : List ℕ) : Type 0 where
   pub c : Whole
   pub decoded : general r buffer ≡ Ok c
@@ -75,7 +76,7 @@ module _ (objects : Public → Bool) (r : Record) (buffer : List ℕ) (locality 
   unfolding accepted acceptance
   accepted_so c grants x decoded granted row = rw (decoded, granted, row) refl
 
--- a command that grows nothing is answered with success, even where memory is refused
+-- a command that never needs memory returns a success, even if an allocation would fail
 answered : (refused : Bool) (r : Record) (random : List ℕ) (a : Accepted) → (shape_of a.command.code).grows ≡ false → (answer_where refused r random (Ok a)).row.check ≡ 0
 answered false r random a none = refl
 answered true r random a none = rw none refl
@@ -173,7 +174,7 @@ followed_data_need_policy objects can old history follows event x executes =
       | inr free ↦ inl (unread_tells_nothing objects can old event x executes.steps free)
     ]
 
--- ---- until something is read
+-- ---- until a command reads the data
 
 module _ (objects : Public → Bool) (can : Bool) (Holds : History → AcceptedCommand → Type 0) (so : (history : History) (c : AcceptedCommand) → ReadsSealed objects history c → Holds history c) where
   one_stays : (old : Record) (history : History) → Follows old history → (event : PlainEvent) (x : Stepped) → Executes can old event x → ((c : AcceptedCommand) → recorded old event x.row.check history ≡ Done c ∷ history → Holds history c → ⊥) → TellsNothingSealed objects can old event x

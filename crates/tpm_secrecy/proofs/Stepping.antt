@@ -1,4 +1,5 @@
--- An event in which no secret data are read, and all guesses fail, tells nothing of what is secret.
+-- An event that reads no secret data, and in which all guesses fail, reveals nothing about
+-- secrets.
 use Rattle.std.proofs.Common.{ap, refl, subst, sym, ◌∙◌}
 use Rattle.std.specs.Prelude.{Bool, Err, IfOk, List, Ok, Option, Result, [], cond, false, not, true, ℕ, ◌+◌, ◌∷◌, ◌≡◌}
 use Rattle.tpm_auth.specs.Grant.{authorize}
@@ -50,7 +51,7 @@ use Rattle.tpm_secrecy.proofs.Guessing.{doubted_authorization, doubted_is}
 use Rattle.tpm_secrecy.specs.Guesses.{BindingsHold, GuessesFail, NoneUses}
 use Rattle.tpm_secrecy.specs.Tells.{Attempts, EventKeepsSecrets, KeepsSecrets, RunOfWrongGuessesTellsNothing, RunsAlike, TellsNothing, WrongGuessesTellNothing, answers_to, granted_reads}
 
--- the texts of a command are read alike, if each of them is
+-- if each text of a command is decoded in the same way, so are all of them
 each_read_same : {X A E : Type 0} (f g : ℕ → X → List ℕ → Result (A × List ℕ) E) → ((n : ℕ) (x : X) (text : List ℕ) → f n x text ≡ g n x text) → (n : ℕ) (xs : List X) (text : List ℕ) → each_at f n xs text ≡ each_at g n xs text
 each_read_same f g same n [] text = refl
 each_read_same {A = A} {E = E} f g same n (x ∷ xs) text =
@@ -79,7 +80,7 @@ module _ (s : Secrecy) where
   pub general_same : (r t : Record) → DifferInSecrets s r t → (buffer : List ℕ) → general r buffer ≡ general t buffer
   general_same r t differ buffer = sym (general_bare r buffer) ∙ ap (λ (x : Record). general x buffer) differ ∙ general_bare t buffer
 
--- ---- what is accepted
+-- ---- an accepted command
 
 abbrev bare_accepted : Secrecy → Accepted → Accepted
 bare_accepted s a = record a { success = bare_success s a.success }
@@ -156,9 +157,9 @@ module _ (s : Secrecy) (covers : CoversKeys s) where
         subst (λ (x : Result Whole RefusedCommand). AcceptAlike s (general r buffer >>= λ c. in_command c.code (acceptance r c locality random)) (x >>= λ c. in_command c.code (acceptance t c locality random))) same
         (decoded_alike locality random (general r buffer) one (subst (KeepIfOk t locality random) (sym same) other))
 
-  -- ---- what is answered
+  -- ---- the response
 
-  -- The answer to what is accepted uses nothing secret.
+  -- The answer to an accepted command uses no secret.
   abbrev Quiet : List ℕ → Accepted → Type 0
   Quiet random a = NoneUses s (answering a random) (granted_entries a.command a.grants)
 
@@ -171,7 +172,7 @@ module _ (s : Secrecy) (covers : CoversKeys s) where
       ok_bind _ (authorize r c locality) _ (λ grants.
       ok_bind _ (row_of r c.code (request_in r c grants locality random)) _ (λ success. refl))
 
-  -- the command of a buffer keeps the secrets, where it is accepted
+  -- the command in a buffer reveals no secrets, if it is accepted
   abbrev KeepsIts : Record → (locality : ℕ) → (random : List ℕ) → Accepted → Type 0
   KeepsIts r locality random a = KeepsSecrets s r a.command locality random
 
@@ -265,7 +266,7 @@ module _ (s : Secrecy) (covers : CoversKeys s) where
 pub wrong_guesses_tell_nothing : WrongGuessesTellNothing
 wrong_guesses_tell_nothing s covers one other refused event differ keeps also = told_nothing s covers refused one other event differ keeps also
 
--- one event that tells nothing, and then others that do
+-- one event that reveals nothing, followed by other events that reveal nothing
 pub runs_on : (s : Secrecy) (one other : Record) (e : Bool × PlainEvent) (es : Attempts) → TellsNothing s (step_where e.0 one e.1) (step_where e.0 other e.1) → RunsAlike s (step_where e.0 one e.1).after (step_where e.0 other e.1).after es → RunsAlike s one other (e ∷ es)
 runs_on s one other e es this rest =
     let x : Stepped = step_where e.0 one e.1 in

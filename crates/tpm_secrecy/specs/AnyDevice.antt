@@ -1,5 +1,5 @@
--- What leaves a device whose history nobody knows, say one that was opened from an image, of the
--- data that objects seal, and of HMAC keys. TPM 2.0 Library, Part 1, section 19.7 (enhanced
+-- What a device reveals about sealed data and HMAC keys if its history is unknown, for example
+-- because it was opened from an image. TPM 2.0 Library, Part 1, section 19.7 (enhanced
 -- authorization), and Part 3, sections 12.7 and 15.5.
 use Rattle.std.specs.Prelude.{Bool, List, Ok, Some, false, if◌then◌else◌, slice_get, true, ℕ, ◌≡◌, ◌⊎◌}
 use Rattle.tpm_mac.specs.declared.algorithm.HashAlg.{HashAlg}
@@ -23,7 +23,7 @@ use Rattle.tpm_types_object.specs.declared.object_attributes.ObjectAttribute.The
 use Rattle.tpm_commands.specs.declared.command_code.CommandCode.TheVariants as command
 use Rattle.tpm_types.specs.declared.session_type.SessionType.TheVariants as type
 
--- The first entry of a command names a policy session of a device, with this hash and this
+-- The first entry of a command names a policy session of the device, with this hash and this
 -- policyDigest.
 pub record HasDigest (r : Record) (c : Whole) (hash : HashAlg) (digest : List ℕ) : Type 0 where
   pub entry : Entry
@@ -34,9 +34,9 @@ pub record HasDigest (r : Record) (c : Whole) (hash : HashAlg) (digest : List �
   pub session_hash : session.hash ≡ hash
   pub policy : session.policy.digest ≡ digest
 
--- A command is accepted, and reads what an object holds that has one of these public areas: it is
--- TPM2_HMAC, where the object signs, and otherwise TPM2_Unseal. Where the object has no
--- userWithAuth, a policy session authorized it whose policyDigest is the object's authPolicy.
+-- An accepted command reads the secret data of an object with one of these public areas:
+-- TPM2_HMAC if the object signs, otherwise TPM2_Unseal. If the object has no userWithAuth, a
+-- policy session authorized the command, and its policyDigest is the object's authPolicy.
 pub record AcceptsReading (objects : Public → Bool) (r : Record) (buffer : List ℕ) (locality : ℕ)
     (random : List ℕ) : Type 0
   where
@@ -58,8 +58,9 @@ IsAcceptedReading objects r (Given buffer locality elapsed random) =
     AcceptsReading objects (ticked r elapsed) buffer locality random
 IsAcceptedReading objects r Cycled = ⊥
 
--- On any device, also one whose history nobody knows: an execution tells nothing of what is sealed,
--- or is an accepted command that reads it. What its policy session asserted is not said.
+-- On any device, even one with an unknown history: an execution reveals nothing about sealed
+-- data, unless it is an accepted command that reads it. The law does not state what the command's
+-- policy session asserted.
 abbrev pub SealedDataNeedDigest : Type 0
 SealedDataNeedDigest =
     (objects : Public → Bool) (can : Bool) (old : Record) (event : PlainEvent) (x : Stepped)

@@ -1,6 +1,6 @@
--- What leaves a device of the data that objects seal, and of HMAC keys: nothing but by TPM2_Unseal,
--- or TPM2_HMAC, each of which met the object's policy. TPM 2.0 Library, Part 1, sections 19.7
--- (enhanced authorization) and 23 (protected storage), and Part 3, sections 12.7 and 15.5.
+-- What a device reveals about sealed data and HMAC keys: nothing, except through a TPM2_Unseal or
+-- a TPM2_HMAC that met the object's policy. TPM 2.0 Library, Part 1, sections 19.7 (enhanced
+-- authorization) and 23 (protected storage), and Part 3, sections 12.7 and 15.5.
 use Rattle.std.specs.Prelude.{Bool, List, Some, [], false, if◌then◌else◌, slice_get, true, ℕ, ◌∷◌, ◌≡◌, ◌⊎◌}
 use Rattle.tpm_mac.specs.Hasher.{Holds}
 use Rattle.tpm_mac.specs.declared.algorithm.HashAlg.{HashAlg}
@@ -27,16 +27,16 @@ use Rattle.tpm_secrecy.specs.Tells.{TellsNothing}
 use Rattle.tpm_types_object.specs.declared.object_attributes.ObjectAttribute.TheVariants as attribute
 use Rattle.tpm_commands.specs.declared.command_code.CommandCode.TheVariants as command
 
--- the secrecy of what objects with these public areas seal, or of their keys, alone
+-- the secrecy in which only the sealed data or keys of objects with these public areas are secret
 abbrev pub sealed : (Public → Bool) → Secrecy
 sealed objects = of_data (λ number. false) objects
 
 -- ---- an accepted command that reads sealed data
 
--- An accepted command reads what an object holds that has one of these public areas: it is
--- TPM2_HMAC, where the object signs, and otherwise TPM2_Unseal. Where the object has no
--- userWithAuth, and its authPolicy is the digest of a policy, a policy session authorized the
--- command and met the policy; or the hash is broken.
+-- An accepted command reads the secret data of an object with one of these public areas:
+-- TPM2_HMAC if the object signs, otherwise TPM2_Unseal. If the object has no userWithAuth, and
+-- its authPolicy is the digest of a policy, a policy session authorized the command and met the
+-- policy; or the hash is broken.
 pub record ReadsSealed (objects : Public → Bool) (history : History) (c : AcceptedCommand) : Type 0
   where
     pub public : Public
@@ -51,15 +51,15 @@ pub record ReadsSealed (objects : Public → Bool) (history : History) (c : Acce
         → IsPolicyExpression public.name_alg policy
         → IsUsedBySession history c 0 public.name_alg policy (λ u. IsMet (IsMetBy u) policy)
 
--- An execution tells nothing of what is sealed: any device that differs in this alone can execute
--- the event with the same response and row, and differs in this alone after it.
+-- An execution reveals nothing about sealed data: any device that differs only in this data can
+-- execute the event with the same response and row, and afterwards differs only in this data.
 abbrev pub TellsNothingSealed : (Public → Bool) → Bool → Record → PlainEvent → Stepped → Type 0
 TellsNothingSealed objects can old event x =
     (other : Record) → DifferInSecrets (sealed objects) old other
     → (y : Stepped) × Steps can other event y × TellsNothing (sealed objects) x y
 
--- On a device that follows a history each execution tells nothing of what is sealed, or is recorded
--- as an accepted command that reads it.
+-- On a device that follows a history, each execution reveals nothing about sealed data, unless it
+-- is recorded as an accepted command that reads it.
 abbrev pub FollowedDataNeedPolicy : Type 0
 FollowedDataNeedPolicy =
     (objects : Public → Bool) (can : Bool) (old : Record) (history : History)
@@ -68,8 +68,8 @@ FollowedDataNeedPolicy =
     ⊎ (c : AcceptedCommand) × (recorded old event x.row.check history ≡ Done c ∷ history)
     × ReadsSealed objects history c
 
--- Whatever was executed on a device since it was manufactured: each execution tells nothing of what
--- is sealed, or is recorded as an accepted command that reads it.
+-- After any executions since a device was manufactured, each execution reveals nothing about
+-- sealed data, unless it is recorded as an accepted command that reads it.
 abbrev pub SealedDataNeedPolicy : Type 0
 SealedDataNeedPolicy =
     (objects : Public → Bool) (can : Bool) (random : List ℕ) (executions : List Execution)
@@ -81,9 +81,9 @@ SealedDataNeedPolicy =
     ⊎ (c : AcceptedCommand) × (recorded old event x.row.check history ≡ Done c ∷ history)
     × ReadsSealed objects history c
 
--- ---- until one reads them
+-- ---- until a command reads the data
 
--- No command that these executions accept, after this history, has this property.
+-- No command that is accepted in these executions, after this history, has this property.
 abbrev pub NoneIs : (History → AcceptedCommand → Type 0) → History → List Execution → Type 0
 NoneIs Holds history [] = Unit {0}
 NoneIs Holds history (one ∷ executions) =
@@ -91,22 +91,22 @@ NoneIs Holds history (one ∷ executions) =
     × NoneIs Holds (with_execution one history) executions
 
 -- From another device the same events lead, with the same responses and rows, to a device that
--- differs from this one in what is sealed alone.
+-- differs from this one only in sealed data.
 abbrev pub LeadsAlike : (Public → Bool) → Bool → Record → List Execution → Record → Type 0
 LeadsAlike objects can other [] new = DifferInSecrets (sealed objects) new other
 LeadsAlike objects can other (one ∷ executions) new =
     (y : Stepped) × Steps can other one.event y × (y.response ≡ one.seen.response)
     × (y.row ≡ one.seen.row) × LeadsAlike objects can y.after executions new
 
--- Executions on this device tell nothing of what is sealed: every device that differs in this alone
--- can give the same responses and rows to all of the events.
+-- Executions on this device reveal nothing about sealed data: every device that differs only in
+-- this data can have the same responses and rows for all of the events.
 abbrev pub StaySealed : (Public → Bool) → Bool → Record → List Execution → Record → Type 0
 StaySealed objects can old executions new =
     (other : Record) → DifferInSecrets (sealed objects) old other
     → LeadsAlike objects can other executions new
 
--- On a device that follows a history: until a command is accepted that reads what is sealed,
--- executions tell nothing of it.
+-- On a device that follows a history, executions reveal nothing about sealed data until a command
+-- that reads it is accepted.
 abbrev pub FollowedDataStayUntilRead : Type 0
 FollowedDataStayUntilRead =
     (objects : Public → Bool) (can : Bool) (old : Record) (history : History)
@@ -114,8 +114,8 @@ FollowedDataStayUntilRead =
     → Leads can old executions new → NoneIs (ReadsSealed objects) history executions
     → StaySealed objects can old executions new
 
--- On a device with any history since it was manufactured: until a command is accepted that reads
--- what is sealed, executions tell nothing of it.
+-- On a device with any history since it was manufactured, executions reveal nothing about sealed
+-- data until a command that reads it is accepted.
 abbrev pub SealedDataStayUntilRead : Type 0
 SealedDataStayUntilRead =
     (objects : Public → Bool) (can : Bool) (random : List ℕ) (before : List Execution)
@@ -127,18 +127,18 @@ SealedDataStayUntilRead =
 
 -- ---- a disk's key
 
--- the policy of a disk's key: that PCRs have these values, and the PIN, which is the key's
--- authorization value, is given; or that the authorization of an entity, a recovery secret, is
--- given
+-- the policy of a disk's key. The PCRs must have these values, and the PIN, which is the key's
+-- authorization value, must be presented; or else an entity, the recovery secret, must be
+-- authorized
 abbrev pub disk_policy : HashAlg → List BankSelection → (values name reference : List ℕ)
     → PolicyExpression
 disk_policy hash selection values name reference =
     PolicyOr (Branch (Then (by_pcrs hash selection values) PolicyAuthValue)
     (Branch (Then Nothing (PolicySecret name reference)) NoBranch))
 
--- An accepted TPM2_Unseal of the disk's key, for which a session showed that the PCRs had the values
--- and that the PIN was given, which is the key's authorization value, or the recovery secret; or the
--- hash is broken.
+-- An accepted TPM2_Unseal of the disk's key. A session proved that the PCRs had the values and
+-- that the PIN, which is the key's authorization value, was presented; or that the recovery
+-- secret was presented; or the hash is broken.
 pub record OpensDiskKey (public : Public) (selection : List BankSelection)
     (values name reference : List ℕ) (history : History) (c : AcceptedCommand) : Type 0
   where
@@ -149,8 +149,8 @@ pub record OpensDiskKey (public : Public) (selection : List BankSelection)
         (λ u. HavePcrValues history public.name_alg selection values × ShowsAuthValue u
         ⊎ ShowsSecret history u.entry.session name reference)
 
--- An object seals data and has no userWithAuth, and its authPolicy is the policy of a disk's key; and
--- the objects are none but those that have its public area.
+-- An object seals data and has no userWithAuth, and its authPolicy is the policy of a disk's key;
+-- and `objects` contains only objects with its public area.
 pub record IsDiskKey (public : Public) (objects : Public → Bool) (selection : List BankSelection)
     (values name reference : List ℕ) : Type 0
   where
@@ -161,9 +161,9 @@ pub record IsDiskKey (public : Public) (objects : Public → Bool) (selection : 
         (disk_policy public.name_alg selection values name reference)
     pub one : (other : Public) → objects other ≡ true → other ≡ public
 
--- On a device that follows a history: until a command is accepted for which the PCRs have their
--- values and the PIN is given, or the recovery secret is, or the hash is broken, nothing tells the
--- disk's key.
+-- On a device that follows a history, nothing reveals the disk's key until a command is accepted
+-- for which one of these holds: the PCRs have their values and the PIN is presented; the recovery
+-- secret is presented; or the hash is broken.
 abbrev pub FollowedDiskKeyStaysSecret : Type 0
 FollowedDiskKeyStaysSecret =
     (public : Public) (objects : Public → Bool) (selection : List BankSelection)
@@ -174,9 +174,9 @@ FollowedDiskKeyStaysSecret =
     → NoneIs (OpensDiskKey public selection values name reference) history executions
     → StaySealed objects can old executions new
 
--- Whatever was executed on a device since it was manufactured: until a command is accepted for
--- which the PCRs have their values and the PIN is given, or the recovery secret is, or the hash is
--- broken, nothing tells the disk's key.
+-- After any executions since a device was manufactured, nothing reveals the disk's key until a
+-- command is accepted for which one of these holds: the PCRs have their values and the PIN is
+-- presented; the recovery secret is presented; or the hash is broken.
 abbrev pub DiskKeyStaysSecret : Type 0
 DiskKeyStaysSecret =
     (public : Public) (objects : Public → Bool) (selection : List BankSelection)

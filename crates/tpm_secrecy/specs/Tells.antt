@@ -1,4 +1,4 @@
--- What the answers of a device tell of its secrets: nothing, until something reads them.
+-- What the answers of a device reveal about its secrets: nothing, until an event reads them.
 use Rattle.std.specs.Prelude.{Bool, Err, IfOk, List, Ok, Option, Result, [], false, true, ℕ, ◌∷◌, ◌≡◌, ◌≢◌, ◌≤◌}
 use Rattle.tpm_auth.specs.Grant.{authorize}
 use Rattle.tpm_auth.specs.declared.session_grant.Grant.{Grant}
@@ -21,7 +21,8 @@ use Rattle.tpm_secrecy.specs.Guesses.{BindingsHold, GuessesFail}
 
 -- ---- an event
 
--- whether a command with these grants, or one whose authorization is refused, reads secret data
+-- whether a command with these grants reads secret data; if its authorization is refused, it
+-- reads none
 abbrev pub granted_reads : Secrecy → Record → Whole → (locality : ℕ) → (random : List ℕ)
     → Result (List (Option Grant)) Refused → Bool
 granted_reads s r c locality random (Ok grants) =
@@ -40,22 +41,22 @@ abbrev pub decoded_reads : Secrecy → Record → (locality : ℕ) → (random :
 decoded_reads s r locality random (Ok c) = command_reads s r locality random c
 decoded_reads s r locality random (Err e) = false
 
--- whether an event reads secret data: a power cycle does not
+-- whether an event reads secret data; a power cycle does not
 abbrev pub is_reading : Secrecy → Record → PlainEvent → Bool
 is_reading s r (Given buffer locality elapsed random) =
     decoded_reads s (ticked r elapsed) locality random (general (ticked r elapsed) buffer)
 is_reading s r Cycled = false
 
--- Two steps give the same response and report the same row, and leave two devices that differ in
--- what is secret, and in nothing else.
+-- Two steps return the same response, report the same row, and leave two devices that differ only
+-- in secrets.
 pub record TellsNothing (s : Secrecy) (x y : Stepped) : Type 0 where
   pub response : x.response ≡ y.response
   pub row : x.row ≡ y.row
   pub after : DifferInSecrets s x.after y.after
 
--- Where data alone are secret, and two devices differ in them and in nothing else: an event that
--- does not read them on one device tells nothing of them, whether memory is refused to it on both
--- devices or on none.
+-- Suppose that only data is secret, and that two devices differ only in this data. An event that
+-- does not read it on one device reveals nothing about it. Allocations may fail on both devices,
+-- or on neither.
 abbrev pub EventTellsNothing : Type 0
 EventTellsNothing =
     (indices : ℕ → Bool) (objects : Public → Bool) (one other : Record) (refused : Bool)
@@ -64,7 +65,7 @@ EventTellsNothing =
     DifferInSecrets s one other → is_reading s one event ≡ false
     → TellsNothing s (step_where refused one event) (step_where refused other event)
 
--- An event reads secret data on both of two such devices, or on none.
+-- An event reads secret data on both of two such devices, or on neither.
 abbrev pub ReadOnBoth : Type 0
 ReadOnBoth =
     (indices : ℕ → Bool) (objects : Public → Bool) (one other : Record) (event : PlainEvent)
@@ -73,36 +74,36 @@ ReadOnBoth =
 
 -- ---- a list of events
 
--- events in order, each with whether memory is refused to it
+-- events in order, each with a flag that says whether an allocation fails
 abbrev pub Attempts : Type 0
 Attempts = List (Bool × PlainEvent)
 
--- what a device answers to them, with the rows that it reports
+-- a device's answers to these events, together with the rows that it reports
 abbrev pub answers_to : Record → Attempts → List (List ℕ × Row)
 answers_to r [] = []
 answers_to r (e ∷ es) =
     let x : Stepped = step_where e.0 r e.1 in
     (x.response, x.row) ∷ answers_to x.after es
 
--- the record after them
+-- the record after these events
 abbrev pub after_all : Record → Attempts → Record
 after_all r [] = r
 after_all r (e ∷ es) = after_all (step_where e.0 r e.1).after es
 
--- None of these events reads secret data when it comes.
+-- None of these events reads secret data when it is executed.
 abbrev pub NoneReads : Secrecy → Record → Attempts → Type 0
 NoneReads s r [] = Unit {0}
 NoneReads s r (e ∷ es) =
     (is_reading s r e.1 ≡ false) × NoneReads s (step_where e.0 r e.1).after es
 
--- Two devices give the same answers and rows to events, and differ after them in what is secret and
--- in nothing else.
+-- Two devices return the same answers and rows for these events, and afterwards differ only in
+-- secrets.
 pub record RunsAlike (s : Secrecy) (one other : Record) (events : Attempts) : Type 0 where
   pub answers : answers_to one events ≡ answers_to other events
   pub after : DifferInSecrets s (after_all one events) (after_all other events)
 
--- Two devices that differ in secret data alone answer alike all events before the first that reads
--- them.
+-- Two devices that differ only in secret data return the same answers and rows for all events
+-- before the first one that reads the data.
 abbrev pub RunTellsNothing : Type 0
 RunTellsNothing =
     (indices : ℕ → Bool) (objects : Public → Bool) (one other : Record) (events : Attempts)
@@ -111,7 +112,7 @@ RunTellsNothing =
 
 -- ---- wrong guesses
 
--- In a command that passed the general checks all guesses fail, and it reads no secret data.
+-- In a command that passed the general checks, all guesses fail, and it reads no secret data.
 pub record KeepsSecrets (s : Secrecy) (r : Record) (c : Whole) (locality : ℕ) (random : List ℕ)
     : Type 0
   where
@@ -125,23 +126,24 @@ EventKeepsSecrets s r (Given buffer locality elapsed random) =
     KeepsSecrets s (ticked r elapsed) c locality random)
 EventKeepsSecrets s r Cycled = Unit {0}
 
--- Two devices differ in what is secret alone: an event in which, on both, all guesses of an
--- authorization value fail, and no secret data are read, tells nothing of them. The premise is on
--- both, since a guess that is wrong on one device may be right on the other.
+-- If two devices differ only in secrets, an event reveals nothing about them if, on both, all
+-- guesses of an authorization value fail and no secret data is read. Both devices are mentioned
+-- because a guess that is wrong on one may be right on the other.
 abbrev pub WrongGuessesTellNothing : Type 0
 WrongGuessesTellNothing =
     (s : Secrecy) → CoversKeys s → (one other : Record) (refused : Bool) (event : PlainEvent)
     → DifferInSecrets s one other → EventKeepsSecrets s one event → EventKeepsSecrets s other event
     → TellsNothing s (step_where refused one event) (step_where refused other event)
 
--- All these events keep the secrets when they come.
+-- Each of these events reveals no secrets when it is executed: all its guesses fail, and it reads
+-- no secret data.
 abbrev pub AllKeepSecrets : Secrecy → Record → Attempts → Type 0
 AllKeepSecrets s r [] = Unit {0}
 AllKeepSecrets s r (e ∷ es) =
     EventKeepsSecrets s r e.1 × AllKeepSecrets s (step_where e.0 r e.1).after es
 
--- Two devices that differ in what is secret alone answer alike all events, as long as every guess
--- fails on both, and none reads secret data.
+-- Two devices that differ only in secrets return the same answers and rows for all events, as
+-- long as every guess fails on both and no event reads secret data.
 abbrev pub RunOfWrongGuessesTellsNothing : Type 0
 RunOfWrongGuessesTellsNothing =
     (s : Secrecy) → CoversKeys s → (one other : Record) (events : Attempts)
@@ -150,17 +152,17 @@ RunOfWrongGuessesTellsNothing =
 
 -- ---- guesses, and failed tries
 
--- what a device executes of these events
+-- the executions of these events on a device
 abbrev pub executions_of : Record → Attempts → List Execution
 executions_of r [] = []
 executions_of r (e ∷ es) =
     let x : Stepped = step_where e.0 r e.1 in
     record { before = r; event = e.1; seen = x } ∷ executions_of x.after es
 
--- Two devices that differ in what is secret alone, say in a PIN, answer events alike as long as
--- every guess fails on both. And in events that were executed without a reset, no more tries fail
--- than maxTries and one for each recoveryTime that passes. A guess that is no try, as an entry that
--- encrypts, is not bounded.
+-- Two devices that differ only in secrets, such as a PIN, return the same for events as long as
+-- every guess fails on both. In events that are executed without a reset, at most maxTries tries
+-- fail, plus one for each recoveryTime that passes. Guesses that are not tries, such as an entry
+-- that encrypts, are not limited.
 abbrev pub WrongTriesAreFew : Type 0
 WrongTriesAreFew =
     (s : Secrecy) → CoversKeys s → (one other : Record) (events : Attempts)

@@ -1,11 +1,12 @@
 #![tactic(auto)]
 
-//! What the answers of a device tell of what it keeps secret.
+//! What the answers of a device reveal about its secrets.
 //!
-//! Secret are data of NV indices, the data that objects seal, HMAC keys, and authorization values.
-//! The laws compare two devices that are equal once their secrets are erased. They are of the
-//! definitions of tpm_step, over any record: each is the contract of a function that does nothing.
-//! They hold of what tpm_machine executes, since each call executes an event as the step defines it.
+//! The secrets are the data of NV indices, the data that objects seal, HMAC keys, and
+//! authorization values. The laws compare two devices that are equal once their secrets are
+//! erased. They are laws of tpm_step's definitions, over any record; each is the contract of a
+//! function that has no effect at run time. They also hold for what tpm_machine executes, because
+//! each of its calls executes an event as the step defines it.
 
 ghost use Rattle.tpm_secrecy.specs.AnyDevice.{SealedDataNeedDigest};
 ghost use Rattle.tpm_secrecy.specs.SealedData.{DiskKeyStaysSecret, FollowedDataNeedPolicy};
@@ -16,10 +17,11 @@ ghost use Rattle.tpm_secrecy.specs.Tells.{EventTellsNothing, ReadOnBoth, RunTell
 ghost use Rattle.tpm_secrecy.specs.Tells.{RunOfWrongGuessesTellsNothing, WrongTriesAreFew};
 ghost use Rattle.tpm_secrecy.specs.Tells.{WrongGuessesTellNothing};
 
-/// Where two devices differ in secret data alone, an event that does not read them on one device
-/// tells nothing of them: both answer and report the same, and then differ in these data alone. So
-/// does a list of events up to the first that reads them. An event reads them on both devices, or
-/// on none. Whether memory is refused to an event makes no difference.
+/// Suppose that two devices differ only in secret data. An event that does not read this data on
+/// one device reveals nothing about it: both devices return and report the same, and afterwards
+/// differ only in this data. The same holds for a list of events up to the first one that reads
+/// it. An event reads the data on both devices, or on neither. A failed allocation makes no
+/// difference.
 #[inline(always)]
 pub fn secrecy_laws()
     ensures event { EventTellsNothing }
@@ -27,11 +29,12 @@ pub fn secrecy_laws()
     ensures run { RunTellsNothing }
 {}
 
-/// Whatever was executed on a device since it was manufactured, an execution tells nothing of what
-/// objects seal, or of their keys, or it is an accepted TPM2_Unseal or TPM2_HMAC of such an object;
-/// where the object has no userWithAuth and a policy, the policy was met, or the hash is broken. Of
-/// a disk's key nothing is told until a TPM2_Unseal of it is accepted, for which the PCRs had their
-/// values and the PIN was given, or the recovery secret was; or the hash is broken.
+/// After any executions since a device was manufactured, an execution reveals nothing about the
+/// sealed data or the keys of objects, unless it is an accepted TPM2_Unseal or TPM2_HMAC with
+/// such an object. If that object has a policy and no userWithAuth, the policy was met, or the
+/// hash is broken. For example, nothing reveals a disk's key until a TPM2_Unseal of it is
+/// accepted; then either the PCRs had their values and the PIN was presented, or the recovery
+/// secret was presented, or the hash is broken.
 #[inline(always)]
 pub fn sealed_data_laws()
     ensures each { SealedDataNeedPolicy }
@@ -39,9 +42,9 @@ pub fn sealed_data_laws()
     ensures disk_key { DiskKeyStaysSecret }
 {}
 
-/// The same of every device that follows a history: a manufactured one, one that is opened from an
-/// image, a state text or a journal of a device with a history, and one that is served over
-/// connections. The policy is met by that history.
+/// The same laws for every device that follows a history: a manufactured device; one that is
+/// opened from an image, a state text or a journal of a device with a history; and one that is
+/// served over connections. The policy was met in that history.
 #[inline(always)]
 pub fn followed_data_laws()
     ensures each { FollowedDataNeedPolicy }
@@ -49,20 +52,20 @@ pub fn followed_data_laws()
     ensures disk_key { FollowedDiskKeyStaysSecret }
 {}
 
-/// On any device, also one that was opened from an image of which nobody knows the history: an
-/// execution tells nothing of what objects seal, or of their keys, or it is an accepted TPM2_Unseal
-/// or TPM2_HMAC of such an object. An object without userWithAuth is then used by a policy session
-/// whose policyDigest is the object's authPolicy.
+/// On any device, even one opened from an image with an unknown history: an execution reveals
+/// nothing about the sealed data or the keys of objects, unless it is an accepted TPM2_Unseal or
+/// TPM2_HMAC with such an object. An object without userWithAuth was then used through a policy
+/// session whose policyDigest is the object's authPolicy.
 #[inline(always)]
 pub fn any_device_laws()
     ensures { SealedDataNeedDigest }
 {}
 
-/// Where two devices differ in authorization values and other secrets alone, an event tells nothing
-/// of them if it reads no secret data and, on both devices, each guess of such a value fails; so
-/// does a list of events. In such a list no more tries fail than maxTries and one for each
-/// recoveryTime that passes. An entry that encrypts by such a value counts as a guess, though
-/// nothing is compared; guesses that are no tries are not bounded.
+/// Suppose that two devices differ only in authorization values and other secrets. An event
+/// reveals nothing about them if it reads no secret data and if, on both devices, every guess of
+/// such a value fails. The same holds for a list of events. In such a list at most maxTries tries
+/// fail, plus one for each recoveryTime that passes. An entry that encrypts with such a value
+/// counts as a guess, although nothing is compared; guesses that are not tries are not limited.
 #[inline(always)]
 pub fn guess_laws()
     ensures event { WrongGuessesTellNothing }

@@ -1,5 +1,5 @@
--- Encryption of a parameter by a session. TPM 2.0 Library, Part 1, sections 21.1, 21.2 (XOR
--- parameter obfuscation) and 21.3 (CFB mode parameter encryption).
+-- Parameter encryption by a session. TPM 2.0 Library, Part 1, sections 21.1, 21.2 (XOR parameter
+-- obfuscation) and 21.3 (CFB mode parameter encryption).
 use Rattle.std.specs.Prelude.{ℕ, List, [], ◌∷◌, ◌++◌, length, take, drop}
 use Rattle.tpm_aes.specs.Cfb.{cfb_decrypt_of, cfb_encrypt_of}
 use Rattle.tpm_aes.specs.Cipher.{xor_of}
@@ -8,7 +8,7 @@ use Rattle.tpm_types.specs.declared.symmetric.SymmetricDefinition.{SymmetricDefi
 use Rattle.tpm_types.specs.declared.symmetric.SymmetricDefinition.TheVariants.{Null, Aes128Cfb, Xor}
 use Rattle.tpm_session.specs.declared.session.Session.{Session}
 
--- the label of KDFa for a key of CFB: "CFB"
+-- KDFa's label for a CFB key: "CFB"
 abbrev pub cipher_label : List ℕ
 cipher_label = 0x43 ∷ 0x46 ∷ 0x42 ∷ []
 
@@ -18,25 +18,24 @@ unfoldable pub cipher_bytes : Session → (auth_value newer older : List ℕ) �
 cipher_bytes session auth_value newer older =
     kdfa_of session.hash (session.key ++ auth_value) cipher_label newer older 32
 
--- the key for a parameter, the first 128 bits, and its IV, the others
+-- the cipher key of a parameter, the first 128 bits; and its IV, the remaining bits
 abbrev pub cipher_key : List ℕ → List ℕ
 cipher_key bytes = take 16 bytes
 
 abbrev pub cipher_iv : List ℕ → List ℕ
 cipher_iv bytes = drop 16 bytes
 
--- the label of KDFa for a mask of XOR: "XOR"
+-- KDFa's label for an XOR mask: "XOR"
 abbrev pub mask_label : List ℕ
 mask_label = 0x58 ∷ 0x4f ∷ 0x52 ∷ []
 
 -- the mask of a parameter: KDFa(authHash, sessionKey || authValue, "XOR", nonceNewer, nonceOlder,
--- as many bits as a parameter of this size has). TPM2_StartAuthSession checks that the hash of XOR
--- is authHash
+-- the parameter's size in bits). TPM2_StartAuthSession checks that the hash of XOR is authHash
 unfoldable pub mask_bytes : Session → (auth_value newer older : List ℕ) → (size : ℕ) → List ℕ
 mask_bytes session auth_value newer older size =
     kdfa_of session.hash (session.key ++ auth_value) mask_label newer older size
 
--- a parameter with its mask on it, or with it taken off again
+-- a parameter with its mask applied; applying the mask twice restores the parameter
 abbrev pub masked : Session → (auth_value newer older bytes : List ℕ) → List ℕ
 masked session auth_value newer older bytes =
     xor_of bytes (mask_bytes session auth_value newer older (length bytes))
@@ -59,12 +58,12 @@ decrypted_by Aes128Cfb session auth_value newer older cipher =
 decrypted_by (Xor hash) session auth_value newer older cipher =
     masked session auth_value newer older cipher
 
--- the bytes of a parameter encrypted; the same bytes where the session has no symmetric algorithm
+-- the encrypted bytes of a parameter; unchanged if the session has no symmetric algorithm
 unfoldable pub encrypted_parameter : Session → (auth_value newer older plain : List ℕ) → List ℕ
 encrypted_parameter session auth_value newer older plain =
     encrypted_by session.symmetric session auth_value newer older plain
 
--- the bytes of a parameter decrypted; the same bytes where the session has no symmetric algorithm
+-- the decrypted bytes of a parameter; unchanged if the session has no symmetric algorithm
 unfoldable pub plain_parameter : Session → (auth_value newer older cipher : List ℕ) → List ℕ
 plain_parameter session auth_value newer older cipher =
     decrypted_by session.symmetric session auth_value newer older cipher

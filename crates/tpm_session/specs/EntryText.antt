@@ -5,7 +5,7 @@ use Rattle.tpm_types.specs.declared.session_attributes.SessionAttributes.{Sessio
 use Rattle.tpm_session.specs.declared.entry.CommandText.{CommandText}
 use Rattle.tpm_session.specs.declared.session.Session.{Session}
 
--- what a command's entry authenticates, wherever its bytes lie in memory
+-- the data that the HMAC of a command's entry covers, as values
 pub record EntryParts : Type 0 where
   pub hash : List ℕ
   pub nonce_caller : List ℕ
@@ -27,13 +27,13 @@ abbrev pub entry_key : Session → List ℕ → List ℕ
 entry_key session auth_value = session.key ++ auth_value
 
 -- the HMAC text of an entry: pHash || nonceNewer || nonceOlder || nonceTPM of the decrypt session
--- || nonceTPM of the encrypt session || sessionAttributes. The nonces of other sessions are empty
--- where the entry does not authenticate them
+-- || nonceTPM of the encrypt session || sessionAttributes. The nonce of another session is empty
+-- unless the entry authenticates it
 abbrev pub entry_text : (hash newer older decrypt encrypt : List ℕ) → SessionAttributes → List ℕ
 entry_text hash newer older decrypt encrypt attributes =
     hash ++ newer ++ older ++ decrypt ++ encrypt ++ attributes.octet ∷ []
 
--- the HMAC text of a command's entry: the caller's nonce is the newer
+-- the HMAC text of a command's entry: the caller's nonce is the newer one
 abbrev pub command_text : Session → EntryParts → List ℕ
 command_text session p =
     entry_text p.hash p.nonce_caller session.nonce_tpm p.decrypt_nonce p.encrypt_nonce p.attributes
@@ -42,8 +42,8 @@ unfoldable pub command_mac_of : Session → (auth_value : List ℕ) → EntryPar
 command_mac_of session auth_value parts =
     hmac_of session.hash (entry_key session auth_value) (command_text session parts)
 
--- the HMAC text of a response's entry: the TPM's nonce is the newer, and it has no nonce of another
--- session
+-- the HMAC text of a response's entry: the TPM's nonce is the newer one, and nonces of other
+-- sessions are not included
 abbrev pub response_text : Session → (hash nonce_caller : List ℕ) → SessionAttributes → List ℕ
 response_text session hash nonce_caller attributes =
     entry_text hash session.nonce_tpm nonce_caller [] [] attributes

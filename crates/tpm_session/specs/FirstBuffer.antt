@@ -1,24 +1,25 @@
--- The sized buffer at the front of parameters, which sessions encrypt. TPM 2.0 Library, Part 1,
--- section 21: the bytes of the first parameter, and not its size.
+-- The sized buffer at the start of the parameters, which sessions encrypt. TPM 2.0 Library, Part
+-- 1, section 21: the bytes of the first parameter, without its size.
 use Rattle.std.specs.Prelude.{◌≡◌, ℕ, ◌+◌, ◌≤◌, ◌&&◌, nat_le, Bool, true, false, List, ◌++◌, length, take, drop, if◌then◌else◌, Option, Some, None}
 use Rattle.std.specs.Int.{w16, from_be_bytes}
 
--- the size that stands at the front of a text
+-- the size field at the start of a text
 abbrev pub first_size : List ℕ → ℕ
 first_size text = from_be_bytes w16 (take 2 text)
 
--- whether a whole sized buffer stands at the front of a text
+-- whether a text starts with a complete sized buffer
 abbrev pub has_first_buffer : List ℕ → Bool
 has_first_buffer text = nat_le 2 (length text) && nat_le (2 + first_size text) (length text)
 
--- a text with other bytes in the sized buffer at its front
+-- a text after the bytes of the sized buffer at its start were replaced
 unfoldable pub with_first_buffer : (List ℕ → List ℕ) → List ℕ → List ℕ
 with_first_buffer f text =
     if has_first_buffer text
     then take 2 text ++ f (take (first_size text) (drop 2 text)) ++ drop (2 + first_size text) text
     else text
 
--- The size of the sized buffer at the front of a text was found, or there is none.
+-- The call returned the size of the sized buffer at the start of a text, or None if there is no
+-- such buffer.
 abbrev pub FindsFirst : List ℕ → Option ℕ → Type 0
 FindsFirst text (Some size) =
     (has_first_buffer text ≡ true) × (size ≡ first_size text) × (2 + size ≤ length text)

@@ -9,9 +9,9 @@ use Rattle.tpm_types.specs.declared.symmetric.SymmetricDefinition.{SymmetricDefi
 use Rattle.tpm_session.specs.Key.{is_nonce_size, key_size}
 use Rattle.tpm_session.specs.declared.session.Binding.{Binding}
 
--- a session: its type, its hash and its symmetric definition; the nonce that the device gave last;
--- the key; what it is bound to; and the policy that its assertions made, which of an HMAC session
--- stays as it starts
+-- a session: its type, hash and symmetric definition; the last nonce that the device sent; the
+-- key; the entity to which it is bound; and the policy after its assertions, which never changes
+-- in an HMAC session
 pub record Session : Type 0 where
   pub kind : SessionType
   pub hash : HashAlg
@@ -21,40 +21,40 @@ pub record Session : Type 0 where
   pub binding : Option Binding
   pub policy : Policy
 
--- a session with another nonceTPM
+-- a session with nonceTPM replaced
 abbrev pub with_nonce : Session → List ℕ → Session
 with_nonce session nonce = record session { nonce_tpm = nonce }
 
--- a session with another policy
+-- a session with its policy replaced
 abbrev pub with_policy : Session → Policy → Session
 with_policy session policy = record session { policy = policy }
 
--- whether a session of this hash, bound or not, may have a nonceTPM, a key and a policy digest of
--- these sizes. nonceTPM has the size of the caller's first nonce (section 19.6.3), the key is empty
--- without a binding, and else as long as a digest (section 19.6.8), and so is the policy digest
--- (section 19.7)
+-- whether nonceTPM, the key and the policy digest may have these sizes in a session with this
+-- hash and binding. nonceTPM is as long as the caller's first nonce (section 19.6.3). The key is
+-- as long as a digest, or empty if the session is not bound (section 19.6.8). The policy digest
+-- is as long as a digest (section 19.7)
 abbrev pub are_hash_sizes : HashAlg → Option Binding → (nonce_tpm key digest : List ℕ) → Bool
 are_hash_sizes hash binding nonce_tpm key digest =
     is_nonce_size hash (length nonce_tpm)
     && length key == key_size hash binding
     && length digest == digest_size hash
 
--- whether nonceTPM, the key and the policy digest of a session have sizes that its hash allows
+-- whether the session's hash allows the sizes of its nonceTPM, key and policy digest
 abbrev pub has_hash_sizes : Session → Bool
 has_hash_sizes s = are_hash_sizes s.hash s.binding s.nonce_tpm s.key s.policy.digest
 
--- a session, if it has sizes that its hash allows
+-- the session, if its hash allows its sizes
 abbrev pub if_hash_sized : Session → Option Session
 if_hash_sized session = if has_hash_sizes session then Some session else None
 
--- What holds of every binding: a Name of at most 34 bytes, and an authorization value (section
--- 19.6.10).
+-- True for every binding: the Name is at most 34 bytes long, and the authorization value fits its
+-- type (section 19.6.10).
 pub record IsBinding (binding : Binding) : Type 0 where
   pub name : length binding.name ≤ 34
   pub auth_value : IsAuthValue binding.auth_value
 
--- What holds of every session: nonceTPM, the key and the policy digest have sizes that its hash
--- allows, and none has more than 32 bytes.
+-- True for every session: its hash allows the sizes of nonceTPM, the key and the policy digest,
+-- and each is at most 32 bytes long.
 pub record IsSession (session : Session) : Type 0 where
   pub sizes : has_hash_sizes session ≡ true
   pub nonce_tpm : length session.nonce_tpm ≤ 32

@@ -1,5 +1,5 @@
-//! The encryption of a first parameter by a session, in place (TPM 2.0 Library, Part 1, sections
-//! 21.2 and 21.3). Decryption undoes encryption.
+//! How a session encrypts the first parameter in place (TPM 2.0 Library, Part 1, sections 21.2
+//! and 21.3). Decryption reverses encryption.
 
 ghost use Rattle.std.specs.Prelude.{◌≡◌, ◌≤◌, ◌↔◌, false, IsOk, OnErr, length};
 ghost use Rattle.tpm_types.specs.Limits.{buffer_limit};
@@ -12,24 +12,24 @@ use tpm_aes::{Aes128, xor_with};
 use tpm_mac::kdfa;
 use tpm_types::{BUFFER_LIMIT, SymmetricDefinition};
 
-/// The fault that the session has no symmetric algorithm.
+/// The error for a session without a symmetric algorithm.
 #[derive(Clone, Copy, PartialEq, Eq)]
 pub struct SymmetricFault;
 
-/// The label of KDFa for the keys of parameters.
+/// The label of KDFa for parameter encryption keys.
 const CIPHER_LABEL: &[u8] = b"CFB";
 
-/// The label of KDFa for the masks of parameters.
+/// The label of KDFa for parameter masks.
 const MASK_LABEL: &[u8] = b"XOR";
 
-/// A cipher, and the IV with which it starts.
+/// A cipher and its initial IV.
 #[derive(Drop)]
 struct ParameterCipher {
     cipher: Aes128,
     iv: [u8; 16],
 }
 
-/// The cipher whose key is the first 16 of these bytes, and its IV, the others.
+/// The cipher and its IV: the first 16 bytes are the key, the rest is the IV.
 fn cipher_from(bytes: &[u8; 32]) -> ParameterCipher
     ensures key { result.cipher ≡ cipher_key bytes.now }
     ensures iv { result.iv ≡ cipher_iv bytes.now }
@@ -45,7 +45,7 @@ fn cipher_from(bytes: &[u8; 32]) -> ParameterCipher
 }
 
 impl Session {
-    /// The cipher of a parameter between two nonces.
+    /// The cipher for a parameter, derived from two nonces.
     #[tactic(auto, unfolding(crate::specs::Encryption::cipher_bytes))]
     fn parameter_cipher(&self, auth_value: &[u8], newer: &[u8], older: &[u8]) -> ParameterCipher
         requires { length auth_value.now ≤ 32 }
@@ -67,14 +67,14 @@ impl Session {
         cipher_from(&bytes)
     }
 
-    /// Puts the mask of a parameter on it, or takes it off, between two nonces.
+    /// Masks or unmasks a parameter, with the mask derived from two nonces.
     #[tactic(auto, unfolding(crate::specs::Encryption::mask_bytes))]
     fn mask(&self, auth_value: &[u8], newer: &[u8], older: &[u8], bytes: &mut [u8])
         requires auth_value { length auth_value.now ≤ 32 }
         requires size { length bytes.old ≤ buffer_limit }
         ensures value { bytes.new
             ≡ masked self.now auth_value.now newer.now older.now bytes.old }
-        // The mask has a byte for each byte of the parameter.
+        // The mask is as long as the parameter.
         ensures whole { length
             (mask_bytes self.now auth_value.now newer.now older.now (length bytes.old))
             ≡ length bytes.old }
@@ -86,9 +86,9 @@ impl Session {
         xor_with(bytes, mask);
     }
 
-    /// Decrypts a parameter in place, or refuses and leaves it where the session has no symmetric
-    /// algorithm. The authorization value is that of the entity that the session authorizes, or
-    /// empty (TPM 2.0 Library, Part 1, sections 21.2 and 21.3).
+    /// Decrypts a parameter in place. If the session has no symmetric algorithm, returns an error
+    /// and leaves the parameter unchanged. `auth_value` is that of the entity that the session
+    /// authorizes, or empty (TPM 2.0 Library, Part 1, sections 21.2 and 21.3).
     #[tactic(auto, unfolding(crate::specs::Encryption::plain_parameter))]
     pub fn open_parameter(
         &self,
@@ -118,8 +118,8 @@ impl Session {
         }
     }
 
-    /// Encrypts a parameter in place, or refuses and leaves it where the session has no symmetric
-    /// algorithm.
+    /// Encrypts a parameter in place. If the session has no symmetric algorithm, returns an error
+    /// and leaves the parameter unchanged.
     #[tactic(auto, unfolding(crate::specs::Encryption::encrypted_parameter, crate::specs::Encryption::plain_parameter), using(crate::proofs::Masks::unmasked))]
     pub fn close_parameter(
         &self,
@@ -134,7 +134,7 @@ impl Session {
         ensures value { bytes.new
             ≡ encrypted_parameter self.now auth_value.now newer.now older.now bytes.old }
         ensures refused { OnErr result (bytes.new ≡ bytes.old) }
-        // Decryption undoes the encryption.
+        // Decryption reverses encryption.
         ensures undone { plain_parameter self.now auth_value.now newer.now older.now bytes.new
             ≡ bytes.old }
     {

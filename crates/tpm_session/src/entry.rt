@@ -1,5 +1,5 @@
-//! The HMAC by which a session authenticates an entry of a command or of a response, and the text
-//! of that HMAC (TPM 2.0 Library, Part 1, section 19.6.5).
+//! The HMAC by which a session authenticates an entry of a command or a response, and the data
+//! that this HMAC covers (TPM 2.0 Library, Part 1, section 19.6.5).
 
 ghost use Rattle.std.specs.Prelude.{◌≡◌, ◌+◌, ◌≤◌, ◌++◌, IsTrue, ◌↔◌, length};
 ghost use Rattle.tpm_bytes.specs.Writing.{Puts};
@@ -14,22 +14,24 @@ use tpm_bytes::{Full, Sink, append};
 use tpm_mac::{Digest, HashAlg, KeyedMac};
 use tpm_types::SessionAttributes;
 
-/// What the HMAC of a command's entry authenticates besides its session (TPM 2.0 Library, Part 1,
-/// section 19.6.5).
+/// The data that the HMAC of a command's entry covers, apart from the session's own (TPM 2.0
+/// Library, Part 1, section 19.6.5).
 #[derive(Clone, Copy)]
 pub struct CommandText<'a> {
     /// The cpHash of the command.
     pub hash: &'a [u8],
     pub nonce_caller: &'a [u8],
-    /// The nonce of another session that decrypts, where this entry authenticates it; else empty.
+    /// The nonceTPM of a separate decrypt session, if this entry authenticates it; otherwise
+    /// empty.
     pub decrypt_nonce: &'a [u8],
-    /// The nonce of another session that encrypts, where this entry authenticates it; else empty.
+    /// The nonceTPM of a separate encrypt session, if this entry authenticates it; otherwise
+    /// empty.
     pub encrypt_nonce: &'a [u8],
     pub attributes: SessionAttributes,
 }
 
-/// The text of an entry's HMAC, in its parts (TPM 2.0 Library, Part 1, section 19.6.5). Contracts
-/// see it as its bytes.
+/// The data that an entry's HMAC covers, in parts (TPM 2.0 Library, Part 1, section 19.6.5).
+/// Contracts treat it as its bytes.
 #[derive(Drop)]
 pub struct EntryText<'a> {
     hash: &'a [u8],
@@ -50,9 +52,9 @@ impl<'a> Model for EntryText<'a> {
         entry_text t.hash.now t.newer.now t.older.now t.decrypt.now t.encrypt.now t.attributes };
 }
 
-/// The text of an entry's HMAC, from these parts, of which none is copied: the hash of the command
-/// or the response, the nonces of the entry's session, the newer first, and those of the sessions
-/// that decrypt and encrypt, where the entry authenticates them.
+/// The HMAC text of an entry, made of these parts without copying them: the hash of the command
+/// or the response; the nonces of the entry's session, the newer first; and the nonces of the
+/// decrypt and encrypt sessions, if the entry authenticates them.
 pub fn entry_text<'a>(
     hash: &'a [u8],
     newer: &'a [u8],
@@ -74,7 +76,7 @@ pub fn entry_text<'a>(
     }
 }
 
-/// Writes three texts at the end, where there is room for them.
+/// Appends three texts, for which the sink must have enough free space.
 fn append_three<const N: usize>(sink: &mut Sink<N>, first: &[u8], second: &[u8], third: &[u8])
     requires { length sink.old + (length first.now + (length second.now + length third.now)) ≤ N }
     ensures { sink.new ≡ sink.old ++ (first.now ++ (second.now ++ third.now)) }
@@ -85,7 +87,7 @@ fn append_three<const N: usize>(sink: &mut Sink<N>, first: &[u8], second: &[u8],
 }
 
 impl<'a> EntryText<'a> {
-    /// Whether the text fits into room for this many bytes.
+    /// Whether the text fits in a buffer of this size.
     fn fits(&self, room: usize) -> bool
         ensures { IsTrue result ↔ (length self.now ≤ room) }
     {
@@ -95,7 +97,7 @@ impl<'a> EntryText<'a> {
         parts + encrypt as u128 + 1 <= room as u128
     }
 
-    /// Writes the text at the end, or nothing where it does not fit.
+    /// Appends the text; returns an error and writes nothing if it does not fit.
     pub fn write<const N: usize>(&self, sink: &mut Sink<N>) -> Result<(), Full>
         ensures { Puts N self.now sink.old result sink.new }
     {
@@ -107,7 +109,7 @@ impl<'a> EntryText<'a> {
         Ok(())
     }
 
-    /// The HMAC of the text under a key.
+    /// The HMAC of the text with a key.
     fn mac(&self, alg: HashAlg, key: ArrayVec<u8, 64>, keyed: &mut KeyedMac) -> Digest
         ensures value { result.items ≡ hmac_of alg key.items self.now }
         ensures size { length result.items ≡ digest_size alg }
@@ -126,7 +128,7 @@ impl<'a> EntryText<'a> {
 impl Session {
     ghost use Rattle.tpm_session.specs.EntryText.{command_mac_of, command_text, entry_key, parts_of, response_mac_of, response_text};
 
-    /// The key of an entry's HMAC: the session's key, and after it an authorization value.
+    /// The HMAC key of an entry: the session's key, followed by an authorization value.
     pub fn entry_key(&self, auth_value: &[u8]) -> ArrayVec<u8, 64>
         requires { length auth_value.now ≤ 32 }
         ensures { result.items ≡ entry_key self.now auth_value.now }
@@ -137,7 +139,7 @@ impl Session {
         key
     }
 
-    /// The HMAC text of a command's entry, of this session.
+    /// The HMAC text of a command's entry for this session.
     pub fn command_text<'a>(&'a self, text: &CommandText<'a>) -> EntryText<'a>
         ensures { result ≡ command_text self.now (parts_of text.now) }
     {
@@ -151,7 +153,7 @@ impl Session {
         )
     }
 
-    /// The HMAC text of a response's entry, of this session, over the hash of the response.
+    /// The HMAC text of a response's entry for this session, made with the hash of the response.
     pub fn response_text<'a>(
         &'a self,
         hash: &'a [u8],
@@ -164,7 +166,7 @@ impl Session {
         entry_text(hash, newer, nonce_caller, &[], &[], attributes)
     }
 
-    /// The HMAC of a command's entry by this session.
+    /// The HMAC of a command's entry for this session.
     #[tactic(auto, unfolding(crate::specs::EntryText::command_mac_of))]
     pub fn command_mac(&self, auth_value: &[u8], text: &CommandText, keyed: &mut KeyedMac) -> Digest
         requires { length auth_value.now ≤ 32 }
@@ -175,7 +177,7 @@ impl Session {
         self.command_text(text).mac(self.hash, key, keyed)
     }
 
-    /// The HMAC of a response's entry by this session, over the hash of the response.
+    /// The HMAC of a response's entry for this session, made with the hash of the response.
     #[tactic(auto, unfolding(crate::specs::EntryText::response_mac_of))]
     pub fn response_mac(
         &self,

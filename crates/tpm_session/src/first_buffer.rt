@@ -1,9 +1,8 @@
-//! The size of the sized buffer at the front of the parameters, which is what a session may
-//! encrypt.
+//! The size of the sized buffer at the start of the parameters, which a session may encrypt.
 
 ghost use Rattle.tpm_session.specs.FirstBuffer.{FindsFirst};
 
-/// How many bytes the sized buffer at the front of a text has, if it is all there.
+/// The size of the sized buffer at the start of a text, if the buffer is complete.
 pub fn first_size(text: &[u8]) -> Option<usize>
     ensures { FindsFirst text.now result }
 {

@@ -1,5 +1,5 @@
-//! The key of a session, derived from what it is bound to and from the first nonces (TPM 2.0
-//! Library, Part 1, section 19.6.8).
+//! The key of a session, derived from the bound entity and the first nonces (TPM 2.0 Library,
+//! Part 1, section 19.6.8).
 
 ghost use Rattle.std.specs.Prelude.{◌≡◌, ◌≤◌, ◌++◌, [], length};
 ghost use Rattle.tpm_mac.specs.Digest.{digest_size};
@@ -15,7 +15,7 @@ use tpm_mac::{HashAlg, kdfa};
 /// The label of KDFa for session keys.
 const KEY_LABEL: &[u8] = b"ATH";
 
-/// The key of a session, of at most 32 bytes. Contracts see it as its bytes.
+/// The key of a session, at most 32 bytes. Contracts treat it as its bytes.
 #[derive(Drop)]
 pub struct SessionKey {
     bytes: ArrayVec<u8, 32>,
@@ -29,16 +29,15 @@ impl Model for SessionKey {
     ghost view = { λ k. k.bytes.items };
 }
 
-/// Whether a caller's first nonce may have this many bytes: at least 16, and no more than a digest
-/// (TPM 2.0 Library, Part 3, section 11.1).
+/// Whether a caller's first nonce has an allowed size: at least 16 bytes, and at most as long as
+/// a digest (TPM 2.0 Library, Part 3, section 11.1).
 pub fn is_nonce_size(hash: HashAlg, size: usize) -> bool
     ensures { result ≡ is_nonce_size hash size }
 {
     16 <= size && size <= hash.size()
 }
 
-/// How many bytes the key of a session has: those of a digest where it is bound, and none without a
-/// binding.
+/// The size of a session's key: the size of a digest if the session is bound, otherwise 0.
 pub(crate) fn key_size(hash: HashAlg, binding: &Option<Binding>) -> usize
     ensures { result ≡ key_size hash binding.now }
 {
@@ -58,8 +57,8 @@ impl SessionKey {
         }
     }
 
-    /// The key of a session that starts with these nonces (Part 1, section 19.6.8): empty without a
-    /// binding.
+    /// The key of a session that starts with these nonces (Part 1, section 19.6.8). It is empty
+    /// if the session is not bound.
     #[tactic(auto, unfolding(crate::specs::Key::session_key))]
     pub fn derived(
         hash: HashAlg,
@@ -78,7 +77,7 @@ impl SessionKey {
         }
     }
 
-    /// The key of these bytes.
+    /// The key with these bytes.
     pub fn of(bytes: &[u8]) -> SessionKey
         requires { length bytes.now ≤ 32 }
         ensures { result ≡ bytes.now }

@@ -1,14 +1,15 @@
 #![tactic(auto)]
 
-//! Authorization sessions (TPM 2.0 Library, Part 1, sections 19.6 and 21): the sessions of a device
-//! by their handles, the HMAC of an entry by a session, and parameters that a session encrypts.
+//! Authorization sessions (TPM 2.0 Library, Part 1, sections 19.6 and 21): the sessions of a
+//! device by handle, the HMAC of an entry, and the encryption of parameters.
 //!
 //! The crate uses `tpm_policy` for the state of a policy session, `tpm_mac` and `tpm_aes` for
-//! HMACs, keys and encryption, `tpm_types_name` for the Names in a command's hash, `tpm_containers`
-//! for the places of sessions, and `tpm_types`. Contracts see the sessions of
-//! [`sessions::Sessions`] as places, each free or with a session, whatever keeps them
-//! (`tpm_containers::slots::Slots`). A refused start changes nothing. Only a session that starts or
-//! is put into a place may take memory, and none does where the places are fixed.
+//! HMACs, keys and encryption, `tpm_types_name` for the Names in a command's hash,
+//! `tpm_containers` for the slots of sessions, and `tpm_types`. Contracts treat
+//! [`sessions::Sessions`] as a list of slots, each free or occupied by a session, whatever
+//! container stores them (`tpm_containers::slots::Slots`). A refused start changes nothing. Only
+//! starting a session, or storing one in a slot, may allocate memory; with fixed slots, nothing
+//! allocates.
 
 pub mod encryption;
 pub mod entry;

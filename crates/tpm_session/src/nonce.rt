@@ -7,7 +7,7 @@ use std::marker::Model;
 use tpm_bytes::copied;
 
 /// A nonce: at most 32 bytes (TPM2B_NONCE of TPM 2.0 Library, Part 2, section 10.4.4). Contracts
-/// see it as its bytes.
+/// treat it as its bytes.
 #[derive(Drop)]
 pub struct Nonce {
     bytes: ArrayVec<u8, 32>,
@@ -22,7 +22,7 @@ impl Model for Nonce {
 }
 
 impl Nonce {
-    /// The nonce of these bytes.
+    /// The nonce with these bytes.
     pub fn of(bytes: &[u8]) -> Nonce
         requires { length bytes.now ≤ 32 }
         ensures { result ≡ bytes.now }
@@ -40,7 +40,7 @@ impl Nonce {
         self.bytes.as_slice()
     }
 
-    /// How many bytes the nonce has.
+    /// The size of the nonce.
     pub fn len(&self) -> usize
         ensures value { result ≡ length self.now }
         ensures fits { result ≤ 32 }

@@ -1,5 +1,5 @@
-//! The hash of a command's parameters and the hash of a response's: cpHash and rpHash (TPM 2.0
-//! Library, Part 1, sections 18.7 and 18.8).
+//! The hashes of a command's and a response's parameters: cpHash and rpHash (TPM 2.0 Library,
+//! Part 1, sections 18.7 and 18.8).
 
 ghost use Rattle.std.specs.Prelude.{◌≡◌, ◌≤◌, [], length, slice_index_or};
 ghost use Rattle.tpm_mac.specs.Digest.{digest_size};
@@ -8,7 +8,7 @@ ghost use Rattle.tpm_session.specs.ParameterHash.{command_hash_of, response_hash
 use tpm_mac::{Digest, HashAlg, digest_parts};
 use tpm_types_name::Name;
 
-/// The bytes of the Name in a place; none after the last.
+/// The bytes of the Name at this index, or no bytes if there is no such Name.
 fn name_at(names: &[Name], place: usize) -> &[u8]
     ensures { result.now ≡ slice_index_or names.now place [] }
 {
@@ -18,7 +18,7 @@ fn name_at(names: &[Name], place: usize) -> &[u8]
     }
 }
 
-/// The hash of a command: its code, the Names of its handles, and its parameters as they are sent
+/// The hash of a command, over its code, the Names of its handles, and its parameters as sent
 /// (cpHash: TPM 2.0 Library, Part 1, section 18.7).
 #[tactic(auto, unfolding(crate::specs::ParameterHash::command_hash_of))]
 pub fn command_hash(hash: HashAlg, code: u32, names: &[Name], parameters: &[u8]) -> Digest
@@ -32,8 +32,8 @@ pub fn command_hash(hash: HashAlg, code: u32, names: &[Name], parameters: &[u8])
     digest_parts(hash, &[&code, first, second, third, parameters])
 }
 
-/// The hash of a success: its response code, the command's code, and its parameters as they are
-/// sent (rpHash: TPM 2.0 Library, Part 1, section 18.8).
+/// The hash of a successful response, over its response code, the command code, and its
+/// parameters as sent (rpHash: TPM 2.0 Library, Part 1, section 18.8).
 #[tactic(auto, unfolding(crate::specs::ParameterHash::response_hash_of))]
 pub fn response_hash(hash: HashAlg, code: u32, parameters: &[u8]) -> Digest
     ensures value { result.items ≡ response_hash_of hash code parameters.now }
@@ -44,12 +44,12 @@ pub fn response_hash(hash: HashAlg, code: u32, parameters: &[u8]) -> Digest
     digest_parts(hash, &[&success, &code, parameters])
 }
 
-/// What cpHash or rpHash is the hash of.
+/// The data hashed by cpHash or rpHash.
 #[derive(Clone, Copy)]
 pub enum HashedParameters<'a> {
-    /// A command: its code, the Names of its handles, and its parameters as they are sent.
+    /// A command: its code, the Names of its handles, and its parameters as sent.
     Command(u32, &'a [Name], &'a [u8]),
-    /// A success: the command's code, and its parameters as they are sent.
+    /// A successful response: the command code, and its parameters as sent.
     Response(u32, &'a [u8]),
 }
 

@@ -1,5 +1,5 @@
-//! The parameter hashes of one command or response by each hash algorithm, computed only when they
-//! are asked for, and then once.
+//! The parameter hashes of one command or response, one per hash algorithm. Each is computed only
+//! once, when it is first needed.
 
 ghost use Rattle.std.specs.Prelude.{◌≡◌};
 ghost use Rattle.std.specs.Option.{ForSome};
@@ -11,8 +11,8 @@ use std::marker::Model;
 use tpm_bytes::copied;
 use tpm_mac::{Digest, HashAlg};
 
-/// The hashes of one command's or one success's parameters, each computed once, when it is first
-/// asked for. Contracts see what is hashed.
+/// The parameter hashes of one command or successful response. Each is computed once, when it is
+/// first needed. Contracts treat them as the data that is hashed.
 #[derive(Drop)]
 pub struct ParameterHashes<'a> {
     hashed: HashedParameters<'a>,
@@ -34,7 +34,7 @@ impl<'a> Model for ParameterHashes<'a> {
 }
 
 impl<'a> ParameterHashes<'a> {
-    /// The hashes of these parameters, of which none is computed yet.
+    /// The hashes of these parameters, none computed yet.
     pub fn new(hashed: HashedParameters<'a>) -> ParameterHashes<'a>
         requires { HasFewNames (hashed_parts hashed) }
         ensures { result ≡ hashed_parts hashed.entry }
@@ -46,7 +46,7 @@ impl<'a> ParameterHashes<'a> {
         }
     }
 
-    /// The hash of the parameters by this algorithm.
+    /// The hash of the parameters with this algorithm.
     pub fn by(&mut self, hash: HashAlg) -> Digest
         ensures value { result.items ≡ parameter_hash_of hash self.old }
         ensures same { self.new ≡ self.old }

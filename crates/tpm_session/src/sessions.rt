@@ -1,5 +1,5 @@
-//! The sessions of a device by their handles: how one starts, changes and ends
-//! (TPM 2.0 Library, Part 3, section 11.1).
+//! The sessions of a device by handle: how they start, change and end (TPM 2.0 Library, Part 3,
+//! section 11.1).
 
 ghost use Rattle.tpm_types.specs.Limits.{session_limit};
 ghost use Rattle.std.specs.Prelude.{◌≡◌, ◌<◌, true, IfSome, is_some, length, option_copied};
@@ -18,7 +18,7 @@ use tpm_mac::HashAlg;
 use tpm_policy::PolicyState;
 use tpm_types::{Handle, SESSION_LIMIT, SessionType, SymmetricDefinition};
 
-/// The parameters with which a session starts (TPM 2.0 Library, Part 3, section 11.1).
+/// The parameters for starting a session (TPM 2.0 Library, Part 3, section 11.1).
 #[derive(Drop)]
 pub struct Start<'a> {
     pub kind: SessionType,
@@ -32,21 +32,21 @@ pub struct Start<'a> {
 /// Why a session did not start.
 #[derive(Clone, Copy, PartialEq, Eq)]
 pub enum StartFault {
-    /// The caller's nonce has fewer than 16 bytes, or more than a digest.
+    /// The caller's nonce is shorter than 16 bytes, or longer than a digest.
     Size,
-    /// All places are taken.
+    /// No slot is free.
     SessionMemory,
-    /// Memory was refused.
+    /// An allocation failed.
     Memory,
 }
 
-/// The sessions of a device, at most [`SESSION_LIMIT`], by their handles. `S` holds their places.
+/// The sessions of a device by handle, at most [`SESSION_LIMIT`]. `S` stores their slots.
 #[derive(Drop)]
 pub struct Sessions<S: Slots<Session, SESSION_LIMIT>> {
     slots: S,
 }
 
-/// The handle of a session of this type in a place.
+/// The handle of a session with this type in this slot.
 pub fn handle_of(kind: SessionType, place: usize) -> Handle
     requires { place < session_limit }
     ensures { result ≡ handle_of kind place }
@@ -56,7 +56,7 @@ pub fn handle_of(kind: SessionType, place: usize) -> Handle
     }
 }
 
-/// The session that is started, with its key.
+/// The new session, with its key.
 fn started_session(start: Start) -> Session
     requires { is_nonce_size start.hash (length start.nonce_tpm) ≡ true }
     ensures { result ≡ started_session start.entry }
@@ -79,7 +79,7 @@ fn started_session(start: Start) -> Session
 }
 
 impl<S: Slots<Session, SESSION_LIMIT>> Sessions<S> {
-    /// No session is there at first; no memory is taken.
+    /// An empty set of sessions; allocates no memory.
     pub fn new(alloc: Global) -> Sessions<S>
         ensures { places_of S.places result ≡ free session_limit }
     {
@@ -88,8 +88,8 @@ impl<S: Slots<Session, SESSION_LIMIT>> Sessions<S> {
         }
     }
 
-    /// Starts a session, under the handle of the lowest free place. The device's nonce is as long
-    /// as the caller's.
+    /// Starts a session in the lowest free slot and returns its handle. The device's nonce must
+    /// be as long as the caller's.
     pub fn start(&mut self, start: Start) -> Result<Handle, StartFault>
         requires { length start.nonce_tpm ≡ length start.nonce_caller.now }
         ensures { Starts S.can_refuse (places_of S.places self.old) start.entry result
@@ -106,24 +106,24 @@ impl<S: Slots<Session, SESSION_LIMIT>> Sessions<S> {
         }
     }
 
-    /// The session of a handle.
+    /// The session with this handle.
     #[tactic(auto, unfolding(crate::specs::Sessions::session_at))]
     pub fn get(&self, handle: Handle) -> Option<&Session>
         ensures session { option_copied result ≡ session_at (places_of S.places self.now) handle }
-        // There are always as many places as there may be sessions.
+        // The number of slots is always the limit of sessions.
         ensures all { length (places_of S.places self.now) ≡ session_limit }
     {
         numbered::get(&self.slots, handle.number)
     }
 
-    /// The session in a place.
+    /// The session in this slot.
     pub fn in_place(&self, place: usize) -> Option<&Session>
         ensures { option_copied result ≡ at_place (places_of S.places self.now) place }
     {
         self.slots.get(place)
     }
 
-    /// Puts a session into a place, over one that is there.
+    /// Stores a session in a slot, replacing any session there.
     pub fn put(&mut self, place: usize, session: Session) -> Result<(), SlotFault>
         requires { place < session_limit }
         ensures { Puts S.can_refuse (places_of S.places self.old) place session result
@@ -132,7 +132,7 @@ impl<S: Slots<Session, SESSION_LIMIT>> Sessions<S> {
         self.slots.put(place, session)
     }
 
-    /// Ends the session of a handle, and tells whether there was one.
+    /// Ends the session with this handle; returns whether it existed.
     #[tactic(auto, unfolding(crate::specs::Sessions::flushed, crate::specs::Sessions::session_at))]
     pub fn flush(&mut self, handle: Handle) -> bool
         ensures there { result ≡ is_some (session_at (places_of S.places self.old) handle) }
@@ -148,8 +148,8 @@ impl<S: Slots<Session, SESSION_LIMIT>> Sessions<S> {
         self.slots.clear();
     }
 
-    /// Gives the session of a handle another nonceTPM, as long as its own, and tells whether there
-    /// was one.
+    /// Replaces the nonceTPM of the session with this handle by one of the same size; returns
+    /// whether the session existed.
     #[tactic(auto, unfolding(crate::specs::Sessions::rolled, crate::specs::Sessions::session_at))]
     pub fn roll(&mut self, handle: Handle, nonce: Nonce) -> bool
         requires { IfSome (session_at (places_of S.places self.old) handle)
@@ -167,8 +167,8 @@ impl<S: Slots<Session, SESSION_LIMIT>> Sessions<S> {
         }
     }
 
-    /// Gives the session of a handle another policy, whose digest has the size of the session's
-    /// hash, and tells whether there was one.
+    /// Replaces the policy of the session with this handle by one whose digest has the size of
+    /// the session's hash; returns whether the session existed.
     #[tactic(auto, unfolding(crate::specs::Sessions::with_session_policy, crate::specs::Sessions::session_at))]
     pub fn set_policy(&mut self, handle: Handle, policy: PolicyState) -> bool
         requires { IfSome (session_at (places_of S.places self.old) handle)
@@ -185,12 +185,12 @@ impl<S: Slots<Session, SESSION_LIMIT>> Sessions<S> {
             None => false,
         }
     }
-    /// Promises what the types of each session's fields say of them, and how many places there are.
-    /// The call only reads.
+    /// A proof only: states the number of slots, and the bounds that the types of each session's
+    /// fields guarantee. It has no effect at run time.
     #[inline(always)]
     pub fn read_sizes(&self)
         ensures each { AreAll IsSession (places_of S.places self.now) }
-        // There are always as many places as there may be sessions.
+        // The number of slots is always the limit of sessions.
         ensures all { length (places_of S.places self.now) ≡ session_limit }
     {
         numbered::read_sizes(&self.slots);

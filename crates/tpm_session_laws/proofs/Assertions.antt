@@ -1,4 +1,4 @@
--- No assertion stands through what leaves a session none.
+-- No assertion survives an event that leaves a session without assertions.
 use Rattle.std.proofs.Common.{◌≡◌, ◌⊎◌, ℕ, Bool, true, false, cond, List, [], ◌∷◌, ◌++◌, length, take, drop, map, Option, Some, None, option_map, Result, Ok, Err, refl, ap, sym, subst, ◌∙◌, inl, inr}
 use Rattle.std.specs.Prelude.{is_some, ok_or}
 use Rattle.std.specs.List.{zip}
@@ -26,12 +26,12 @@ use Rattle.tpm_step.specs.rows.Draws.{draws_of}
 use Rattle.tpm_step.proofs.HandleMap.{at_other, at_same, same_handle}
 use Rattle.tpm_session_laws.specs.Assertions.{LeavesNoAssertion, NoneStandsThrough}
 
--- a session, if there is one, has no assertion
+-- a session, if it exists, has no assertion
 abbrev IsBare : Option LiveSession → Type 0
 IsBare None = Unit {0}
 IsBare (Some s) = s.assertions ≡ []
 
--- a change leaves a session without assertions none
+-- a change adds no assertion to a session without assertions
 abbrev AddsNone : (LiveSession → LiveSession) → Type 0
 AddsNone change = (s : LiveSession) → s.assertions ≡ [] → (change s).assertions ≡ []
 

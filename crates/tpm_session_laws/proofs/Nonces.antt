@@ -1,4 +1,4 @@
--- What a command adds to the nonces that a session had.
+-- What a command adds to the earlier nonces of a session.
 use Rattle.std.proofs.Common.{◌≡◌, ℕ, Bool, true, false, cond, List, [], ◌∷◌, take, drop, Option, Some, None, option_map, refl, ap, sym, subst, ◌∙◌}
 use Rattle.std.specs.Prelude.{is_some}
 use Rattle.std.specs.List.{zip}
@@ -14,7 +14,7 @@ use Rattle.tpm_step.specs.rows.Draws.{draws_of}
 use Rattle.tpm_step.proofs.HandleMap.{at_same}
 use Rattle.tpm_session_laws.specs.Nonces.{AddsItsNonce}
 
--- a session, if there is one, has these earlier nonces
+-- a session, if it exists, has these earlier nonces
 abbrev Had : List (List ℕ) → Option LiveSession → Type 0
 Had nonces None = Unit {0}
 Had nonces (Some s) = s.earlier_nonces ≡ nonces

@@ -1,5 +1,5 @@
--- What takes the assertions of a policy session away. TPM 2.0 Library, Part 1, section 19.7 (enhanced
--- authorization), and Part 3, section 11.2 (TPM2_PolicyRestart).
+-- The events that discard the assertions of a policy session. TPM 2.0 Library, Part 1, section
+-- 19.7 (enhanced authorization), and Part 3, section 11.2 (TPM2_PolicyRestart).
 use Rattle.std.specs.Prelude.{◌≡◌, ◌⊎◌, ◌∷◌, ◌++◌, Some, Ok}
 use Rattle.tpm_policy.specs.Assertion.{Assertion}
 use Rattle.tpm_types.specs.declared.handle.Handle.{Handle}
@@ -8,15 +8,15 @@ use Rattle.tpm_record.specs.rows.Request.{first_handle}
 use Rattle.tpm_step.specs.AssertedBy.{StandsThrough}
 use Rattle.tpm_step.specs.History.{Done, History, PastEvent, PowerCycled}
 
--- An event leaves the session of a handle no assertion: TPM2_PolicyRestart of this session,
--- TPM2_StartAuthSession that starts one under this handle, or a power cycle.
+-- An event leaves the session with this handle without assertions: TPM2_PolicyRestart of this
+-- session, TPM2_StartAuthSession that starts a session with this handle, or a power cycle.
 abbrev pub LeavesNoAssertion : PastEvent → Handle → Type 0
 LeavesNoAssertion (Done c) handle =
     ((c.command.code ≡ command.PolicyRestart) × (first_handle c.request.handles ≡ Ok handle))
     ⊎ ((c.command.code ≡ command.StartAuthSession) × (c.answer.handle ≡ Some handle))
 LeavesNoAssertion PowerCycled handle = Unit {0}
 
--- No assertion stands through such an event.
+-- No assertion survives such an event.
 abbrev pub NoneStandsThrough : Type 0
 NoneStandsThrough =
     (one : Assertion) (handle : Handle) (since : History) (event : PastEvent)

@@ -1,4 +1,4 @@
--- What a policy of a cpHash asks for. TPM 2.0 Library, Part 3, section 23.12 (TPM2_PolicyCpHash).
+-- What a cpHash policy requires. TPM 2.0 Library, Part 3, section 23.13 (TPM2_PolicyCpHash).
 use Rattle.std.specs.Prelude.{◌≡◌, ℕ, List}
 use Rattle.tpm_types_object.specs.declared.public.Public.{Public}
 use Rattle.tpm_policy_meaning.specs.Expression.{PolicyExpression, Nothing, Then, PolicyCpHash}
@@ -7,7 +7,7 @@ use Rattle.tpm_step.specs.EntryHmacs.{cp_hash_in}
 use Rattle.tpm_step.specs.History.{AcceptedCommand, History}
 use Rattle.tpm_step.specs.PolicyReviews.{IsUsedBySession, UsesObject}
 
--- An object whose policy is a cpHash is used only by a command that has this cpHash.
+-- An object whose policy is a cpHash is used only by a command with this cpHash.
 abbrev pub NeedsCpHash : History → AcceptedCommand → Type 0
 NeedsCpHash history c =
     (place : ℕ) (public : Public) (cp_hash : List ℕ)

@@ -4,8 +4,8 @@ use Rattle.tpm_types_command.specs.AuthEntry.{Entry}
 use Rattle.tpm_step.specs.History.{AcceptedCommand, Done, History}
 use Rattle.tpm_step.specs.Sessions.{LiveSession, sessions_by, sessions_of}
 
--- A command whose one entry names a session adds the nonceTPM that the session had to its earlier
--- ones, and not the new one.
+-- If a command's only entry names a session, the command adds the nonceTPM that the session had,
+-- and not the new one, to the session's earlier nonces.
 abbrev pub AddsItsNonce : Type 0
 AddsItsNonce =
     (history : History) (c : AcceptedCommand) (e : Entry) (old new : LiveSession)

@@ -1,4 +1,4 @@
--- The record that is kept in fixed places.
+-- The record of a state in fixed slots.
 use Rattle.tpm_record.specs.Objects.{objects_of}
 use Rattle.tpm_record.specs.Record.{Record}
 use Rattle.tpm_session.specs.Sessions.{places_of}
@@ -6,7 +6,7 @@ use Rattle.tpm_slots.specs.declared.keep.SlotKeep.{SlotKeep}
 use Rattle.tpm_slots.specs.declared.objects.ObjectPlaces.{ObjectPlaces}
 use Rattle.tpm_slots.specs.declared.sessions.SessionPlaces.{SessionPlaces}
 
--- the record of a state in fixed places; its containers are seen as their contents
+-- the record of a state in fixed slots, with the contents of its containers
 abbrev pub slot_record : SlotKeep → Record
 slot_record keep = record {
   fixed = keep.fixed;

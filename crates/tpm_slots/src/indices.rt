@@ -1,4 +1,4 @@
-//! The places of the NV indices.
+//! The slots of the NV indices.
 
 use std::alloc::Global;
 use tpm_nv::{
@@ -8,7 +8,7 @@ use tpm_nv::{
 use tpm_types::{AuthValue, Handle};
 use tpm_types_nv::NvPublic;
 
-/// As many places as there can be NV indices, and the room for their data.
+/// A slot for each NV index that there can be, and space for their data.
 #[derive(Drop)]
 pub struct IndexPlaces {
     stored: SlotIndices,

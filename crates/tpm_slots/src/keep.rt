@@ -1,4 +1,4 @@
-//! The device's state in fixed places.
+//! The device's state in fixed slots.
 
 use crate::indices::IndexPlaces;
 use crate::objects::ObjectPlaces;
@@ -11,8 +11,9 @@ use tpm_record::objects::Objects;
 use tpm_record::{Fixed, Keep, PersistentObjects};
 use tpm_session::Sessions;
 
-/// The device's state in fixed places, one for each thing that there can be. No memory is ever
-/// taken, so none can be refused. The type has some 40,300 bytes: a value is made once, and lent.
+/// The device's state in fixed slots, one for each session, object and index that there can be.
+/// It allocates no memory, so it never runs out of memory. A value of this type is some 40,300
+/// bytes long: it is created once, and then passed by reference.
 #[derive(Drop)]
 pub struct SlotKeep {
     fixed: Fixed,
@@ -50,7 +51,7 @@ impl Keep for SlotKeep {
 
     ghost empty_can_refuse = { false };
 
-    // In a call of its own the value would be made on the stack, and moved.
+    // Inlined, because a separate call would create the value on the stack and then move it.
     #[inline(always)]
     fn empty(alloc: Global) -> Result<SlotKeep, NoMemory> {
         Ok(SlotKeep {

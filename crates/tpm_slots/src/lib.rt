@@ -1,12 +1,12 @@
 #![tactic(auto)]
 
-//! The device's state in fixed places, one for each thing that there can be. No memory is ever
-//! taken, so none can be refused.
+//! The device's state in fixed slots, one for each session, object and index that there can be.
+//! It allocates no memory, so it never runs out of memory.
 //!
-//! [`SlotKeep`] holds the whole state, and is never refused memory ([`laws`]). Its containers
-//! ([`sessions`], [`objects`], [`persistent`], [`indices`]) are those of the crates below under
-//! names of their own, so that what is proved of a device that is kept so does not go through all
-//! that they are made of.
+//! [`SlotKeep`] contains the whole state; no operation on it can fail for lack of memory
+//! ([`laws`]). Its containers ([`sessions`], [`objects`], [`persistent`], [`indices`]) are those
+//! of the crates below, under new names. So proofs about a device with this state do not have to
+//! expand the containers' implementations.
 
 pub mod indices;
 pub mod keep;

@@ -1,11 +1,11 @@
-//! The places of the transient objects.
+//! The slots of the transient objects.
 
 use std::alloc::Global;
 use tpm_containers::{FixedSlots, SlotFault, Slots};
 use tpm_object::Object;
 use tpm_types::OBJECT_LIMIT;
 
-/// As many places as there can be transient objects.
+/// A slot for each transient object that there can be.
 #[derive(Drop)]
 pub struct ObjectPlaces {
     slots: FixedSlots<Object, OBJECT_LIMIT>,

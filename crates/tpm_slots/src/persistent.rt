@@ -1,4 +1,4 @@
-//! The places of the persistent objects.
+//! The slots of the persistent objects.
 
 use std::alloc::Global;
 use tpm_containers::KeyFault;
@@ -7,7 +7,7 @@ use tpm_record::PersistentObjects;
 use tpm_record::persistent::SlotObjects;
 use tpm_types::Handle;
 
-/// As many places as there can be persistent objects.
+/// A slot for each persistent object that there can be.
 #[derive(Drop)]
 pub struct PersistentPlaces {
     stored: SlotObjects,

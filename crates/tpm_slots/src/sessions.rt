@@ -1,11 +1,11 @@
-//! The places of the sessions.
+//! The slots of the sessions.
 
 use std::alloc::Global;
 use tpm_containers::{FixedSlots, SlotFault, Slots};
 use tpm_session::Session;
 use tpm_types::SESSION_LIMIT;
 
-/// As many places as there can be sessions.
+/// A slot for each session that there can be.
 #[derive(Drop)]
 pub struct SessionPlaces {
     slots: FixedSlots<Session, SESSION_LIMIT>,

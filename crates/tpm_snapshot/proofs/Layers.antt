@@ -1,4 +1,4 @@
--- What a text has of a layer stands for that layer.
+-- Decoding a layer's part of a text returns that layer.
 use Rattle.std.proofs.Common.{◌≡◌, List, [], ◌∷◌, Some, map, refl, ap}
 use Rattle.tpm_completion.specs.declared.completion.Completion.{Completion}
 use Rattle.tpm_completion.specs.declared.completion.Held.{Held}

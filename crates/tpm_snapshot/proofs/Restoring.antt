@@ -1,4 +1,5 @@
--- A machine that is restored from the state text of a device is that device, and follows its history.
+-- A machine that is restored from the state text of a device is in the device's state, and
+-- follows its history.
 use Rattle.std.proofs.Common.{◌≡◌, Bool, List, Option, ℕ, Result, Ok, Err, IfOk, sym, ap, subst, ◌∙◌}
 use Rattle.tpm_bytes.proofs.Fields.{ok_is}
 use Rattle.tpm_machine.specs.Follows.{Follows}
@@ -17,7 +18,7 @@ use Rattle.tpm_snapshot.specs.Restoring.{HasState}
 differ : {X E : Type 0} (x : X) (e : E) → (let done : Result X E = Ok x in done) ≡ Err e → ⊥
 differ x e is = absurd cc
 
--- what is read from the text of a state is that state, and the text has no fault
+-- decoding the text of a state returns that state, without a fault
 module _ (state : WholeState) (text : List ℕ) (is : IsWholeState state) (same : text ≡ state_text state) where
   told_again : state_of_text text ≡ Ok state
   told_again = ap state_of_text same ∙ text_told state is

@@ -1,4 +1,4 @@
--- What the completing layer has in a state text: each number that it remembers.
+-- What a state text stores about the completing layer: each number that the layer remembers.
 use Rattle.std.specs.Prelude.{Option, Some, None, map}
 use Rattle.tpm_completion.specs.Completion.{new_completion}
 use Rattle.tpm_completion.specs.declared.completion.Completion.{Completion}
@@ -6,14 +6,14 @@ use Rattle.tpm_completion.specs.declared.completion.Held.{Held}
 use Rattle.tpm_state_text.specs.declared.layer.Held.{Held as HeldText}
 use Rattle.tpm_state_text.specs.declared.layer.Layer.{Layer}
 
--- what a text has of an object, and what the layer has of it
+-- what a text stores about an object, and what the layer remembers of it
 abbrev pub held_of : Held → HeldText
 held_of held = record { context = held.context; waits = held.waits }
 
 abbrev pub held_in : HeldText → Held
 held_in held = record { context = held.context; waits = held.waits }
 
--- what a text has of the layer
+-- what a text stores about the layer
 abbrev pub layer_of : Completion → Layer
 layer_of c = record {
   start = c.start;
@@ -22,7 +22,7 @@ layer_of c = record {
   sessions = c.sessions;
 }
 
--- the layer that a text has; a text without one stands for a new layer, of the start 0
+-- the layer in a text; if the text contains no layer, a new layer with start 0
 abbrev pub completion_of : Option Layer → Completion
 completion_of None = new_completion 0
 completion_of (Some layer) = record {

@@ -1,4 +1,4 @@
--- What restoring a machine from the state text of a device answers and leaves.
+-- The result of restoring a machine from the state text of a device, and the machine after it.
 use Rattle.std.specs.Prelude.{◌≡◌, Bool, true, Option, Result, Ok, Err}
 use Rattle.tpm_record.specs.Record.{Record}
 use Rattle.tpm_state_text.specs.Body.{WholeState}
@@ -7,7 +7,7 @@ use Rattle.tpm_state_text.specs.declared.fault.RestoreFault.{RestoreFault}
 use Rattle.tpm_state_text.specs.declared.fault.RestoreFault.TheVariants as unrestored
 use Rattle.tpm_state_text.specs.declared.layer.Layer.{Layer}
 
--- A machine has just this state, with the layer that was answered; or memory was refused.
+-- The machine and the returned layer are exactly this state; or an allocation failed.
 abbrev pub HasState : Bool → WholeState → Record → Result (Option Layer) RestoreFault → Type 0
 HasState can state device (Ok layer) = state_of device layer ≡ state
 HasState can state device (Err (unrestored.Text fault)) = ⊥

@@ -1,4 +1,4 @@
-//! What the completing layer has in a state text.
+//! Converts between the completing layer and its part of a state text.
 
 ghost use Rattle.std.specs.Prelude.{◌≡◌, ◌<◌, ◌^◌, length, map, option_copied};
 ghost use Rattle.std.specs.List.{All};
@@ -9,7 +9,7 @@ use tpm_completion::{Completion, Held};
 use tpm_state_text::{Held as HeldText, Layer};
 use tpm_types::{OBJECT_LIMIT, SESSION_LIMIT};
 
-/// What a text has of an object of the layer.
+/// Converts what the layer remembers of an object to the form that a text stores.
 fn held_of(held: Held) -> HeldText
     ensures value { result ≡ held_of held }
     ensures fits { IsHeld result }
@@ -20,7 +20,7 @@ fn held_of(held: Held) -> HeldText
     }
 }
 
-/// What the layer has of an object in a text.
+/// Converts what a text stores about an object to what the layer remembers of it.
 fn held_in(held: HeldText) -> Held
     ensures { result ≡ held_in held }
 {
@@ -58,7 +58,7 @@ fn objects_in(objects: &[HeldText; 8]) -> [Held; 8]
     held
 }
 
-/// A number, of which a caller then knows the width.
+/// Returns a number unchanged; its contract adds that the number fits its width.
 fn with_width(number: u64) -> u64
     ensures same { result ≡ number }
     ensures fits { result < 2 ^ 64 }
@@ -78,7 +78,7 @@ fn sessions_of(sessions: &[u64; 16]) -> [u64; 16]
     saved
 }
 
-/// What a text has of the layer.
+/// Returns what a text stores about the layer.
 pub fn layer_of(completion: &Completion) -> Layer
     ensures value { result ≡ layer_of completion.now }
     ensures is_layer { IsLayer result }
@@ -93,7 +93,7 @@ pub fn layer_of(completion: &Completion) -> Layer
     }
 }
 
-/// The layer that a text has; a new one, of the start 0, for a text with none.
+/// Returns the layer in a text; if the text contains none, a new layer with start 0.
 pub fn completion_of(layer: Option<&Layer>) -> Completion
     ensures { result ≡ completion_of (option_copied layer.entry) }
 {

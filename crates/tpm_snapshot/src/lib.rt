@@ -1,15 +1,15 @@
 #![tactic(auto)]
 
-//! A device as a state text: all that it is, so that a device that is restored from the text goes
-//! on where it was.
+//! A device as a state text: its complete state. A device that is restored from the text
+//! continues from the same state.
 //!
 //! [`snapshot_into`] writes the text of a machine into the caller's buffer. [`restored`],
-//! [`restore_new`] and [`restore_into`] read one. [`layer_of`] and [`completion_of`] say what the
-//! completing layer has in such a text. The crate uses the machine and the completing layer, and
-//! tpm_state_text for the bytes.
+//! [`restore_new`] and [`restore_into`] read such a text. [`layer_of`] and [`completion_of`]
+//! convert between the completing layer and its part of such a text. The crate uses the machine
+//! and the completing layer, and tpm_state_text for the bytes.
 //!
-//! The device that is restored from the text of a device is that device, and follows the history
-//! that it followed ([`laws`] has the layer's part).
+//! A device that is restored from the text of a device is in the same state, and follows the same
+//! history ([`laws`] proves the layer's part).
 
 pub mod laws;
 mod layer;

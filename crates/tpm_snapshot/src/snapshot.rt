@@ -1,4 +1,4 @@
-//! The state text of a machine: how it is written, and how a machine is restored from one.
+//! Writes the state text of a machine, and restores a machine from a state text.
 
 ghost use Rattle.std.specs.Prelude.{◌≡◌, ◌≤◌, ◌||◌, IfOk, option_copied, replicate};
 ghost use Rattle.tpm_image_text.specs.Saving.{PutsFront};
@@ -20,7 +20,7 @@ use tpm_record::Keep;
 use tpm_state_text::{Layer, RestoreFault};
 
 /// Writes the state text of a machine, with its completing layer, to the front of a buffer, if it
-/// fits. Returns how many bytes the text has. The call takes no memory.
+/// fits. Returns the size of the text. The call allocates no memory.
 pub fn snapshot_into<K: Keep>(
     machine: &Machine<K>,
     layer: Option<&Layer>,
@@ -35,9 +35,9 @@ pub fn snapshot_into<K: Keep>(
     tpm_state_text::snapshot_into(machine.keep(), layer, buffer)
 }
 
-/// Makes a new machine of zeros the one of a state text, without moving it, and returns its
-/// completing layer; or returns the first fault of the text. After a fault nothing is said of the
-/// machine.
+/// Turns a new machine of zeros into the machine of a state text, without moving it, and returns
+/// the completing layer; or returns the first fault of the text. On error, the machine is
+/// unspecified.
 #[tactic(auto, using(crate::proofs::Restoring::new_again, crate::proofs::Restoring::has_follows))]
 pub fn restore_new<K: Keep>(
     machine: &mut Machine<K>,
@@ -45,11 +45,11 @@ pub fn restore_new<K: Keep>(
 ) -> Result<Option<Layer>, RestoreFault>
     requires { state_of K.record_of machine.old ≡ manufactured (replicate 256 0) }
     ensures exact { RestoresNew K.can_refuse text.now (state_of K.record_of machine.new) result }
-    // The text of a device makes just that device, unless memory was refused.
+    // The text of a device restores exactly that device, unless an allocation fails.
     ensures again { (state : WholeState) → IsWholeState state → text.now ≡ state_text state
         → HasState K.can_refuse state (state_of K.record_of machine.new) result }
 
-    // The machine follows the history of the device that wrote the text. No power was cycled.
+    // The machine follows the history of the device that wrote the text, without a power cycle.
     ensures history { (state : WholeState) (history : History) → IsWholeState state
         → Follows state.device history → text.now ≡ state_text state
         → IfOk result (λ layer. Follows (state_of K.record_of machine.new) history) }
@@ -57,8 +57,8 @@ pub fn restore_new<K: Keep>(
     fill(machine, text)
 }
 
-/// Makes a new machine of zeros the one of a state text; the contract says nothing of the device
-/// that wrote the text.
+/// Turns a new machine of zeros into the machine of a state text. This contract does not mention
+/// the device that wrote the text.
 fn fill<K: Keep>(machine: &mut Machine<K>, text: &[u8]) -> Result<Option<Layer>, RestoreFault>
     requires { state_of K.record_of machine.old ≡ manufactured (replicate 256 0) }
     ensures { RestoresNew K.can_refuse text.now (state_of K.record_of machine.new) result }
@@ -66,7 +66,8 @@ fn fill<K: Keep>(machine: &mut Machine<K>, text: &[u8]) -> Result<Option<Layer>,
     tpm_state_text::restore_new(machine.keep_mut(), text)
 }
 
-/// The machine of a state text, and its completing layer; or the first fault of the text.
+/// Returns the machine of a state text, with its completing layer; or the first fault of the
+/// text.
 #[tactic(auto, using(crate::proofs::Restoring::again_follows))]
 pub fn restored<K: Keep>(
     alloc: Global,
@@ -74,11 +75,11 @@ pub fn restored<K: Keep>(
 ) -> Result<(Machine<K>, Option<Layer>), RestoreFault>
     ensures exact { Restores (state_of K.record_of) (K.empty_can_refuse || K.can_refuse) text.now
         result }
-    // The text of a device makes just that device, unless memory was refused.
+    // The text of a device restores exactly that device, unless an allocation fails.
     ensures again { (state : WholeState) → IsWholeState state → text.now ≡ state_text state
         → RestoresAgain (state_of K.record_of) (K.empty_can_refuse || K.can_refuse) state result }
 
-    // The machine follows the history of the device that wrote the text. No power was cycled.
+    // The machine follows the history of the device that wrote the text, without a power cycle.
     ensures history { (state : WholeState) (history : History) → IsWholeState state
         → Follows state.device history → text.now ≡ state_text state
         → IfOk result (λ made. Follows (state_of K.record_of made.0) history) }
@@ -86,7 +87,8 @@ pub fn restored<K: Keep>(
     made(alloc, text)
 }
 
-/// The machine of a state text; the contract says nothing of the device that wrote the text.
+/// Returns the machine of a state text. This contract does not mention the device that wrote the
+/// text.
 #[tactic(auto, using(tpm_state_text::proofs::RestoringLaws::restored_again))]
 fn made<K: Keep>(alloc: Global, text: &[u8]) -> Result<(Machine<K>, Option<Layer>), RestoreFault>
     ensures exact { Restores (state_of K.record_of) (K.empty_can_refuse || K.can_refuse) text.now
@@ -98,8 +100,8 @@ fn made<K: Keep>(alloc: Global, text: &[u8]) -> Result<(Machine<K>, Option<Layer
     Ok((Machine::from_keep(keep), layer))
 }
 
-/// Makes a machine the one of a state text, and returns its completing layer. A text that is
-/// refused leaves the machine as it was.
+/// Replaces a machine by that of a state text, and returns the completing layer. If the text is
+/// refused, the machine is unchanged.
 #[tactic(auto, using(crate::proofs::Restoring::into_again, crate::proofs::Restoring::has_follows))]
 pub fn restore_into<K: Keep>(
     machine: &mut Machine<K>,
@@ -108,12 +110,12 @@ pub fn restore_into<K: Keep>(
 ) -> Result<Option<Layer>, RestoreFault>
     ensures exact { RestoresInto (K.empty_can_refuse || K.can_refuse) text.now
         (state_of K.record_of machine.old) result (state_of K.record_of machine.new) }
-    // The text of a device makes just that device, unless memory was refused.
+    // The text of a device restores exactly that device, unless an allocation fails.
     ensures again { (state : WholeState) → IsWholeState state → text.now ≡ state_text state
         → HasState (K.empty_can_refuse || K.can_refuse) state (state_of K.record_of machine.new)
         result }
 
-    // The machine follows the history of the device that wrote the text. No power was cycled.
+    // The machine follows the history of the device that wrote the text, without a power cycle.
     ensures history { (state : WholeState) (history : History) → IsWholeState state
         → Follows state.device history → text.now ≡ state_text state
         → IfOk result (λ layer. Follows (state_of K.record_of machine.new) history) }
@@ -121,8 +123,8 @@ pub fn restore_into<K: Keep>(
     replace(machine, alloc, text)
 }
 
-/// Makes a machine the one of a state text; the contract says nothing of the device that wrote the
-/// text.
+/// Replaces a machine by that of a state text. This contract does not mention the device that
+/// wrote the text.
 fn replace<K: Keep>(
     machine: &mut Machine<K>,
     alloc: Global,

@@ -1,10 +1,10 @@
 #![tactic(auto)]
 
-//! Tests of state texts for what no clause says: a device is written and read again with memory to
-//! spare, its text is the one that the device in Python writes, and what is cut, or has a session of
-//! other sizes than its hash allows, is refused.
+//! Tests of state texts for what no clause covers. A device is written and read again with enough
+//! memory. Its text equals the one that the Python device writes. A text is refused if it is
+//! truncated, or contains a session with sizes that its hash does not allow.
 //!
-//! The crate uses `tpm_state_text`, with the state in fixed places and in lists, and no crate uses
+//! The crate uses `tpm_state_text`, with the state in fixed slots and in lists, and no crate uses
 //! it.
 
 #[cfg(test)]

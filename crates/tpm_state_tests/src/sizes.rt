@@ -1,4 +1,4 @@
-//! State texts with the right digest, whose session has a size that its hash does not allow.
+//! State texts with the right digest, in which a session has a size that its hash does not allow.
 
 use super::snapshots::{Trial, check, device, run_over_both, text_of};
 use std::alloc::Global;
@@ -9,7 +9,7 @@ use tpm_machine::Machine;
 use tpm_record::Keep;
 use tpm_state_text::{RestoreFault, StateFault, restored};
 
-/// Where a sized field of the session stands in the text of the device.
+/// The offsets at which a sized field of the session starts and ends in the text of the device.
 #[derive(Clone, Copy)]
 struct Field {
     start: usize,
@@ -31,7 +31,8 @@ const POLICY_DIGEST: Field = Field {
     end: 1_671,
 };
 
-/// The text with another size of a field, whose bytes are zeros, in the frame that it has to have.
+/// The text with this sized field replaced by one of `size` zero bytes, in a frame with the right
+/// length and digest.
 fn sized(alloc: Global, text: &[u8], field: Field, size: u8) -> Result<Vec<u8>, Fail> {
     if text.len() != 1_733 || field.start < 10 || field.end < field.start || field.end > 1_701 {
         return Err(Fail::new("no such field"));

@@ -22,15 +22,15 @@ const STARTUP: &[u8] = b"\x80\x01\0\0\0\x0c\0\0\x01\x44\0\0";
 const START_SESSION: &[u8] = b"\x80\x01\0\0\0\x2b\0\0\x01\x76\x40\0\0\x07\x40\0\0\x07\0\x10\
     \0\0\0\0\0\0\0\0\0\0\0\0\0\0\0\0\0\0\x01\0\x10\0\x0b";
 
-/// The last bytes of the state text, which are those of its digest, by the device in Python.
+/// The last bytes of the state text as the Python device writes it. They are part of its digest.
 const END: &[u8] = &[0x3d, 0x27, 0x66, 0xed, 0x8f, 0x1c, 0xe2, 0xb1];
 
-/// Ends the test where the value found is not the one wanted.
+/// Fails the test if the value found is not the expected one.
 pub fn check<R: Abort, T: PartialEq + Drop>(rt: &R, found: T, wanted: T) {
     assert!(rt; found == wanted);
 }
 
-/// A device with a session, made of random bytes of zeros.
+/// A device that was manufactured with random bytes that are all zero, and that has one session.
 pub fn device<K: Keep>(alloc: Global) -> Result<Machine<K>, Fail> {
     let mut machine: Machine<K> = Machine::manufacture(alloc, &[0; 256])?;
     let mut outcome = Outcome::empty();
@@ -49,7 +49,7 @@ pub fn text_of<K: Keep>(alloc: Global, keep: &K) -> Result<Vec<u8>, Fail> {
     Ok(text)
 }
 
-/// What a test does with any type that implements `Keep`.
+/// The actions of a test, with any type that implements `Keep`.
 pub trait Trial {
     fn run<K: Keep, R: Abort>(rt: &R, alloc: Global) -> Result<(), Fail>;
 }

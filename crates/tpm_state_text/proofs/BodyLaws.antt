@@ -1,4 +1,4 @@
--- The body of a state text: a state is read only from its body, and from every such body.
+-- The body of a state text: decoding returns a state exactly if the bytes are its body.
 use Rattle.std.proofs.Common.{◌≡◌, ℕ, ◌^◌, ◌<◌, Bool, List, [], ◌++◌, length, Option, Ok, refl, append_assoc, append-nil, arith}
 use Rattle.std.specs.Int.{w64, to_be_bytes}
 use Rattle.std.proofs.lemmas.Bool.{lt-ltb, ltb-true}
@@ -52,7 +52,7 @@ banks_spelled =
     (λ b is. record { sha1 = is.0; sha256 = is.1.0; count = is.1.1.0 })
     (λ b is. (is.sha1, (is.sha256, (is.count, tt))))
 
--- ---- times of lockout
+-- ---- lockout timers
 
 lockout_time_spelled : Spelled (to_be_bytes w64) (λ n. n < milliseconds (2 ^ 32)) lockout_time_in
 unfolding lockout_time_in

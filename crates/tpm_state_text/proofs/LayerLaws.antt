@@ -1,4 +1,5 @@
--- What the completing layer remembers: it is read only from its text, and from every such text.
+-- What the completing layer remembers: decoding returns it exactly if the bytes begin with its
+-- encoding.
 use Rattle.std.proofs.Common.{◌≡◌, ℕ, ◌^◌, ◌<◌, List, length, Result, refl}
 use Rattle.std.specs.Int.{w64, to_be_bytes}
 use Rattle.std.specs.List.{All, flat_map}
@@ -13,7 +14,7 @@ use Rattle.tpm_state_text.specs.Layer.{IsHeld, IsLayer, held_in, held_text, laye
 use Rattle.tpm_state_text.specs.declared.layer.Held.{Held}
 use Rattle.tpm_state_text.specs.declared.layer.Layer.{Layer}
 
--- a number of things one after another
+-- a decoder of `count` elements, one after another
 pub all_spelled : {A : Type 0} {text : A → List ℕ} {Is : A → Type 0} {at : List ℕ → Result (A × List ℕ) Malformed} (count : ℕ) → Spelled text Is at → Spelled (flat_map text) (λ xs. (length xs ≡ count) × All Is xs) (many_at at count)
 all_spelled {A} {text} {Is} {at} count law =
     respelled (many_spelled count law) (λ xs. refl)

@@ -1,5 +1,5 @@
--- Things in places that are read or written one after another: those so far, and those that are
--- left, are all.
+-- Reading or writing slots one after another: the slots so far, followed by those that are left,
+-- are the whole list.
 use Rattle.std.proofs.Common.{◌≡◌, ℕ, zero, suc, ◌+◌, ◌-◌, ◌*◌, ◌^◌, ◌<◌, ◌≤◌, Bool, List, [], ◌∷◌, ◌++◌, length, take, drop, get_or, slice_set, Option, Some, None, Result, Ok, Err, refl, sym, ap, ◌∙◌, append_assoc, arith}
 use Rattle.std.specs.List.{flat_map}
 use Rattle.std.proofs.Math.Nat.{mul-le-mul_left}
@@ -21,7 +21,8 @@ use Rattle.tpm_state_text.specs.Filling.{FillsPlace, with_value}
 -- ---- reading
 
 module _ {A E : Type 0} (at : List ℕ → Result (A × List ℕ) E) (count : ℕ) where
-  -- the things that are left to be read from a place on, after those before it
+  -- the overall result: the elements before a position, followed by those that are still to be
+  -- read
   pub left : (place : ℕ) (things : List A) (text : List ℕ) → Result (List A × List ℕ) E
   left place things text = behind (take place things) (many_at at (count - place) text)
 
@@ -48,7 +49,8 @@ module _ {A E : Type 0} (at : List ℕ → Result (A × List ℕ) E) (count : �
 
 pub ruleset left_laws = (left_begun, left_more, left_done, left_cut)
 
--- the values of a bank that are left to be read from a place on, after those before it
+-- the overall result: the values of a bank before a position, followed by those that are still to
+-- be read
 pub bank_left : (size place : ℕ) (values : List (List ℕ)) (text : List ℕ) → Result (List (List ℕ) × List ℕ) Malformed
 bank_left size place values text = left (bytes_in size) 24 place values text
 
@@ -70,14 +72,14 @@ bank_cut size place values fault text below is = left_cut (bytes_in size) 24 pla
 
 pub ruleset bank_laws = (bank_begun, bank_more, bank_done, bank_cut)
 
--- ---- places
+-- ---- slots
 
 pub length_set : {A : Type 0} (xs : List A) (place : ℕ) (x : A) → length (slice_set xs place x) ≡ length xs
 length_set [] place x = refl
 length_set (y ∷ xs) zero x = refl
 length_set (y ∷ xs) (suc place) x = ap (λ (n : ℕ). suc n) (length_set xs place x)
 
--- No place from this one on is taken.
+-- This slot and all later slots are free.
 pub IsFreeFrom : {A : Type 0} → ℕ → List (Option A) → Type 0
 IsFreeFrom from places = (place : ℕ) → from ≤ place → at_place places place ≡ None
 
@@ -110,12 +112,12 @@ set_none [] place is = refl
 set_none (x ∷ xs) zero is = ap (λ (c : Option _). c ∷ xs) (sym is)
 set_none (x ∷ xs) (suc place) is = ap (λ (l : List (Option _)). x ∷ l) (set_none xs place is)
 
--- a place that is free is set, whether to a value or to none
+-- storing an optional value in a free slot sets the slot to the value, or leaves it free
 pub value_set : {A : Type 0} (places : List (Option A)) (place : ℕ) (value : Option A) → at_place places place ≡ None → with_value places place value ≡ slice_set places place value
 value_set places place None is = sym (set_none places place is)
 value_set places place (Some x) is = refl
 
--- the fault of a place, for a text whose reading ends there
+-- if reading a slot fails, its fault is the fault of the whole call
 pub place_cut : {A : Type 0} (can : Bool) (read : Result (Option A × List ℕ) Malformed) (old new filled : List (Option A)) (place : ℕ) (rest behind : List ℕ) (whole : Result (List (Option A) × List ℕ) Malformed) (fault : FillFault) → (read ≡ Err malformed → whole ≡ Err malformed) → FillsPlace can read old place (Err fault) new rest → Fills can whole filled (Err fault) behind
 place_cut can read old new filled place rest behind whole unfilled.Malformed ends is = ends is
 place_cut can read old new filled place rest behind whole unfilled.NoMemory ends may = may
@@ -127,21 +129,21 @@ at_is [] place below = absurd (omega arith)
 at_is (x ∷ xs) zero below = refl
 at_is (x ∷ xs) (suc place) below = at_is xs place (omega arith)
 
--- one place more is written
+-- writing one more slot does not change what the whole text will be
 pub placed_more : {A : Type 0} (text_of : Option A → List ℕ) (text new whole : List ℕ) (places : List (Option A)) (place : ℕ) → place < length places → new ≡ text ++ text_of (at_place places place) → text ++ flat_map text_of (drop place places) ≡ whole → new ++ flat_map text_of (drop (place + 1) places) ≡ whole
 placed_more text_of text new whole places place below more so_far =
     written_more text_of text new whole places place None below (more ∙ ap (λ (v : Option _). text ++ text_of v) (at_is places place below)) so_far
 
--- one of 24 things of one size fits where all of them do
+-- if 24 elements of the same size fit, each of them fits
 pub one_fits : (size i length start : ℕ) → size ≤ 32 → i < 24 → start + 24 * size ≤ text_size → length ≡ start + i * size → (size * 1 < 2 ^ 63) × (length + size ≤ text_size)
 one_fits size i length start few below room is =
     let up_to : size * (i + 1) ≤ size * 24 = mul-le-mul_left size (omega (arith, below)) in
     (omega (arith, few), omega (arith, up_to, room, is))
 
--- two things are written, one after the other
+-- writing two texts one after the other writes their concatenation
 pub two_written : (t a b p q : List ℕ) → a ≡ t ++ p → b ≡ a ++ q → b ≡ t ++ (p ++ q)
 two_written t a b p q first second = rw (second, first) (simp append_assoc refl)
 
--- four things are written, one after another
+-- writing four texts one after another writes their concatenation
 pub four_written : (t a b c d p q r s : List ℕ) → a ≡ t ++ p → b ≡ a ++ q → c ≡ b ++ r → d ≡ c ++ s → d ≡ t ++ (p ++ (q ++ (r ++ s)))
 four_written t a b c d p q r s first second third fourth = rw (fourth, third, second, first) (simp append_assoc refl)

@@ -1,4 +1,5 @@
--- Values that may be there, and places: each is read only from its text, and from every such text.
+-- Optional values, and slots: decoding returns a value exactly if the bytes begin with its
+-- encoding.
 use Rattle.std.proofs.Common.{◌≡◌, ℕ, zero, suc, Bool, true, false, List, [], ◌∷◌, ◌++◌, length, Option, Some, None, is_some, IfSome, Result, Ok, refl, subst}
 use Rattle.std.specs.List.{AllByRecursion}
 use Rattle.tpm_bytes.proofs.Fields.{AreBytes, Takes, bind_ok, ok_is}
@@ -9,9 +10,9 @@ use Rattle.tpm_image_text.proofs.FieldSpelling.{many_spelled, only, yes_no_spell
 use Rattle.tpm_types.proofs.Spelled.{Spelled, first, for_each, respelled}
 use Rattle.tpm_state_text.specs.Places.{optional_after, optional_in, optional_text, places_in, places_text}
 
--- ---- places of which something holds
+-- ---- slots whose values have a property
 
--- each place of those of which something holds
+-- what holds for all slots holds for each of them
 pub each_of_all : {A : Type 0} (Is : A → Type 0) (places : List (Option A)) → AreAll Is places → AllByRecursion (λ value. IfSome value Is) places
 each_of_all Is [] all = tt
 each_of_all Is (value ∷ values) all = (all 0, each_of_all Is values (λ place. all (suc place)))
@@ -19,7 +20,7 @@ each_of_all Is (value ∷ values) all = (all 0, each_of_all Is values (λ place.
 -- ---- texts
 
 module _ {A : Type 0} {text : A → List ℕ} {Is : A → Type 0} {at : List ℕ → Result (A × List ℕ) Malformed} (law : Spelled text Is at) where
-  -- what stands after the yes or no
+  -- the text after the yes or no
   abbrev after : Option A → List ℕ
   after None = []
   after (Some x) = text x

@@ -1,4 +1,4 @@
--- A device that is made from a state text: where the text is that of a device, it is that device.
+-- Creating a device from the state text of a device results in that device.
 use Rattle.std.proofs.Common.{◌≡◌, Bool, List, Option, ℕ, Result, Ok, Err, sym, ap, ◌∙◌}
 use Rattle.tpm_bytes.proofs.Fields.{ok_is}
 use Rattle.tpm_record.specs.Record.{Record}

@@ -1,5 +1,5 @@
--- The record of a device that goes on: what it kept without power, and what a text says that a power
--- cycle takes.
+-- The record of a restored device consists of what it kept without power, and of the parts that a
+-- power cycle clears, as the text encodes them.
 use Rattle.std.proofs.Common.{◌≡◌, ℕ, Bool, List, Option, Result, Ok, refl, subst}
 use Rattle.tpm_image_text.specs.Body.{kept_in}
 use Rattle.tpm_image_text.specs.Filling.{Fills}
@@ -20,14 +20,14 @@ use Rattle.tpm_state_text.specs.Sessions.{sessions_in}
 use Rattle.tpm_image_text.specs.Fields.{number_in, yes_no_in}
 use Rattle.std.specs.Int.{w64}
 
--- a device with the fields that a power cycle takes, read one after another, is the one that a text
--- spells
+-- reading the fields that a power cycle clears one after another results in the device that the
+-- text encodes
 pub resumes : (r : Record) (old : Fixed) (lockout : LockoutState) (fields : LockoutFields) (started : Bool) (banks : BankValues) (time forgiving_time closed_time : ℕ) (sessions : List (Option Session)) (objects : List (Option Object)) (new : Record) (text behind_started behind_banks behind_time behind_forgiving behind_closed behind_sessions rest : List ℕ) → old ≡ r.fixed → fields ≡ old.lockout.fields → lockout ≡ record { fields = fields; forgiving_time = forgiving_time; closed_time = closed_time } → new ≡ record r { fixed = record old { started = started; banks = banks; time = time; lockout = lockout }; sessions = sessions; objects = objects } → yes_no_in text ≡ Ok (started, behind_started) → banks_in behind_started ≡ Ok (banks, behind_banks) → number_in w64 behind_banks ≡ Ok (time, behind_time) → lockout_time_in behind_time ≡ Ok (forgiving_time, behind_forgiving) → lockout_time_in behind_forgiving ≡ Ok (closed_time, behind_closed) → sessions_in behind_closed ≡ Ok (sessions, behind_sessions) → transients_in behind_sessions ≡ Ok (objects, rest) → resumed_in (kept_of r) text ≡ Ok (new, rest)
 unfolding resumed_in
 resumes r old lockout fields started banks time forgiving_time closed_time sessions objects new text behind_started behind_banks behind_time behind_forgiving behind_closed behind_sessions rest is same made written first second third fourth fifth sixth seventh =
     rw (written, made, same, is, first, second, third, fourth, fifth, sixth, seventh) refl
 
--- a device that was filled with what it kept, and then with what a power cycle takes
+-- reading first what a device keeps and then what a power cycle clears reads the whole device
 pub device_filled : (can : Bool) (kept : NonVolatile) (middle new : Record) (result : Result (Unit {0}) FillFault) (text behind rest : List ℕ) → kept_in Two text ≡ Ok (kept, behind) → middle ≡ powered_on kept → Fills can (resumed_in (kept_of middle) behind) new result rest → Fills can (device_in text) new result rest
 unfolding device_in
 device_filled can kept middle new result text behind rest is same filled =

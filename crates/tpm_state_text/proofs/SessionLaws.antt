@@ -1,4 +1,4 @@
--- Sessions: a session is read only from its text, and from every such text.
+-- Sessions: decoding returns a session exactly if the bytes begin with its encoding.
 use Rattle.std.proofs.Common.{◌≡◌, ℕ, ◌^◌, ◌<◌, ◌≤◌, Bool, true, false, List, length, Option, Some, None, IfSome, refl, arith}
 use Rattle.std.specs.Prelude.{◌==◌, ◌||◌}
 use Rattle.std.specs.Int.{w8, w16, w32, w64, to_be_bytes}

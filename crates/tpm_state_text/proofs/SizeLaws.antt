@@ -1,4 +1,4 @@
--- How long the parts of a state text are at most.
+-- The largest sizes of the parts of a state text.
 use Rattle.std.proofs.Common.{◌≡◌, ℕ, ◌+◌, ◌*◌, ◌^◌, ◌<◌, ◌≤◌, Bool, List, [], ◌∷◌, length, Option, Some, None, IfSome, arith, length-append}
 use Rattle.std.specs.Int.{w32, w64, to_be_bytes}
 use Rattle.std.specs.List.{AllByRecursion, flat_map}
@@ -35,13 +35,13 @@ use Rattle.tpm_state_text.specs.Sessions.{binding_text, session_text, sessions_t
 use Rattle.tpm_state_text.specs.Sizes.{banks_size, layer_size, policy_size, session_size, sessions_size, state_text_size, transients_size, volatile_size}
 use Rattle.tpm_state_text.proofs.PlaceLaws.{each_of_all}
 
--- ---- values that may be there, and lists
+-- ---- optional values, and lists
 
 optional_small : {A : Type 0} (text : A → List ℕ) (Is : A → Type 0) (most : ℕ) → ((x : A) → Is x → length (text x) ≤ most) → (value : Option A) → IfSome value Is → length (optional_text text value) ≤ 1 + most
 optional_small text Is most each None is = omega arith
 optional_small text Is most each (Some x) is = omega (arith, each x is)
 
--- the text of a list of things
+-- the text of a list is no longer than the largest size of an element times their number
 each_small : {A : Type 0} (text : A → List ℕ) (Is : A → Type 0) (most : ℕ) → ((x : A) → Is x → length (text x) ≤ most) → (xs : List A) → AllByRecursion Is xs → length (flat_map text xs) ≤ most * length xs
 each_small text Is most each [] all = omega arith
 each_small text Is most each (x ∷ xs) all =

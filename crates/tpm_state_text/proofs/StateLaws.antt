@@ -1,5 +1,5 @@
--- State texts: a state is read only from its text, and from every such text, and no shorter front of
--- a state text is one.
+-- State texts: decoding returns a state exactly if the text is its state text. No proper prefix
+-- of a state text is a state text.
 use Rattle.std.proofs.Common.{◌≡◌, ℕ, ◌+◌, ◌<◌, ◌≤◌, Some, None, List, ◌++◌, length, take, Result, Ok, Err, refl, sym, ap, ◌∙◌, append_assoc, arith}
 use Rattle.std.proofs.lemmas.List.{length-take, take_at}
 use Rattle.tpm_bytes.specs.Reading.{◌>>=◌, or_fault}
@@ -24,9 +24,9 @@ use Rattle.tpm_image_text.proofs.FrameLaws.{AreNumbered, cut_behind, cut_short, 
 use Rattle.tpm_types.proofs.Named.{link, none}
 use Rattle.tpm_state_text.proofs.SizeLaws.{whole_small}
 
--- ---- the text and its reading
+-- ---- encoding and decoding
 
--- the state of a body, if the frame has one
+-- the state in the body, if the frame is valid
 abbrev state_by : Result (Unit {0} × List ℕ) StateFault → Result WholeState StateFault
 state_by framed = framed >>= λ said. or_fault (state_of_body said.1) fault.Body
 
@@ -53,7 +53,7 @@ text_found text state fits e =
 pub one_state : (state other : WholeState) → IsWholeState state → IsWholeState other → state_text state ≡ state_text other → state ≡ other
 one_state state other is are same = ok_is {E = StateFault} state other (sym (text_told state is) ∙ ap state_of_text same ∙ text_told other are)
 
--- ---- lengths, and fronts
+-- ---- sizes, and prefixes
 
 pub text_small : (state : WholeState) → IsWholeState state → length (state_text state) ≤ state_text_size
 unfolding state_text
@@ -70,7 +70,7 @@ front_cut state n is long less =
 
 -- ---- the image in a state text
 
--- the front of a part stands at the front of it
+-- a concatenation begins with its first part
 front_is : (front rest : List ℕ) → take (length front) (front ++ rest) ≡ front
 front_is front rest = take_at front rest (length front) refl
 

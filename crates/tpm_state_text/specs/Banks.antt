@@ -1,5 +1,5 @@
--- The PCR banks of a device. TPM 2.0 Library, Part 1, section 17, and docs/table/pcrs.md, say what
--- is in them; the layout is this device's own.
+-- The PCR banks of a device. TPM 2.0 Library, Part 1, section 17, and docs/table/pcrs.md, say
+-- what they contain; the layout is this device's own.
 use Rattle.std.specs.Prelude.{ℕ, List, ◌++◌, Result, Ok}
 use Rattle.std.specs.Int.{w64, to_be_bytes}
 use Rattle.std.specs.List.{flat_map}
@@ -13,11 +13,11 @@ use Rattle.tpm_pcr.specs.Values.{BankValues}
 abbrev pub bank_text : List (List ℕ) → List ℕ
 bank_text values = flat_map (λ value. value) values
 
--- the values of 24 PCRs, of this many bytes each
+-- reads the values of 24 PCRs, each with the given size
 unfoldable pub bank_in : ℕ → List ℕ → Result (List (List ℕ) × List ℕ) Malformed
 bank_in size text = many_at (bytes_in size) 24 text
 
--- the text of the banks: by SHA-1, by SHA-256, and the update counter
+-- the text of the banks: the SHA-1 bank, the SHA-256 bank, and the update counter
 unfoldable pub banks_text : BankValues → List ℕ
 banks_text banks =
     bank_text banks.sha1 ++ bank_text banks.sha256 ++ to_be_bytes w64 banks.update_count

@@ -1,4 +1,4 @@
--- What filling a device with what a state text spells answers and leaves.
+-- The results of calls that read a device from a state text, and the device after them.
 use Rattle.std.specs.Prelude.{◌≡◌, ℕ, Bool, true, List, Option, Some, None, Result, Ok, Err, slice_set}
 use Rattle.tpm_image_text.specs.Fields.{malformed}
 use Rattle.tpm_image_text.specs.declared.fault.FillFault.{FillFault}
@@ -11,17 +11,17 @@ use Rattle.tpm_state_text.specs.declared.fault.RestoreFault.{RestoreFault}
 use Rattle.tpm_state_text.specs.declared.fault.RestoreFault.TheVariants as unrestored
 use Rattle.tpm_state_text.specs.declared.layer.Layer.{Layer}
 
--- the state of this device, with this layer
+-- the state of this device with this layer
 abbrev pub state_of : Record → Option Layer → WholeState
 state_of device layer = record { device = device; layer = layer }
 
--- places with a value in one of them, or as they are where there is no value
+-- the slots with a value stored in one of them; unchanged if there is no value
 abbrev pub with_value : {X : Type 0} → List (Option X) → ℕ → Option X → List (Option X)
 with_value places place None = places
 with_value places place (Some x) = slice_set places place (Some x)
 
--- One place got what a text spells, which may be nothing; or the text is malformed; or memory was
--- refused, and then nothing is said of the text.
+-- One slot was filled from a text, or stayed free if the text encodes no value; or the text is
+-- malformed; or an allocation failed, in which case the text may be anything.
 abbrev pub FillsPlace : {X : Type 0}
     → Bool → Result (Option X × List ℕ) Malformed → (old : List (Option X)) → (place : ℕ)
     → Result (Unit {0}) FillFault → (new : List (Option X)) → List ℕ → Type 0
@@ -30,38 +30,39 @@ FillsPlace {X} can read old place (Ok done) new rest =
 FillsPlace can read old place (Err unfilled.Malformed) new rest = read ≡ Err malformed
 FillsPlace can read old place (Err unfilled.NoMemory) new rest = can ≡ true
 
--- A device was filled with what a body spells, and its layer was answered; or the body is malformed;
--- or memory was refused, and then nothing is said of the body.
+-- A device was read from a body, and the result is its layer; or the body is malformed; or an
+-- allocation failed, in which case the body may be anything.
 abbrev pub FillsState : Bool → Result WholeState Malformed → Record
     → Result (Option Layer) FillFault → Type 0
 FillsState can read device (Ok layer) = read ≡ Ok (state_of device layer)
 FillsState can read device (Err unfilled.Malformed) = read ≡ Err malformed
 FillsState can read device (Err unfilled.NoMemory) = can ≡ true
 
--- A new device got the state of a text, and its layer was answered; or the fault is the first one of
--- the text; or memory was refused, and then nothing is said of the text.
+-- A new device was set to the state of a text, and the result is its layer; or the result is the
+-- first fault of the text; or an allocation failed, in which case the text may be anything.
 abbrev pub RestoresNew : Bool → List ℕ → Record → Result (Option Layer) RestoreFault → Type 0
 RestoresNew can text device (Ok layer) = state_of_text text ≡ Ok (state_of device layer)
 RestoresNew can text device (Err (unrestored.Text fault)) = state_of_text text ≡ Err fault
 RestoresNew can text device (Err unrestored.NoMemory) = can ≡ true
 
--- A device was made that has the state of a text, and its layer was answered; or the fault is the
--- first one of the text; or memory was refused, and then nothing is said of the text.
+-- A device was created with the state of a text, and the result also contains its layer; or the
+-- result is the first fault of the text; or an allocation failed, in which case the text may be
+-- anything.
 abbrev pub Restores : {K : Type 0} → (K → Record) → Bool → List ℕ
     → Result (K × Option Layer) RestoreFault → Type 0
 Restores record_of can text (Ok made) = state_of_text text ≡ Ok (state_of (record_of made.0) made.1)
 Restores record_of can text (Err (unrestored.Text fault)) = state_of_text text ≡ Err fault
 Restores record_of can text (Err unrestored.NoMemory) = can ≡ true
 
--- The text of a state was restored, and gave just that state, unless memory was refused.
+-- Restoring the text of a state returned exactly that state, unless an allocation failed.
 abbrev pub RestoresAgain : {K : Type 0} → (K → Record) → Bool → WholeState
     → Result (K × Option Layer) RestoreFault → Type 0
 RestoresAgain record_of can state (Ok made) = state_of (record_of made.0) made.1 ≡ state
 RestoresAgain record_of can state (Err (unrestored.Text fault)) = ⊥
 RestoresAgain record_of can state (Err unrestored.NoMemory) = can ≡ true
 
--- A device got the state of a text, and its layer was answered; or the device is as it was, and the
--- fault is the first one of the text, or memory was refused.
+-- A device was set to the state of a text, and the result is its layer. Otherwise the device is
+-- unchanged, and the result is the first fault of the text, or an allocation failed.
 abbrev pub RestoresInto : Bool → List ℕ → (old : Record) → Result (Option Layer) RestoreFault
     → (new : Record) → Type 0
 RestoresInto can text old (Ok layer) new = state_of_text text ≡ Ok (state_of new layer)

@@ -1,11 +1,11 @@
--- The frame of a state text: that of an image, with another word, a version of its own, and faults of
--- its own. The format is this device's own (docs/table/state_text.md).
+-- The frame of a state text: like that of an image, but with its own magic word, version and
+-- faults. The format is this device's own (docs/table/state_text.md).
 use Rattle.std.specs.Prelude.{ℕ, ◌==◌, List, if◌then◌else◌, Option, Some, None}
 use Rattle.tpm_image_text.specs.Frame.{Format, framed_in}
 use Rattle.tpm_state_text.specs.declared.fault.StateFault.{StateFault}
 use Rattle.tpm_state_text.specs.declared.fault.StateFault.TheVariants as fault
 
--- the number of the one version that there is
+-- the number of the only version
 abbrev pub state_version : ℕ
 state_version = 1
 
@@ -25,6 +25,6 @@ state_format = record {
   digest = fault.Digest;
 }
 
--- a body in its frame
+-- the body of a state text, in its frame
 abbrev pub framed_state : List ℕ → List ℕ
 framed_state body = framed_in state_format tt body

@@ -1,5 +1,6 @@
--- What the completing layer remembers, where a device has one: its contexts. TPM 2.0 Library, Part
--- 1, section 30 (context management). tpm_completion has this record as its `Completion`.
+-- What the completing layer remembers, if a device has such a layer: its contexts. TPM 2.0
+-- Library, Part 1, section 30 (context management). The same record is `Completion` in
+-- tpm_completion.
 use Rattle.std.specs.Prelude.{◌≡◌, ℕ, ◌<◌, ◌^◌, List, ◌++◌, length, Result, Ok}
 use Rattle.std.specs.Int.{w64, to_be_bytes}
 use Rattle.std.specs.List.{All, flat_map}
@@ -11,7 +12,7 @@ use Rattle.tpm_types.specs.Limits.{object_limit, session_limit}
 use Rattle.tpm_state_text.specs.declared.layer.Held.{Held}
 use Rattle.tpm_state_text.specs.declared.layer.Layer.{Layer}
 
--- All that a layer remembers are numbers of 64 bits, with a place for each object and each session.
+-- A layer stores only 64-bit numbers, with one slot for each object and each session.
 pub record IsHeld (held : Held) : Type 0 where
   pub context : held.context < 2 ^ 64
   pub waits : held.waits < 2 ^ 64

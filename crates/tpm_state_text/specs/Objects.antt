@@ -1,5 +1,6 @@
 -- The transient objects of a device (TPM 2.0 Library, Part 1, section 23, and
--- docs/table/objects.md): each as an image has it, without a handle, and of any hierarchy.
+-- docs/table/objects.md): each is encoded as in an image, but without a handle, and may belong to
+-- any hierarchy.
 use Rattle.std.specs.Prelude.{ℕ, List, Option, Result}
 use Rattle.tpm_image_text.specs.Body.{object_fields_in, object_fields_text}
 use Rattle.tpm_image_text.specs.declared.fault.Malformed.{Malformed}
@@ -7,7 +8,7 @@ use Rattle.tpm_object.specs.declared.object.Object.{Object}
 use Rattle.tpm_types.specs.Limits.{object_limit}
 use Rattle.tpm_state_text.specs.Places.{places_in, places_text}
 
--- the text of the transient objects, by their places
+-- the text of the transient objects, slot by slot
 unfoldable pub transients_text : List (Option Object) → List ℕ
 transients_text objects = places_text object_fields_text objects
 

@@ -1,6 +1,6 @@
--- Fields that an image does not have: a number that names something, a value that may be there, and
--- places that are free or taken. A field that is cut short, or has a value that it may not have, is
--- malformed.
+-- Fields that an image does not have: numbers that stand for values, optional values, and places
+-- (slots) that are free or taken. A field that is truncated, or contains a value that is not
+-- allowed, is malformed.
 use Rattle.std.specs.Prelude.{ℕ, Bool, true, false, List, ◌++◌, ok_or, Option, Some, None, Result, Ok}
 use Rattle.std.specs.Int.{Width}
 use Rattle.std.specs.List.{flat_map}
@@ -9,7 +9,7 @@ use Rattle.tpm_bytes.specs.Reading.{◌>>=◌}
 use Rattle.tpm_image_text.specs.Fields.{malformed, number_in, yes_no_in, yes_no_text}
 use Rattle.tpm_image_text.specs.declared.fault.Malformed.{Malformed}
 
--- what a number names, as it is read
+-- reads a number, and returns the value that it stands for
 abbrev pub named_in : {X : Type 0}
     → Width → (named : ℕ → Option X) → List ℕ → Result (X × List ℕ) Malformed
 named_in width named text = do
@@ -17,14 +17,14 @@ named_in width named text = do
   one ← ok_or (named number.0) malformed
   Ok (one, number.1)
 
--- ---- a value that may be there
+-- ---- an optional value
 
--- the text of a value that may be there: a no, or a yes and the value's own text
+-- the text of an optional value: a no, or a yes followed by the value's own text
 abbrev pub optional_text : {X : Type 0} → (X → List ℕ) → Option X → List ℕ
 optional_text text_of None = yes_no_text false
 optional_text text_of (Some x) = yes_no_text true ++ text_of x
 
--- a value that may be there, as it is read after its yes or no
+-- reads the rest of an optional value, after its yes or no
 abbrev pub optional_after : {X : Type 0}
     → (List ℕ → Result (X × List ℕ) Malformed)
     → (is_there : Bool) → List ℕ → Result (Option X × List ℕ) Malformed
@@ -40,13 +40,14 @@ optional_in at text = do
   is_there ← yes_no_in text
   optional_after at is_there.0 is_there.1
 
--- ---- places
+-- ---- slots
 
--- the text of places, from the first to the last: of each, whether it is taken, and then by what
+-- the text of the slots, from the first to the last: for each slot, whether it is taken, followed
+-- by its value if it is
 abbrev pub places_text : {X : Type 0} → (X → List ℕ) → List (Option X) → List ℕ
 places_text text_of places = flat_map (optional_text text_of) places
 
--- this many places, as they are read
+-- reads the given number of slots
 abbrev pub places_in : {X : Type 0}
     → ℕ → (List ℕ → Result (X × List ℕ) Malformed)
     → List ℕ → Result (List (Option X) × List ℕ) Malformed

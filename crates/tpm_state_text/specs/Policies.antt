@@ -1,5 +1,5 @@
 -- The policy of a session. TPM 2.0 Library, Part 1, section 19.7 (enhanced authorization), and
--- docs/table/policies.md, say what is in it; the layout is this device's own.
+-- docs/table/policies.md, say what it contains; the layout is this device's own.
 use Rattle.std.specs.Prelude.{ℕ, ◌==◌, nat_le, Bool, List, ◌++◌, if◌then◌else◌, Option, Some, None, Result, Ok}
 use Rattle.std.specs.Int.{w8, w32, w64, to_be_bytes}
 use Rattle.tpm_bytes.specs.Reading.{◌>>=◌}
@@ -11,8 +11,8 @@ use Rattle.tpm_policy.specs.declared.state.Demand.{Demand}
 use Rattle.tpm_policy.specs.declared.state.Demand.TheVariants as demand
 use Rattle.tpm_state_text.specs.Places.{named_in, optional_in, optional_text}
 
--- the number of what a policy demands: 0 for nothing, 1 for the authorization value in the key of an
--- HMAC, 2 for it as a password
+-- the number that stands for a policy's demand: 0 for nothing, 1 for the authorization value in
+-- the key of an HMAC, 2 for the authorization value as a password
 abbrev pub demand_number : Demand → ℕ
 demand_number demand.None = 0
 demand_number demand.AuthValue = 1
@@ -27,7 +27,7 @@ demand_named number =
 unfoldable pub demand_in : List ℕ → Result (Demand × List ℕ) Malformed
 demand_in text = named_in w8 demand_named text
 
--- whether a byte says which localities are allowed: bit n for locality n, of 0 to 4
+-- whether a byte is a set of allowed localities: bit n stands for locality n, from 0 to 4
 abbrev pub are_localities : ℕ → Bool
 are_localities localities = nat_le localities 0x1f
 
@@ -35,7 +35,7 @@ unfoldable pub localities_in : List ℕ → Result (ℕ × List ℕ) Malformed
 localities_in text = passing are_localities (number_in w8) text
 
 -- the text of a policy: its digest; the update counter, the command, the cpHash and the written
--- state, each if an assertion recorded it; the localities; and what is demanded
+-- state, each if an assertion recorded it; the localities; and the demand
 unfoldable pub policy_text : Policy → List ℕ
 policy_text p =
     sized_text p.digest

@@ -1,7 +1,7 @@
 -- The sessions of a device. TPM 2.0 Library, Part 1, sections 19.6 and 19.7, and
--- docs/table/sessions.md, say what is in one; Part 2, sections 6.11 (TPM_SE), 6.3 (TPM_ALG_ID) and
--- 11.1.6 (TPMT_SYM_DEF), how its type, hash and symmetric definition are spelled. The rest of the
--- layout is this device's own.
+-- docs/table/sessions.md, say what a session contains. Part 2, sections 6.11 (TPM_SE), 6.3
+-- (TPM_ALG_ID) and 11.1.6 (TPMT_SYM_DEF), say how its type, hash and symmetric definition are
+-- encoded. The rest of the layout is this device's own.
 use Rattle.std.specs.Prelude.{ℕ, ◌==◌, Bool, List, ◌++◌, length, if◌then◌else◌, Option, Some, None, Result, Ok}
 use Rattle.std.specs.Int.{w8, w16, to_be_bytes}
 use Rattle.tpm_bytes.specs.Reading.{◌>>=◌}
@@ -22,8 +22,8 @@ use Rattle.tpm_state_text.specs.Policies.{policy_in, policy_text}
 
 -- ---- what a session is bound to
 
--- the number of a protection against guesses: 0 for none, 1 where a wrong entry is a failed try, 2
--- where it closes lockoutAuth
+-- the number that stands for a protection against guesses: 0 for none, 1 if a wrong entry is a
+-- failed try, 2 if a wrong entry disables lockoutAuth
 abbrev pub protection_number : Protection → ℕ
 protection_number protection.None = 0
 protection_number protection.Tries = 1
@@ -57,8 +57,8 @@ binding_in text = do
 
 -- ---- sessions
 
--- the text of a session: its type, its hash and its symmetric definition; nonceTPM and the key; what
--- it is bound to, if anything; and its policy
+-- the text of a session: its type, its hash and its symmetric definition; nonceTPM and the key;
+-- what the session is bound to, if anything; and its policy
 unfoldable pub session_text : Session → List ℕ
 session_text s =
     to_be_bytes w8 (type_number s.kind) ++ to_be_bytes w16 (hash_number s.hash)
@@ -66,7 +66,7 @@ session_text s =
     ++ sized_text s.nonce_tpm ++ sized_text s.key
     ++ optional_text binding_text s.binding ++ policy_text s.policy
 
--- the fields of a session, whatever sizes they have
+-- reads the fields of a session, without checking their sizes against its hash
 unfoldable pub session_fields_in : List ℕ → Result (Session × List ℕ) Malformed
 session_fields_in text = do
   kind ← in_body session_type_at text
@@ -89,12 +89,12 @@ session_fields_in text = do
     policy.1,
   )
 
--- a session is refused if nonceTPM, the key or the policy digest has a size that its hash does not
--- allow
+-- reads a session, and refuses it if nonceTPM, the key or the policy digest has a size that the
+-- session's hash does not allow
 unfoldable pub session_in : List ℕ → Result (Session × List ℕ) Malformed
 session_in text = passing has_hash_sizes session_fields_in text
 
--- the text of the sessions, by their places
+-- the text of the sessions, slot by slot
 unfoldable pub sessions_text : List (Option Session) → List ℕ
 sessions_text sessions = places_text session_text sessions
 

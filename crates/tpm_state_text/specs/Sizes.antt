@@ -1,9 +1,10 @@
--- How many bytes the parts of a state text have at most, by the limits of the device.
+-- The largest sizes of the parts of a state text, in bytes, by the limits of the device.
 use Rattle.std.specs.Prelude.{ℕ, ◌+◌, ◌*◌}
 use Rattle.tpm_image_text.specs.Sizes.{body_size, object_fields_size}
 use Rattle.tpm_types.specs.Limits.{object_limit, session_limit}
 
--- the most bytes of a policy, of a session with one, and of all sessions, each after its yes or no
+-- the largest sizes of a policy, of a session with its policy, and of all sessions, each preceded
+-- by its yes or no
 abbrev pub policy_size : ℕ
 policy_size = 87
 
@@ -13,22 +14,22 @@ session_size = 149 + policy_size
 abbrev pub sessions_size : ℕ
 sessions_size = (1 + session_size) * session_limit
 
--- the most bytes of all transient objects, each after its yes or no
+-- the largest size of all transient objects, each preceded by its yes or no
 abbrev pub transients_size : ℕ
 transients_size = (1 + object_fields_size) * object_limit
 
--- the bytes of the banks with the update counter
+-- the size of the banks with the update counter
 abbrev pub banks_size : ℕ
 banks_size = 24 * 20 + 24 * 32 + 8
 
--- the most bytes of what a power cycle takes
+-- the largest size of what a power cycle clears
 abbrev pub volatile_size : ℕ
 volatile_size = 25 + banks_size + sessions_size + transients_size
 
--- the bytes of a layer
+-- the size of a layer
 abbrev pub layer_size : ℕ
 layer_size = 16 + object_limit * 16 + session_limit * 8
 
--- the most bytes of a state text, whose head has 10 bytes, and whose digest 32: 36,323
+-- the largest size of a state text, including the 10-byte head and the 32-byte digest: 36,323
 abbrev pub state_text_size : ℕ
 state_text_size = 10 + (body_size + volatile_size + 1 + layer_size) + 32

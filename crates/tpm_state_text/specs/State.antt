@@ -1,6 +1,6 @@
--- The state text of a device: all that the device is, as bytes, so that a device that is restored
--- from them goes on where it was. TPM 2.0 Library, Part 1, section 12.2, says what state a TPM has;
--- how it is written down is this device's own (docs/table/state_text.md).
+-- The state text of a device: its complete state, as bytes. A device that is restored from them
+-- continues from the same state. TPM 2.0 Library, Part 1, section 12.2, defines the state of a
+-- TPM; the encoding is this device's own (docs/table/state_text.md).
 use Rattle.std.specs.Prelude.{◌≡◌, ℕ, List, length, take, drop, Result}
 use Rattle.tpm_bytes.specs.Reading.{◌>>=◌, or_fault}
 use Rattle.tpm_image_text.specs.Frame.{head_bytes, within_frame}
@@ -13,13 +13,13 @@ use Rattle.tpm_state_text.specs.declared.fault.StateFault.TheVariants as fault
 unfoldable pub state_text : WholeState → List ℕ
 state_text state = framed_state (body_text state)
 
--- the state that a text says; or the first fault of the text: Short, Magic, Version, Length, Digest,
--- Body
+-- the state that a text encodes, or the first fault of the text: Short, Magic, Version, Length,
+-- Digest, Body
 abbrev pub state_of_text : List ℕ → Result WholeState StateFault
 state_of_text text = do
   framed ← within_frame state_format text
   or_fault (state_of_body framed.1) fault.Body
 
--- These bytes stand right after the head of a text.
+-- The bytes `part` directly follow the head of a text.
 abbrev pub HasBehindHead : (text part : List ℕ) → Type 0
 HasBehindHead text part = take (length part) (drop head_bytes text) ≡ part

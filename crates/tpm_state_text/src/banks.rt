@@ -1,4 +1,4 @@
-//! The PCR banks, in a state text.
+//! The PCR banks in a state text.
 
 ghost use Rattle.std.specs.Prelude.{◌≡◌, ◌≤◌, ◌+◌, ◌*◌, ◌++◌, length};
 ghost use Rattle.tpm_bytes.specs.Reading.{Reads};
@@ -10,7 +10,7 @@ use tpm_bytes::Cursor;
 use tpm_image_text::{Malformed, Text, read_array, read_u64, write_array, write_u64};
 use tpm_pcr::Banks;
 
-/// Reads the values of the SHA-1 bank over those that are there.
+/// Reads the values of the SHA-1 bank and overwrites those in `banks`.
 #[tactic(auto, using(crate::proofs::Loops::bank_laws))]
 fn read_sha1(banks: &mut Banks, text: &mut Cursor) -> Result<(), Malformed>
     ensures values { Reads (λ done. banks.new.sha1) (bank_in 20 text.old) text.old
@@ -27,7 +27,7 @@ fn read_sha1(banks: &mut Banks, text: &mut Cursor) -> Result<(), Malformed>
     Ok(())
 }
 
-/// Reads the values of the SHA-256 bank over those that are there.
+/// Reads the values of the SHA-256 bank and overwrites those in `banks`.
 #[tactic(auto, using(crate::proofs::Loops::bank_laws))]
 fn read_sha256(banks: &mut Banks, text: &mut Cursor) -> Result<(), Malformed>
     ensures values { Reads (λ done. banks.new.sha256) (bank_in 32 text.old) text.old

@@ -1,4 +1,4 @@
-//! What a session is bound to, in a state text.
+//! The binding of a session in a state text.
 
 ghost use Rattle.std.specs.Prelude.{◌≡◌, ◌≤◌, ◌+◌, ◌++◌, length};
 ghost use Rattle.tpm_bytes.specs.Reading.{Reads};

@@ -1,4 +1,4 @@
-//! The body of a state text: the device, and then its completing layer, if it has one.
+//! The body of a state text: the device, followed by its completing layer, if it has one.
 
 ghost use Rattle.std.specs.Prelude.{◌≡◌, ◌≤◌, ◌+◌, ◌++◌, [], length, option_copied, replicate};
 ghost use Rattle.tpm_image_text.specs.Filling.{Fills};
@@ -14,7 +14,7 @@ use tpm_bytes::Cursor;
 use tpm_image_text::{FillFault, Text, Version, read_kept, write_body_at};
 use tpm_record::Keep;
 
-/// Reads a device into a `Keep` that was just made.
+/// Reads a device into a new `Keep`.
 #[tactic(auto, unfolding(crate::specs::Body::device_in))]
 fn read_device<K: Keep>(keep: &mut K, text: &mut Cursor) -> Result<(), FillFault>
     requires { K.record_of keep.old ≡ manufactured (replicate 256 0) }
@@ -24,7 +24,7 @@ fn read_device<K: Keep>(keep: &mut K, text: &mut Cursor) -> Result<(), FillFault
     read_volatile(keep, text)
 }
 
-/// Reads a whole body into a `Keep` that was just made, and returns its layer.
+/// Reads a whole body into a new `Keep`, and returns its layer.
 #[tactic(auto, unfolding(crate::specs::Body::state_of_body, crate::specs::Body::body_in))]
 pub fn read_body<K: Keep>(keep: &mut K, body: &[u8]) -> Result<Option<Layer>, FillFault>
     requires { K.record_of keep.old ≡ manufactured (replicate 256 0) }
@@ -51,7 +51,7 @@ fn write_device<K: Keep>(keep: &K, text: &mut Text)
     write_volatile(keep, text);
 }
 
-/// Writes a whole body, to an empty text.
+/// Writes a whole body to an empty text.
 #[tactic(auto, unfolding(crate::specs::Body::body_text))]
 pub fn write_body<K: Keep>(keep: &K, layer: Option<&Layer>, text: &mut Text)
     requires { text.old ≡ [] }

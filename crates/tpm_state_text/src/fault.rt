@@ -1,27 +1,27 @@
 //! Why bytes are not a state text.
 
-/// Why bytes are not a state text, in the order of the checks.
+/// The reasons why bytes are not a state text, in the order of the checks.
 #[derive(Clone, Copy, PartialEq, Eq)]
 pub enum StateFault {
-    /// The text has fewer bytes than the head and the digest have: 42.
+    /// The text is shorter than 42 bytes, the size of the head and the digest together.
     Short,
     /// The text does not begin with TPMS.
     Magic,
-    /// The text has another version than 1.
+    /// The version of the text is not 1.
     Version,
-    /// The text is not as long as its head says.
+    /// The size of the text differs from the size in its head.
     Length,
-    /// The last 32 bytes are not the SHA-256 of those before them.
+    /// The last 32 bytes are not the SHA-256 digest of the bytes before them.
     Digest,
-    /// The bytes between head and digest spell no state.
+    /// The bytes between the head and the digest do not encode a state.
     Body,
 }
 
-/// Why a device was not restored from a state text.
+/// The reasons why a device was not restored from a state text.
 #[derive(Clone, Copy, PartialEq, Eq)]
 pub enum RestoreFault {
-    /// The bytes are not a state text, for this first reason.
+    /// The bytes are not a state text, for this reason, the first one found.
     Text(StateFault),
-    /// Memory was refused.
+    /// An allocation failed.
     NoMemory,
 }

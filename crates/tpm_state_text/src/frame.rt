@@ -10,18 +10,18 @@ use crate::fault::StateFault;
 use tpm_bytes::Sink;
 use tpm_mac::{HashAlg, digest_parts};
 
-/// The word with which a state text begins: TPMS.
+/// The magic bytes at the front of a state text: TPMS.
 const MAGIC: [u8; 4] = [0x54, 0x50, 0x4d, 0x53];
 
-/// The number of the version.
+/// The version number.
 const VERSION: u16 = 1;
 
-/// How many bytes the head has, and the digest.
+/// Sizes of the head and of the digest, in bytes.
 const HEAD_BYTES: usize = 10;
 
 const DIGEST_BYTES: usize = 32;
 
-/// The head of a state text with a body of this many bytes.
+/// Returns the head of a state text whose body has the given size.
 pub fn head(body_bytes: usize) -> Sink<10>
     requires { body_bytes ≤ body_size + more_size }
     ensures { result ≡ head_in state_format tt (10 + body_bytes + 32) }
@@ -33,7 +33,7 @@ pub fn head(body_bytes: usize) -> Sink<10>
     head
 }
 
-/// The body of a text in its frame, or the first fault of the frame.
+/// Returns the body of a framed text, or the first fault of the frame.
 #[tactic(auto, unfolding(tpm_image_text::specs::Frame::within_frame))]
 pub fn framed_body(text: &[u8]) -> Result<&[u8], StateFault>
     ensures value { Gives (λ body. (tt, body.now)) (within_frame state_format text.now) result }

@@ -1,4 +1,5 @@
-//! The laws of state texts. A function here does nothing: its contract is the law.
+//! The laws of state texts. Each function here is a proof only: it has no effect at run time, and
+//! its contract is the law.
 
 ghost use Rattle.std.specs.Prelude.{◌≡◌, ◌≤◌, ◌<◌, ℕ, List, Ok, Err, length, take};
 ghost use Rattle.tpm_bytes.specs.Reading.{AreBytes};
@@ -11,9 +12,10 @@ ghost use Rattle.tpm_state_text.specs.Sizes.{state_text_size};
 ghost use Rattle.tpm_state_text.specs.State.{HasBehindHead, state_of_text, state_text};
 ghost use Rattle.tpm_state_text.specs.declared.fault.StateFault.TheVariants as fault;
 
-/// The state text of a device is read as just that device, with its completing layer. Bytes that are
-/// read as a device are its state text, and it is one that can be. Two devices with one state text
-/// are one, and no text is longer than the longest.
+/// Decoding the state text of a device returns exactly that device, with its completing layer. If
+/// decoding returns a device, the bytes are the state text of that device, which is a possible
+/// one. Two devices with the same state text are equal, and no state text exceeds the largest
+/// size.
 #[inline(always)]
 #[tactic(auto, using(crate::proofs::StateLaws::text_told, crate::proofs::StateLaws::one_state, crate::proofs::StateLaws::text_small))]
 pub fn state_laws()
@@ -28,8 +30,8 @@ pub fn state_laws()
         → length (state_text state) ≤ state_text_size }
 {}
 
-/// Behind its head, the state text of a device has what its image has behind its own: the body of
-/// the image, with the limits of version 2.
+/// In the state text of a device, the head is followed by the body of the device's image in
+/// version 2, which also follows the head of the image.
 #[inline(always)]
 #[tactic(auto, using(crate::proofs::StateLaws::body_in_state, crate::proofs::StateLaws::body_in_image))]
 pub fn image_in_state_laws()
@@ -40,8 +42,8 @@ pub fn image_in_state_laws()
         (image_body_text Two (kept_of state.device)) }
 {}
 
-/// No proper prefix of a state text is one: below 42 bytes it is Short, and otherwise it is refused
-/// by Length.
+/// No proper prefix of a state text is a state text. A prefix shorter than 42 bytes is refused
+/// with Short, any other prefix with Length.
 #[inline(always)]
 #[tactic(auto, using(crate::proofs::StateLaws::front_short, crate::proofs::StateLaws::front_cut))]
 pub fn prefix_laws()

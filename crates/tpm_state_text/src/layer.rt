@@ -15,8 +15,8 @@ use tpm_bytes::Cursor;
 use tpm_image_text::{Malformed, Text, read_bool, read_u64, write_bool, write_u64};
 use tpm_types::{OBJECT_LIMIT, SESSION_LIMIT};
 
-/// What the completing layer remembers of a transient object: the number of its context, and that
-/// of its flush, each 0 where there was none.
+/// What the completing layer remembers of a transient object: the number of its context, and the
+/// number of its flush. Each number is 0 if there was no context or no flush.
 #[derive(Clone, Copy, PartialEq, Eq)]
 pub struct Held {
     pub context: u64,
@@ -28,11 +28,11 @@ pub struct Held {
 pub struct Layer {
     /// The number of the layer's start.
     pub start: u64,
-    /// How many contexts and flushes the layer counted.
+    /// The number of contexts and flushes that the layer counted.
     pub count: u64,
-    /// What it remembers of each transient object, by its place.
+    /// What the layer remembers of each transient object, by slot.
     pub objects: [Held; 8],
-    /// The number of the context with which each session was saved, by its place; 0 where it is
+    /// The number of the context in which each session was saved, by slot; 0 if the session is
     /// loaded.
     pub sessions: [u64; 16],
 }

@@ -1,19 +1,19 @@
 #![tactic(auto)]
 
-//! The state text of a device: all that it is, as bytes, so that a device that is restored from
-//! them goes on where it was.
+//! The state text of a device: its complete state, as bytes. A device that is restored from them
+//! continues from the same state.
 //!
-//! `specs/State` defines the text and its reading, with a file for each part of it; the code has the
-//! same files. What a device keeps without power stands in the text as in the body of an image, which
-//! is tpm_image_text's; this crate adds what a power cycle would take, and what the completing layer
-//! remembers.
+//! `specs/State` defines how the text is encoded and decoded, with one file for each part of the
+//! text; the code has the same files. What a device keeps without power is encoded as in the body
+//! of an image, which tpm_image_text writes. This crate adds what a power cycle would clear, and
+//! what the completing layer remembers.
 //!
-//! [`snapshot_into`] writes the text of a device, and [`restored`], [`restore_new`] and
-//! [`restore_into`] read one, with every type that keeps a device's state. They take no memory but
-//! what the state itself takes.
+//! [`snapshot_into`] writes the text of a device. [`restored`], [`restore_new`] and
+//! [`restore_into`] read such a text, into any type that keeps a device's state. They allocate
+//! memory only for the state itself.
 //!
-//! The state text of a device is read as just that device; a text that is read is the state text of
-//! a device that can be; and no proper prefix of one is one ([`laws`]).
+//! Decoding the state text of a device returns exactly that device. Decoding succeeds only on the
+//! state text of a possible device. No proper prefix of a state text is a state text ([`laws`]).
 
 mod banks;
 mod bindings;

@@ -1,4 +1,4 @@
-//! The places of the transient objects, in a state text.
+//! The slots of the transient objects, in a state text.
 
 ghost use Rattle.std.specs.Prelude.{◌≡◌, ◌<◌, ◌≤◌, ◌+◌, ◌++◌, length, option_copied};
 ghost use Rattle.tpm_bytes.specs.Reading.{Reads};
@@ -22,7 +22,7 @@ use tpm_object::Object;
 use tpm_record::objects::Objects;
 use tpm_types::OBJECT_LIMIT;
 
-/// Reads the object of a place, if there is one.
+/// Reads the object of a slot, if there is one.
 fn read_optional_object(text: &mut Cursor) -> Result<Option<Object>, Malformed>
     ensures { Reads (λ object. object) (optional_in object_fields_in text.old) text.old
         result text.new }
@@ -37,7 +37,8 @@ fn read_optional_object(text: &mut Cursor) -> Result<Option<Object>, Malformed>
     Ok(object)
 }
 
-/// Reads a place that is free so far, and puts the object into it, if there is one.
+/// Reads a slot. If it contains an object, stores the object in the same slot of the device,
+/// which is still free.
 fn read_place<O: Slots<Object, OBJECT_LIMIT>>(
     objects: &mut Objects<O>,
     place: usize,
@@ -59,7 +60,7 @@ fn read_place<O: Slots<Object, OBJECT_LIMIT>>(
     }
 }
 
-/// Reads the transient objects of a device that has none, each into its place.
+/// Reads the transient objects into the slots of a device that has none.
 #[tactic(auto, unfolding(crate::specs::Objects::transients_in))]
 pub fn read_transients<O: Slots<Object, OBJECT_LIMIT>>(
     objects: &mut Objects<O>,
@@ -75,7 +76,7 @@ pub fn read_transients<O: Slots<Object, OBJECT_LIMIT>>(
     Ok(())
 }
 
-/// Writes the object of a place, if there is one.
+/// Writes the object of a slot, if there is one.
 fn write_optional_object(object: Option<&Object>, text: &mut Text)
     requires { length text.old + (1 + object_fields_size) ≤ text_size }
     ensures written { text.new ≡ text.old
@@ -91,7 +92,7 @@ fn write_optional_object(object: Option<&Object>, text: &mut Text)
     }
 }
 
-/// Writes the transient objects by their places.
+/// Writes the transient objects, slot by slot.
 #[tactic(auto, unfolding(crate::specs::Objects::transients_text))]
 pub fn write_transients<O: Slots<Object, OBJECT_LIMIT>>(objects: &Objects<O>, text: &mut Text)
     requires { length text.old + transients_size ≤ text_size }

@@ -1,4 +1,4 @@
-//! The policy of a session, in a state text.
+//! The policy of a session in a state text.
 
 ghost use Rattle.std.specs.Prelude.{◌≡◌, ◌≤◌, ◌+◌, ◌++◌, IfOk, length};
 ghost use Rattle.tpm_bytes.specs.Reading.{Reads};
@@ -14,7 +14,7 @@ use tpm_bytes::Cursor;
 use tpm_image_text::{Malformed, Text, read_u8, write_sized};
 use tpm_policy::{Demand, PolicyState};
 
-/// All localities, 0 to 4, each by its bit.
+/// The set of all localities, 0 to 4, with one bit for each locality.
 const LOCALITIES: u8 = 0x1f;
 
 fn demand_number(demand: Demand) -> u8

@@ -1,4 +1,4 @@
-//! How a device is made, or replaced, by what a state text says.
+//! Creates or replaces a device from a state text.
 
 ghost use Rattle.std.specs.Prelude.{◌≡◌, ◌||◌, replicate};
 ghost use Rattle.tpm_record.specs.Record.{manufactured};
@@ -14,9 +14,9 @@ use std::alloc::Global;
 use tpm_image_text::FillFault;
 use tpm_record::Keep;
 
-/// Makes a new device of zeros the one of a state text, without moving it, and returns its
-/// completing layer; or returns the first fault of the text. After a fault nothing is said of the
-/// device.
+/// Turns a new device of zeros into the device of a state text, without moving it, and returns
+/// the completing layer; or returns the first fault of the text. On error, the device's state is
+/// unspecified.
 pub fn restore_new<K: Keep>(keep: &mut K, text: &[u8]) -> Result<Option<Layer>, RestoreFault>
     requires { K.record_of keep.old ≡ manufactured (replicate 256 0) }
     ensures { RestoresNew K.can_refuse text.now (K.record_of keep.new) result }
@@ -32,7 +32,8 @@ pub fn restore_new<K: Keep>(keep: &mut K, text: &[u8]) -> Result<Option<Layer>, 
     }
 }
 
-/// Makes the device of a state text; the contract says nothing of the device that wrote the text.
+/// Creates the device of a state text. This contract does not mention the device that wrote the
+/// text.
 fn made<K: Keep>(alloc: Global, text: &[u8]) -> Result<(K, Option<Layer>), RestoreFault>
     ensures { Restores K.record_of (K.empty_can_refuse || K.can_refuse) text.now result }
 {
@@ -43,20 +44,21 @@ fn made<K: Keep>(alloc: Global, text: &[u8]) -> Result<(K, Option<Layer>), Resto
     Ok((keep, layer))
 }
 
-/// The device of a state text, in a new `Keep`, and its completing layer; or the first fault of the
-/// text.
+/// Returns the device of a state text, as a new `Keep`, with its completing layer; or the first
+/// fault of the text.
 #[tactic(auto, using(crate::proofs::RestoringLaws::restored_again))]
 pub fn restored<K: Keep>(alloc: Global, text: &[u8]) -> Result<(K, Option<Layer>), RestoreFault>
     ensures exact { Restores K.record_of (K.empty_can_refuse || K.can_refuse) text.now result }
-    // The text of a device makes just that device, unless memory was refused.
+    // The text of a device restores exactly that device, unless an allocation fails.
     ensures again { (state : WholeState) → IsWholeState state → text.now ≡ state_text state
         → RestoresAgain K.record_of (K.empty_can_refuse || K.can_refuse) state result }
 {
     made(alloc, text)
 }
 
-/// Makes a device the one of a state text, and returns its completing layer. A text that is refused
-/// leaves the device as it was. The new device is made beside it, and moved.
+/// Replaces a device by that of a state text, and returns the completing layer. If the text is
+/// refused, the device is unchanged. The new device is created next to the old one and then
+/// moved.
 pub fn restore_into<K: Keep>(
     keep: &mut K,
     alloc: Global,

@@ -1,4 +1,4 @@
-//! The places of the sessions, in a state text.
+//! The slots of the sessions, in a state text.
 
 ghost use Rattle.std.specs.Prelude.{◌≡◌, ◌<◌, ◌≤◌, ◌+◌, ◌++◌, length};
 ghost use Rattle.tpm_containers.specs.Slots.{free};
@@ -18,7 +18,8 @@ use tpm_image_text::{FillFault, Text};
 use tpm_session::{Session, Sessions};
 use tpm_types::SESSION_LIMIT;
 
-/// Reads a place that is free so far, and puts the session into it, if there is one.
+/// Reads a slot. If it contains a session, stores the session in the same slot of the device,
+/// which is still free.
 fn read_place<S: Slots<Session, SESSION_LIMIT>>(
     sessions: &mut Sessions<S>,
     place: usize,
@@ -40,7 +41,7 @@ fn read_place<S: Slots<Session, SESSION_LIMIT>>(
     }
 }
 
-/// Reads the sessions of a device that has none, each into its place.
+/// Reads the sessions into the slots of a device that has none.
 #[tactic(auto, unfolding(crate::specs::Sessions::sessions_in))]
 pub fn read_sessions<S: Slots<Session, SESSION_LIMIT>>(
     sessions: &mut Sessions<S>,
@@ -56,7 +57,7 @@ pub fn read_sessions<S: Slots<Session, SESSION_LIMIT>>(
     Ok(())
 }
 
-/// Writes the sessions by their places.
+/// Writes the sessions, slot by slot.
 #[tactic(auto, unfolding(crate::specs::Sessions::sessions_text))]
 pub fn write_sessions<S: Slots<Session, SESSION_LIMIT>>(sessions: &Sessions<S>, text: &mut Text)
     requires { length text.old + sessions_size ≤ text_size }

@@ -1,4 +1,4 @@
-//! How the state text of a device is written.
+//! Writes the state text of a device.
 
 ghost use Rattle.std.specs.Prelude.{◌≡◌, ◌≤◌, ◌+◌, ◌++◌, [], length, option_copied};
 ghost use Rattle.tpm_image_text.specs.Saving.{PutsFront};
@@ -14,14 +14,14 @@ use tpm_image_text::{Text, put_front};
 use tpm_mac::{HashAlg, digest_parts};
 use tpm_record::Keep;
 
-/// The most bytes of a state text.
+/// The largest size of a state text.
 pub const STATE_TEXT_LIMIT: usize = 36_323;
 
-/// A body of a state text that is being written, and after it the digest.
+/// The body of a state text that is being written, followed by the digest.
 pub type StateBody = Text;
 
-/// Writes the body of a state text, and the digest after it, to an empty text. Returns the head,
-/// which stands before them.
+/// Writes the body of a state text, followed by the digest, to an empty text. Returns the head,
+/// which belongs before the body.
 #[tactic(auto, unfolding(crate::specs::State::state_text))]
 pub fn write_state<K: Keep>(keep: &K, layer: Option<&Layer>, text: &mut StateBody) -> Sink<10>
     requires { text.old ≡ [] }
@@ -37,7 +37,7 @@ pub fn write_state<K: Keep>(keep: &K, layer: Option<&Layer>, text: &mut StateBod
 }
 
 /// Writes the state text of a device, with its completing layer, to the front of a buffer, if it
-/// fits. Returns how many bytes the text has. The call takes no memory.
+/// fits. Returns the size of the text. The call allocates no memory.
 pub fn snapshot_into<K: Keep>(keep: &K, layer: Option<&Layer>, buffer: &mut [u8]) -> usize
     ensures put { PutsFront
         (state_text (state_of (K.record_of keep.now) (option_copied layer.entry)))

@@ -1,4 +1,4 @@
-//! What a power cycle takes of a device, in a state text.
+//! The state that a power cycle clears, in a state text.
 
 ghost use Rattle.std.specs.Prelude.{◌≡◌, ◌<◌, ◌≤◌, ◌+◌, ◌^◌, ◌++◌, IfOk, length};
 ghost use Rattle.tpm_bytes.specs.Reading.{Reads};
@@ -18,7 +18,7 @@ use tpm_image_text::{FillFault, Malformed, Text, read_bool, read_u64, write_bool
 use tpm_lockout::Lockout;
 use tpm_record::Keep;
 
-/// Times of lockout are below this one: the milliseconds of 2^32 seconds.
+/// The exclusive upper bound of the lockout timers: 2^32 seconds, in milliseconds.
 const LOCKOUT_TIME_END: u64 = 4_294_967_296_000;
 
 #[tactic(auto, unfolding(crate::specs::Body::lockout_time_in))]
@@ -35,7 +35,7 @@ fn read_lockout_time(text: &mut Cursor) -> Result<u64, Malformed>
     Ok(time)
 }
 
-/// Reads what a power cycle takes into a device that has no session and no transient object.
+/// Reads what a power cycle clears, into a device that has no session and no transient object.
 #[tactic(auto, unfolding(crate::specs::Body::resumed_in))]
 pub fn read_volatile<K: Keep>(keep: &mut K, text: &mut Cursor) -> Result<(), FillFault>
     requires sessions { (K.record_of keep.old).sessions ≡ no_sessions }
@@ -68,7 +68,7 @@ pub fn read_volatile<K: Keep>(keep: &mut K, text: &mut Cursor) -> Result<(), Fil
     Ok(())
 }
 
-/// Writes what a power cycle takes.
+/// Writes what a power cycle clears.
 #[tactic(auto, unfolding(crate::specs::Body::volatile_text))]
 pub fn write_volatile<K: Keep>(keep: &K, text: &mut Text)
     requires { length text.old + volatile_size ≤ text_size }

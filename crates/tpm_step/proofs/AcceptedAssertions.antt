@@ -1,5 +1,4 @@
--- What an assertion of a policy session found as it was accepted, as a history tells of the
--- assertion.
+-- What an assertion of a policy session, as the history has it, found when it was accepted.
 use Rattle.std.proofs.Common.{◌≡◌, ◌<◌, ◌^◌, ◌+◌, ℕ, arith, Bool, true, false, cond, List, [], ◌∷◌, length, Option, Some, None, Result, Ok, Err, IfOk, IfSome, refl, ap, sym, subst, ◌∙◌}
 use Rattle.std.specs.Prelude.{not, nat_lt, is_some, ◌==◌, ◌&&◌}
 use Rattle.std.specs.Int.{w8, w32}
@@ -59,13 +58,13 @@ use Rattle.tpm_step.specs.View.{name_in}
 use Rattle.tpm_step.proofs.Asserted.{policy_passed}
 use Rattle.tpm_step.proofs.UseGrounds.{recorded_hash, recorded_is, recorded_written}
 
--- ---- what an assertion finds of a policy
+-- ---- what an assertion finds in a policy
 
 both_hold : (b c : Bool) → (b && c) ≡ false → b ≡ true → c ≡ false
 both_hold true c none holds = none
 both_hold false c none holds = absurd cc
 
--- the number of a command that is served has 32 bits
+-- the number of a served command has 32 bits
 served_small : (number : ℕ) → is_served number ≡ true → number < 2 ^ 32
 served_small number served = by (code_named number) (code_named-number number) served
   where
@@ -132,13 +131,13 @@ offset_small r target p are =
     ok_bind _ (reading_passes target) _ (λ u.
     faulted p.offset (plain_fault action.Fourth code.NvRange) (read_at r.nv target.handle p.offset (length p.operand)) (read_small r.nv target.handle p.offset (length p.operand) are))
 
--- ---- what a history tells of an assertion
+-- ---- what a history says of an assertion
 
 module _ (r : Record) (c : AcceptedCommand) (history : History) (are : AreIndices r.nv.indices) where
   abbrev q : Request
   q = c.request
 
-  -- A history tells an assertion that found the same as the one that the device made.
+  -- The assertion in the history found the same as the one that the device made.
   abbrev Agrees : Code → (Session → Assertion) → Type 0
   Agrees code made =
       (s : Session) (told : Assertion) → assertion_by code c history s.hash s.nonce_tpm ≡ Ok told
@@ -150,7 +149,7 @@ module _ (r : Record) (c : AcceptedCommand) (history : History) (are : AreIndice
       let one : tell s x ≡ told = ok_is {E = Refused} (tell s x) told (sym (tells s ∙ ap (λ (y : Result X Refused). y >>= λ x. let it : Result Assertion Refused = Ok (tell s x) in it) found) ∙ is) in
       subst (λ (b : Assertion). Finds b p × HasWidths s.hash b) one (same s x p holds))
 
-  -- A history tells an assertion that does not depend on what the device found.
+  -- The assertion in the history does not depend on what the device found.
   abbrev TellsPlainly : Code → Type 0
   TellsPlainly code = (s : Session) → IfOk (assertion_by code c history s.hash s.nonce_tpm) (λ told. (p : Policy) → Finds told p × HasWidths s.hash told)
 
@@ -183,8 +182,8 @@ module _ (r : Record) (c : AcceptedCommand) (history : History) (are : AreIndice
 
   -- ---- the assertion of a row
 
-  -- On a policy session, no trial one, an accepted command found what it asserts, as the history
-  -- tells it.
+  -- On a policy session that is no trial session, an accepted command found what its assertion in
+  -- the history needs.
   abbrev pub FindsItsOwn : Code → Type 0
   FindsItsOwn code =
       (handle : Handle) (s : Session) (told : Assertion) → session_handle code q.handles ≡ Ok handle

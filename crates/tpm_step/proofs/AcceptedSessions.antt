@@ -1,4 +1,4 @@
--- On every live policy session each assertion found what it asserts.
+-- Each assertion of every live policy session found what it needs.
 use Rattle.std.proofs.Common.{◌≡◌, ◌⊎◌, ◌≤◌, ℕ, true, false, List, [], ◌∷◌, length, Option, Some, None, option_map, Result, Ok, Err, refl, ap, sym, subst, ◌∙◌, inl, inr}
 use Rattle.std.proofs.lemmas.Option.{same_Some}
 use Rattle.tpm_mac.specs.declared.algorithm.HashAlg.{HashAlg}
@@ -32,7 +32,7 @@ module _ (r : Record) (a : Accepted) (locality : ℕ) (random : List ℕ) (histo
   abbrev c : AcceptedCommand
   c = command_of r a
 
-  -- the assertions of a session that lived on found what they assert
+  -- the assertions of a session that lived on found what they need
   stayed_find : (handle : Handle) (old mid : LiveSession) → sessions_of history handle ≡ Some old → mid.kind ≡ type.Policy → Keeps old mid → AllFind mid.hash mid.assertions
   stayed_find handle old mid lived policy keeps = by keeps.asserted
     where
@@ -41,7 +41,7 @@ module _ (r : Record) (a : Accepted) (locality : ℕ) (random : List ℕ) (histo
       by (inl same) =
           subst (AllFind mid.hash) (sym same) (subst (λ (h : HashAlg). AllFind h old.assertions) (sym keeps.continues.hash) (before handle old lived (sym keeps.continues.kind ∙ policy)))
 
-  -- what the command asserted on the device's session found what it asserts
+  -- the command's assertion on the device's session found what it needs
   told_finds : (handle : Handle) (old : LiveSession) (told : Assertion) → asserts c.command.code ≡ true → session_handle c.command.code c.request.handles ≡ Ok handle → sessions_of history handle ≡ Some old → old.kind ≡ type.Policy → assertion_by c.command.code c history old.hash old.nonce_tpm ≡ Ok told → Finds told (policy_in old) × HasWidths old.hash told
   told_finds handle old told it_does names lived kind tells = by (session_at r.sessions handle) refl (has.live handle)
     where
@@ -78,7 +78,7 @@ module _ (r : Record) (a : Accepted) (locality : ℕ) (random : List ℕ) (histo
       by mid keeps found (inr none) = subst (AllFind new.hash) (sym none) tt
       by mid keeps found (inl same) = subst (AllFind new.hash) (sym same) (subst (λ (h : HashAlg). AllFind h mid.assertions) (sym keeps.continues.hash) found)
 
--- ---- where no session lives
+-- ---- handles without a session
 
 pub none_find : (history : History) → ((handle : Handle) → sessions_of history handle ≡ None) → SessionsFind history
 none_find history none handle s lives policy = absurd (let gone = none handle in let never : ⊥ = cc in never)

@@ -1,5 +1,4 @@
--- Two devices that follow one history, and of whose handles everybody may read the same, authorize
--- alike.
+-- If two devices follow one history, and show the same of each handle, they authorize alike.
 use Rattle.std.proofs.Common.{◌≡◌, Bool, true, false, [], Option, Some, None, option_map, refl, ap, sym, subst, ◌∙◌}
 use Rattle.std.specs.Option.{option_map_or}
 use Rattle.tpm_session.specs.Sessions.{session_at}
@@ -25,7 +24,7 @@ use Rattle.tpm_step.proofs.Views.{views_tell}
 use Rattle.tpm_step.specs.Alike.{AuthorizeAlike}
 use Rattle.tpm_step.proofs.AuthorizeAlike.{authorize_same}
 
--- a session of a device is made of what the history tells of it
+-- the history determines every part of a device's session
 unbound : Bound → Binding
 unbound b = record { name = b.name; auth_value = b.auth_value; protection = b.protection }
 
@@ -72,7 +71,7 @@ kept_viewed : (r : Record) (handle : Handle) → is_viewed (view_of r handle) �
 unfolding view_of
 kept_viewed r handle = viewed_kept handle (entity_at r handle)
 
--- an entity that is no object and no index has the authorization value of its handle
+-- an entity that is neither an object nor an index has the authorization value of its handle
 permanent_value : (r : Record) (handle : Handle) (x : Entity) → is_kept x ≡ false → entity_auth_value r handle x ≡ permanent_auth_value r handle
 permanent_value r handle (AnObject object) none = absurd cc
 permanent_value r handle (AnIndex index) none = absurd cc

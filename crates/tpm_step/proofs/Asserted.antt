@@ -1,4 +1,4 @@
--- A command asserts what a history says that it asserts.
+-- Each command makes the assertion that the history says.
 use Rattle.std.proofs.Common.{◌≡◌, ℕ, Bool, List, [], ◌∷◌, map, Result, Ok, Err, IfOk, refl, ap, sym, ◌∙◌}
 use Rattle.std.specs.Int.{w8, w32}
 use Rattle.tpm_bytes.specs.Reading.{◌>>=◌, number_at, or_fault}
@@ -56,17 +56,19 @@ second_name r (first ∷ second ∷ handles) handle is = view_named r second ∙
 
 -- ---- what a command asserts
 
--- Two assertions make the same of every policy.
+-- Two assertions change every policy in the same way.
 abbrev MakesAs : HashAlg → Assertion → Assertion → Type 0
 MakesAs hash one other = (trial : Bool) (policy : Policy) → policy_with hash trial one policy ≡ policy_with hash trial other policy
 
--- A history says of a command an assertion on this session that makes the same of every policy.
+-- The history has an assertion for a command on this session, which changes every policy as the
+-- device's assertion does.
 pub record Tells (c : AcceptedCommand) (history : History) (code : Code) (s : Session) (a : Assertion) : Type 0 where
   pub told : Assertion
   pub is : assertion_by code c history s.hash s.nonce_tpm ≡ Ok told
   pub makes : MakesAs s.hash a told
 
--- A history says of a command, on every session, an assertion that makes the same of every policy.
+-- The history has an assertion for a command on every session, which changes every policy as the
+-- device's assertion does.
 abbrev pub IsAsserted : AcceptedCommand → History → Code → (Session → Assertion) → Type 0
 IsAsserted c history code assertion = (s : Session) → Tells c history code s (assertion s)
 
@@ -87,7 +89,7 @@ module _ (r : Record) (c : AcceptedCommand) (history : History) (viewed : c.view
         makes = λ trial policy. ap (λ (parts : PcrParts). policy_with s.hash trial (Pcr parts) policy) (pcr_same p s);
       })
 
-  -- an assertion that follows from the command's parameters alone
+  -- an assertion that depends on the command's parameters alone
   by_reading : (X : Type 0) (code : Code) (read : Result X Refused) (make : X → Assertion) → ((s : Session) → assertion_by code c history s.hash s.nonce_tpm ≡ (read >>= λ x. Ok (make x))) → IfOk (read >>= λ x. Ok (λ (s : Session). make x)) (IsAsserted c history code)
   by_reading X code read make told =
       ok_bind_is _ read _ (λ x found. λ s. record {
@@ -153,7 +155,7 @@ module _ (r : Record) (c : AcceptedCommand) (history : History) (viewed : c.view
   is_asserted command.PolicyNv = by_nv
   is_asserted _ = tt
 
--- ---- what an assertion makes of a session
+-- ---- how an assertion changes a session
 
 pub policy_passed : (x : Result Policy ActionFault) (policy : Policy) → or_refusal fault_refusal x ≡ Ok policy → x ≡ Ok policy
 policy_passed (Ok made) policy is = ap (λ (p : Policy). Ok p) (ok_is {E = Refused} made policy is)

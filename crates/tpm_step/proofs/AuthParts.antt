@@ -1,4 +1,4 @@
--- Which authorization values a record shows once one of its parts changed.
+-- Which authorization values a record shows after one of its parts changed.
 use Rattle.std.proofs.Common.{arith, ◌≡◌, ◌≢◌, ◌⊎◌, ℕ, Bool, true, false, cond, List, [], Option, Some, None, option_map, ◌==◌, refl, sym, ap, ◌∙◌, inl, inr}
 use Rattle.std.specs.Option.{option_map_or}
 use Rattle.std.proofs.lemmas.Bool.{cases_eq, cond-false, cond-true, eq-eqb, eqb-true, ne_eqb}
@@ -25,14 +25,14 @@ use Rattle.tpm_step.proofs.HandleMap.{same_handle}
 
 -- ---- values that stay
 
--- A value that is seen now was seen before.
+-- A value that is seen now was also seen before.
 abbrev pub Kept : (old new : Option (List ℕ)) → Type 0
 Kept old new = (value : List ℕ) → new ≡ Some value → old ≡ Some value
 
 pub same_kept : {old new : Option (List ℕ)} → new ≡ old → Kept old new
 same_kept same value is = sym same ∙ is
 
--- what is found as before or is gone shows no other value
+-- what is as before, or is gone, shows no other value
 found_kept : {X : Type 0} (shown : X → List ℕ) (old new : Option X) → (new ≡ old) ⊎ (new ≡ None) → Kept (option_map shown old) (option_map shown new)
 found_kept shown old new (inl same) = same_kept (ap (option_map shown) same)
 found_kept shown old new (inr gone) = λ value is. absurd (none-some value (sym (ap (option_map shown) gone) ∙ is))
@@ -43,14 +43,14 @@ index_kept old new found = found_kept (λ (index : NvIndex). index.auth_value) o
 pub object_kept : (old new : Option Object) → (new ≡ old) ⊎ (new ≡ None) → Kept (object_auth old) (object_auth new)
 object_kept old new found = found_kept (λ (object : Object). object.auth_value) old new found
 
--- The value that is seen of a handle now was seen before, if one is seen; and so of every handle.
+-- If a value of this handle is seen now, it was also seen before; and so for every handle.
 abbrev pub Keeps : (old new : Record) → Handle → Type 0
 Keeps old new handle = Kept (auth_seen old handle) (auth_seen new handle)
 
 abbrev pub KeepsAll : (old new : Record) → Type 0
 KeepsAll old new = (handle : Handle) → Keeps old new handle
 
--- it is enough to look at the part of the record that the handle's type says
+-- only the part of the record that the handle's type names has to be compared
 pub parts_keep : (old new : Record) (h : Handle) → Kept (index_auth (index_at old.nv h)) (index_auth (index_at new.nv h)) → Kept (object_auth (persistent_at old.persistent h)) (object_auth (persistent_at new.persistent h)) → Kept (object_auth (object_at old.objects h)) (object_auth (object_at new.objects h)) → permanent_auth_value new h ≡ permanent_auth_value old h → Keeps old new h
 parts_keep old new h index persistent transient permanent = by (is_nv_index h) (is_persistent h) (is_transient h)
   where
@@ -65,7 +65,7 @@ kept_values old new values keeps have h value is = have h value (keeps h value i
 
 -- ---- values that are set
 
--- One handle shows this value, and what is seen of the others was seen before.
+-- This handle shows this value, and what others show was also seen before.
 pub record Sets (handle : Handle) (value : List ℕ) (old new : Record) : Type 0 where
   pub here : auth_seen new handle ≡ Some value
   pub others : (h : Handle) → h.number ≢ handle.number → Keeps old new h
@@ -81,7 +81,7 @@ set_values old new values handle value sets have h v is =
           ∙ sym (cond-false (h.number == handle.number) value (values h) (ne_eqb h.number handle.number apart))
     ]
 
--- ---- the value that is seen of a handle of each type
+-- ---- the value of a handle, by its type
 
 other_type : (t u : ℕ) (h : Handle) → (handle_type h == t) ≡ true → (t == u) ≡ false → (handle_type h == u) ≡ false
 other_type t u h is apart = ap (λ n. n == u) (eqb-true (handle_type h) t is) ∙ apart
@@ -121,7 +121,7 @@ object_set r objects handle object named found others = record {
 
 -- ---- hierarchies
 
--- the handle of an authorization value; no other handle names it
+-- the handle of an authorization value, which no other handle names
 abbrev pub auth_handle : HierarchyAuth → Handle
 auth_handle auth.Owner = owner_handle
 auth_handle auth.Lockout = lockout_handle
@@ -131,7 +131,7 @@ auth_handle auth.Platform = platform_handle
 pub named_is : (h : Handle) (a : HierarchyAuth) → hierarchy_auth_of h ≡ Some a → h ≡ auth_handle a
 named_is h a is = let same : h.number ≡ (auth_handle a).number = grind (arith, nat_tests) in same_handle h (auth_handle a) same
 
--- a record with another authorization value of a hierarchy or of lockout
+-- a record whose hierarchy, or lockout, has another authorization value
 abbrev pub with_auth : Record → HierarchyAuth → List ℕ → Record
 with_auth r a value = record r { fixed = record r.fixed { hierarchies = with_hierarchy_auth r.fixed.hierarchies a value } }
 

@@ -1,5 +1,5 @@
--- Values and handles that are read from the parameters of commands that set an authorization value:
--- no zero ends a value, and the handle has its type.
+-- Values and handles in the parameters of commands that set an authorization value: no value ends
+-- in a zero, and each handle has its type.
 use Rattle.std.proofs.Common.{rules, ◌≡◌, true, List, ℕ, length, ◌==◌, not, Result, Ok, Err, IfOk}
 use Rattle.tpm_bytes.specs.Reading.{◌>>=◌, refused_if}
 use Rattle.tpm_types.proofs.Trimming.{trimmed_twice}
@@ -18,7 +18,7 @@ use Rattle.tpm_record.specs.rows.Rows.{all_read, only, parameter}
 use Rattle.tpm_nvactions.specs.NvDefineSpace as definition
 use Rattle.tpm_step.proofs.Binding.{asked, ok_bind, ok_bind_is, ok_then}
 
--- ---- steps that hand on what was read
+-- ---- steps that pass on what was read
 
 pub parameter_then : {X B : Type 0} (P : X → Type 0) (Q : B → Type 0) (n : ℕ) (x : Result X Rc) (f : X → Result B Refused) → IfOk x P → ((a : X) → P a → IfOk (f a) Q) → IfOk (parameter n x >>= f) Q
 parameter_then P Q n (Ok a) f holds next = next a holds
@@ -40,7 +40,7 @@ filled_holds P read text holds =
 
 -- ---- values
 
--- No zero is at the end of this value.
+-- This value does not end in a zero.
 abbrev pub IsTrimmed : List ℕ → Type 0
 IsTrimmed value = trimmed value ≡ value
 
@@ -69,7 +69,7 @@ pub wanted_named : (text : List ℕ) → IfOk (only (persistent_handle_at text))
 unfolding persistent_handle_at
 wanted_named text = search (rules, only_holds, ok_bind, ok_bind_is, asked)
 
--- What a definition reads: the value ends in no zero, and the handle is that of an index.
+-- The parameters of a definition: the value does not end in a zero, and the handle is an index's.
 pub record IsDefinition (p : definition.Parameters) : Type 0 where
   pub value : IsTrimmed p.auth_value
   pub named : is_nv_index p.public.nv_index ≡ true

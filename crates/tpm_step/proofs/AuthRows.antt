@@ -1,4 +1,4 @@
--- Each row sets the authorization values that the history tells of its command, and no other.
+-- Each row sets the authorization values that the history says of its command, and no other.
 use Rattle.std.proofs.Common.{arith, rules, ◌≡◌, ◌≢◌, ◌⊎◌, ℕ, ◌/◌, ◌^◌, ◌<◌, Bool, true, false, List, [], length, is_some, not, Option, Some, None, option_map, Result, Ok, Err, IfOk, nat_le, nat_lt, ◌==◌, ◌||◌, refl, sym, ap, subst, ◌∙◌, inl, inr}
 use Rattle.std.specs.Option.{option_map_or}
 use Rattle.std.proofs.lemmas.Bool.{cases_Bool, cond_both, eq-eqb, eqb-true, false≢true, or_cases}
@@ -94,7 +94,7 @@ use Rattle.tpm_step.proofs.rows.HandleRules.{first_fits, second_fits}
 index_keys : IsSortedMap NvIndex
 index_keys = is_map
 
--- Each index shows the authorization value that it showed before.
+-- Each index shows the same authorization value as before.
 abbrev ShowSame : (old new : NvContents) → Type 0
 ShowSame old new = (n : ℕ) → index_auth (at_key new.indices n) ≡ index_auth (at_key old.indices n)
 
@@ -169,12 +169,12 @@ flush_keeps r q = search (rules, ok_bind, flushed_keeps)
 
 -- ---- the value that a row sets
 
--- the value that a command sets is this one, for this handle
+-- a command sets this value for this handle
 set_is : (old new : Record) (values : AuthValues) (handle : Handle) (value : List ℕ) (set : Result (Handle × List ℕ) Refused) → set ≡ Ok (handle, value) → Sets handle value old new → HaveValues old values → HaveValues new (with_value set values)
 set_is old new values handle value set is sets have =
     subst (λ (x : Result (Handle × List ℕ) Refused). HaveValues new (with_value x values)) (sym is) (set_values old new values handle value sets have)
 
--- where a step refuses what is there, and did not refuse, nothing was there
+-- if a step refuses what exists, and did not refuse, nothing existed
 absent : {X E : Type 0} (found : Option X) (fault : E) (u : Unit {0}) → refused_if (is_some found) fault ≡ Ok u → found ≡ None
 absent None fault u is = refl
 absent (Some x) fault u is = absurd (false≢true (sym (passed true fault u is)))
@@ -304,7 +304,7 @@ object_seen r handle object named =
           | inr is ↦ absurd (false≢true (sym other ∙ is))
         ]
 
--- a value that is set to what it was before changes nothing
+-- setting a value to what it was changes nothing
 set_again : (values : AuthValues) (to from : Handle) → to.number ≡ from.number → (h : Handle) → with_at to (values from) values h ≡ values h
 set_again values to from same h =
     cond_both (h.number == to.number) (values from) (values h) (λ v. v ≡ values h)
@@ -356,7 +356,7 @@ started_same : (nv : NvContents) → ShowSame nv (started nv)
 unfolding started
 started_same nv n = ap index_auth (all_changed_found started_index nv.indices n) ∙ started_shows (at_key nv.indices n)
 
--- a startup with CLEAR empties platformAuth
+-- a startup with CLEAR makes platformAuth empty
 cleared_start : (r : Record) (fixed : Fixed) (values : AuthValues) → ((h : Handle) → permanent_auth_value (record r { fixed = fixed }) h ≡ permanent_auth_value (with_auth r auth.Platform []) h) → HaveValues r values → HaveValues (record r { fixed = fixed; nv = started r.nv }) (with_at platform_handle [] values)
 cleared_start r fixed values same have =
     let mid : Record = with_auth r auth.Platform [] in
@@ -389,7 +389,7 @@ cleared_or_same objects n = by (at_number transient_byte objects n) refl
           | inr stays ↦ inl (are_cleared.stays objects n object there stays)
         ]
 
--- three values are empty after TPM2_Clear, and objects and indices that it removes have none
+-- after TPM2_Clear three values are empty, and the objects and indices that it removes have none
 all_cleared : (r : Record) (after : Fixed) (values : AuthValues) → Ascends r.nv.indices → Ascends r.persistent → HaveValues r values → HaveValues (record r { fixed = emptied r.fixed after; objects = cleared_objects r.objects; persistent = cleared_persistent r.persistent; nv = cleared r.nv }) (cleared_values values)
 unfolding object_at with_hierarchy_auth cleared
 all_cleared r after values up also have =

@@ -1,5 +1,5 @@
--- Whatever time, failures and power do to failed tries is paid for (Potential), and the time
--- towards forgiving the next stays short.
+-- Whatever time, failures and power cycles do to failed tries is paid for (Potential), and the
+-- time towards forgiving the next one is less than one period.
 use Rattle.std.proofs.Common.{arith, ◌≡◌, ◌≢◌, ◌⊎◌, ℕ, ◌+◌, ◌*◌, ◌/◌, ◌%◌, ◌-◌, ◌<◌, ◌≤◌, Bool, true, false, cond, refl, sym, ap, ◌∙◌, inl, inr}
 use Rattle.std.specs.Prelude.{not, ◌&&◌, ◌==◌, nat_le}
 use Rattle.std.proofs.lemmas.Bool.{cases_eq, cases_lt, cond_both, leb-false, ne_eqb}
@@ -14,15 +14,15 @@ use Rattle.tpm_step.specs.Step.{lockout_counted}
 use Rattle.tpm_step.specs.Potential.{IsForgiving, Pays, credit, period}
 use Rattle.tpm_step.specs.Tries.{is_try}
 
--- ---- changes that leave failed tries as they are
+-- ---- changes that keep failed tries
 
--- Two states differ at most in lockoutAuth.
+-- Two states are equal except for lockoutAuth.
 abbrev pub SameTries : LockoutState → LockoutState → Type 0
 SameTries old new =
     (new.fields.recovery_time ≡ old.fields.recovery_time) × (new.fields.max_tries ≡ old.fields.max_tries)
     × (new.fields.failed_tries ≡ old.fields.failed_tries) × (new.forgiving_time ≡ old.forgiving_time)
 
--- lockoutAuth was closed or opened, and nothing else changed
+-- closing or opening lockoutAuth changes nothing else
 pub closed_same : (old new : LockoutState) (closed : Bool) → new ≡ with_closed closed old → SameTries old new
 closed_same old new closed is = (
   ap (λ (s : LockoutState). s.fields.recovery_time) is,
@@ -51,7 +51,8 @@ same_pays old new same = record {
   within = inl refl;
 }
 
--- how many of these tries a time forgives, each for n milliseconds, some of which had passed before
+-- how many of these tries a time forgives, if each needs n milliseconds and some had passed
+-- before
 forgiven : (n tries passed elapsed : ℕ) → n * tries + cond ((tries - (passed + elapsed) / n) == 0) 0 (cond ((tries - (passed + elapsed) / n) == 0) 0 ((passed + elapsed) % n)) ≤ n * (tries - (passed + elapsed) / n) + cond (tries == 0) 0 passed + elapsed
 forgiven n tries passed elapsed = by (cases_eq tries 0) (cases_lt (time / n) tries)
   where
@@ -88,7 +89,7 @@ forgiven_pays elapsed s counts =
       within = inl refl;
     })
 
--- a change that is paid for, and then one that leaves the tries
+-- a change that is paid for, followed by one that keeps the tries
 then_same : (a b c : LockoutState) (elapsed : ℕ) → Pays a b 0 elapsed → SameTries b c → Pays a c 0 elapsed
 then_same a b c elapsed pays same = record {
   recovery_time = same.0 ∙ pays.recovery_time;
@@ -110,7 +111,7 @@ cycle_pays s = record {
   within = inl refl;
 }
 
--- a failed try that is counted is paid for, where the tries do not lock out yet
+-- a counted failed try is paid for, if the tries do not yet lock out
 failure_pays : (s : LockoutState) → s.fields.recovery_time ≢ 0 → is_locked s.fields ≡ false → Pays s (after_failure s) 1 0
 unfolding after_failure
 failure_pays s counts unlocked =
@@ -134,14 +135,14 @@ refusal_pays s counted.Lockout counts unlocked = same_pays s (closed_by_failure 
 
 -- ---- all steps of a stretch
 
--- The tries that failed from a state on, while this number of milliseconds passed, are none, or no
--- more than maxTries and that time allow.
+-- Either no try failed since this state, or no more tries than maxTries and the passed
+-- milliseconds allow.
 abbrev pub IsPaid : LockoutState → (failed elapsed : ℕ) → Type 0
 IsPaid s failed elapsed =
     (failed ≡ 0)
     ⊎ (period s * s.fields.failed_tries + period s * failed ≤ period s * s.fields.max_tries + credit s + elapsed)
 
--- one step before others, all of which are paid for
+-- if a step is paid for, and so are those after it, all of them together are paid for
 pub pays_more : (a b : LockoutState) (one failed all first elapsed whole : ℕ) → one + failed ≡ all → first + elapsed ≡ whole → Pays a b one first → IsPaid b failed elapsed → IsPaid a all whole
 pays_more a b one failed all first elapsed whole counted passed pays rest = by pays.within (rw (pays.recovery_time, pays.max_tries) at rest)
   where
@@ -159,14 +160,14 @@ pays_more a b one failed all first elapsed whole counted passed pays rest = by p
         let zero : n * failed ≡ 0 = ap (λ k. n * k) nought ∙ mul-zero n in
         inr (omega (arith, pays.balance, most, sum, zero, passed))
 
--- how many tries failed at most, where they are paid for
+-- the largest number of tries that failed, if they are paid for
 few_of : (n tries failed most passed elapsed : ℕ) → 0 < n → passed < n → n * tries + n * failed ≤ n * most + cond (tries == 0) 0 passed + elapsed → failed ≤ most + elapsed / n
 few_of n tries failed most passed elapsed some below paid = by (cases_lt (most + elapsed / n) failed)
   where
     q : ℕ
     q = elapsed / n
 
-    -- where tries were counted at the start, each of them is one of maxTries
+    -- if tries were counted at the start, each of them is one of maxTries
     under : (tries ≡ 0) ⊎ (tries ≡ 0 → ⊥) → n * failed ≤ n * most + elapsed
     under (inl none) =
         let at : n * 0 + n * failed ≤ n * most + 0 + elapsed = rw none at paid in

@@ -11,24 +11,24 @@ use Rattle.tpm_types.specs.declared.check.Check.{Check}
 use Rattle.tpm_types.specs.declared.rc.Rc.{Rc}
 use Rattle.tpm_types.specs.declared.refused.Refused.{Refused}
 
--- a step that a check passes gave what it gave without the check
+-- a step with a check's refusal returns what it returned without the check
 pub checked_ok : {X : Type 0} (check : Check) (x : Result X Rc) (y : X) → checked check x ≡ Ok y → x ≡ Ok y
 checked_ok {X} check (Ok x) y e = ap (λ (z : X). let r : Result X Rc = Ok z in r) (ok_is {E = Refused} x y e)
 checked_ok check (Err rc) y e = absurd cc
 
--- a property of each success after a step is one of each success of the whole
+-- if each success after a step has a property, each success of the whole has it
 pub ok_bind : {A B E : Type 0} (Q : B → Type 0) (x : Result A E) (f : A → Result B E) → ((a : A) → IfOk (f a) Q) → IfOk (x >>= f) Q
 ok_bind Q (Ok a) f h = h a
 ok_bind Q (Err e) f h = tt
 
--- a property of each success after a step is one of each success of the whole, by what the step
--- gave
+-- if each success after a step has a property, given what the step returned, each success of the
+-- whole has it
 pub ok_bind_is : {A B E : Type 0} (Q : B → Type 0) (x : Result A E) (f : A → Result B E) → ((a : A) → x ≡ Ok a → IfOk (f a) Q) → IfOk (x >>= f) Q
 ok_bind_is Q (Ok a) f h = h a refl
 ok_bind_is Q (Err e) f h = tt
 
--- a property of each success after a step is one of each success of the whole, by a property of the
--- step's successes
+-- if each success after a step has a property, given another property of the step's success, each
+-- success of the whole has it
 pub ok_then : {A B E : Type 0} (P : A → Type 0) (Q : B → Type 0) (x : Result A E) (f : A → Result B E) → IfOk x P → ((a : A) → P a → IfOk (f a) Q) → IfOk (x >>= f) Q
 ok_then P Q (Ok a) f k h = h a k
 ok_then P Q (Err e) f k h = tt
@@ -38,23 +38,23 @@ pub ok_weaker : {A E : Type 0} (P Q : A → Type 0) (x : Result A E) → IfOk x 
 ok_weaker P Q (Ok a) k h = h a k
 ok_weaker P Q (Err e) k h = tt
 
--- a property of each success holds of the success that there is
+-- a property of each success holds of this one
 pub ok_at : {A E : Type 0} (P : A → Type 0) (x : Result A E) (a : A) → IfOk x P → x ≡ Ok a → P a
 ok_at P (Ok b) a holds is = subst P (ok_is b a is) holds
 ok_at P (Err e) a holds is = absurd cc
 
--- a property of each refusal of a step, and of each after it, is one of each refusal of the whole
+-- if each refusal of a step, and each after it, has a property, each refusal of the whole has it
 pub err_bind : {A B E : Type 0} (Q : E → Type 0) (x : Result A E) (f : A → Result B E) → IfErr x Q → ((a : A) → IfErr (f a) Q) → IfErr (x >>= f) Q
 err_bind Q (Ok a) f k h = h a
 err_bind Q (Err e) f k h = k
 
--- a property of each refusal of a step, and of each after it, is one of each refusal of the whole,
--- by what the step gave
+-- if each refusal of a step has a property, and each refusal after it, given what the step
+-- returned, each refusal of the whole has it
 pub err_bind_is : {A B E : Type 0} (Q : E → Type 0) (x : Result A E) (f : A → Result B E) → IfErr x Q → ((a : A) → x ≡ Ok a → IfErr (f a) Q) → IfErr (x >>= f) Q
 err_bind_is Q (Ok a) f k h = h a refl
 err_bind_is Q (Err e) f k h = k
 
--- a property of a step's only refusal, where the step tests something, is one of each refusal
+-- if a step tests something, a property of its only refusal is one of each refusal
 pub err_if : {E : Type 0} (Q : E → Type 0) (b : Bool) (e : E) → Q e → IfErr (refused_if b e) Q
 err_if Q true e h = h
 err_if Q false e h = tt
@@ -71,12 +71,12 @@ pub err_checked : {X : Type 0} (Q : Refused → Type 0) (check : Check) (x : Res
 err_checked Q check (Ok x) h = tt
 err_checked Q check (Err rc) h = h rc
 
--- where a step asked for a value and succeeded, the value was there
+-- if a step needed a value and succeeded, the value existed
 pub some_is : {X E : Type 0} (o : Option X) (e : E) (x : X) → ok_or o e ≡ Ok x → o ≡ Some x
 some_is None e x is = absurd (let never : ⊥ = cc in never)
 some_is (Some y) e x is = cc
 
--- a fault that is handed on as a refusal changes no success
+-- a fault that becomes a refusal changes no success
 pub ok_checked : {X : Type 0} (P : X → Type 0) (check : Check) (x : Result X Rc) → IfOk x P → IfOk (checked check x) P
 ok_checked P check (Ok x) h = h
 ok_checked P check (Err rc) h = tt
@@ -85,11 +85,11 @@ pub ok_in_command : {X : Type 0} (P : X → Type 0) (c : CommandCode) (x : Resul
 ok_in_command P c (Ok x) h = h
 ok_in_command P c (Err e) h = tt
 
--- where a step that tests a condition did not refuse, the condition holds
+-- if a step that tests a condition did not refuse, the condition holds
 pub asked : {E : Type 0} (b : Bool) (fault : E) (u : Unit {0}) → refused_if (not b) fault ≡ Ok u → b ≡ true
 asked b fault u is = not-false b (passed (not b) fault u is)
 
--- the grouping of three steps makes no difference
+-- the grouping of three steps does not matter
 pub bind_assoc : {A B C E : Type 0} (x : Result A E) (f : A → Result B E) (g : B → Result C E) → ((x >>= f) >>= g) ≡ (x >>= λ a. f a >>= g)
 bind_assoc (Ok a) f g = refl
 bind_assoc (Err e) f g = refl

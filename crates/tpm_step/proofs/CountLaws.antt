@@ -1,4 +1,4 @@
--- The laws of counters by the history alone.
+-- The laws of counters, by the history alone.
 use Rattle.std.proofs.Common.{arith, ◌≡◌, ◌⊎◌, ℕ, ◌+◌, ◌<◌, ◌≤◌, Bool, true, false, List, [], ◌∷◌, ◌++◌, Option, Some, None, Result, Ok, Err, refl, sym, ap, subst, ◌∙◌, inl, inr}
 use Rattle.std.proofs.lemmas.Bool.{cases_eq, eq-eqb, eqb-true, false≢true}
 use Rattle.tpm_types.specs.declared.handle.Handle.{Handle}
@@ -14,8 +14,8 @@ use Rattle.tpm_step.proofs.Indices.{some_none, some_same}
 
 -- ---- what one event does to the counter of a handle
 
--- A counter is as it was, or it counted, or an index is defined under its handle, and it has no
--- value.
+-- A counter stayed, or it was incremented, or an index was defined under its handle and the
+-- counter has no value.
 abbrev Moves : Counters → Counters → (defined : Bool) → Handle → Type 0
 Moves c d defined handle =
     (d.at handle ≡ c.at handle)
@@ -99,9 +99,9 @@ history_within (Done c ∷ history) handle n some =
     command_within c.command.code c.request (counters_of history) (history_within history) handle n some
 history_within (PowerCycled ∷ history) handle n some = history_within history handle n some
 
--- ---- while no index is defined anew
+-- ---- while no index is defined again
 
--- A counter has a value, no less than this one.
+-- The counter has a value, which is not less than this one.
 abbrev Since : (least : ℕ) → (now : Option ℕ) → Type 0
 Since least now = (n : ℕ) × (now ≡ Some n) × (least ≤ n)
 
@@ -122,7 +122,7 @@ never_down old (one ∷ new) handle n some none =
 
 -- ---- since a counter had no value
 
--- A counter has no value, or one above all these.
+-- The counter has no value, or one above all these.
 abbrev Above : (most : ℕ) → (now : Option ℕ) → Type 0
 Above most now = (now ≡ None) ⊎ ((n : ℕ) × (now ≡ Some n) × (most < n))
 
@@ -155,7 +155,7 @@ first_exceeds old new handle n none some = by (all_above old new handle none)
 
 -- ---- a definition
 
--- where a command names a handle, that is another handle or this one
+-- the handle that a command names is another handle or this one
 named_is : (named : Result Handle Refused) (handle : Handle) → is_named named handle ≡ true → (h : Handle) × (named ≡ Ok h) × (h.number ≡ handle.number)
 named_is (Ok h) handle is = (h, refl, eqb-true h.number handle.number is)
 named_is (Err e) handle is = absurd (false≢true is)
@@ -168,7 +168,7 @@ code_begins : (code : CommandCode) (q : Request) (c : Counters) (handle : Handle
 code_begins command.NvDefineSpace q c handle is = begun_none (defined_handle q.parameters) c handle is
 code_begins _ q c handle is = absurd (false≢true is)
 
--- an index that is defined has no value as a counter yet, and no counter counts
+-- a newly defined index has no value as a counter, and no counter counts
 definition_begins : (old : History) (one : PastEvent) (handle : Handle) → defines one handle ≡ true → (count_at (one ∷ old) handle ≡ None) × (counts_of (one ∷ old) ≡ counts_of old)
 definition_begins old (Done c) handle is = code_begins c.command.code c.request (counters_of old) handle is
 definition_begins old PowerCycled handle is = absurd (false≢true is)

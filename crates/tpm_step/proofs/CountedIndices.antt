@@ -1,4 +1,4 @@
--- A row makes of the counters among the NV indices what the history says of its command.
+-- A row changes the counters among the NV indices as the history says of its command.
 use Rattle.std.proofs.Common.{arith, ◌≡◌, ℕ, zero, suc, ◌+◌, ◌<◌, ◌^◌, Bool, true, false, cond, List, [], ◌∷◌, get_or, Option, Some, None, IfOk, refl, sym, ap, subst, ◌∙◌, inl, inr}
 use Rattle.std.specs.Prelude.{◌&&◌, max, ◌==◌}
 use Rattle.std.specs.Int.{w64, from_be_bytes, to_be_bytes}
@@ -41,21 +41,21 @@ use Rattle.tpm_step.proofs.HandleMap.{at_other, at_same}
 use Rattle.tpm_step.proofs.IndexChanges.{CountsUp, incremented_counts}
 use Rattle.tpm_step.proofs.Indices.{OthersStay, changed_each, cleared_each, defined_each, removed_each, started_each}
 
--- A counter has the value that is told of its handle.
+-- The counter has the value that this map has for its handle.
 abbrev Counts : (Handle → Option ℕ) → Handle → NvIndex → Type 0
 Counts at handle index = IsCounter index → IsCounted index (at handle)
 
--- where another value is told of one handle, all other counters have theirs
+-- if the map has another value for one handle, all other counters still have theirs
 others_count : (handle : Handle) (count : Option ℕ) (at : Handle → Option ℕ) → OthersStay (Counts at) (Counts (with_at handle count at)) handle
 others_count handle count at other index apart counts counter =
     let was = counts counter in
     record { stays = was.stays; value = was.value ∙ sym (at_other handle other count at apart) }
 
--- the same contents have the same counters
+-- equal contents have equal counters
 same_counted : (old new : NvContents) (c : Counters) → new ≡ old → AreCounted old c → AreCounted new c
 same_counted old new c same are = subst (λ (nv : NvContents). AreCounted nv c) (sym same) are
 
--- ---- an index is changed in its place
+-- ---- an index is changed in place
 
 changed_counted : (contents : NvContents) (handle : Handle) (old new : NvIndex) (c : Counters) → index_at contents handle ≡ Some old → KeepsCount old new → AreCounted contents c → AreCounted (changed_index contents handle new) c
 changed_counted contents handle old new c found keeps are = record {
@@ -79,9 +79,9 @@ auth_counted old new c made are =
     same_counted (changed_index old made.handle (record made.index { auth_value = made.value })) new c made.is
     (changed_counted old made.handle made.index (record made.index { auth_value = made.value }) c made.found (λ counter. (counter, refl, refl)) are)
 
--- ---- a counter counts
+-- ---- a counter is incremented
 
--- the next value of a counter, by whether it has one
+-- the next value of a counter, which may have a value already
 next_by : (b : Bool) (most n : ℕ) → next_count most (cond b (Some n) None) ≡ cond b n most + 1
 next_by true most n = refl
 next_by false most n = refl
@@ -124,18 +124,18 @@ increment_counted q old new c made are =
     (same_counted (counted (changed_index old made.handle (with_data up.index (to_be_bytes w64 n))) n) new (counted_at made.handle c) up.is
     (counter_counted old made.handle up.index n c up.found up.counter refl up.small are))
 
--- ---- an index comes or goes
+-- ---- an index is defined or removed
 
 counter_number : (n : ℕ) → nv_type_named n ≡ Some type.Counter → (n == 1) ≡ true
 counter_number n is = grind (arith, nat_tests)
 
--- where no test passes, each of them fails
+-- if no test of a list holds, none at any place holds
 none_in : (tests : List Bool) (n : ℕ) → list_any (λ wrong. wrong) tests ≡ false → get_or tests n false ≡ false
 none_in [] n none = refl
 none_in (test ∷ tests) zero none = (or_parts test (list_any (λ wrong. wrong) tests) none).0
 none_in (test ∷ tests) (suc n) none = none_in tests n (or_parts test (list_any (λ wrong. wrong) tests) none).1
 
--- an index that passes the checks of a definition is no counter whose value a startup takes away
+-- an index that passes the checks of a definition is not a counter that a startup clears
 stays_is : (by_platform : Bool) (a : NvAttributes) → list_any (λ wrong. wrong) (index_attribute_conflicts by_platform a) ≡ false → index_type a ≡ Some type.Counter → has a attribute.ClearStClear ≡ false
 stays_is by_platform a passes counter =
     let fifth : (is_of a type.Counter && has a attribute.ClearStClear) ≡ false = none_in (index_attribute_conflicts by_platform a) 4 passes in
@@ -172,7 +172,7 @@ clear_counted contents c up are = record { most = are.most; each = cleared_each 
 
 -- ---- a startup
 
--- Two lists of attributes agree in what a counter needs.
+-- Two sets of attributes agree in what a counter needs.
 abbrev Alike : NvAttributes → NvAttributes → Type 0
 Alike a b = (index_type b ≡ index_type a) × (has b attribute.Written ≡ has a attribute.Written) × (has b attribute.ClearStClear ≡ has a attribute.ClearStClear)
 
@@ -196,7 +196,7 @@ started_type a =
     (unlocked_alike (kept_written a)).0
     ∙ cond_both (has a attribute.ClearStClear) (without_attribute a attribute.Written) a (λ b. index_type b ≡ index_type a) (λ _. are_attributes.cleared_type a attribute.Written) (λ _. refl)
 
--- a counter that no startup clears is as it was after a startup
+-- a startup keeps a counter that it does not clear
 startup_keeps : (index : NvIndex) → index_has index attribute.ClearStClear ≡ false → (stored_count (started_index index) ≡ stored_count index) × (index_has (started_index index) attribute.ClearStClear ≡ false)
 startup_keeps index stays =
     let a = index.public.attributes in
@@ -224,8 +224,7 @@ starts_counted old new c (inr starts) are = same_counted (started old) new c sta
 
 -- ---- rows
 
--- whether a success that touches this part of the state leaves the values that a history tells of
--- counters
+-- whether a success that touches this part of the state keeps the counters of the history
 abbrev keeps_counters : Part → Bool
 keeps_counters NvCounter = false
 keeps_counters NvDefined = false

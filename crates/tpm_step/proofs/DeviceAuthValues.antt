@@ -1,4 +1,4 @@
--- The authorization values of a device are those that its history tells.
+-- A device has the authorization values of its history.
 use Rattle.std.proofs.Common.{arith, ◌≡◌, ℕ, Bool, true, false, cond, List, [], ◌∷◌, length, map, not, ◌||◌, ◌==◌, Option, Some, None, option_map, option_and_then, refl, sym, ap, ap₂, subst, ◌∙◌, inr, zero, suc, slice_get}
 use Rattle.std.specs.Option.{option_map_or}
 use Rattle.std.proofs.lemmas.Bool.{cond-false, false≢true, or_parts}
@@ -78,15 +78,15 @@ manufactured_auth_values random h v = by (is_nv_index h) (is_persistent h) (is_t
     by false false true is = absurd (none-some v (sym (ap object_auth (free_found transient_byte object_limit h.number)) ∙ is))
     by false false false is = sym (same_Some _ v is) ∙ no_value random h
 
--- ---- what a handle names, if it is there, has its value
+-- ---- an entity that exists has its value
 
--- a handle's type that is kept under numbers is not that of a session
+-- a type of handles whose entities are kept by number is not that of a session
 no_session : (t : ℕ) → (t == 0x01 || t == 0x80 || t == 0x81) ≡ true → (t == 0x02 || t == 0x03) ≡ false
 no_session t kept = grind (arith, nat_tests)
 
 module _ (r : Record) (h : Handle) where
-  -- where a handle of an object's or an index's type passes the check that it names something, the
-  -- object or index is there
+  -- if a handle of an object's or an index's type passes the check that its entity exists, that
+  -- object or index exists
   pub kept_there : is_present r h ≡ true → names_kept h ≡ true → is_kept (entity_at r h) ≡ true
   unfolding is_present
   kept_there present kept =
@@ -105,7 +105,7 @@ module _ (r : Record) (h : Handle) where
   object_there (Some object) kept = refl
   object_there None kept = absurd (false≢true kept)
 
-  -- no transient object is found under a handle of another type
+  -- a handle of another type finds no transient object
   none_transient : is_transient h ≡ false → object_at r.objects h ≡ None
   unfolding object_at at_number
   none_transient other = none (at_place r.objects (place_of h.number))
@@ -124,7 +124,7 @@ module _ (r : Record) (h : Handle) where
   seen_by false false true is kept = object_there (object_at r.objects h) (kept refl)
   seen_by false false false is kept = ap (λ (found : Option Object). Some (entity_auth_value r h (option_map_or AnObject found Permanent))) (sym (none_transient is))
 
-  -- an object or an index has the authorization value that is seen under its handle
+  -- an object or an index has the authorization value that is seen by its handle
   pub kept_seen : is_kept (entity_at r h) ≡ true → auth_seen r h ≡ Some (auth_value_of r h)
   unfolding auth_value_of entity_at object_of
   kept_seen kept = seen_by (is_nv_index h) (is_persistent h) (is_transient h) refl (λ there. kept)
@@ -142,7 +142,7 @@ handles_auth_values r history [] (h ∷ handles) has fits = absurd fits
 handles_auth_values r history (rule ∷ rules) (h ∷ handles) has fits =
     ap₂ (λ (value : List ℕ) (values : List (List ℕ)). value ∷ values) (present_auth_value r history h has fits.0.1) (handles_auth_values r history rules handles has fits.1)
 
--- what the handles of an accepted command name is there
+-- the entities of an accepted command's handles exist
 pub handles_present : (r : Record) (rules : List HandleRule) (handles : List Handle) → HandlesFit r rules handles → (place : ℕ) (handle : Handle) → slice_get handles place ≡ Some handle → is_present r handle ≡ true
 handles_present r rules [] fits place handle at = absurd cc
 handles_present r [] (h ∷ handles) fits place handle at = absurd fits

@@ -1,4 +1,4 @@
--- The sessions of a device are those of its history.
+-- A device has the sessions of its history.
 use Rattle.std.proofs.Common.{arith, ◌≡◌, ◌⊎◌, ◌≤◌, ℕ, Bool, true, false, cond, List, [], ◌∷◌, length, length-drop, drop, map, Option, Some, None, option_map, refl, ap, sym, subst, ◌∙◌, inl, inr}
 use Rattle.std.proofs.lemmas.Bool.{cases_Bool, false≢true}
 use Rattle.std.specs.List.{zip}
@@ -34,7 +34,7 @@ use Rattle.tpm_step.proofs.SessionEntries.{answer_told, entries_roll}
 use Rattle.tpm_step.proofs.SessionRows.{IsTold, row_told}
 use Rattle.tpm_step.proofs.rows.Started.{is_started}
 
--- ---- where there is no session
+-- ---- without a session
 
 pub manufactured_sessions : (random : List ℕ) → HasSessions (manufactured random) []
 manufactured_sessions random = record { live = none_live; asleep = λ asleep handle. refl }
@@ -44,7 +44,7 @@ cycled_sessions r history = record { live = none_live; asleep = λ asleep handle
 
 -- ---- a command is accepted
 
--- sessions are the same whether or not what is saved is kept
+-- sessions are the same whether or not the saved state is kept
 settled_live : (keeps : Bool) (live : LiveSessions) (r : Record) → AreLive r.sessions live → AreLive (cond keeps r (with_saved r Nothing)).sessions live
 settled_live true live r are = are
 settled_live false live r are = are
@@ -71,8 +71,8 @@ module _ (r : Record) (a : Accepted) (locality : ℕ) (random : List ℕ) (histo
       many pcrs has.live a.command.code)
       is.row refl
 
-  -- the row drew what the command's code and parameters say, or the command has no entries, and is
-  -- said to draw none
+  -- the row drew what the command's code and parameters say; or the command has no entries, and
+  -- its definition says 0
   drew : (a.success.answer.drawn ≡ draws_of a.command.code a.request) ⊎ ((a.command.entries ≡ []) × (draws_of a.command.code a.request ≡ 0))
   drew =
       elim (cases_Bool (is_startup a.command.code)) [

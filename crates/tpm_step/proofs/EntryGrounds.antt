@@ -1,4 +1,4 @@
--- An entry that is accepted has a ground for what it authorizes.
+-- An accepted entry has a ground for what it authorizes.
 use Rattle.std.proofs.Common.{◌≡◌, ◌≢◌, ℕ, zero, suc, ◌+◌, ◌<◌, arith, Bool, true, false, cond, List, [], ◌∷◌, length, take, map, Option, Some, None, option_map, Ok, IfOk, slice_get, refl, ap, sym, subst, ◌∙◌}
 use Rattle.std.specs.Prelude.{◌&&◌, not, IfSome, option_and_then, ◌-◌}
 use Rattle.std.specs.Int.{bit_at}
@@ -73,11 +73,11 @@ nothing_used : (r : Record) (s : Session) → used_auth_value r s None ≡ []
 unfolding used_auth_value
 nothing_used r s = refl
 
--- an entry's number, less one, is its place
+-- the place of an entry is its number less one
 less_one : (place : ℕ) → (place + 1) - 1 ≡ place
 less_one place = omega arith
 
--- two lists of one length have the same places
+-- two lists of equal length have the same places
 same_place : {X Y : Type 0} (xs : List X) (ys : List Y) (place : ℕ) (x : X) → length ys ≡ length xs → slice_get xs place ≡ Some x → (y : Y) × (slice_get ys place ≡ Some y)
 same_place [] ys place x many is = absurd cc
 same_place (first ∷ xs) [] place x many is = absurd (omega (arith, many))
@@ -99,7 +99,7 @@ not_kept : (kept : Bool) → (kept ≡ true → false ≡ true) → not kept ≡
 not_kept true kept = absurd (false≢true (kept refl))
 not_kept false kept = refl
 
--- the session of a history whose facts are those of a device's session
+-- the history's session with the facts of a device's session
 told_of : (found : Session) (told : Option LiveSession) → option_map session_facts (Some found) ≡ option_map facts_of told → (l : LiveSession) × (told ≡ Some l) × (session_facts found ≡ facts_of l)
 told_of found (Some l) same = (l, refl, same_Some (session_facts found) (facts_of l) same)
 told_of found None same = absurd cc
@@ -133,7 +133,7 @@ module _ (r : Record) (c : AcceptedCommand) (history : History) (locality : ℕ)
     kind_same : s.kind ≡ l.kind
     kind_same = ap (λ (f : SessionFacts). f.start.kind) same
 
-    -- what a session asserts of PCRs holds, where its recorded counter is that of the device
+    -- what a session asserts of PCRs holds if its recorded counter is the device's
     holds_pcrs : RecordsUpdates e.session history l → is_other s.policy.update_count r.fixed.banks.update_count ≡ false → HoldsPcrs e.session history l
     holds_pcrs records counter =
         let recorded : s.policy.update_count ≡ Some records.count = ap (λ (p : Policy). p.update_count) policy_same ∙ records.recorded in
@@ -254,7 +254,7 @@ module _ (r : Record) (c : AcceptedCommand) (history : History) (locality : ℕ)
       ByPassword is (taken means.AuthValue place handle at (asked available _ u may))
       (password_told r c history viewed valued live place handle e at (asked holds _ v same)))))
 
-  -- the session that an entry names, if one is there
+  -- the session that an entry names, if it exists
   with_session : (P : Option Grant → Type 0) (place : ℕ) (used : Option Handle) (e : Entry) → ((s : Session) (l : LiveSession) → sessions_of history e.session ≡ Some l → session_facts s ≡ facts_of l → IfOk (session_grant r c.command locality (place + 1) used e s) P) → IfOk (session_grant_if r c.command locality (place + 1) used e (session_of r e)) P
   with_session P place used e each = by (session_of r e) (live e.session)
     where
@@ -271,7 +271,7 @@ module _ (r : Record) (c : AcceptedCommand) (history : History) (locality : ℕ)
       by kind.Session is = with_session (λ g. Ground history c place e) place (Some handle) e (λ s l lives same. session_ground place handle e at s l lives same)
       by kind.Other is = tt
 
-  -- an entry of a session that authorizes nothing has its HMAC
+  -- an entry of a session has its HMAC, even if it authorizes nothing
   other_hmac : (place : ℕ) (e : Entry) (l : LiveSession) → used_in c.command place ≡ None → session_kind e.session ≡ kind.Session → sessions_of history e.session ≡ Some l → IfOk (grant r c.command locality (place + 1) None e) (λ g. HasHmac history c place e l)
   unfolding grant session_grant
   other_hmac place e l none is lives =

@@ -1,4 +1,4 @@
--- The key and the text of an entry's HMAC, and a password, are those that a history tells.
+-- The history determines the key and the text of an entry's HMAC, and a password.
 use Rattle.std.proofs.Common.{◌≡◌, ◌⊎◌, ℕ, zero, suc, ◌+◌, arith, Bool, true, false, cond, List, [], ◌∷◌, ◌++◌, length, take, map, Option, Some, None, option_map, slice_get, refl, ap, sym, ◌∙◌, inl, inr}
 use Rattle.std.specs.Prelude.{◌==◌, ◌&&◌, ◌||◌}
 use Rattle.std.specs.List.{find}
@@ -72,7 +72,7 @@ by_test key hmac mac is = by (length key == 0) (length hmac == 0) refl refl is
 -- ---- a device and its history
 
 module _ (r : Record) (c : AcceptedCommand) (history : History) (viewed : c.views ≡ map (view_of r) c.command.handles) (valued : map (auth_value_of r) c.command.handles ≡ map (auth_of history) c.command.handles) (live : AreLive r.sessions (sessions_of history)) where
-  -- ---- the entity in a place
+  -- ---- the entity at a place
 
   pub handle_there : (place : ℕ) (handle : Handle) → used_in c.command place ≡ Some handle → slice_get c.command.handles place ≡ Some handle
   handle_there place handle at = got_of_first (authorized_handles c.command.code) c.command.handles place handle at
@@ -135,7 +135,8 @@ module _ (r : Record) (c : AcceptedCommand) (history : History) (viewed : c.view
         by (Some b) = refl
         by None = refl
 
-    -- the same authorization value is in the key, by a demand that puts it there as the policy does
+    -- the key has the same authorization value, by a demand that adds it to the key as the policy
+    -- does
     pub value_told : (handle : Handle) (demand : Demand) → used_in c.command place ≡ Some handle → ((is_bound : Bool) → has_value_in_key s.kind is_bound demand ≡ has_value_in_key s.kind is_bound s.policy.demand) → used_auth_value r s (Some (record { handle = handle; demand = demand })) ≡ value_in_key history c place l (used_in c.command place)
     unfolding used_auth_value takes_value
     value_told handle demand at alike =

@@ -30,7 +30,7 @@ use Rattle.tpm_step.proofs.Leading.{history_apart}
 done_pays : (r : Record) (a : Accepted) (locality : ℕ) (random : List ℕ) → IsAcceptance r locality random a → HasNoReset (with_command r (Ok a) 0 []) → Pays r.fixed.lockout (success_step a random).after.fixed.lockout 0 0
 done_pays r a locality random is quiet = same_pays r.fixed.lockout (success_step a random).after.fixed.lockout (same_done r a locality random is quiet.0)
 
--- a command that is accepted, or refused memory in place of its success, is paid for
+-- a command that is accepted, or answered MEMORY instead of its success, is paid for
 starved_pays : (grows : Bool) (r : Record) (a : Accepted) (locality : ℕ) (random : List ℕ) → IsAcceptance r locality random a → let x : Stepped = cond grows (refusal_without_memory r a.command) (success_step a random) in HasNoReset (with_command r (Ok a) x.row.check []) → Pays r.fixed.lockout x.after.fixed.lockout 0 0
 starved_pays true r a locality random is quiet = same_pays r.fixed.lockout r.fixed.lockout (refl, refl, refl, refl)
 starved_pays false r a locality random is quiet = done_pays r a locality random is quiet
@@ -41,7 +41,7 @@ answer_pays true r (Ok a) locality random counts unlocked is quiet = starved_pay
 answer_pays false r (Err e) locality random counts unlocked is quiet = refusal_pays r.fixed.lockout e.refused.counted counts unlocked
 answer_pays true r (Err e) locality random counts unlocked is quiet = refusal_pays r.fixed.lockout e.refused.counted counts unlocked
 
--- One event, before others, keeps recoveryTime, and where the others are paid for all are.
+-- One event before others keeps recoveryTime. If the others are paid for, all are.
 pub record PaysFor (old new : LockoutState) (fails : Bool) (elapsed : ℕ) : Type 0 where
   pub recovery_time : new.fields.recovery_time ≡ old.fields.recovery_time
   pub more : (failed rest : ℕ) → IsPaid new failed rest → IsPaid old (cond fails 1 0 + failed) (elapsed + rest)
@@ -90,7 +90,7 @@ all_parts : {X : Type 0} (P : X → Type 0) (xs ys : List X) → AllByRecursion 
 all_parts P [] ys all = (tt, all)
 all_parts P (x ∷ xs) ys all = let rest = all_parts P xs ys all.1 in ((all.0, rest.0), rest.1)
 
--- the first event of a stretch, and those after it, have no reset
+-- neither the first event of a stretch nor those after it have a reset
 quiet_parts : (one : Execution) (executions : List Execution) → HasNoReset (history_after [] (one ∷ executions)) → HasNoReset (history_after [] executions) × HasNoReset (with_execution one [])
 quiet_parts one executions quiet =
     all_parts (λ (p : PastEvent). is_reset p ≡ false) (history_after [] executions) (with_execution one [])
@@ -116,7 +116,7 @@ fails_few can old executions new is leads quiet counts = omega (arith, fails_wit
 pub one_more : (old : Record) (executions : List Execution) → tries_at_most old executions ≡ tries_within old executions + 1
 one_more old executions = omega arith
 
--- ---- commands that are no reset
+-- ---- commands that reset nothing
 
 code_resets : (code : CommandCode) → resets_tries code ≡ true → (code ≡ command.DictionaryAttackLockReset) ⊎ (code ≡ command.DictionaryAttackParameters) ⊎ (code ≡ command.Clear)
 code_resets command.DictionaryAttackLockReset is = inl refl

@@ -1,4 +1,4 @@
--- Every event leads from a history to the history with that event.
+-- Every event leads from a history to the one with that event.
 use Rattle.std.proofs.Common.{arith, ◌≡◌, ◌≤◌, ℕ, Bool, true, false, cond, List, [], ◌∷◌, length, drop, map, Result, Ok, Err, IfOk, Bor, refl, ap, sym, subst, ◌∙◌}
 use Rattle.std.specs.Fn.{Mut}
 use Rattle.tpm_lockout.specs.Lockout.{LockoutState}
@@ -75,7 +75,7 @@ record_shape r is = record { sessions_many = is.sessions; objects_many = is.obje
 
 -- ---- an accepted command
 
--- Random bytes are left after the nonces that are drawn.
+-- Some random bytes are left after the new nonces.
 abbrev LeavesSome : List ℕ → Accepted → Type 0
 LeavesSome random a = 64 ≤ length (entries_rolled a.success.after a.command.entries (drop a.success.answer.drawn random)).left
 
@@ -137,7 +137,7 @@ refusal_follows : (r : Record) (counted : Counted) (history : History) → Follo
 refusal_follows r counted history follows =
     timed_follows r (lockout_counted counted r.fixed.lockout) r.fixed.time r.fixed.clock history (forgives_counted r counted follows.forgiving) follows
 
--- ---- power
+-- ---- power cycles
 
 pub cycled_follows : (r : Record) (history : History) → Follows r history → Follows (cycled r) (PowerCycled ∷ history)
 cycled_follows r history follows = record {
@@ -179,7 +179,7 @@ manufactured_follows random = record {
 
 -- ---- an event
 
--- A command that is accepted leaves some random bytes.
+-- An accepted command leaves some random bytes.
 abbrev LeavesIfAccepted : List ℕ → Result Accepted RefusedCommand → (check : ℕ) → Type 0
 LeavesIfAccepted random x check = check ≡ 0 → IfOk x (LeavesSome random)
 
@@ -193,7 +193,7 @@ answer_follows true r locality random (Ok a) history is leaves sound follows = b
     by true leaves sound = refusal_follows r memory_refusal.counted history follows
     by false leaves sound = command_follows r a locality random history is (leaves refl) sound follows
 
--- An event that is an accepted command leaves some random bytes.
+-- If the event is an accepted command, it leaves some random bytes.
 abbrev LeavesAfter : Record → PlainEvent → (check : ℕ) → Type 0
 LeavesAfter r (Given buffer locality elapsed random) check = LeavesIfAccepted random (accepted (ticked r elapsed) buffer locality random) check
 LeavesAfter r Cycled check = Unit {0}
@@ -247,7 +247,8 @@ stretch_follows can old executions new history leads follows =
 
 -- ---- a run, with its history
 
--- The events of a run are executions one after another, and were told to its closure.
+-- The events of a run are executions one after another, and a closure was called with their
+-- outcomes.
 abbrev RunLeads : {F : Type 0} → Mut F (Bor Outcome × Unit {0}) (Unit {0}) → Bool → Record → F → List PlainEvent → Record → F → Type 0
 RunLeads g can old p events new q =
     (executions : List Execution) × (map (λ (one : Execution). one.event) executions ≡ events)
@@ -270,7 +271,7 @@ run_follows g can old p events new q history run follows =
       stretch = stretch_follows can old executions new history leads follows;
     }
 
--- executions whose outcomes were told are a run of their events
+-- executions are a run of their events, if a closure was called with their outcomes
 pub told_runs : {F : Type 0} (g : Mut F (Bor Outcome × Unit {0}) (Unit {0})) (can : Bool) (old : Record) (p : F) (executions : List Execution) (new : Record) (q : F) → Leads can old executions new → Tells g p executions q → Runs g can old p (map (λ (one : Execution). one.event) executions) new q
 told_runs g can old p [] new q leads told = (leads, told)
 told_runs g can old p (one ∷ executions) new q (first, executes, leads) (outcome, next, is, called, told) =

@@ -1,4 +1,5 @@
--- The time towards forgiving the next try stays short, whatever a device accepts and refuses.
+-- The time towards forgiving the next try is less than one period, whatever a device accepts and
+-- refuses.
 use Rattle.std.proofs.Common.{arith, ◌≡◌, ◌≢◌, ℕ, Bool, true, false, List, IfOk, refl, sym, ap, subst}
 use Rattle.std.proofs.lemmas.Bool.{false≢true}
 use Rattle.tpm_lockout.specs.Lockout.{LockoutState}
@@ -25,7 +26,7 @@ use Rattle.tpm_step.specs.Potential.{IsForgiving}
 use Rattle.tpm_step.specs.Tries.{resets_tries}
 use Rattle.tpm_step.proofs.Balance.{SameTries, closed_same, refusal_forgives, same_forgives, tick_forgives}
 
--- ---- rows that leave failed tries
+-- ---- rows that keep failed tries
 
 abbrev leaves_tries : Part → Bool
 leaves_tries Lockout = false
@@ -53,7 +54,7 @@ leaving_row r code q quiet =
     ok_weaker (λ s. Touches (part_of code) r s.after) (λ s. SameTries r.fixed.lockout s.after.fixed.lockout) (row_of r code q) (row_touches r code q)
     (λ s touches. same_part (part_of code) r s.after (leaves_if code quiet) touches)
 
--- a command that is accepted and is no reset leaves failed tries
+-- an accepted command that is not a reset keeps failed tries
 pub same_done : (r : Record) (a : Accepted) (locality : ℕ) (random : List ℕ) → IsAcceptance r locality random a → resets_tries a.command.code ≡ false → SameTries r.fixed.lockout (success_step a random).after.fixed.lockout
 same_done r a locality random is quiet =
     subst (λ (s : LockoutState). SameTries r.fixed.lockout s) (sym (ap (λ (x : Record). x.fixed.lockout) (success_leaves a random)))

@@ -1,11 +1,11 @@
--- The value of a map at each handle after one was put.
+-- The value of a map at each handle after one value was set.
 use Rattle.std.proofs.Common.{◌≡◌, ◌≢◌, ap, refl}
 use Rattle.std.proofs.lemmas.Bool.{eq-eqb, ne_eqb}
 use Rattle.tpm_types.specs.Handle.{numbered}
 use Rattle.tpm_types.specs.declared.handle.Handle.{Handle}
 use Rattle.tpm_step.specs.HandleMap.{with_at}
 
--- handles of one number are one
+-- handles with equal numbers are equal
 pub same_handle : (a b : Handle) → a.number ≡ b.number → a ≡ b
 same_handle a b same = ap numbered same
 

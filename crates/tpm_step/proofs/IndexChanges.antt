@@ -1,4 +1,4 @@
--- The value that a counter has after it counts.
+-- The value of a counter after an increment.
 use Rattle.std.proofs.Common.{◌≡◌, ℕ, ◌+◌, ◌<◌, ◌^◌, Some, IfOk, refl}
 use Rattle.std.specs.Prelude.{nat_le}
 use Rattle.std.specs.Int.{w64, to_be_bytes}
@@ -14,7 +14,7 @@ use Rattle.tpm_step.proofs.Binding.{ok_bind_is, some_is}
 use Rattle.tpm_step.specs.rows.IndexChanges.{IsCounter}
 use Rattle.tpm_step.proofs.rows.IndexChanges.{writable_type}
 
--- A counter has a value that is not the largest that there is, and becomes one more than it was.
+-- A counter has a value that is not the largest possible, and its next value is one more.
 pub record CountsUp (handle : Handle) (old new : NvContents) : Type 0 where
   pub index : NvIndex
   pub found : index_at old handle ≡ Some index

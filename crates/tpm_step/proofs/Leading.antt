@@ -1,4 +1,4 @@
--- Facts of executions that lead from one history to another.
+-- Facts about executions that lead from one history to another.
 use Rattle.std.proofs.Common.{◌≡◌, ℕ, zero, suc, Bool, List, [], ◌∷◌, ◌++◌, append_assoc, Result, Ok, Err, refl, sym, ap, subst, ◌∙◌}
 use Rattle.tpm_record.specs.Record.{Record}
 use Rattle.tpm_record.specs.Tick.{ticked}
@@ -9,7 +9,7 @@ use Rattle.tpm_step.specs.declared.refused_command.RefusedCommand.{RefusedComman
 use Rattle.tpm_step.specs.Executions.{Execution, Leads, history_after, with_execution}
 use Rattle.tpm_step.specs.History.{History, recorded, with_command}
 
--- ---- the part of a history after an earlier one
+-- ---- the part of a history since an earlier one
 
 command_apart : (r : Record) (x : Result Accepted RefusedCommand) (check : ℕ) (history : History) → with_command r x check history ≡ with_command r x check [] ++ history
 command_apart r (Ok a) zero history = refl

@@ -1,4 +1,4 @@
--- The sessions of a device and those of a history stay the same as both change.
+-- The sessions of a device and those of a history stay equal when both change.
 use Rattle.std.proofs.Common.{◌≡◌, ◌≢◌, ℕ, ◌^◌, ◌<◌, ◌==◌, arith, false, List, [], length, Option, Some, None, option_map, slice_set, refl, ap, sym, subst, ◌∙◌, inl, inr}
 use Rattle.std.specs.Prelude.{option_and_then}
 use Rattle.std.proofs.lemmas.Bool.{cases_eq, or_parts}
@@ -26,25 +26,25 @@ use Rattle.tpm_step.proofs.HandleMap.{at_other, at_same}
 
 -- ---- a session and its counterpart
 
--- The device and the history have a session with the same facts, or neither has one.
+-- The device and the history have a session with the same facts, or both have none.
 abbrev Matches : Option Session → Option LiveSession → Type 0
 Matches found told = option_map session_facts found ≡ option_map facts_of told
 
--- What holds of two sessions with the same facts, and of none, holds of both.
+-- what holds of two sessions with the same facts, and of none, holds of both
 pub of_both : (P : Option Session → Option LiveSession → Type 0) → ((s : Session) (l : LiveSession) → session_facts s ≡ facts_of l → P (Some s) (Some l)) → P None None → (found : Option Session) (told : Option LiveSession) → option_map session_facts found ≡ option_map facts_of told → P found told
 of_both P some none (Some s) (Some l) same = some s l (same_Some (session_facts s) (facts_of l) same)
 of_both P some none None None same = none
 of_both P some none (Some s) None same = absurd cc
 of_both P some none None (Some l) same = absurd cc
 
--- what holds of the session that is found holds of each that is found there
+-- what holds of the found session holds of each that is found there
 pub of_one : (P : Session → Type 0) (found : Option Session) (one : Session) → found ≡ Some one → P one → (s : Session) → found ≡ Some s → P s
 of_one P found one is holds s also = subst P (same_Some one s (sym is ∙ also)) holds
 
--- ---- something else under one handle of sessions
+-- ---- another session at one handle
 
--- the device and the history match, where the same facts are found under one handle and nothing
--- changed under any other
+-- the device and the history match, if they have the same facts at one handle and nothing changed
+-- at any other
 replaced : (new old : List (Option Session)) (handle : Handle) (told : Option LiveSession) (live : LiveSessions) → Matches (session_at new handle) told → ((other : Handle) → other.number ≢ handle.number → session_at new other ≡ session_at old other) → AreLive old live → AreLive new (with_at handle told live)
 replaced new old handle told live here elsewhere are other =
     elim (cases_eq other.number handle.number) [
@@ -81,7 +81,7 @@ of_kind type.Hmac handle not = (or_parts _ _ not).0
 of_kind type.Policy handle not = (or_parts _ _ not).1
 of_kind type.Trial handle not = (or_parts _ _ not).1
 
--- no session is found under a handle of another kind
+-- a handle of another kind finds no session
 absent : (places : List (Option Session)) (handle : Handle) → is_session handle ≡ false → session_at places handle ≡ None
 unfolding session_at at_number
 absent places handle not = by (at_place places (place_of handle.number))
@@ -90,14 +90,14 @@ absent places handle not = by (at_place places (place_of handle.number))
     by None = refl
     by (Some s) = rw (of_kind s.kind handle not) refl
 
--- an entry whose handle is no session's ends no session
+-- an entry whose handle is not a session's ends no session
 pub none_ended_live : (places : List (Option Session)) (handle : Handle) (live : LiveSessions) → is_session handle ≡ false → AreLive places live → AreLive places (without_session handle live)
 none_ended_live places handle live not are =
     replaced places places handle None live (ap (option_map session_facts) (absent places handle not)) (λ other apart. refl) are
 
 -- ---- a session changes
 
--- The device's session changes as the one of the history with the same facts does.
+-- The device's session changes as the history's session with the same facts does.
 abbrev pub ChangesAs : (Session → Session) → (LiveSession → LiveSession) → Session → Type 0
 ChangesAs change retell s = (l : LiveSession) → session_facts s ≡ facts_of l → session_facts (change s) ≡ facts_of (retell l)
 
@@ -120,13 +120,13 @@ changed_live change retell keeps places handle live alike are =
     (ap (option_map session_facts) (found_changed change keeps places handle.number) ∙ changed_matches change retell (session_at places handle) (live handle) alike (are handle))
     (λ other apart. changed_others session_byte change keeps places handle.number other.number apart) are
 
--- the policy of a session that is there changes as the history tells
+-- the policy of an existing session changes as the history says
 pub policy_live : (places : List (Option Session)) (handle : Handle) (s : Session) (policy : Policy) (retell : LiveSession → LiveSession) (live : LiveSessions) → session_at places handle ≡ Some s → ChangesAs (λ s. with_policy s policy) retell s → AreLive places live → AreLive (with_session_policy places handle policy) (changed_session retell handle live)
 unfolding with_session_policy
 policy_live places handle s policy retell live is alike are =
     changed_live (λ s. with_policy s policy) retell (λ s. refl) places handle live (of_one (ChangesAs (λ s. with_policy s policy) retell) (session_at places handle) s is alike) are
 
--- the facts of a session are the same after a change that the device does not make
+-- the facts of a session stay the same after a change that the device does not make
 unchanged : (found : Option Session) → option_map session_facts found ≡ option_map session_facts (option_map (λ (s : Session). s) found)
 unchanged (Some s) = refl
 unchanged None = refl
@@ -137,7 +137,7 @@ unchanged_live retell places handle live alike are =
     (unchanged (session_at places handle) ∙ changed_matches (λ s. s) retell (session_at places handle) (live handle) alike (are handle))
     (λ other apart. refl) are
 
--- ---- where there is no session
+-- ---- without a session
 
 pub none_live : AreLive no_sessions (λ handle. None)
 unfolding session_at at_number

@@ -1,4 +1,4 @@
--- A session that lives after an event lived before it as well, or the event started it.
+-- A session that lives after an event also lived before it, or the event started it.
 use Rattle.std.proofs.Common.{◌≡◌, ◌⊎◌, ◌≤◌, ℕ, zero, suc, arith, Bool, true, false, cond, List, [], ◌∷◌, length, take, drop, map, Option, Some, None, option_map, Result, Ok, Err, slice_get, refl, ap, sym, subst, ◌∙◌, inl, inr}
 use Rattle.std.specs.Prelude.{is_some, ok_or}
 use Rattle.std.specs.List.{zip}
@@ -29,12 +29,12 @@ use Rattle.tpm_step.proofs.HandleMap.{at_other, at_same, same_handle}
 
 -- ---- one session at two times
 
--- all nonces that a session had up to a time
+-- all nonces that a session has had
 abbrev pub all_nonces : LiveSession → List (List ℕ)
 all_nonces s = s.nonce_tpm ∷ s.earlier_nonces
 
--- A session goes on: it has the same type and hash, nonces of one size, and every nonce that it
--- had.
+-- A session goes on: its type, its hash and the size of its nonces stay, and it keeps every nonce
+-- that it had.
 pub record Continues (old new : LiveSession) : Type 0 where
   pub kind : new.kind ≡ old.kind
   pub hash : new.hash ≡ old.hash
@@ -58,7 +58,7 @@ continues_then a b c first then = record {
     by (inl same) = subst (λ (nonce : List ℕ). IsAmong nonce (all_nonces c)) (sym same) then.latest
     by (inr among) = inr (then.earlier a.nonce_tpm among)
 
--- A session goes on with the same assertions, or with none any more.
+-- A session goes on with the same assertions, or without any.
 pub record Keeps (old new : LiveSession) : Type 0 where
   pub continues : Continues old new
   pub asserted : (new.assertions ≡ old.assertions) ⊎ (new.assertions ≡ [])
@@ -74,7 +74,7 @@ keeps_then a b c first then = record { continues = continues_then a b c first.co
     by (inl was) (inl same) = inl (same ∙ was)
     by (inr none) (inl same) = inr (same ∙ none)
 
--- There was a session before, and the relation holds of the two.
+-- There was a session before, and the relation holds between the two.
 abbrev pub Was : (LiveSession → LiveSession → Type 0) → Option LiveSession → LiveSession → Type 0
 Was R found new = (old : LiveSession) × (found ≡ Some old) × R old new
 
@@ -88,9 +88,9 @@ was_then : (found : Option LiveSession) (later : Option LiveSession) (new : Live
 was_then found later new back (mid, is, keeps) =
     let (old, was, before) = back mid is in (old, was, keeps_then old mid new before keeps)
 
--- ---- something else under one handle of sessions
+-- ---- another session at one handle
 
--- what is under a handle after something was put under one
+-- the session at a handle, after another one was set at this or another handle
 put_came : (P : Type 0) (handle other : Handle) (x : Option LiveSession) (live : LiveSessions) (new : LiveSession) → (other.number ≡ handle.number → x ≡ Some new → P) → (live other ≡ Some new → P) → with_at handle x live other ≡ Some new → P
 put_came P handle other x live new here elsewhere is =
     elim (cases_eq other.number handle.number) [
@@ -137,7 +137,7 @@ ends_kept live (g ∷ granted) handle new is =
     let first = entry_ended live g.0 g.1 in
     was_then (live handle) (first handle) new (entry_end_kept live g.0 g.1 handle) (ends_kept first granted handle new is)
 
--- a session with a new nonce, of which no byte is missing, goes on
+-- a session goes on with a new nonce, if no byte of the nonce is missing
 renews : (s : LiveSession) (size : ℕ) (left : List ℕ) → size ≡ length s.nonce_tpm → size ≤ length left → Keeps s (with_nonce (take size left) s)
 renews s size left is enough = record {
   continues = record {
@@ -165,7 +165,7 @@ rolled_less live (e ∷ es) left =
     let first = entry_rolled live e left in
     omega (arith, rolled_less first.sessions es first.left, length-drop (nonce_size (live e.session)) left)
 
--- Where some bytes are left, there were enough for the first nonce.
+-- If some bytes are left, there were enough for the first nonce.
 enough_first : (live : LiveSessions) (e : Entry) (es : List Entry) (left : List ℕ) → 1 ≤ length (entries_rolled live (e ∷ es) left).left → nonce_size (live e.session) ≤ length left
 enough_first live e es left some =
     let first = entry_rolled live e left in
@@ -181,7 +181,7 @@ rolls_kept live (e ∷ es) left handle new some is =
 
 -- ---- an entry that names the session
 
--- A session had a nonce before a command that is among its earlier ones after it.
+-- The nonce that a session had before a command is among its earlier ones after it.
 abbrev Renewed : Option LiveSession → LiveSession → Type 0
 Renewed found new = (old : LiveSession) × (found ≡ Some old) × Keeps old new × IsAmong old.nonce_tpm new.earlier_nonces
 
@@ -236,8 +236,8 @@ module _ (c : AcceptedCommand) (history : History) (some : 1 ≤ length (rolled_
 
 -- ---- what a row does
 
--- How a session came to be what it is after a row: it started there, without assertions; or it was
--- there before; or the command asserted something on it.
+-- The origin of the session at a handle after a row: it started there, without assertions; or it
+-- was there before; or the command asserted something on it.
 pub data Came (code : CommandCode) (c : AcceptedCommand) (history : History) (found : Option LiveSession) (handle : Handle) (new : LiveSession) : Type 0 where
   Begun : starts_under code c.answer.handle handle ≡ true → new.assertions ≡ [] → Came code c history found handle new
   Stayed : Was Keeps found new → Came code c history found handle new

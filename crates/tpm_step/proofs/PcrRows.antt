@@ -1,4 +1,4 @@
--- The rows do with PCRs what a history tells of their commands.
+-- The rows change PCRs as a history says of their commands.
 use Rattle.std.proofs.Common.{arith, ◌≡◌, ℕ, ◌+◌, ◌-◌, ◌<◌, ◌≤◌, ◌++◌, Bool, true, false, cond, List, [], ◌∷◌, length, drop, get_or, fold, Some, None, Result, Ok, Err, IfOk, refl, ap, sym, ◌∙◌, inl, inr, ◌⊎◌}
 use Rattle.std.specs.Prelude.{◌==◌, nat_lt, replicate, slice_index_or}
 use Rattle.std.proofs.lemmas.Bool.{cases_lt, le-ltb, lt-ltb}
@@ -46,8 +46,8 @@ use Rattle.tpm_step.specs.DevicePcrs.{AreSaved, IsSavedAs}
 use Rattle.tpm_step.specs.Pcrs.{count_in, extended_by_all, if_pcr, measured_by, names_pcr, pcr_by, resumed, updates_by}
 use Rattle.tpm_pcr.proofs.OneValue.{event_digest, extensions_at, extensions_count, zeros_at}
 
--- A success makes of the values of PCRs, and of the count of updates, what a history tells, where
--- these values are saved.
+-- A success changes the values of PCRs, and the count of updates, as a history says, given these
+-- saved values.
 pub record Measures (code : CommandCode) (q : Request) (saved : PcrValues) (old new : BankValues) : Type 0 where
   pub values : (bank : HashAlg) (n : ℕ) → n < 24 → pcr_value new bank n ≡ pcr_by code q bank n (saved bank n) (pcr_value old bank n)
   pub updates : new.update_count ≡ updates_by code q old.update_count
@@ -57,12 +57,12 @@ SoMeasures code q saved r s = Measures code q saved r.fixed.banks s.after.fixed.
 
 -- ---- the PCR that a handle names
 
--- A change of the PCR that a handle names, if it names one, makes these values and this count.
+-- If the handle names a PCR, a change of that PCR has these values and this count.
 record IsChanged (handle : Handle) (new : HashAlg → ℕ → List ℕ) (count : ℕ) (old banks : BankValues) : Type 0 where
   values : (bank : HashAlg) (n : ℕ) → n < 24 → pcr_value banks bank n ≡ cond (handle.number == n) (new bank n) (pcr_value old bank n)
   updates : banks.update_count ≡ old.update_count + cond (nat_lt handle.number 24) count 0
 
--- A change of the PCR of this number makes these values and this count.
+-- A change of the PCR with this number has these values and this count.
 record IsMade (pcr : ℕ) (new : HashAlg → ℕ → List ℕ) (count : ℕ) (old banks : BankValues) : Type 0 where
   values : (bank : HashAlg) (n : ℕ) → n < 24 → pcr_value banks bank n ≡ cond (pcr == n) (new bank n) (pcr_value old bank n)
   updates : banks.update_count ≡ old.update_count + count
@@ -70,7 +70,7 @@ record IsMade (pcr : ℕ) (new : HashAlg → ℕ → List ℕ) (count : ℕ) (ol
 plus_none : (n : ℕ) → n ≡ n + 0
 plus_none n = omega arith
 
--- a value stays where no PCR is named
+-- a value stays if no PCR is named
 other_pcr : (number n : ℕ) (x old : List ℕ) → n < 24 → nat_lt number 24 ≡ false → old ≡ cond (number == n) x old
 other_pcr number n x old below e = grind (arith, nat_tests)
 
@@ -115,7 +115,7 @@ counts_first (h ∷ handles) handle count e = sym (ap (λ (x : Handle). cond (na
 
 -- ---- rows that change a PCR
 
--- The change of a request's PCR makes what a history tells of its command.
+-- The change of a request's PCR is what a history says of its command.
 abbrev Tells : CommandCode → Request → PcrValues → BankValues → (HashAlg → ℕ → List ℕ) → ℕ → Type 0
 Tells code q saved old new count =
     ((bank : HashAlg) (n : ℕ) → cond (names_pcr q.handles n) (new bank n) (pcr_value old bank n) ≡ pcr_by code q bank n (saved bank n) (pcr_value old bank n))
@@ -249,7 +249,7 @@ touched_banks Cleared old new leaves touches = absurd cc
 touched_banks AuthValues old new leaves touches = ap (λ (r : Record). r.fixed.banks) touches.0
 touched_banks _ old new leaves touches = ap (λ (r : Record). r.fixed.banks) touches
 
--- A history tells no change of PCRs of this command.
+-- A history has no change of PCRs for this command.
 abbrev TellsNothing : CommandCode → Request → Type 0
 TellsNothing code q =
     ((bank : HashAlg) (n : ℕ) (saved old : List ℕ) → old ≡ pcr_by code q bank n saved old)

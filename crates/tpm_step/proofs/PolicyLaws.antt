@@ -16,7 +16,7 @@ use Rattle.tpm_step.specs.QuietPcrs.{HoldsOf, is_pcr}
 use Rattle.tpm_step.specs.Sessions.{LiveSession, policy_in}
 use Rattle.tpm_step.proofs.QuietValues.{quiet_since}
 
--- the policy of a session is the one that its assertions make
+-- the policy of a session is the one that its assertions determine
 its_assertions : (s : LiveSession) (found : Option EntityParts) (assertions : List Assertion) → s.kind ≡ type.Policy → s.assertions ≡ assertions → IsPolicyOf s found → HasPolicyOf s.hash assertions found
 its_assertions s None assertions kind are is = is
 its_assertions s (Some entity) assertions kind are is =

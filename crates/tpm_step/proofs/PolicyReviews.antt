@@ -42,7 +42,7 @@ at_past [] c before meet = meet.0
 at_past (Done other ∷ after) c before meet = at_past after c before meet.1
 at_past (PowerCycled ∷ after) c before meet = at_past after c before meet
 
--- what follows from the policies that a command meets holds of each command
+-- what follows from meeting its policies holds of each command
 pub of_each : (Holds : History → AcceptedCommand → Type 0) → ((history : History) (c : AcceptedCommand) → UsesMeetPolicies history c → Holds history c) → OfEachAccepted Holds
 of_each Holds so can random executions new leads after c before is =
     so before c (at_past after c before (subst AllMeetPolicies is (policies_manufactured can random executions new leads)))
@@ -74,7 +74,7 @@ module _ (history : History) (c : AcceptedCommand) (place : ℕ) (handle : Handl
       let (e, given, ground, meets) = meet place handle used in
       by_ground e given ground meets
 
--- what follows of a use from the policy that it meets
+-- what follows from the policy that a use meets
 follows_so : (history : History) (c : AcceptedCommand) (place : ℕ) (hash : HashAlg) (policy : PolicyExpression) (P Q : PolicyUse → Type 0) → ((u : PolicyUse) → u.history ≡ history → u.command ≡ c → u.place ≡ place → u.session.hash ≡ hash → P u → Q u) → IsUsedBySession history c place hash policy P → IsUsedBySession history c place hash policy Q
 follows_so history c place hash policy P Q so by = record {
   handle = by.handle;

@@ -1,5 +1,5 @@
--- Each use by a policy session meets every policy that has the authPolicy of the entity, or the
--- hash is broken.
+-- Each use by a policy session meets every policy that has the entity's authPolicy, or the hash
+-- is broken.
 use Rattle.std.proofs.Common.{◌≡◌, ◌⊎◌, ℕ, Bool, true, false, cond, List, [], ◌∷◌, Option, Some, None, IfSome, IfOk, refl, ap, sym, subst, ◌∙◌, inl, inr}
 use Rattle.std.proofs.lemmas.Option.{same_Some}
 use Rattle.std.specs.Int.{bit_at, w8, w32}
@@ -90,10 +90,10 @@ all_at P one [] all among = absurd among
 all_at P one (other ∷ assertions) all (inl same) = subst P (sym same) all.0
 all_at P one (other ∷ assertions) all (inr among) = all_at P one assertions all.1 among
 
--- ---- which command asserts what
+-- ---- which command makes which assertion
 
--- The command is TPM2_PolicySecret or TPM2_PolicyNV, and the assertion has the Name of the handle
--- that it names.
+-- The command is TPM2_PolicySecret or TPM2_PolicyNV, and the assertion has the Name of its
+-- handle's entity.
 abbrev IsOf : Code → AcceptedCommand → Assertion → Type 0
 IsOf code c (assertion.Secret parts) = (code ≡ command.PolicySecret) × (name_in c.views 0 ≡ parts.name)
 IsOf code c (assertion.Nv parts) = (code ≡ command.PolicyNv) × (name_in c.views 1 ≡ parts.name)
@@ -129,7 +129,7 @@ module _ (u : PolicyUse) (used : used_in u.command.command u.place ≡ Some u.ha
   policy_is : policy_in u.session ≡ evaluated hash false assertions
   policy_is = ap (λ (k : SessionType). evaluated hash (is_trial k) assertions) kind
 
-  -- the authorization value in the HMAC key, by what the policy demands
+  -- the authorization value in the HMAC key, by the policy's demand
   abbrev value_by : SessionType → Demand → List ℕ
   value_by k d = cond (has_value_in_key k (is_bound_to u.session (name_in u.command.views u.place) (auth_of u.history u.handle)) d) (auth_of u.history u.handle) []
 
@@ -160,7 +160,7 @@ module _ (u : PolicyUse) (used : used_in u.command.command u.place ≡ Some u.ha
       }
   secret_shown name reference one says origin = absurd says
 
-  -- an assertion of a policy that the session asserted is met
+  -- if a session asserted a policy's assertion, that assertion is met
   met_by : (written : PolicyAssertion) (one : Assertion) → IsAmong one assertions → Says one written → IsMetBy u written
   met_by (PolicyPcr selection digest) (assertion.Pcr parts) among says =
       let holds = meets.pcrs (any_pcr parts assertions among) in

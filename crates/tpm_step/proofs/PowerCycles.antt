@@ -1,4 +1,4 @@
--- A power cycle is an execution of its event, and executions follow one another.
+-- A power cycle is an execution of its event, and executions come one after another.
 use Rattle.std.proofs.Common.{arith, ◌≡◌, ◌≢◌, ℕ, zero, suc, Bool, false, List, [], ◌∷◌, ◌++◌, length, refl, subst}
 use Rattle.std.proofs.lemmas.Bool.{false≢true}
 use Rattle.std.proofs.lemmas.List.{length-map, length-replicate}
@@ -86,7 +86,7 @@ leads_on can old [] mid then new leads on = subst (λ (r : Record). Leads can r 
 leads_on can old (one ∷ first) mid then new leads on =
     (leads.0, leads.1, leads_on can one.seen.after first mid then new leads.2 on)
 
--- an execution where no memory can be refused is one where it may be
+-- an execution in which no memory can be refused is also one in which it can
 executes_too : (can : Bool) (old : Record) (event : PlainEvent) (x : Stepped) → Executes false old event x → Executes can old event x
 executes_too can old event x executes = record {
   happens = executes.happens;

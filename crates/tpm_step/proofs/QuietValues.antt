@@ -1,4 +1,4 @@
--- Quiet events change no PCR, and so what was asserted of PCRs holds after them.
+-- Quiet events change no PCR, and so what was asserted of PCRs still holds after them.
 use Rattle.std.proofs.Common.{◌≡◌, ◌⊎◌, ℕ, ◌<◌, arith, Bool, true, false, cond, List, [], ◌∷◌, ◌++◌, Result, Ok, Err, refl, ap, sym, ◌∙◌, inl, inr}
 use Rattle.std.specs.Prelude.{◌==◌, nat_lt}
 use Rattle.std.specs.List.{AllByRecursion}
@@ -21,7 +21,7 @@ use Rattle.tpm_step.proofs.Digests.{AgreeBelow, digests_agree}
 
 -- ---- a command that writes nothing
 
--- where a command writes no value, it names no PCR, or writes nothing to it
+-- if a command writes no value, it names no PCR or writes nothing to it
 unwritten : (handles : List Handle) (count pcr : ℕ) → pcr < 24 → if_pcr handles count ≡ 0 → (names_pcr handles pcr ≡ false) ⊎ (count ≡ 0)
 unwritten [] count pcr below is = inl refl
 unwritten (handle ∷ handles) count pcr below is = by (nat_lt handle.number 24) refl is
@@ -42,7 +42,7 @@ extended_none bank (Ok []) old is = refl
 extended_none bank (Ok (digest ∷ digests)) old is = absurd (omega (arith, is))
 extended_none bank (Err e) old is = refl
 
--- where a command would write two values, and counts none, each value stays
+-- if a command would write two values, and counts none, each value stays
 never_two : (handles : List Handle) (pcr : ℕ) (new old : List ℕ) → pcr < 24 → if_pcr handles 2 ≡ 0 → cond (names_pcr handles pcr) new old ≡ old
 never_two handles pcr new old below is =
     elim (unwritten handles 2 pcr below is) [

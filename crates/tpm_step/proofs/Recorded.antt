@@ -1,4 +1,4 @@
--- What holds of each acceptance holds of the command that is recorded.
+-- What holds of each acceptance holds of the recorded command.
 use Rattle.std.proofs.Common.{arith, ◌≡◌, ℕ, zero, suc, List, ◌∷◌, length, Result, Ok, Err, IfOk, ap, subst}
 use Rattle.tpm_record.specs.Record.{Record}
 use Rattle.tpm_record.specs.Tick.{ticked}

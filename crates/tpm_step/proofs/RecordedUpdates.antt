@@ -1,5 +1,5 @@
--- The update counter that a policy session records holds by the history: it is not above that of
--- the history, and where the two are the same, what is asserted of PCRs holds.
+-- The update counter that a policy session recorded is right by the history. It is not above that
+-- of the history, and if the two are equal, what is asserted of PCRs holds.
 use Rattle.tpm_types.specs.YesNo.{yes_no_at}
 use Rattle.std.proofs.Common.{◌≡◌, ◌≢◌, ◌⊎◌, ℕ, ◌+◌, ◌≤◌, arith, Bool, true, false, List, [], ◌∷◌, ◌++◌, append_assoc, length, Option, Some, None, option_map, Result, Ok, Err, IfOk, refl, ap, sym, subst, ◌∙◌, inl, inr}
 use Rattle.std.specs.Prelude.{not, ◌&&◌, ◌||◌}
@@ -53,9 +53,9 @@ use Rattle.tpm_step.proofs.QuietValues.{all_hold_on}
 use Rattle.tpm_step.proofs.UseGrounds.{recorded_is}
 use Rattle.tpm_step.proofs.LivingOn.{Asserted, Begun, Came, Keeps, Stayed, entries_kept, row_came}
 
--- ---- a TPM2_PolicyPCR, where PCRs were asserted before
+-- ---- a TPM2_PolicyPCR after PCRs were asserted
 
--- A session that is no trial one and records a counter records that of the device.
+-- If a session is not a trial session and recorded a counter, that is the device's.
 abbrev Agrees : Record → Request → Type 0
 Agrees r q =
     (handle : Handle) (s : Session) → first_handle q.handles ≡ Ok handle → session_at r.sessions handle ≡ Some s
@@ -89,7 +89,7 @@ row_agrees r q =
 
 -- ---- what an assertion does to the recorded counter
 
--- What is read and asserted is no TPM2_PolicyPCR.
+-- The assertion that was read is not a TPM2_PolicyPCR.
 abbrev IsOther : Result Assertion Refused → Type 0
 IsOther x = IfOk x (λ assertion. is_pcr assertion ≡ false)
 
@@ -127,8 +127,8 @@ count_stays hash trial (Locality localities) p is = refl
 count_stays hash trial (Secret secret) p is = refl
 count_stays hash trial (Nv nv) p is = refl
 
--- Two sessions record the same counter, the second asserts PCRs if the first does, and it asserts
--- the same of them.
+-- Two sessions recorded the same counter, both or neither assert PCRs, and they assert the same
+-- of them.
 record SameUpdates (old new : LiveSession) : Type 0 where
   count : (policy_in new).update_count ≡ (policy_in old).update_count
   asserts : asserts_pcrs new ≡ asserts_pcrs old
@@ -141,7 +141,7 @@ other_holds : (history : History) (hash : HashAlg) (assertion : Assertion) → i
 other_holds history hash (Pcr parts) is = absurd cc
 other_holds history hash _ is = tt
 
--- where no PCRs are asserted, what is asserted of them holds
+-- if no PCRs are asserted, what is asserted of them holds
 none_hold : (history : History) (hash : HashAlg) (assertions : List Assertion) → list_any is_pcr assertions ≡ false → AllByRecursion (HoldsOf history hash) assertions
 none_hold history hash [] none = tt
 none_hold history hash (assertion ∷ assertions) none = let parts = or_parts _ _ none in (other_holds history hash assertion parts.0, none_hold history hash assertions parts.1)
@@ -158,7 +158,7 @@ other_same (Ok assertion) s other = record {
     by true is = absurd cc
 other_same (Err e) s other = same_updates s
 
--- a session of one type and hash with the same assertions records the same
+-- a session with the same type, hash and assertions records the same
 kept_updates : (old new : LiveSession) → new.hash ≡ old.hash → new.kind ≡ old.kind → new.assertions ≡ old.assertions → SameUpdates old new
 kept_updates old new hash kind assertions = record {
   count = ap (λ (h : HashAlg). (evaluated h (is_trial new.kind) new.assertions).update_count) hash
@@ -194,7 +194,7 @@ one_more handle event history has quiet since = record {
 
 -- ---- an accepted command
 
--- what holds of PCRs for a session holds for one that asserts the same of them
+-- what holds of PCRs for a session holds for another that asserts the same of them
 holds_as : {history : History} (handle : Handle) (old new : LiveSession) → SameUpdates old new → HoldsPcrs handle history old → HoldsPcrs handle history new
 holds_as {history} handle old new same holds = record { quiet = holds.quiet; hold = same.holds history holds.hold }
 
@@ -205,7 +205,7 @@ module _ (r : Record) (a : Accepted) (locality : ℕ) (random : List ℕ) (histo
   abbrev c : AcceptedCommand
   c = command_of r a
 
-  -- a startup comes to a device without a session
+  -- a device has no session at a startup
   no_startup : (handle : Handle) (s : LiveSession) → sessions_of history handle ≡ Some s → is_startup c.command.code ≡ false
   no_startup handle s lives = by c.command.code is.due
     where
@@ -224,7 +224,7 @@ module _ (r : Record) (a : Accepted) (locality : ℕ) (random : List ℕ) (histo
     hold = all_hold_on (Done c) history s.hash s.assertions quiet holds.hold;
   }
 
-  -- a counter that a session recorded before is right after a command
+  -- a counter that a session recorded before is still right after a command
   stays_recorded : (handle : Handle) (old new : LiveSession) → sessions_of history handle ≡ Some old → has_pcrs (Done c ∷ history) handle ≡ true → SameUpdates old new → RecordsUpdates handle history old → RecordsUpdates handle (Done c ∷ history) new
   stays_recorded handle old new lived now same records =
       let plain : is_startup c.command.code ≡ false = no_startup handle old lived in
@@ -243,7 +243,7 @@ module _ (r : Record) (a : Accepted) (locality : ℕ) (random : List ℕ) (histo
   same_request : a.command.handles ≡ a.request.handles
   same_request = sym (ap (λ (q : Request). q.handles) is.requested)
 
-  -- the device's session is no trial one, and records the counter that the history tells
+  -- the device's session is not a trial session, and records the counter of the history
   agrees_told : (code : Code) → a.command.code ≡ code → is_policy_pcr code ≡ true → (handle : Handle) (old : LiveSession) (count : ℕ) → first_handle a.request.handles ≡ Ok handle → sessions_of history handle ≡ Some old → old.kind ≡ type.Policy → (policy_in old).update_count ≡ Some count → count ≡ updates_of history
   agrees_told command.PolicyPcr named one handle old count first lived kind recorded = by (session_at r.sessions handle) refl (has.live handle)
     where
@@ -268,7 +268,7 @@ module _ (r : Record) (a : Accepted) (locality : ℕ) (random : List ℕ) (histo
     quiet_pcr : IsQuiet (Done c)
     quiet_pcr = (ap is_startup code, ap (λ (x : Code). writes x c.request) code)
 
-    -- a first TPM2_PolicyPCR begins a quiet time, and at a later one what is asserted of PCRs holds
+    -- a first TPM2_PolicyPCR begins a quiet time; at a later one, what is asserted of PCRs holds
     holds_first : (asserts : Bool) → asserts_pcrs old ≡ asserts → AreQuietSince handle (Done c ∷ history) × AllByRecursion (HoldsOf history old.hash) old.assertions
     holds_first false asserts = (
       record {
@@ -305,7 +305,7 @@ module _ (r : Record) (a : Accepted) (locality : ℕ) (random : List ℕ) (histo
 
   -- ---- every command
 
-  -- a session after the row, with an assertion of PCRs, records a counter that holds
+  -- a session that asserts PCRs after the row records a counter that is right
   module _ (handle : Handle) (mid : LiveSession) (kind : mid.kind ≡ type.Policy) (asserts_some : asserts_pcrs mid ≡ true) (now : has_pcrs (Done c ∷ history) handle ≡ true) where
     nothing_asserted : mid.assertions ≡ [] → ⊥
     nothing_asserted none = false≢true (sym (ap (λ (l : List Assertion). list_any is_pcr l) none) ∙ asserts_some)
@@ -315,7 +315,7 @@ module _ (r : Record) (a : Accepted) (locality : ℕ) (random : List ℕ) (histo
         stays_recorded handle old mid lived now same
         (before handle old lived (sym same_kind ∙ kind) (sym same.asserts ∙ asserts_some))
 
-    -- a session that goes on with its assertions, or without them, records a counter that holds
+    -- a session that goes on, with its assertions or without, records a counter that is right
     kept_recorded : (old : LiveSession) → sessions_of history handle ≡ Some old → Keeps old mid → RecordsUpdates handle (Done c ∷ history) mid
     kept_recorded old lived keeps = by keeps.asserted
       where
@@ -367,7 +367,7 @@ module _ (r : Record) (a : Accepted) (locality : ℕ) (random : List ℕ) (histo
           (row_came c history (sessions_of history) handle mid c.command.code was) in
           record { count = records.count; recorded = updates.count ∙ records.recorded; within = records.within; hold = λ equal. holds_as handle mid new updates (records.hold equal) }
 
--- ---- where no session lives
+-- ---- without a session
 
 pub no_updates : (history : History) → ((handle : Handle) → sessions_of history handle ≡ None) → AllRecordUpdates history
 no_updates history none handle s lives kind asserts = absurd (let gone = none handle in let never : ⊥ = cc in never)

@@ -41,8 +41,8 @@ done_continues c history handle new shows unstarted lives =
     let (old, lived, continues) = came_continues c history handle mid unstarted (row_came c history (sessions_of history) handle mid c.command.code was) in
     (old, lived, continues_then old mid new continues keeps.continues)
 
--- a command whose entry names the session renews its nonce: the nonce before is an earlier one
--- after it
+-- a command whose entry names the session renews its nonce, and the old nonce becomes an earlier
+-- one
 done_renews : (c : AcceptedCommand) (history : History) (place : ℕ) (e : Entry) (old new : LiveSession) → ShowsHmacs history c → starts (Done c) e.session ≡ false → slice_get c.command.entries place ≡ Some e → sessions_of history e.session ≡ Some old → sessions_of (Done c ∷ history) e.session ≡ Some new → Continues old new × IsAmong old.nonce_tpm new.earlier_nonces
 done_renews c history place e old new shows unstarted entry before after =
     let (mid, was, keeps, among) = entries_renewed c history (some_left history c shows) e.session new after place e entry refl in
@@ -91,8 +91,8 @@ both_parts a b c d same is = (
 spread : (front decrypt encrypt attributes : List ℕ) → front ++ decrypt ++ encrypt ++ attributes ≡ front ++ (decrypt ++ (encrypt ++ attributes))
 spread front decrypt encrypt attributes = append_assoc (front ++ decrypt) encrypt attributes ∙ append_assoc front decrypt (encrypt ++ attributes)
 
--- two texts with one hash size, one nonceCaller and one nonce size are the same only with the same
--- nonceTPM
+-- if two texts have one hash size, one nonceCaller and one nonce size, they are equal only if
+-- their nonceTPMs are
 nonce_alone : (hash other caller nonce again : List ℕ) (d e a d2 e2 a2 : List ℕ) → length hash ≡ length other → length nonce ≡ length again → hash ++ caller ++ nonce ++ d ++ e ++ a ≡ other ++ caller ++ again ++ d2 ++ e2 ++ a2 → nonce ≡ again
 nonce_alone hash other caller nonce again d e a d2 e2 a2 hashes nonces is =
     let heads : length (hash ++ caller) ≡ length (other ++ caller) = omega (arith, length-append hash caller, length-append other caller, hashes) in
@@ -122,7 +122,7 @@ shows_before [] history shows = shows
 shows_before (Done c ∷ events) history shows = shows_before events history shows.1
 shows_before (PowerCycled ∷ events) history shows = shows_before events history shows
 
--- an HMAC that is not empty is that of its key and text
+-- an HMAC that is not empty is the HMAC of its key and text
 hmac_is : (history : History) (c : AcceptedCommand) (place : ℕ) (e : Entry) (s : LiveSession) → e.hmac ≢ [] → HasHmac history c place e s → e.hmac ≡ hmac_in history c place e s
 hmac_is history c place e s some (inl is) = is
 hmac_is history c place e s some (inr empty) = absurd (some empty.1)
@@ -139,8 +139,8 @@ module _ (buffer : List ℕ) (before : History) (first : AcceptedCommand) (betwe
       let same : second.command ≡ first.command = ap (λ (x : Whole × List ℕ). x.0) (ok_is {E = Rc} (second.command, []) (first.command, []) (sym replay.spelled_second ∙ replay.spelled_first)) in
       ap (λ (c : Whole). slice_get c.entries place) same ∙ replay.entry
 
-  -- The session at the second event has one type, hash and size of nonces with the first, and the
-  -- nonce of the first event among its earlier ones.
+  -- At the second event the session has the same type, hash and size of nonces as at the first,
+  -- and the nonce of the first event is among its earlier ones.
   abbrev IsLater : LiveSession → Type 0
   IsLater t = (sessions_of after e.session ≡ Some t) × Continues s t × IsAmong s.nonce_tpm t.earlier_nonces
 

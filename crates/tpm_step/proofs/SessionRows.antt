@@ -1,4 +1,4 @@
--- A row does with sessions what a history says.
+-- A row changes sessions as a history says.
 use Rattle.std.proofs.Common.{◌≡◌, ℕ, Bool, true, false, cond, List, [], ◌∷◌, length, take, map, Option, Some, None, option_map, Result, Ok, IfOk, slice_set, refl, ap, sym, subst, ◌∙◌}
 use Rattle.std.specs.Prelude.{◌==◌, not, ok_or}
 use Rattle.tpm_bytes.specs.Reading.{refused_if}
@@ -63,8 +63,7 @@ unfolding start_key session_key
 start_told p None nonce = refl
 start_told p (Some binding) nonce = refl
 
--- The sessions after a success are those that a history tells of the command, if that is its
--- answer.
+-- If the command has this answer, the sessions after its success are those of its history.
 abbrev pub IsTold : AcceptedCommand → History → LiveSessions → CommandCode → Success → Type 0
 IsTold c history live code s = c.answer ≡ s.answer → AreLive s.after.sessions (sessions_by code c history live)
 

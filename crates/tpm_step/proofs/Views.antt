@@ -1,4 +1,4 @@
--- A view tells what the record has, and the views of an accepted command are those before the
+-- A view shows what the record has, and the views of an accepted command are those before the
 -- command.
 use Rattle.std.proofs.Common.{◌≡◌, ℕ, List, ◌∷◌, map, refl}
 use Rattle.tpm_types.specs.declared.handle.Handle.{Handle}

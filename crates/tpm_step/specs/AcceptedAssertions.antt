@@ -1,5 +1,5 @@
--- What the assertions of a policy session found as they were accepted. TPM 2.0 Library, Part 3,
--- section 23, where the section of each assertion says what it is refused for.
+-- What an assertion found in its policy session when it was accepted. TPM 2.0 Library, Part 3,
+-- section 23, where the section of each assertion says why it is refused.
 use Rattle.std.specs.Prelude.{◌≡◌, ◌<◌, ◌^◌, ℕ, true, false, IfSome, List, [], ◌∷◌, Some, Ok}
 use Rattle.tpm_mac.specs.declared.algorithm.HashAlg.{HashAlg}
 use Rattle.tpm_policy.specs.Assertion as assertion
@@ -12,9 +12,10 @@ use Rattle.tpm_types.specs.declared.session_type.SessionType.TheVariants as type
 use Rattle.tpm_step.specs.History.{AcceptedCommand, Done, History, PowerCycled}
 use Rattle.tpm_step.specs.Sessions.{LiveSession, sessions_of}
 
--- What an accepted assertion found of the policy before it. TPM2_PolicyOR found the digest among
--- its digests; of a command code, a cpHash and a written value the same was recorded, or nothing
--- was; a command code has 32 bits; and TPM2_PolicyNV found bytes to compare.
+-- What an accepted assertion found in the policy before it. TPM2_PolicyOR found the policy's
+-- digest among its digests. A command code, a cpHash and a written value were recorded before
+-- with the same value, or not at all. A command code has 32 bits. TPM2_PolicyNV found bytes to
+-- compare.
 abbrev pub Finds : Assertion → Policy → Type 0
 Finds (assertion.Or digests) p = IsAmong p.digest digests
 Finds (assertion.CommandCode number) p =
@@ -27,20 +28,20 @@ Finds (assertion.Secret parts) p =
 Finds (assertion.Nv parts) p = (bytes : List ℕ) × (parts.compared ≡ Ok bytes)
 Finds _ p = Unit {0}
 
--- Each of these assertions, the latest first, found what it asserts, and its numbers have their
--- widths.
+-- Each of these assertions, the latest first, found what it needs, and its numbers fit their
+-- types.
 abbrev pub AllFind : HashAlg → List Assertion → Type 0
 AllFind hash [] = Unit {0}
 AllFind hash (latest ∷ earlier) =
     (Finds latest (evaluated hash false earlier) × HasWidths hash latest) × AllFind hash earlier
 
--- The assertions of each policy session of a history found what they assert.
+-- The assertions of each policy session of a history found what they need.
 abbrev pub SessionsFind : History → Type 0
 SessionsFind history =
     (handle : Handle) (s : LiveSession) → sessions_of history handle ≡ Some s
     → s.kind ≡ type.Policy → AllFind s.hash s.assertions
 
--- The request of each accepted command of a history has the handles that were sent.
+-- The request of each accepted command of a history has the handles that the command had.
 abbrev pub AllAskForTheirHandles : History → Type 0
 AllAskForTheirHandles [] = Unit {0}
 AllAskForTheirHandles (Done c ∷ history) =

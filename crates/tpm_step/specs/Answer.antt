@@ -18,18 +18,17 @@ use Rattle.tpm_types.specs.declared.check.Check.{Check}
 use Rattle.tpm_types.specs.declared.check.Check.TheVariants as check
 use Rattle.tpm_types.specs.declared.refused.Refused.{Refused}
 
--- a response: its tag, its size, its code, and what follows this header
+-- a response: its tag, its size, its code, and the body after this header
 abbrev pub framed : (tag code : ℕ) → List ℕ → List ℕ
 framed tag code body =
     to_be_bytes w16 tag ++ to_be_bytes w32 (10 + length body) ++ to_be_bytes w32 code ++ body
 
--- the tag of a refusal, which has no sessions; where the command's tag was bad it is 00C4
--- (TPM_ST_RSP_COMMAND)
+-- the tag of a refusal: no sessions, or 00C4 (TPM_ST_RSP_COMMAND) if the command's tag was bad
 abbrev pub refusal_tag : Check → ℕ
 refusal_tag check.Tag = 0xc4
 refusal_tag _ = 0x8001
 
--- the response of a refusal, which has ten bytes
+-- the response of a refusal, ten bytes
 abbrev pub refusal_text : Refused → List ℕ
 refusal_text e = framed (refusal_tag e.check) (rc_number e.rc) []
 
@@ -37,9 +36,9 @@ abbrev pub handle_answer : Option Handle → List ℕ
 handle_answer None = []
 handle_answer (Some handle) = handle_text handle
 
--- the response of a success: the handle of what was made, if there is one, and the parameters; with
--- sessions the size of the parameters stands before them, and the answers to the command's entries
--- after them
+-- the response of a success: the handle of what was made, if there is one, and the parameters. If
+-- the command has sessions, the size of the parameters comes before them, and the answers to the
+-- entries come after them
 unfoldable pub success_text : List Entry → Option Handle → (answer area : List ℕ) → List ℕ
 success_text [] handle answer area = framed 0x8001 0 (handle_answer handle ++ answer)
 success_text (entry ∷ entries) handle answer area =
@@ -50,7 +49,7 @@ pub record Answered : Type 0 where
   pub response : List ℕ
   pub after : Record
 
--- an answer whose parameters are written as one text
+-- an answer with its parameters encoded
 pub record Written : Type 0 where
   pub handle : Option Handle
   pub parameters : List ℕ
@@ -63,9 +62,9 @@ written_of a = record { handle = a.handle; parameters = answer_body_text a.body;
 abbrev pub text_of : Answer → Written
 text_of a = record { handle = a.handle; parameters = a.parameters; drawn = a.drawn }
 
--- the answer to a command that had its effect, and each of whose entries authorized this handle or
--- none: new nonces are drawn after the command's own random bytes, then its parameters are
--- encrypted where that is asked for, then each entry is answered, and then policies return to their
+-- the answer to a command after its effect, with the handle that each entry authorized, if any.
+-- First new nonces are drawn, after the command's own random bytes. Then the parameters are
+-- encrypted if an entry asks for that, and each entry is answered. Last, policies return to their
 -- start and sessions end
 unfoldable pub answer_to : Whole → List (Option Grant) → Written → Record → List ℕ → Answered
 answer_to c grants a effect random =

@@ -1,4 +1,4 @@
--- Which accepted command made an assertion of a policy session, and on what ground. TPM 2.0
+-- The accepted command that made an assertion of a policy session, and its ground. TPM 2.0
 -- Library, Part 1, section 19.7 (enhanced authorization), and Part 3, sections 23.4
 -- (TPM2_PolicySecret) and 23.9 (TPM2_PolicyNV).
 use Rattle.std.specs.Prelude.{◌≡◌, ℕ, List, [], ◌∷◌, ◌++◌, Some, Ok, slice_get}
@@ -19,20 +19,20 @@ use Rattle.tpm_step.specs.View.{name_in}
 
 -- ---- the assertions of a session
 
--- An assertion is among those of the session of a handle, after a history.
+-- After this history, the session at this handle has this assertion.
 abbrev pub Stands : Assertion → Handle → History → Type 0
 Stands one handle history =
     (s : LiveSession) × (sessions_of history handle ≡ Some s) × IsAmong one s.assertions
 
--- An assertion is among those of a session after each of these events too, the latest first. None
--- of them starts, restarts, ends or uses that session: such an event leaves it no assertion.
+-- After each of these events, the latest first, the session still has this assertion. So none of
+-- them starts, restarts, ends or uses the session, which would leave it no assertion.
 abbrev pub StandsThrough : Assertion → Handle → (events before : History) → Type 0
 StandsThrough one handle [] before = Unit {0}
 StandsThrough one handle (event ∷ events) before =
     Stands one handle (event ∷ events ++ before) × StandsThrough one handle events before
 
--- An accepted command made an assertion on the session of a handle, and the session has it since
--- then.
+-- An accepted command made this assertion on the session at this handle, and the session has had
+-- it since then.
 pub record IsAssertedBy (history : History) (handle : Handle) (one : Assertion) : Type 0 where
   pub command : AcceptedCommand
   pub before : History
@@ -45,7 +45,7 @@ pub record IsAssertedBy (history : History) (handle : Handle) (one : Assertion) 
       ≡ Ok one
   pub stands : StandsThrough one handle (since ++ Done command ∷ []) before
 
--- The first handle of a command was authorized by the command's first entry, on this ground.
+-- The first entry of a command authorized its first handle, on this ground.
 pub record IsFirstAuthorized (history : History) (c : AcceptedCommand) : Type 0 where
   pub handle : Handle
   pub used : used_in c.command 0 ≡ Some handle
@@ -55,8 +55,8 @@ pub record IsFirstAuthorized (history : History) (c : AcceptedCommand) : Type 0 
 
 -- ---- TPM2_PolicySecret and TPM2_PolicyNV
 
--- TPM2_PolicySecret was accepted for a policyRef and the entity of this Name, which was authorized,
--- and the session of a handle has that assertion since then.
+-- TPM2_PolicySecret was accepted with this policyRef for the entity of this Name, which was
+-- authorized. The session at this handle has had the assertion since then.
 pub record ShowsSecret (history : History) (handle : Handle) (name reference : List ℕ) : Type 0
   where
     pub parts : SecretParts
@@ -66,10 +66,10 @@ pub record ShowsSecret (history : History) (handle : Handle) (name reference : L
     pub authorized : IsFirstAuthorized asserted.before asserted.command
     pub for_reference : parts.reference ≡ reference
 
--- TPM2_PolicyNV was accepted for the NV index of this Name, an operand, an offset and an operation:
--- it is refused unless the comparison of the index, from the offset on, with the operand holds.
--- What lets it read the index was authorized, and the session of a handle has that assertion since
--- then.
+-- TPM2_PolicyNV was accepted for the NV index of this Name, with this operand, offset and
+-- operation. It is refused unless the operation holds between the index's bytes from the offset
+-- and the operand. The handle that lets it read the index was authorized. The session at this
+-- handle has had the assertion since then.
 pub record ComparesIndex (history : History) (handle : Handle) (name operand : List ℕ) (offset : ℕ)
     (operation : Operation) : Type 0
   where

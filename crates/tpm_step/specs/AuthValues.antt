@@ -1,5 +1,6 @@
--- Authorization values by the history alone. TPM 2.0 Library, Part 1, section 19.6.4, and Part 3,
--- sections 9.3, 12.2, 24.1, 24.6, 24.8, 28.5, 31.3 and 31.15 (the commands that set one).
+-- Authorization values, computed from the history alone. TPM 2.0 Library, Part 1, section 19.6.4,
+-- and Part 3, sections 9.3, 12.2, 24.1, 24.6, 24.8, 28.5, 31.3 and 31.15 (the commands that set
+-- one).
 use Rattle.std.specs.Prelude.{ℕ, List, [], ◌∷◌, Option, Result, Ok, Err, ok_or}
 use Rattle.tpm_bytes.specs.Reading.{◌>>=◌}
 use Rattle.tpm_types.specs.AuthValue.{auth_value_at, trimmed}
@@ -27,29 +28,29 @@ AuthValues = Handle → List ℕ
 
 -- ---- which value a command sets, and for which handle
 
--- TPM2_HierarchyChangeAuth and TPM2_NV_ChangeAuth: newAuth without the zeros at its end, for the
--- handle that they name
+-- TPM2_HierarchyChangeAuth and TPM2_NV_ChangeAuth set newAuth, without the zeros at its end, for
+-- the handle that they name.
 abbrev pub changed_value : Request → Result (Handle × List ℕ) Refused
 changed_value q = do
   handle ← first_handle q.handles
   value ← only (auth_value_at q.parameters)
   Ok (handle, value)
 
--- TPM2_NV_DefineSpace: auth, also without the zeros at its end, for the index of the public area
+-- TPM2_NV_DefineSpace sets auth, without the zeros at its end, for the index that it defines.
 abbrev pub defined_value : Request → Result (Handle × List ℕ) Refused
 defined_value q = do
   p ← definition.parameters_in q.parameters
   Ok (p.public.nv_index, p.auth_value)
 
--- TPM2_CreatePrimary: userAuth without the zeros at its end, for the handle that it answers
+-- TPM2_CreatePrimary sets userAuth, without the zeros at its end, for the handle that it answers.
 abbrev pub created_value : Request → (made : Option Handle) → Result (Handle × List ℕ) Refused
 created_value q made = do
   handle ← ok_or made handle_refusal
   p ← creation.parameters_in q.parameters
   Ok (handle, trimmed p.given.user_auth)
 
--- TPM2_Load: the authorization value of the sensitive area, without the zeros at its end, for the
--- handle that it answers
+-- TPM2_Load sets the sensitive area's authorization value, without the zeros at its end, for the
+-- handle that it answers.
 abbrev pub loaded_value : Option Sensitive → (made : Option Handle)
     → Result (Handle × List ℕ) Refused
 loaded_value area made = do
@@ -57,8 +58,8 @@ loaded_value area made = do
   sensitive ← ok_or area handle_refusal
   Ok (handle, trimmed sensitive.auth_value)
 
--- TPM2_EvictControl: the value of objectHandle, for persistentHandle. Where a persistent object is
--- removed the two are one handle, and nothing changes
+-- TPM2_EvictControl sets the value of objectHandle for persistentHandle. If it removes a
+-- persistent object, the two are one handle, and nothing changes.
 abbrev pub copied_value : Request → AuthValues → Result (Handle × List ℕ) Refused
 copied_value q values = do
   handle ← second_handle q.handles
@@ -69,22 +70,23 @@ abbrev pub with_value : Result (Handle × List ℕ) Refused → AuthValues → A
 with_value (Ok set) values = with_at set.0 set.1 values
 with_value (Err e) values = values
 
--- the values after TPM2_Startup: with CLEAR platformAuth is empty
+-- the values after TPM2_Startup, which with CLEAR makes platformAuth empty
 abbrev pub started_values : Result StartupType Refused → AuthValues → AuthValues
 started_values (Ok type.Clear) values = with_at platform_handle [] values
 started_values (Ok type.State) values = values
 started_values (Err e) values = values
 
--- the values after TPM2_Clear: ownerAuth, endorsementAuth and lockoutAuth are empty
+-- the values after TPM2_Clear, which makes ownerAuth, endorsementAuth and lockoutAuth empty
 abbrev pub cleared_values : AuthValues → AuthValues
 cleared_values values =
     with_at owner_handle [] (with_at endorsement_handle [] (with_at lockout_handle [] values))
 
 -- ---- the values after a history
 
--- the values after an accepted command, by what it asked, the handle that it answered, and the
--- sensitive area that it loaded. What removes an object or an index need say nothing: the value of
--- its handle then belongs to nobody, and whatever comes under the handle next has its own set
+-- the values after an accepted command, by its request, the handle that it answered, and the
+-- sensitive area that it loaded. A command that removes an object or an index changes no value:
+-- the value of the handle then belongs to nobody, and what comes under the handle next sets its
+-- own
 abbrev pub values_by : CommandCode → Request → (made : Option Handle) → Option Sensitive
     → AuthValues → AuthValues
 values_by command.HierarchyChangeAuth q made area values = with_value (changed_value q) values
@@ -98,8 +100,8 @@ values_by command.Startup q made area values =
 values_by command.Clear q made area values = cleared_values values
 values_by _ q made area values = values
 
--- the authorization value of each handle after a history: at first all are empty, and a power cycle
--- changes none
+-- the authorization value of each handle after a history; at first all are empty, and a power
+-- cycle changes none
 abbrev pub auth_of : History → AuthValues
 auth_of [] handle = []
 auth_of (Done c ∷ history) handle =

@@ -1,5 +1,5 @@
--- NV counters by the history alone. TPM 2.0 Library, Part 3, sections 31.2 and 31.8 (NV counters,
--- TPM2_NV_Increment).
+-- NV counters, computed from the history alone. TPM 2.0 Library, Part 3, sections 31.2 and 31.8
+-- (NV counters, TPM2_NV_Increment).
 use Rattle.std.specs.Prelude.{◌≡◌, ◌↔◌, ℕ, ◌+◌, ◌<◌, ◌≤◌, ◌==◌, max, Bool, true, false, List, [], ◌∷◌, ◌++◌, Option, Some, None, Result, Ok, Err}
 use Rattle.std.specs.List.{AllByRecursion}
 use Rattle.tpm_bytes.specs.Reading.{◌>>=◌}
@@ -12,8 +12,8 @@ use Rattle.tpm_nvactions.specs.NvDefineSpace.{parameters_in}
 use Rattle.tpm_step.specs.HandleMap.{by_handle, with_at}
 use Rattle.tpm_step.specs.History.{AcceptedCommand, Done, History, PastEvent, PowerCycled}
 
--- the value of the counter at each handle since its definition, which it has from its first
--- increment on; and all values that any counter ever had, the latest first
+-- the value of the counter at each handle, which a counter has from its first increment after its
+-- definition; and all values that any counter ever had, the latest first
 pub record Counters : Type 0 where
   pub at : Handle → Option ℕ
   pub all : List ℕ
@@ -21,26 +21,26 @@ pub record Counters : Type 0 where
 abbrev pub no_counters : Counters
 no_counters = record { at = λ handle. None; all = [] }
 
--- the largest of some values, 0 if there is none
+-- the largest of these values, or 0 if there is none
 abbrev pub largest : List ℕ → ℕ
 largest [] = 0
 largest (n ∷ ns) = max (largest ns) n
 
--- the value to which a counter rises: one more than it was, and at first one more than any counter
--- ever was
+-- the next value of a counter: one more than its value, or at the first increment one more than
+-- any counter ever had
 abbrev pub next_count : (most : ℕ) → Option ℕ → ℕ
 next_count most None = most + 1
 next_count most (Some n) = n + 1
 
 -- ---- what a command does to the counter of a handle
 
--- TPM2_NV_Increment: the counter of its handle has one value more
+-- TPM2_NV_Increment: the counter at its handle gets its next value
 abbrev pub counted_at : Handle → Counters → Counters
 counted_at handle c =
     let n : ℕ = next_count (largest c.all) (c.at handle) in
     record { at = with_at handle (Some n) c.at; all = n ∷ c.all }
 
--- TPM2_NV_DefineSpace: the counter of its handle begins anew
+-- TPM2_NV_DefineSpace: the counter at its handle begins again, without a value
 abbrev pub begun_at : Handle → Counters → Counters
 begun_at handle c = record { at = with_at handle None c.at; all = c.all }
 
@@ -50,8 +50,9 @@ defined_handle text = do
   p ← parameters_in text
   Ok p.public.nv_index
 
--- the counters after an accepted command. What removes an index, as TPM2_NV_UndefineSpace and
--- TPM2_Clear, need say nothing: a definition begins anew, and no other command counts before it
+-- the counters after an accepted command. A command that removes an index, such as
+-- TPM2_NV_UndefineSpace and TPM2_Clear, changes nothing here: no command counts under the handle
+-- before the next definition, which begins again
 abbrev pub counters_by : CommandCode → Request → Counters → Counters
 counters_by command.NvIncrement q c = by_handle (second_handle q.handles) counted_at c
 counters_by command.NvDefineSpace q c = by_handle (defined_handle q.parameters) begun_at c
@@ -72,7 +73,7 @@ count_at history handle = (counters_of history).at handle
 
 -- ---- definitions of indices in a history
 
--- whether a handle is the one that a command names
+-- whether a command names this handle
 abbrev pub is_named : Result Handle Refused → Handle → Bool
 is_named (Ok named) handle = named.number == handle.number
 is_named (Err e) handle = false
@@ -86,7 +87,7 @@ abbrev pub defines : PastEvent → Handle → Bool
 defines (Done c) handle = defines_by c.command.code c.request handle
 defines PowerCycled handle = false
 
--- An event is an accepted TPM2_NV_DefineSpace of an index with this handle.
+-- The event is an accepted TPM2_NV_DefineSpace of an index with this handle.
 pub record IsDefinition (one : PastEvent) (handle : Handle) : Type 0 where
   pub accepted : AcceptedCommand
   pub named : Handle
@@ -95,38 +96,38 @@ pub record IsDefinition (one : PastEvent) (handle : Handle) : Type 0 where
   pub defined : defined_handle accepted.request.parameters ≡ Ok named
   pub same : named.number ≡ handle.number
 
--- No index is defined under a handle in this part of a history.
+-- No event in this part of a history defines an index under this handle.
 abbrev pub HasNoDefinition : Handle → History → Type 0
 HasNoDefinition handle history =
     AllByRecursion (λ (one : PastEvent). defines one handle ≡ false) history
 
--- Each of these numbers is below this one.
+-- Each of these numbers is below n.
 abbrev pub AllBelow : ℕ → List ℕ → Type 0
 AllBelow n numbers = AllByRecursion (λ m. m < n) numbers
 
 -- what holds of the counters of every history
 pub record CountLaws : Type 0 where
-  -- an index is defined by an accepted TPM2_NV_DefineSpace, and by nothing else
+  -- an accepted TPM2_NV_DefineSpace defines an index, and no other event does
   pub definitions : (one : PastEvent) (handle : Handle)
       → (defines one handle ≡ true ↔ IsDefinition one handle)
-  -- a counter that has no value yet exceeds, once it has one, all that any counter had before,
-  -- whatever happened meanwhile
+  -- a counter without a value exceeds, once it has one, every value that any counter had before,
+  -- whatever happened in between
   pub first_exceeds : (old new : History) (handle : Handle) (n : ℕ)
       → count_at old handle ≡ None
       → count_at (new ++ old) handle ≡ Some n
       → AllBelow n (counts_of old)
-  -- a counter that was defined, once it has a value, exceeds all that any counter had before its
+  -- once a defined counter has a value, it exceeds every value that any counter had before the
   -- definition
   pub defined_exceeds : (old new : History) (definition : PastEvent) (handle : Handle) (n : ℕ)
       → defines definition handle ≡ true
       → count_at (new ++ definition ∷ old) handle ≡ Some n
       → AllBelow n (counts_of old)
-  -- a counter does not go down as long as no index is defined anew under its handle
+  -- a counter does not go down as long as no index is defined again under its handle
   pub never_down : (old new : History) (handle : Handle) (n : ℕ)
       → count_at old handle ≡ Some n
       → HasNoDefinition handle new
       → (m : ℕ) × (count_at (new ++ old) handle ≡ Some m) × (n ≤ m)
-  -- the value of a counter is at most the largest that any counter had
+  -- the value of a counter is at most the largest value that any counter had
   pub within : (history : History) (handle : Handle) (n : ℕ)
       → count_at history handle ≡ Some n
       → n ≤ largest (counts_of history)

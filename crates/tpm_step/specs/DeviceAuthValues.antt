@@ -1,4 +1,4 @@
--- The authorization values of a device, as a history tells of them.
+-- The authorization values of a device, compared with those of its history.
 use Rattle.std.specs.Prelude.{◌≡◌, ℕ, List, if◌then◌else◌, Option, Some, option_map}
 use Rattle.tpm_nv.specs.Index.{NvIndex, index_at}
 use Rattle.tpm_object.specs.declared.object.Object.{Object}
@@ -11,8 +11,8 @@ use Rattle.tpm_record.specs.Record.{Record}
 use Rattle.tpm_step.specs.AuthValues.{AuthValues, auth_of}
 use Rattle.tpm_step.specs.History.{History}
 
--- one of four, by what a handle's type says that it names: an NV index, a persistent object, a
--- transient object, or anything else
+-- one of four choices, by the type of a handle: an NV index, a persistent object, a transient
+-- object, or anything else
 abbrev pub by_type : {X : Type 0} → Handle → (index persistent transient other : X) → X
 by_type handle index persistent transient other =
     if is_nv_index handle then index
@@ -26,19 +26,19 @@ index_auth found = option_map (λ (index : NvIndex). index.auth_value) found
 abbrev pub object_auth : Option Object → Option (List ℕ)
 object_auth found = option_map (λ (object : Object). object.auth_value) found
 
--- the authorization value of what a handle names, if that is there; a handle that is neither an
--- index's nor an object's always names something
+-- the authorization value of the entity of a handle, if that exists; a handle of neither an index
+-- nor an object always has an entity
 abbrev pub auth_seen : Record → Handle → Option (List ℕ)
 auth_seen r handle =
     by_type handle (index_auth (index_at r.nv handle))
     (object_auth (persistent_at r.persistent handle)) (object_auth (object_at r.objects handle))
     (Some (permanent_auth_value r handle))
 
--- Each handle that names something there has this authorization value.
+-- Each handle whose entity exists has its authorization value among these.
 abbrev pub HaveValues : Record → AuthValues → Type 0
 HaveValues r values =
     (handle : Handle) (value : List ℕ) → auth_seen r handle ≡ Some value → value ≡ values handle
 
--- The authorization values of a device are those of a history.
+-- A device and its history have the same authorization values.
 abbrev pub HasAuthValues : Record → History → Type 0
 HasAuthValues r history = HaveValues r (auth_of history)

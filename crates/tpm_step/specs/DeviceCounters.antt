@@ -1,4 +1,4 @@
--- The NV counters of a device, as a history tells of them.
+-- The NV counters of a device, compared with those of its history.
 use Rattle.std.specs.Prelude.{◌≡◌, ℕ, ◌≤◌, true, false, ◌∷◌, ◌++◌, Option, Some, None}
 use Rattle.tpm_types.specs.declared.handle.Handle.{Handle}
 use Rattle.tpm_types_nv.specs.declared.nv_attributes.NvAttribute.TheVariants as attribute
@@ -9,7 +9,7 @@ use Rattle.tpm_step.specs.rows.IndexChanges.{IsCounter, stored_count}
 use Rattle.tpm_step.specs.Counters.{AllBelow, Counters, HasNoDefinition, counters_of, counts_of, defines, largest}
 use Rattle.tpm_step.specs.History.{History, PastEvent}
 
--- An NV index that is a counter has this value, and no startup takes it away.
+-- An NV index has this value as a counter, and no startup clears the value.
 pub record IsCounted (index : NvIndex) (count : Option ℕ) : Type 0 where
   pub stays : index_has index attribute.ClearStClear ≡ false
   pub value : stored_count index ≡ count
@@ -23,11 +23,11 @@ pub record AreCounted (contents : NvContents) (c : Counters) : Type 0 where
       → IsCounter index
       → IsCounted index (c.at handle)
 
--- The counters of a device are those of a history.
+-- A device and its history have the same counters.
 abbrev pub HasCounters : Record → History → Type 0
 HasCounters r history = AreCounted r.nv (counters_of history)
 
--- A counter that a device had has become no less, as long as no index was defined anew under its
+-- The value of a counter has not gone down, as long as no index was defined again under its
 -- handle.
 abbrev pub KeepsCounter : (old new : Record) → (meanwhile : History) → Handle
     → NvIndex → NvIndex → Type 0
@@ -41,8 +41,8 @@ KeepsCounter old new meanwhile handle before after =
     → stored_count before ≡ Some n
     → (m : ℕ) × (stored_count after ≡ Some m) × (n ≤ m)
 
--- A counter that had no value when a stretch of events began exceeds, once it has one, all that any
--- counter had before the stretch.
+-- If a counter had no value before a stretch of events and has one after it, that value exceeds
+-- every one that any counter had before the stretch.
 abbrev pub BeginsAbove : (old new : Record) → (history : History) → Handle
     → NvIndex → NvIndex → Type 0
 BeginsAbove old new history handle before after =
@@ -55,8 +55,8 @@ BeginsAbove old new history handle before after =
     → stored_count after ≡ Some n
     → AllBelow n (counts_of history)
 
--- A counter that was defined in a stretch of events exceeds all that any counter had before its
--- definition, in the stretch and before it.
+-- The value of a counter that was defined in a stretch of events exceeds every value that any
+-- counter had before its definition, in the stretch or before it.
 abbrev pub ExceedsEarlier : (new : Record) → (history meanwhile : History) → Handle → NvIndex
     → Type 0
 ExceedsEarlier new history meanwhile handle after =

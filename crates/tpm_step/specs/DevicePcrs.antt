@@ -1,4 +1,4 @@
--- The PCRs of a device, as a history tells of them.
+-- The PCRs of a device, compared with those of its history.
 use Rattle.std.specs.Prelude.{◌≡◌, ℕ, ◌<◌, List, length, slice_index_or, []}
 use Rattle.tpm_mac.specs.declared.algorithm.HashAlg.{HashAlg}
 use Rattle.tpm_mac.specs.declared.algorithm.HashAlg.TheVariants as alg
@@ -15,20 +15,20 @@ abbrev pub saved_in : SavedValues → HashAlg → List (List ℕ)
 saved_in saved alg.Sha1 = saved.sha1
 saved_in saved alg.Sha256 = saved.sha256
 
--- The values of PCR 0 to 15 that a shutdown saved are these.
+-- A shutdown saved these values of PCR 0 to 15.
 pub record AreSaved (saved : SavedValues) (values : PcrValues) : Type 0 where
   pub sixteen : (bank : HashAlg) → length (saved_in saved bank) ≡ 16
   pub each : (bank : HashAlg) (pcr : ℕ) → pcr < 16
       → slice_index_or (saved_in saved bank) pcr [] ≡ values bank pcr
 
--- Where a state is saved, its values of PCR 0 to 15 are these.
+-- If a state is saved, it has these values of PCR 0 to 15.
 abbrev pub IsSavedAs : SavedState → PcrValues → Type 0
 IsSavedAs Nothing values = Unit {0}
 IsSavedAs Clear values = Unit {0}
 IsSavedAs (State saved) values = AreSaved saved values
 
--- The PCRs of a device are those of a history: all 24 values of both banks, how often they were
--- updated, and what is saved of them.
+-- A device and its history have the same PCRs: all 24 values of both banks, the number of
+-- updates, and what is saved of them.
 pub record ArePcrs (banks : BankValues) (saved : SavedState) (history : History) : Type 0 where
   pub all : HaveAll banks
   pub values : HaveValues banks (pcr_of history)

@@ -1,4 +1,4 @@
--- The sessions of a device, as a history tells of them.
+-- The sessions of a device, compared with those of its history.
 use Rattle.std.specs.Prelude.{◌≡◌, ℕ, Bool, false, List, Option, Some, None, option_map}
 use Rattle.tpm_policy.specs.State.{Policy}
 use Rattle.tpm_session.specs.Sessions.{session_at}
@@ -9,8 +9,8 @@ use Rattle.tpm_record.specs.Record.{Record}
 use Rattle.tpm_step.specs.History.{History}
 use Rattle.tpm_step.specs.Sessions.{Bound, LiveSession, LiveSessions, Start, key_of, nonce_of, policy_in, policy_of, sessions_of, start_in, start_of}
 
--- the facts of a session that a history tells: its start, its key, its latest nonceTPM, and its
--- policy
+-- the facts of a session that the history determines: its start, its key, its latest nonceTPM,
+-- and its policy
 pub record SessionFacts : Type 0 where
   pub start : Start
   pub key : List ℕ
@@ -28,7 +28,7 @@ facts_of s = record {
 abbrev pub bound_of : Binding → Bound
 bound_of b = record { name = b.name; auth_value = b.auth_value; protection = b.protection }
 
--- the start of a session of the device
+-- the start of a device's session
 abbrev pub session_start : Session → Start
 session_start s = record {
   kind = s.kind;
@@ -45,14 +45,14 @@ session_facts s = record {
   policy = s.policy;
 }
 
--- Under each handle the device and the history have a session with the same facts, or neither has
--- one.
+-- At each handle, the device and the history have a session with the same facts, or both have
+-- none.
 abbrev pub AreLive : List (Option Session) → LiveSessions → Type 0
 AreLive places live =
     (handle : Handle) → option_map session_facts (session_at places handle)
     ≡ option_map facts_of (live handle)
 
--- The sessions of a device are those of a history; and as long as it is not started it has none.
+-- A device and its history have the same sessions, and none while the device is not started.
 pub record AreSessions (places : List (Option Session)) (is_started : Bool) (history : History)
     : Type 0
   where
@@ -63,7 +63,7 @@ abbrev pub HasSessions : Record → History → Type 0
 HasSessions r history = AreSessions r.sessions r.fixed.started history
 
 -- A session of the device has the policy, the nonceTPM, the key and the start that the history
--- gives its handle.
+-- determines for its handle.
 pub record IsLive (history : History) (handle : Handle) (s : Session) : Type 0 where
   pub policy : policy_of history handle ≡ Some s.policy
   pub nonce_tpm : nonce_of history handle ≡ Some s.nonce_tpm

@@ -1,6 +1,6 @@
--- What an entry of a command shows, by the history before the command: a password, or the HMAC of a
--- key and a text. TPM 2.0 Library, Part 1, sections 18.7 (cpHash), 19.4 (password authorizations)
--- and 19.6.5 (HMAC computation).
+-- What an entry of a command shows, by the history before the command: a password, or an HMAC
+-- with its key and its text. TPM 2.0 Library, Part 1, sections 18.7 (cpHash), 19.4 (password
+-- authorizations) and 19.6.5 (HMAC computation).
 use Rattle.std.specs.Prelude.{◌≡◌, ◌⊎◌, ◌≤◌, ℕ, ◌+◌, ◌&&◌, Bool, false, List, [], ◌∷◌, ◌++◌, length, map, if◌then◌else◌, Option, Some, None, slice_get}
 use Rattle.std.specs.List.{find}
 use Rattle.std.specs.Option.{option_map_or}
@@ -25,28 +25,28 @@ use Rattle.tpm_step.specs.History.{AcceptedCommand, Done, History, PowerCycled}
 use Rattle.tpm_step.specs.Sessions.{Bound, LiveSession, policy_in, rolled_by, sessions_of}
 use Rattle.tpm_step.specs.View.{name_in, view_name}
 
--- the handle that the entry in a place, from 0, is to authorize, if there is one
+-- the handle that the entry at a place, counted from 0, has to authorize, if there is one
 abbrev pub used_in : Whole → ℕ → Option Handle
 used_in c place = slice_get (authorized c) place
 
 -- ---- a password
 
--- The hmac field of an entry is the authValue of the handle that it is to authorize. Zeros at its
--- end do not count, and no value of a history has zeros at its end.
+-- The hmac field of an entry is the authValue of the handle that it has to authorize. Zeros at
+-- the end do not count, and no value of a history ends in zeros.
 abbrev pub HasPassword : History → AcceptedCommand → ℕ → Entry → Type 0
 HasPassword history c place e =
     trimmed e.hmac ≡ option_map_or (auth_of history) (used_in c.command place) []
 
 -- ---- the key of an HMAC
 
--- whether a session is bound to an entity that has this Name and this authorization value
+-- whether a session is bound to an entity with this Name and this authorization value
 abbrev pub is_bound_to : LiveSession → (name auth_value : List ℕ) → Bool
 is_bound_to s name auth_value =
     option_map_or (λ (b : Bound). bytes_eq b.name name && bytes_eq b.auth_value auth_value) s.bound
     false
 
--- the authorization value in the HMAC key of the entry in a place, by the handle that it is to
--- authorize
+-- the authorization value in the HMAC key of the entry at a place, by the handle that the entry
+-- has to authorize
 abbrev pub value_in_key : History → AcceptedCommand → ℕ → LiveSession → Option Handle → List ℕ
 value_in_key history c place s None = []
 value_in_key history c place s (Some handle) =
@@ -54,18 +54,18 @@ value_in_key history c place s (Some handle) =
     let is_bound : Bool = is_bound_to s (name_in c.views place) value in
     if has_value_in_key s.kind is_bound (policy_in s).demand then value else []
 
--- the HMAC key of the entry in a place: sessionKey || authValue
+-- the HMAC key of the entry at a place: sessionKey || authValue
 abbrev pub key_in : History → AcceptedCommand → ℕ → LiveSession → List ℕ
 key_in history c place s = s.key ++ value_in_key history c place s (used_in c.command place)
 
 -- ---- the text of an HMAC
 
--- cpHash: H(commandCode || Names of the handles || parameters as they were sent)
+-- cpHash: H(commandCode || Names of the handles || parameters as sent)
 abbrev pub cp_hash_in : AcceptedCommand → HashAlg → List ℕ
 cp_hash_in c hash =
     command_hash_of hash (code_number c.command.code) (map view_name c.views) c.command.parameters
 
--- the nonceTPM of the session of an entry
+-- the nonceTPM of an entry's session
 abbrev pub entry_nonce : History → Entry → List ℕ
 entry_nonce history e =
     option_map_or (λ (s : LiveSession). s.nonce_tpm) (sessions_of history e.session) []
@@ -88,7 +88,7 @@ abbrev pub hmac_in : History → AcceptedCommand → ℕ → Entry → LiveSessi
 hmac_in history c place e s =
     hmac_of s.hash (key_in history c place s) (text_in history c place e s)
 
--- The HMAC of an entry is that of its key and its text; or key and HMAC are both empty.
+-- The entry has the HMAC of its key and its text, or an empty HMAC with an empty key.
 abbrev pub HasHmac : History → AcceptedCommand → ℕ → Entry → LiveSession → Type 0
 HasHmac history c place e s =
     (e.hmac ≡ hmac_in history c place e s)
@@ -96,16 +96,16 @@ HasHmac history c place e s =
 
 -- ---- every command of a history
 
--- Each entry of a command that names an HMAC session, whether it authorizes something or not, has
--- its HMAC. A command is given 256 random bytes, of which at most 192 are drawn: so 64 are left
--- after all new nonces, and none was cut short.
+-- Each entry that names an HMAC session has its HMAC, whether it authorizes something or not. The
+-- command has 256 random bytes and draws at most 192. So 64 are left after all new nonces, and no
+-- nonce was cut short.
 pub record ShowsHmacs (history : History) (c : AcceptedCommand) : Type 0 where
   pub hmacs : (place : ℕ) (e : Entry) (s : LiveSession)
       → slice_get c.command.entries place ≡ Some e → session_kind e.session ≡ kind.Session
       → sessions_of history e.session ≡ Some s → s.kind ≡ type.Hmac → HasHmac history c place e s
   pub left : 64 ≤ length (rolled_by c history (sessions_of history)).left
 
--- Each command of a history shows the HMACs of its entries, by the history before it.
+-- Each command of a history shows the HMACs of its entries, given the history before it.
 abbrev pub AllShowHmacs : History → Type 0
 AllShowHmacs [] = Unit {0}
 AllShowHmacs (Done c ∷ history) = ShowsHmacs history c × AllShowHmacs history

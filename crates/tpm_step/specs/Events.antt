@@ -1,18 +1,17 @@
--- Events, wherever their buffers lie in memory.
+-- Events as plain values, whatever memory holds their buffers.
 use Rattle.std.specs.Prelude.{◌≡◌, ℕ, ◌≤◌, ◌<◌, ◌^◌, List, length}
 use Rattle.tpm_types.specs.Locality.{locality_number}
 use Rattle.tpm_step.specs.declared.event.Event as declared
 use Rattle.tpm_step.specs.declared.event.Event.TheVariants as event
 
--- a command: its bytes, where it comes from, the milliseconds since the command before it (its
--- elapsed time), and its random bytes; or power going off and on again, which has no time of its
--- own
+-- An event. A command has its bytes, its locality, its random bytes, and its elapsed time: the
+-- milliseconds since the command before it. A power cycle has no time of its own.
 pub data PlainEvent : Type 0 where
   Given : (buffer : List ℕ) (locality elapsed : ℕ) (random : List ℕ) → PlainEvent
   Cycled : PlainEvent
 
--- What can happen: localities are 0 to 4, an elapsed time has 32 bits, and each command has 256
--- random bytes.
+-- An event that can happen: the locality is 0 to 4, the elapsed time has 32 bits, and each
+-- command has 256 random bytes.
 abbrev pub IsEvent : PlainEvent → Type 0
 IsEvent (Given buffer locality elapsed random) =
     (locality ≤ 4) × (elapsed < 2 ^ 32) × (length random ≡ 256)

@@ -1,4 +1,4 @@
--- What an execution of one event is.
+-- What holds of the execution of one event.
 use Rattle.std.specs.Prelude.{◌≡◌, ◌≤◌, Bool, false, length}
 use Rattle.tpm_types.specs.Limits.{response_limit}
 use Rattle.tpm_record.specs.IsRecord.{IsRecord}
@@ -7,11 +7,11 @@ use Rattle.tpm_step.specs.Events.{PlainEvent, IsEvent}
 use Rattle.tpm_step.specs.Safe.{AcceptsModestly, IsHarmless}
 use Rattle.tpm_step.specs.Step.{Stepped, Steps, step}
 
--- An event was executed on an old record, with this outcome and the record after it. The event is
--- one that can happen. The outcome is that of the table's step; only where memory can be refused, a
--- command that grows something may have that of refused memory in place of its success. The record
--- after it is a record of a device. A refusal changes nothing but the time and what it counts. A
--- success is modest. No response has more bytes than the limit.
+-- The event was executed on the old record, and x is what was seen of it, with the record after
+-- it. The event can happen. The outcome is that of the table's step; only if memory can be
+-- refused, the success of a command that grows something may be MEMORY instead. The new record is
+-- a record of a device. A refusal changes nothing except the time and what it counts. A success
+-- is modest. No response is longer than the limit.
 pub record Executes (can : Bool) (old : Record) (event : PlainEvent) (x : Stepped) : Type 0 where
   pub happens : IsEvent event
   pub steps : Steps can old event x

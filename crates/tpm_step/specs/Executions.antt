@@ -12,7 +12,7 @@ pub record Execution : Type 0 where
   pub event : PlainEvent
   pub seen : Stepped
 
--- These events were executed one after another, and led from an old record to a new one. `can` says
+-- These events were executed one after another, from the old record to the new one. `can` says
 -- whether memory can be refused.
 abbrev pub Leads : Bool → Record → List Execution → Record → Type 0
 Leads can old [] new = new ≡ old
@@ -20,12 +20,11 @@ Leads can old (one ∷ executions) new =
     (one.before ≡ old) × Executes can old one.event one.seen
     × Leads can one.seen.after executions new
 
--- power going off and on again, at this record
+-- the execution of a power cycle on this record
 abbrev pub power_cycle : Record → Execution
 power_cycle r = record { before = r; event = Cycled; seen = step r Cycled }
 
--- the history after one more execution, and after a list of executions, of which the first came
--- first
+-- the history after one more execution, and after a list of executions, in their order
 abbrev pub with_execution : Execution → History → History
 with_execution one history = recorded one.before one.event one.seen.row.check history
 

@@ -1,5 +1,5 @@
--- An example of a run in which as many tries fail as may fail. TPM 2.0 Library, Part 1, section
--- 19.8 (dictionary attacks).
+-- An example of a run in which the largest possible number of tries fails. TPM 2.0 Library, Part
+-- 1, section 19.8 (dictionary attacks).
 use Rattle.std.specs.Prelude.{◌≡◌, ◌≢◌, ℕ, true, false, List, [], ◌∷◌, replicate}
 use Rattle.tpm_lockout.specs.Lockout.{LockoutState, new_lockout}
 use Rattle.tpm_mac.specs.declared.algorithm.HashAlg.TheVariants as alg
@@ -14,8 +14,8 @@ use Rattle.tpm_step.specs.Tries.{HasNoReset, failures_in, tries_within}
 abbrev pub zeros : List ℕ
 zeros = replicate 256 0
 
--- an NV index of eight bytes with the attributes TPMA_NV_AUTHWRITE and TPMA_NV_AUTHREAD, and the
--- authorization value "a"
+-- an NV index of eight bytes with TPMA_NV_AUTHWRITE, TPMA_NV_AUTHREAD and the authorization value
+-- "a"
 abbrev pub protected_index : NvIndex
 protected_index = record {
   public = record {
@@ -29,9 +29,9 @@ protected_index = record {
   bytes = [];
 }
 
--- a device that has started and has this index, after this many failed tries; this many
--- milliseconds have passed towards forgiving the next, and this is the device's time. Its maxTries
--- is 3, and its recoveryTime 1,000 seconds.
+-- a started device with this index, after this many failed tries. This many milliseconds have
+-- passed towards forgiving the next one, and this is the device's time. Its maxTries is 3, its
+-- recoveryTime 1,000 seconds.
 abbrev pub tried : (failed forgiving time : ℕ) → Record
 tried failed forgiving time =
     let r : Record = manufactured zeros in
@@ -49,7 +49,7 @@ tried failed forgiving time =
       nv = record { indices = (0x01000001, protected_index) ∷ []; max_count = 0 };
     }
 
--- TPM2_NV_Read of the index by itself, with the password "b"
+-- TPM2_NV_Read of the index, authorized by the index itself, with the password "b"
 abbrev pub wrong_read : List ℕ
 wrong_read =
     0x80 ∷ 0x02 ∷ 0x00 ∷ 0x00 ∷ 0x00 ∷ 0x24 ∷ 0x00 ∷ 0x00 ∷ 0x01 ∷ 0x4e
@@ -63,8 +63,8 @@ wrong_after elapsed = Given wrong_read 0 elapsed zeros
 abbrev pub stepped_at : Record → PlainEvent → Execution
 stepped_at r event = record { before = r; event = event; seen = step r event }
 
--- three wrong tries at once; one more 999,999 milliseconds later, which is locked out; and another
--- one millisecond later, when a try is forgiven
+-- three wrong tries at once; one more 999,999 milliseconds later, while the device is locked out;
+-- and another one millisecond later, when a try is forgiven
 abbrev pub failed_run : List Execution
 failed_run =
     stepped_at (tried 0 0 0) (wrong_after 0)
@@ -74,8 +74,8 @@ failed_run =
     ∷ stepped_at (tried 3 999999 999999) (wrong_after 1)
     ∷ []
 
--- The failed run is a stretch of events without a reset, in which tries are counted; four fail, and
--- that is as many as may fail in it.
+-- The failed run is a stretch of events without a reset, in which tries are counted. Four tries
+-- fail, which is as many as may fail in it.
 pub record IsFailedRun : Type 0 where
   pub leads : Leads false (tried 0 0 0) failed_run (tried 3 0 1000000)
   pub quiet : HasNoReset (history_after [] failed_run)

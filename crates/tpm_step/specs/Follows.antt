@@ -1,4 +1,4 @@
--- A device that a history leads to, and what the history tells of it.
+-- A device that follows a history, and what the history determines of it.
 use Rattle.std.specs.Prelude.{◌≡◌, Bool, List, [], ◌∷◌, Option, length, map}
 use Rattle.std.specs.Borrow.{Bor}
 use Rattle.std.specs.Fn.{Mut, CalledAt}
@@ -30,7 +30,7 @@ use Rattle.tpm_step.specs.History.{History, recorded}
 use Rattle.tpm_step.specs.Potential.{IsForgiving}
 use Rattle.tpm_step.specs.Tries.{FailsFew, FailsWithin}
 
--- The record has a place for each session and transient object that there can be, and its
+-- The record has a place for each session and each transient object that there can be. Its
 -- persistent objects and NV indices are in the order of their handles.
 pub record Shape (sessions : List (Option Session)) (objects : List (Option Object))
     (persistent : Entries Object) (indices : Entries NvIndex) : Type 0 where
@@ -39,13 +39,13 @@ pub record Shape (sessions : List (Option Session)) (objects : List (Option Obje
   pub persistent_ascend : Ascends persistent
   pub indices_ascend : Ascends indices
 
--- A device follows a history: its counters, its PCRs, its authorization values and its sessions are
--- those of the history. In the history each entry of an HMAC session had its HMAC, and so every
--- replay repeats a nonce or an HMAC; the update counters that policies record hold, and each use of
--- a handle had its grounds. The assertions of policy sessions were accepted, and so each use by
--- such a session met every policy that has the authPolicy of what it used, or the hash is broken.
--- No forgiving of a try is overdue; and the record has the shape and the sizes of every record, and
--- NV indices of their sizes.
+-- A device follows a history: its counters, PCRs, authorization values and sessions are those of
+-- the history. In the history, each entry of an HMAC session had its HMAC, and so every replay
+-- repeats a nonce or an HMAC. The update counters that policies recorded are right. Each use of a
+-- handle had a ground. The assertions of policy sessions were accepted, and so each use by such a
+-- session met every policy that has the authPolicy of the used entity, or the hash is broken. No
+-- forgiving of a try is overdue. The record has the shape and the sizes of every record, and its
+-- NV indices have their sizes.
 pub record Follows (r : Record) (history : History) : Type 0 where
   pub counters : HasCounters r history
   pub forgiving : IsForgiving r.fixed.lockout
@@ -65,8 +65,8 @@ pub record Follows (r : Record) (history : History) : Type 0 where
 
 -- ---- one event, on a device that follows a history
 
--- An event that was executed leads a device that follows a history to one of which this holds, with
--- the history after the event.
+-- If a device follows a history before this event, the property holds of the device and of the
+-- history after it.
 abbrev pub After : (Record → History → Type 0) → Record → PlainEvent → Stepped → Type 0
 After Holds old event x =
     (history : History) → Follows old history
@@ -74,9 +74,9 @@ After Holds old event x =
 
 -- ---- a stretch of events, on a device that follows a history
 
--- Executions led from a device that follows a history to one that follows the history after them. A
--- counter did not go down unless an index was defined anew under its handle; a counter that had no
--- value, or was defined, begins above all values before; few tries failed; and every replay repeats
+-- Executions led from a device that follows a history to one that follows the history after them.
+-- No counter went down unless an index was defined again under its handle. A counter that had no
+-- value, or was defined, begins above all earlier values. Few tries failed. Every replay repeats
 -- a nonce or an HMAC.
 pub record StretchFollows (can : Bool) (old : Record) (executions : List Execution) (new : Record)
     (history : History) : Type 0
@@ -95,8 +95,8 @@ pub record StretchFollows (can : Bool) (old : Record) (executions : List Executi
 
 -- ---- a run, on a device that follows a history
 
--- The outcomes of these executions were told to a closure in state p, in order, once each, which
--- left it in state q.
+-- A closure in state p was called with the outcome of each of these executions, in order, once
+-- each, and ended in state q.
 abbrev pub Tells : {F : Type 0} → Mut F (Bor Outcome × Unit {0}) (Unit {0}) → F → List Execution
     → F → Type 0
 Tells g p [] q = q ≡ p
@@ -105,7 +105,7 @@ Tells {F} g p (one ∷ executions) q =
     × CalledAt g p outcome tt next × Tells g next executions q
 
 -- The events ran from a device that follows a history to one that follows the history after them,
--- and a closure was told each outcome.
+-- and a closure was called with each outcome.
 pub record RunFollows {F : Type 0} (g : Mut F (Bor Outcome × Unit {0}) (Unit {0})) (can : Bool)
     (old : Record) (p : F) (events : List PlainEvent) (new : Record) (q : F) (history : History)
     : Type 0

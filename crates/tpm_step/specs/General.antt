@@ -1,6 +1,6 @@
--- The order of refusals: what is checked of every command before its own parameters are read, and
--- in which order. The first check that applies is answered. What is checked is TPM 2.0 Library,
--- Part 3, sections 5.2 (header), 5.3 (mode), 5.4 (handles) and 5.5 (sizes of the session area); the
+-- The order of refusals: the checks that every command passes before its own parameters are read.
+-- The first check that fails is answered. The checks are those of TPM 2.0 Library, Part 3,
+-- sections 5.2 (header), 5.3 (mode), 5.4 (handles) and 5.5 (sizes of the session area). Their
 -- order and the codes are this device's own.
 use Rattle.std.specs.Prelude.{◌≡◌, ℕ, ◌==◌, ◌&&◌, nat_lt, not, Bool, true, false, List, Result, Ok, Err}
 use Rattle.tpm_bytes.specs.Many.{each_at}
@@ -31,13 +31,12 @@ use Rattle.tpm_types.specs.declared.check.Check.TheVariants as check
 use Rattle.tpm_types.specs.declared.refused.Refused.{Refused}
 use Rattle.tpm_step.specs.declared.refused_command.RefusedCommand.{RefusedCommand}
 
--- a refusal with the code of the command that is refused, for the row that reports it
+-- a refusal with the code of the refused command, which the row reports
 abbrev pub in_command : {X : Type 0} → CommandCode → Result X Refused → Result X RefusedCommand
 in_command c (Ok x) = Ok x
 in_command c (Err e) = Err (record { code = code_number c; refused = e })
 
--- the check that refuses for a fault of the header, G1 to G4; the row that reports it names no
--- command
+-- the check of a fault in the header, G1 to G4; the row that reports it names no command
 abbrev pub header_check : HeaderFault → Check
 header_check fault.Length = check.Length
 header_check fault.Tag = check.Tag
@@ -51,7 +50,7 @@ abbrev pub in_header : Result (Header × List ℕ) HeaderFault → Result (Heade
 in_header (Ok h) = Ok h
 in_header (Err f) = Err (header_refusal f)
 
--- G5: before TPM2_Startup no other command is accepted, and after it no second TPM2_Startup
+-- G5: no other command is accepted before TPM2_Startup, and no second TPM2_Startup after it
 abbrev pub is_startup : CommandCode → Bool
 is_startup c = code_number c == code_number command.Startup
 
@@ -63,8 +62,8 @@ abbrev pub has_sessions : Tag → Bool
 has_sessions NoSessions = false
 has_sessions Sessions = true
 
--- G7: some commands may have no sessions, and a command with a handle that needs authorization must
--- have one
+-- G7: some commands may have no sessions, and a command with a handle that needs authorization
+-- must have one
 unfoldable pub sessions_pass : CommandCode → Tag → Result (Unit {0}) Refused
 sessions_pass c tag = do
   forbidden ← refused_if (has_sessions tag && (shape_of c).forbids_sessions)
@@ -72,18 +71,19 @@ sessions_pass c tag = do
   refused_if (not (has_sessions tag) && nat_lt 0 (authorized_handles c))
       (refusal check.Sessions (plain code.AuthMissing))
 
--- handle n of a command's text, which its rule accepts, and which names something that is there
+-- handle n in a command's text; its rule allows the handle, and the handle names something that
+-- is there
 unfoldable pub present_handle_at : Record → ℕ → HandleRule → List ℕ → Result (Handle × List ℕ) Rc
 present_handle_at r n rule text = do
   handle ← allowed_handle_at n rule text
   present ← refused_if (not (is_present r handle.0)) (absence_rc n handle.0)
   Ok handle
 
--- the handles of a command's text, one for each of its rules
+-- the handles in a command's text, one for each of its rules
 abbrev pub present_handles_at : Record → CommandCode → List ℕ → Result (List Handle × List ℕ) Rc
 present_handles_at r code text = each_at (present_handle_at r) 1 (shape_of code).handles text
 
--- the checks from G5 to the sizes of the area in G8, of what stands after the header
+-- the checks of the text after the header, from G5 to the sizes of the session area in G8
 unfoldable pub body_of : Record → Header → List ℕ → Result Whole Refused
 body_of r header text = do
   g5 ← refused_if (both_or_neither r.fixed.started (is_startup header.code))
@@ -98,7 +98,7 @@ body_of r header text = do
     parameters = entries.1;
   })
 
--- the command that a buffer spells, or the first general check that refuses the buffer
+-- the command that a buffer encodes, or the first general check that refuses the buffer
 unfoldable pub general : Record → List ℕ → Result Whole RefusedCommand
 general r buffer = do
   header ← in_header (header_at buffer)

@@ -5,7 +5,7 @@ use Rattle.tpm_types_command.specs.AuthEntry.{Entry}
 use Rattle.tpm_types_command.specs.Command.{Whole}
 use Rattle.tpm_auth.specs.declared.session_grant.Grant.{Grant}
 
--- an entry, and the handle that it authorizes, if any, with what was demanded for it
+-- an entry, and its grant: the handle that it authorizes, if any, with the policy's demand
 abbrev pub Granted : Type 0
 Granted = Entry × Option Grant
 

@@ -1,17 +1,17 @@
--- Maps that have something for each handle.
+-- Maps from handles to values.
 use Rattle.std.specs.Prelude.{◌==◌, if◌then◌else◌, Result, Ok, Err}
 use Rattle.tpm_types.specs.declared.handle.Handle.{Handle}
 use Rattle.tpm_types.specs.declared.refused.Refused.{Refused}
 
--- the map with x at this handle; every other handle keeps what it has
+-- the map with x at this handle; other handles keep their values
 abbrev pub with_at : {X : Type 0} → Handle → X → (Handle → X) → Handle → X
 with_at handle x all other = if other.number == handle.number then x else all other
 
--- the map with what stands at this handle changed
+-- the map with the value at this handle changed
 abbrev pub changed_at : {X : Type 0} → Handle → (X → X) → (Handle → X) → Handle → X
 changed_at handle change all = with_at handle (change (all handle)) all
 
--- the map with the value changed at the handle that a command names, if it names one
+-- the map, changed at the handle that a command names, if it names one
 abbrev pub by_handle : {X : Type 0} → Result Handle Refused → (Handle → X → X) → X → X
 by_handle (Ok handle) change x = change handle x
 by_handle (Err e) change x = x

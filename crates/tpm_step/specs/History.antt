@@ -1,5 +1,6 @@
--- What a device has accepted. Of its state an entry tells what the command was answered, what
--- everybody could read of its handles, and the sensitive area that a TPM2_Load takes in.
+-- What a device has accepted. An entry of the history shows only these of the device's state:
+-- what the command was answered, what everybody could read of its handles, and the sensitive area
+-- that a TPM2_Load loaded.
 use Rattle.std.specs.Prelude.{ℕ, zero, suc, List, ◌∷◌, map, Option, Some, None, Result, Ok, Err}
 use Rattle.tpm_bytes.specs.Reading.{◌>>=◌}
 use Rattle.tpm_types.specs.declared.refused.Refused.{Refused}
@@ -19,7 +20,7 @@ use Rattle.tpm_step.specs.Step.{Accepted, accepted}
 use Rattle.tpm_step.specs.declared.refused_command.RefusedCommand.{RefusedCommand}
 use Rattle.tpm_step.specs.View.{View, view_of}
 
--- the sensitive area that a TPM2_Load takes in: its private area wraps it for its parent
+-- the sensitive area that a TPM2_Load loads, from the private area that its parent protects
 unfoldable pub loaded_sensitive : Record → Request → Result Sensitive Refused
 loaded_sensitive r q = do
   handle ← first_handle q.handles
@@ -36,9 +37,9 @@ sensitive_in command.Load r q = if_ok (loaded_sensitive r q)
 sensitive_in _ r q = None
 
 -- an accepted command: as it was sent, with its handles and entries; what each entry authorizes;
--- its request, with its parameters in plain, its locality and the event's random bytes; what it was
--- answered, and how many of the random bytes its row drew; what everybody could read of its handles
--- before it; and for a TPM2_Load the sensitive area
+-- its request, with decrypted parameters, locality and the event's random bytes; its answer, and
+-- how many random bytes its row drew; what everybody could read of its handles before it; and for
+-- a TPM2_Load the sensitive area
 pub record AcceptedCommand : Type 0 where
   pub command : Whole
   pub grants : List (Option Grant)
@@ -47,7 +48,8 @@ pub record AcceptedCommand : Type 0 where
   pub views : List View
   pub sensitive : Option Sensitive
 
--- what is recorded of a command to this record, with these grants, this request and this answer
+-- what the history records of a command to this record, with these grants, this request and this
+-- answer
 abbrev pub command_on : Record → Whole → List (Option Grant) → Request → AnswerParts
     → AcceptedCommand
 command_on r command grants q answer = record {
@@ -59,28 +61,28 @@ command_on r command grants q answer = record {
   sensitive = sensitive_in command.code r q;
 }
 
--- what is recorded of a command that this record accepted
+-- what the history records of a command that this record accepted
 abbrev pub command_of : Record → Accepted → AcceptedCommand
 command_of r a = command_on r a.command a.grants a.request a.success.answer
 
--- an event that a device accepted: a command, or power going off and on again
+-- an accepted event: a command, or a power cycle
 pub data PastEvent : Type 0 where
   Done : (command : AcceptedCommand) → PastEvent
   PowerCycled : PastEvent
 
--- what a device accepted since it was manufactured, the latest first
+-- what a device accepted since it was manufactured, the latest event first
 abbrev pub History : Type 0
 History = List PastEvent
 
--- the history with one command more, where its row reports check 0: a refusal is not recorded, nor
--- MEMORY in place of a success
+-- the history with one more command, if its row reports check 0; a refusal is not recorded, nor
+-- is MEMORY instead of a success
 abbrev pub with_command : Record → Result Accepted RefusedCommand → (check : ℕ)
     → History → History
 with_command r (Ok a) zero history = Done (command_of r a) ∷ history
 with_command r (Ok a) (suc check) history = history
 with_command r (Err e) check history = history
 
--- the history with one more event, which happened to this record, and whose row reported this check
+-- the history with one more event, executed on this record, whose row reported this check
 abbrev pub recorded : Record → PlainEvent → (check : ℕ) → History → History
 recorded r (Given buffer locality elapsed random) check history =
     let t = ticked r elapsed in

@@ -1,5 +1,5 @@
--- Parameters that sessions encrypt: the first of a command, and the first of its answer. TPM 2.0
--- Library, Part 1, section 21.
+-- Encryption of parameters by sessions: of a command's first parameter, and of its answer's
+-- first. TPM 2.0 Library, Part 1, section 21.
 use Rattle.std.specs.Prelude.{Bool, List, ℕ, Option}
 use Rattle.std.specs.List.{find}
 use Rattle.std.specs.Option.{option_map_or}
@@ -15,36 +15,36 @@ use Rattle.tpm_step.specs.Granted.{Granted}
 use Rattle.tpm_step.specs.declared.direction.Direction.{Direction}
 use Rattle.tpm_step.specs.declared.direction.Direction.TheVariants as direction
 
--- whether an entry asks that its session decrypts a parameter, or encrypts one
+-- whether an entry asks its session to decrypt a parameter, or to encrypt one
 abbrev pub asks_for : Direction → Entry → Bool
 asks_for direction.Decrypt e = decrypts e
 asks_for direction.Encrypt e = encrypts e
 
--- bytes as a session decrypts them, between the caller's nonce and the TPM's, or as it encrypts
--- them, between the TPM's new nonce and the caller's. The key has the authorization value of the
--- handle that the session authorizes, even where the session is bound to that (unlike the key of an
+-- bytes that a session decrypts or encrypts. The nonces are nonceCaller and nonceTPM to decrypt,
+-- the new nonceTPM and nonceCaller to encrypt. The key has the authorization value of the handle
+-- that the session authorizes, even if the session is bound to that entity (unlike the key of an
 -- HMAC)
 abbrev pub session_bytes : Direction → Session → (value : List ℕ) → Entry → List ℕ → List ℕ
 session_bytes direction.Decrypt s value e = plain_parameter s value e.nonce s.nonce_tpm
 session_bytes direction.Encrypt s value e = encrypted_parameter s value s.nonce_tpm e.nonce
 
--- parameters as the session of an entry decrypts or encrypts the first of them
+-- the parameters, the first of them decrypted or encrypted by the session of this entry
 unfoldable pub entry_parameters : Direction → Record → Option Grant → Entry → List ℕ → List ℕ
 entry_parameters d r grant e text =
     option_map_or (λ (s : Session).
     with_first_buffer (session_bytes d s (granted_value r grant) e) text) (session_of r e) text
 
--- parameters as the session of the first entry that asks for it decrypts or encrypts the first of
--- them; unchanged if no entry does
+-- the parameters, the first of them decrypted or encrypted by the session of the first entry that
+-- asks for it; unchanged if no entry does
 abbrev pub session_parameters : Direction → Record → List Granted → List ℕ → List ℕ
 session_parameters d r granted text =
     option_map_or (λ (g : Granted). entry_parameters d r g.1 g.0 text)
     (find (λ g. asks_for d g.0) granted) text
 
--- the parameters of a command in plain
+-- the parameters of a command, decrypted
 abbrev pub plain_parameters : Record → List Granted → List ℕ → List ℕ
 plain_parameters r granted text = session_parameters direction.Decrypt r granted text
 
--- the parameters of an answer, encrypted as its command's sessions do
+-- the parameters of an answer, encrypted as the command's sessions ask
 abbrev pub encrypted_answer : Record → List Granted → List ℕ → List ℕ
 encrypted_answer r granted text = session_parameters direction.Encrypt r granted text

@@ -1,6 +1,6 @@
--- PCRs by the history alone. TPM 2.0 Library, Part 1, section 17, and Part 3, sections 9.3
--- (TPM2_Startup), 9.4 (TPM2_Shutdown), 22.2 (TPM2_PCR_Extend), 22.3 (TPM2_PCR_Event), 22.8
--- (TPM2_PCR_Reset) and 24.6 (TPM2_Clear).
+-- The values of PCRs, computed from the history alone. TPM 2.0 Library, Part 1, section 17, and
+-- Part 3, sections 9.3 (TPM2_Startup), 9.4 (TPM2_Shutdown), 22.2 (TPM2_PCR_Extend), 22.3
+-- (TPM2_PCR_Event), 22.8 (TPM2_PCR_Reset) and 24.6 (TPM2_Clear).
 use Rattle.std.specs.Prelude.{ℕ, ◌+◌, ◌==◌, ◌++◌, nat_lt, Bool, false, List, [], ◌∷◌, fold, length, map, replicate, Result, Ok, Err, if◌then◌else◌}
 use Rattle.std.specs.List.{concat, flat_map}
 use Rattle.tpm_mac.specs.Digest.{digest_size, hash_of}
@@ -23,29 +23,30 @@ use Rattle.tpm_record.specs.rows.Request.{Request}
 use Rattle.tpm_record.specs.rows.Rows.{only}
 use Rattle.tpm_step.specs.History.{Done, History, PowerCycled}
 
--- the values of all PCRs, and those that the last TPM2_Shutdown found
+-- the values of all PCRs, now and at the last TPM2_Shutdown
 pub record Pcrs : Type 0 where
   pub values : PcrValues
   pub saved : PcrValues
 
--- whether the first handle of a command is a PCR's
+-- whether a command's first handle is this PCR
 abbrev pub names_pcr : List Handle → ℕ → Bool
 names_pcr [] pcr = false
 names_pcr (handle ∷ handles) pcr = handle.number == pcr
 
--- ---- what a command makes of the value of a PCR in a bank
+-- ---- how a command changes the value of a PCR in a bank
 
--- the value of a PCR extended by each digest of its bank in turn
+-- a PCR's value after it is extended by each digest of its bank in turn
 abbrev pub extended_by_all : HashAlg → Result (List DigestValue) Refused → List ℕ → List ℕ
 extended_by_all bank (Ok digests) old = fold (value_extended bank) old digests
 extended_by_all bank (Err e) old = old
 
--- the value of a PCR after TPM2_PCR_Event: H(old || H(event))
+-- a PCR's value after TPM2_PCR_Event: H(old || H(event))
 abbrev pub measured_by : HashAlg → Result (List ℕ) Refused → List ℕ → List ℕ
 measured_by bank (Ok event) old = hash_of bank (old ++ hash_of bank event)
 measured_by bank (Err e) old = old
 
--- a startup with STATE gives PCR 0 to 15 what the last shutdown found
+-- a PCR's value after a startup: with STATE, PCR 0 to 15 have their values at the last shutdown
+-- again
 abbrev pub resumed : Result StartupType Refused → ℕ → (saved old : List ℕ) → List ℕ
 resumed (Ok type.Clear) pcr saved old = old
 resumed (Ok type.State) pcr saved old = if nat_lt pcr 16 then saved else old
@@ -82,11 +83,11 @@ pcrs_after (Done c ∷ history) = pcrs_by c.command.code c.request (pcrs_after h
 pcrs_after (PowerCycled ∷ history) =
     record { values = starting_value; saved = (pcrs_after history).saved }
 
--- the value of a PCR in a bank
+-- the value of each PCR in each bank
 abbrev pub pcr_of : History → PcrValues
 pcr_of history bank pcr = (pcrs_after history).values bank pcr
 
--- the history before the last shutdown, at which the saved values were those of the PCRs
+-- the history before the last shutdown, when the saved values were those of the PCRs
 abbrev pub shutdown_or : CommandCode → (here further : History) → History
 shutdown_or command.Shutdown here further = here
 shutdown_or _ here further = further
@@ -97,7 +98,8 @@ before_shutdown (Done c ∷ history) =
     shutdown_or c.command.code history (before_shutdown history)
 before_shutdown (PowerCycled ∷ history) = before_shutdown history
 
--- the digest of the PCRs of a selection: the hash of all their values
+-- the values of the PCRs that a selection names, and the hash of all of them, which is their
+-- digest
 abbrev pub values_in : History → BankSelection → List (List ℕ)
 values_in history bank = map (pcr_of history bank.hash) (selected_pcrs bank)
 
@@ -106,7 +108,7 @@ digest_in history hash selection = hash_of hash (concat (flat_map (values_in his
 
 -- ---- updates of PCRs
 
--- this count where the first handle of a command is a PCR's, and 0 where it is TPM_RH_NULL
+-- this count if a command's first handle is a PCR, and 0 if it is TPM_RH_NULL
 abbrev pub if_pcr : List Handle → ℕ → ℕ
 if_pcr [] count = 0
 if_pcr (handle ∷ handles) count = if nat_lt handle.number 24 then count else 0
@@ -115,7 +117,7 @@ abbrev pub count_in : Result (List DigestValue) Refused → ℕ
 count_in (Ok digests) = length digests
 count_in (Err e) = 0
 
--- how many values of banks a command writes; TPM2_Clear counts as one
+-- how many values of PCRs a command writes, over all banks; TPM2_Clear counts as one
 abbrev pub writes : CommandCode → Request → ℕ
 writes command.PcrReset q = if_pcr q.handles 2
 writes command.PcrExtend q = if_pcr q.handles (count_in (only (digest_values_at q.parameters)))
@@ -127,7 +129,7 @@ abbrev pub updates_by : CommandCode → Request → ℕ → ℕ
 updates_by command.Startup q old = 0
 updates_by code q old = old + writes code q
 
--- how many values were written, and TPM2_Clear accepted, since the last startup
+-- how many values were written since the last startup, with each accepted TPM2_Clear as one
 abbrev pub updates_of : History → ℕ
 updates_of [] = 0
 updates_of (Done c ∷ history) = updates_by c.command.code c.request (updates_of history)

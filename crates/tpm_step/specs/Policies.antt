@@ -1,5 +1,6 @@
--- Policies by the history alone. TPM 2.0 Library, Part 3, section 23, and Part 1, section 19.7. An
--- assertion that was accepted passed its checks, so only what it makes of a policy is said.
+-- Policies, computed from the history alone. TPM 2.0 Library, Part 3, section 23, and Part 1,
+-- section 19.7. An accepted assertion passed its checks, so only its effect on the policy is
+-- defined here.
 use Rattle.std.specs.Prelude.{ℕ, Bool, List, [], ◌∷◌, Result, Ok, Err}
 use Rattle.std.specs.Int.{w8, w32}
 use Rattle.tpm_bytes.specs.Reading.{◌>>=◌, number_at, or_fault}
@@ -25,7 +26,7 @@ use Rattle.tpm_step.specs.View.{name_in}
 
 -- ---- what a command asserts
 
--- the assertion of TPM2_PolicyPCR: the selected PCRs, as they were before the command
+-- the assertion of TPM2_PolicyPCR, by the values of the selected PCRs before the command
 abbrev pub pcr_parts_in : History → HashAlg → Parameters → PcrParts
 pcr_parts_in history hash p = record {
   given = p.given;
@@ -34,10 +35,9 @@ pcr_parts_in history hash p = record {
   update_count = updates_of history;
 }
 
--- what a command asserts after a history, on a session of this hash and with this nonceTPM. Of an
--- index that TPM2_PolicyNV compares a policy has the Name, and nothing of what was compared, which
--- no history tells: `compared` is left without bytes, and what is made of the assertion does not
--- read it
+-- the assertion of a command after a history, on a session with this hash and this nonceTPM. A
+-- policy of TPM2_PolicyNV has the Name of the index, and not the bytes that were compared, which
+-- no history has. So `compared` is empty, and the effect of the assertion does not depend on it
 abbrev pub assertion_by : Code → AcceptedCommand → History → HashAlg → (nonce_tpm : List ℕ)
     → Result Assertion Refused
 assertion_by command.PolicyPcr c history hash nonce_tpm = do
@@ -81,7 +81,7 @@ assertion_by command.PolicyNv c history hash nonce_tpm = do
   }))
 assertion_by _ c history hash nonce_tpm = Err handle_refusal
 
--- the assertions with one more, before those that were asserted earlier
+-- the assertions with one more, before the earlier ones
 abbrev pub with_assertion : Result Assertion Refused → List Assertion → List Assertion
 with_assertion (Ok assertion) assertions = assertion ∷ assertions
 with_assertion (Err e) assertions = assertions

@@ -1,5 +1,5 @@
--- What a policy of one assertion says of each use of an entity that has it. TPM 2.0 Library, Part
--- 3, sections 23.7 (TPM2_PolicyPCR), 23.11 (TPM2_PolicyCommandCode) and 23.20
+-- What a policy of one assertion says of each use of its entity. TPM 2.0 Library, Part 3,
+-- sections 23.7 (TPM2_PolicyPCR), 23.11 (TPM2_PolicyCommandCode) and 23.20
 -- (TPM2_PolicyNvWritten).
 use Rattle.std.specs.Prelude.{◌≡◌, ◌<◌, ℕ, Bool, false, List, [], ◌∷◌, Option, Some, None}
 use Rattle.tpm_mac.specs.declared.algorithm.HashAlg.{HashAlg}
@@ -18,13 +18,13 @@ use Rattle.tpm_step.specs.Pcrs.{digest_in, pcr_of}
 use Rattle.tpm_step.specs.QuietPcrs.{AreQuietSince}
 use Rattle.tpm_step.specs.Sessions.{LiveSession}
 
--- The authPolicy of an entity is the digest of these assertions, the latest first.
+-- The entity's authPolicy is the digest of these assertions, the latest first.
 abbrev pub HasPolicyOf : HashAlg → List Assertion → Option EntityParts → Type 0
 HasPolicyOf hash assertions (Some entity) = entity.digest ≡ (evaluated hash false assertions).digest
 HasPolicyOf hash assertions None = ⊥
 
--- the assertion that the PCRs of a selection have the values that they have after a history; a
--- policy's digest does not depend on what was given, nor on the update counter
+-- the assertion that the selected PCRs have their values after this history; neither the given
+-- digest nor the update counter is part of a policy's digest
 abbrev pub pcrs_as_in : History → HashAlg → List BankSelection → PcrParts
 pcrs_as_in history hash selection = record {
   given = [];
@@ -33,8 +33,8 @@ pcrs_as_in history hash selection = record {
   update_count = 0;
 }
 
--- An entity that is used by a session with TPM2_PolicyPCR as its only assertion has the policy that
--- the PCRs of a selection have the values that they have at the use.
+-- If a session whose only assertion is a TPM2_PolicyPCR uses an entity, the entity's policy is
+-- that the selected PCRs have their values at the use.
 abbrev pub UsesPcrsAsTheyAre : Type 0
 UsesPcrsAsTheyAre =
     (history : History) (c : AcceptedCommand) (place : ℕ) (e : Entry) (s : LiveSession)
@@ -43,8 +43,8 @@ UsesPcrsAsTheyAre =
     → (selection : List BankSelection) × (parts.selection ≡ selection_text selection)
     × HasPolicyOf s.hash (Pcr (pcrs_as_in history s.hash selection) ∷ []) (policy_at c place)
 
--- An entity that is used by a session with TPM2_PolicyCommandCode as its only assertion has the
--- policy of the command that uses it.
+-- If a session whose only assertion is a TPM2_PolicyCommandCode uses an entity, the entity's
+-- policy is the code of the command that uses it.
 abbrev pub UsesItsCommand : Type 0
 UsesItsCommand =
     (history : History) (c : AcceptedCommand) (place : ℕ) (e : Entry) (s : LiveSession) (number : ℕ)
@@ -52,9 +52,9 @@ UsesItsCommand =
     → s.assertions ≡ CommandCode number ∷ []
     → HasPolicyOf s.hash (CommandCode (code_number c.command.code) ∷ []) (policy_at c place)
 
--- An entity that is used by a session with TPM2_PolicyNvWritten as its only assertion is an NV
--- index that is written, or not, as its policy wants it: where the policy wants it unwritten, it
--- has no WRITTEN as it is used.
+-- If a session whose only assertion is a TPM2_PolicyNvWritten uses an entity, that is an NV
+-- index, WRITTEN or not as its policy asks. So an index whose policy asks that it is not written
+-- has no WRITTEN at the use.
 abbrev pub UsesAsWritten : Type 0
 UsesAsWritten =
     (history : History) (c : AcceptedCommand) (place : ℕ) (e : Entry) (s : LiveSession)
@@ -63,7 +63,7 @@ UsesAsWritten =
     → (written_at c place ≡ Some is_written)
     × HasPolicyOf s.hash (NvWritten is_written ∷ []) (policy_at c place)
 
--- No PCR has another value than at the first TPM2_PolicyPCR of a session.
+-- Each PCR has the value that it had at the session's first TPM2_PolicyPCR.
 abbrev pub KeepsQuietValues : Type 0
 KeepsQuietValues =
     (history : History) (handle : Handle) (quiet : AreQuietSince handle history) (bank : HashAlg)

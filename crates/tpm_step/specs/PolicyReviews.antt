@@ -36,8 +36,8 @@ use Rattle.tpm_step.specs.View.{OfIndex, OfObject}
 
 -- ---- what is reviewed
 
--- A property holds of each command that a device accepted since it was manufactured, by the history
--- before the command.
+-- The property holds of each command that a device accepted since it was manufactured, given the
+-- history before the command.
 abbrev pub OfEachAccepted : (History → AcceptedCommand → Type 0) → Type 0
 OfEachAccepted Holds =
     (can : Bool) (random : List ℕ) (executions : List Execution) (new : Record)
@@ -45,8 +45,8 @@ OfEachAccepted Holds =
     → (after : History) (c : AcceptedCommand) (before : History)
     → history_after [] executions ≡ after ++ Done c ∷ before → Holds before c
 
--- A command uses, in a place of its handles, an object that has no userWithAuth, and whose
--- authPolicy is the digest of a policy.
+-- A command uses an object at this place of its handles. The object has no userWithAuth, and its
+-- authPolicy is the digest of this policy.
 pub record UsesObject (c : AcceptedCommand) (place : ℕ) (public : Public)
     (policy : PolicyExpression) : Type 0
   where
@@ -56,8 +56,8 @@ pub record UsesObject (c : AcceptedCommand) (place : ℕ) (public : Public)
     pub no_user_with_auth : has public.attributes attribute.UserWithAuth ≡ false
     pub auth_policy : public.auth_policy ≡ policy_digest public.name_alg policy
 
--- A command writes, in a place of its handles, an NV index that has no AUTHWRITE, and whose
--- authPolicy is the digest of a policy.
+-- A command writes an NV index at this place of its handles. The index has no AUTHWRITE, and its
+-- authPolicy is the digest of this policy.
 pub record WritesIndex (c : AcceptedCommand) (place : ℕ) (public : NvPublic)
     (policy : PolicyExpression) : Type 0
   where
@@ -68,8 +68,8 @@ pub record WritesIndex (c : AcceptedCommand) (place : ℕ) (public : NvPublic)
     pub no_auth_write : index_has public.attributes mark.AuthWrite ≡ false
     pub auth_policy : public.auth_policy ≡ policy_digest public.name_alg policy
 
--- The entry in a place of a command names a policy session of this hash, and a property holds of
--- the use; or the hash is broken, by texts that a policy and the session spell.
+-- The entry at this place of a command names a policy session with this hash, and the property
+-- holds of the use. Or the hash is broken, by texts of the policy and of the session.
 pub record IsUsedBySession (history : History) (c : AcceptedCommand) (place : ℕ) (hash : HashAlg)
     (policy : PolicyExpression) (Holds : PolicyUse → Type 0) : Type 0
   where
@@ -92,7 +92,8 @@ pub record IsUsedBySession (history : History) (c : AcceptedCommand) (place : �
 
 -- ---- every policy
 
--- An object without userWithAuth is used by policy sessions alone, and each use meets its policy.
+-- Only policy sessions use an object without userWithAuth, and each use meets the object's
+-- policy.
 abbrev pub NeedsItsPolicy : History → AcceptedCommand → Type 0
 NeedsItsPolicy history c =
     (place : ℕ) (public : Public) (policy : PolicyExpression) → UsesObject c place public policy
@@ -105,14 +106,14 @@ NeedsItsPolicy history c =
 abbrev pub by_pcrs : HashAlg → List BankSelection → (values : List ℕ) → PolicyExpression
 by_pcrs hash selection values = Then Nothing (PolicyPcr selection (hash_of hash values))
 
--- The selected PCRs have these values after a history; or two texts have one hash: these values,
--- and those that the PCRs have.
+-- The selected PCRs have these values after a history. Or these values and those of the PCRs are
+-- two different texts with one hash.
 abbrev pub HavePcrValues : History → HashAlg → List BankSelection → (values : List ℕ) → Type 0
 HavePcrValues history hash selection values =
     let found : List ℕ = concat (flat_map (values_in history) selection) in
     (found ≡ values) ⊎ (found ≢ values) × (hash_of hash found ≡ hash_of hash values)
 
--- An object whose policy is that PCRs have these values is used only while they have them.
+-- If an object's policy is that PCRs have these values, it is used only while they have them.
 abbrev pub NeedsPcrs : History → AcceptedCommand → Type 0
 NeedsPcrs history c =
     (place : ℕ) (public : Public) (selection : List BankSelection) (values : List ℕ)
@@ -121,8 +122,8 @@ NeedsPcrs history c =
     → IsUsedBySession history c place public.name_alg policy
     (λ u. HavePcrValues history public.name_alg selection values)
 
--- An object whose policy is that PCRs have these values, and that the authorization value, a PIN,
--- is given, is used only while they have them, and only with the PIN.
+-- If an object's policy is that PCRs have these values, and that the authorization value (a PIN)
+-- is given, it is used only while they have them, and only with the PIN.
 abbrev pub NeedsPcrsAndPin : History → AcceptedCommand → Type 0
 NeedsPcrsAndPin history c =
     (place : ℕ) (public : Public) (selection : List BankSelection) (values : List ℕ)
@@ -134,14 +135,15 @@ NeedsPcrsAndPin history c =
 
 -- ---- a PIN, or a recovery secret
 
--- the written policy that asks for the authorization value, or for that of the entity of this Name
+-- the written policy that asks for the entity's own authorization value, or for that of the
+-- entity of this Name
 abbrev pub by_pin_or_secret : (name reference : List ℕ) → PolicyExpression
 by_pin_or_secret name reference =
     PolicyOr (Branch (Then Nothing PolicyAuthValue)
     (Branch (Then Nothing (PolicySecret name reference)) NoBranch))
 
--- An object with this policy is used only with its authorization value, or where TPM2_PolicySecret
--- was accepted for the entity of that Name, which was authorized.
+-- An object with this policy is used only with its authorization value, or after an accepted
+-- TPM2_PolicySecret for the entity of that Name, which was authorized.
 abbrev pub NeedsPinOrSecret : History → AcceptedCommand → Type 0
 NeedsPinOrSecret history c =
     (place : ℕ) (public : Public) (name reference : List ℕ)
@@ -152,7 +154,8 @@ NeedsPinOrSecret history c =
 
 -- ---- an index that is written once
 
--- An NV index whose policy is that it is not written is written only while it is not.
+-- If an NV index has the policy that it is not written, it is written only while it is not
+-- WRITTEN.
 abbrev pub IsWrittenOnce : History → AcceptedCommand → Type 0
 IsWrittenOnce history c =
     (place : ℕ) (public : NvPublic)
@@ -163,8 +166,8 @@ IsWrittenOnce history c =
 
 -- ---- a counter that is not below a number
 
--- An object whose policy is that a counter, the NV index of this Name, is at least a number is used
--- only where TPM2_PolicyNV was accepted that compared the two.
+-- If an object's policy is that a counter, the NV index of this Name, is at least a number, it is
+-- used only after an accepted TPM2_PolicyNV that compared the two.
 abbrev pub NeedsCount : History → AcceptedCommand → Type 0
 NeedsCount history c =
     (place : ℕ) (public : Public) (name number : List ℕ)

@@ -23,9 +23,9 @@ use Rattle.tpm_step.specs.Pcrs.{digest_in}
 use Rattle.tpm_step.specs.QuietPcrs.{AreQuietSince}
 use Rattle.tpm_step.specs.Sessions.{LiveSession}
 
--- a use by a policy session: the history before it; the command; the place of what it uses among
--- the command's handles, from 0, and that handle; the entry in the same place; and the session that
--- the entry names
+-- a use by a policy session: the history before it; the command; the used handle, and its place
+-- among the command's handles, counted from 0; the entry at the same place; and the entry's
+-- session
 pub record PolicyUse : Type 0 where
   pub history : History
   pub command : AcceptedCommand
@@ -36,15 +36,15 @@ pub record PolicyUse : Type 0 where
 
 -- ---- what is met at a use
 
--- The selected PCRs have this digest now, and no PCR was written since the first TPM2_PolicyPCR of
--- the session (Part 3, section 23.7).
+-- The selected PCRs have this digest now, and no PCR was written since the session's first
+-- TPM2_PolicyPCR (Part 3, section 23.7).
 pub record HasPcrsNow (u : PolicyUse) (selection : List BankSelection) (digest : List ℕ) : Type 0
   where
     pub quiet : AreQuietSince u.entry.session u.history
     pub now : digest_in u.history u.session.hash selection ≡ digest
 
--- The entry has the authorization value of the entity that is used: as its password, or in the key
--- of its HMAC (Part 3, sections 23.17 and 23.18).
+-- The entry has the authorization value of the used entity, as its password or in the key of its
+-- HMAC (Part 3, sections 23.17 and 23.18).
 abbrev pub ShowsAuthValue : PolicyUse → Type 0
 ShowsAuthValue u =
     HasPassword u.history u.command u.place u.entry
@@ -52,9 +52,9 @@ ShowsAuthValue u =
     × (value_in_key u.history u.command u.place u.session (Some u.handle)
     ≡ auth_of u.history u.handle)
 
--- An assertion of a policy is met at a use. The command code, the cpHash, the locality and whether
--- an NV index is written are those of the use itself (Part 3, sections 23.11, 23.13, 23.8 and
--- 23.20); TPM2_PolicySecret and TPM2_PolicyNV were accepted on its session before it.
+-- A use meets an assertion of its policy. The command code, the cpHash, the locality and the
+-- written value are those of the use itself (Part 3, sections 23.11, 23.13, 23.8 and 23.20).
+-- TPM2_PolicySecret and TPM2_PolicyNV were accepted on its session before it.
 abbrev pub IsMetBy : PolicyUse → PolicyAssertion → Type 0
 IsMetBy u (PolicyPcr selection digest) = HasPcrsNow u selection digest
 IsMetBy u PolicyAuthValue = ShowsAuthValue u
@@ -70,8 +70,8 @@ IsMetBy u (PolicyNv name operand offset operation) =
 
 -- ---- every use
 
--- The entity in a place of a command's handles has a policy: with this hash, its nameAlg, the
--- digest of the policy is its authPolicy.
+-- The entity at this place of a command's handles has this policy: its nameAlg is the hash, and
+-- its authPolicy the policy's digest.
 pub record HasAuthPolicy (c : AcceptedCommand) (place : ℕ) (hash : HashAlg)
     (policy : PolicyExpression) : Type 0
   where
@@ -79,9 +79,9 @@ pub record HasAuthPolicy (c : AcceptedCommand) (place : ℕ) (hash : HashAlg)
     pub auth_policy : policy_at c place
         ≡ Some (record { hash = hash; digest = policy_digest hash policy })
 
--- Where a policy session authorizes a use, the use meets every policy that has the authPolicy of
--- the entity that is used, along one branch at each TPM2_PolicyOR; or the hash is broken, by texts
--- that the policy and the session spell.
+-- If a policy session authorizes a use, the use meets every policy whose digest is the entity's
+-- authPolicy, along one branch at each TPM2_PolicyOR. Or the hash is broken, by texts of the
+-- policy and of the session.
 abbrev pub MeetsPolicies : (history : History) (c : AcceptedCommand) (place : ℕ) → Handle
     → (e : Entry) → Ground history c place e → Type 0
 MeetsPolicies history c place handle e (ByPassword names takes has) = Unit {0}
@@ -98,15 +98,15 @@ MeetsPolicies history c place handle e (ByPolicy s lives kind meets has) =
     (hash : HashAlg) (policy : PolicyExpression) → HasAuthPolicy c place hash policy
     → IsMet (IsMetBy u) policy ⊎ BreaksHash hash policy s.assertions
 
--- Each handle of a command that needs authorization has an entry in its place, which authorizes it
--- on a ground, and every policy of the handle's entity is met.
+-- Each handle that needs authorization has an entry at its place, which authorizes it on a
+-- ground. The use meets every policy of the handle's entity.
 abbrev pub UsesMeetPolicies : History → AcceptedCommand → Type 0
 UsesMeetPolicies history c =
     (place : ℕ) (handle : Handle) → used_in c.command place ≡ Some handle
     → (e : Entry) × (slice_get c.command.entries place ≡ Some e)
     × (ground : Ground history c place e) × MeetsPolicies history c place handle e ground
 
--- Each command of a history met the policies of what it used, by the history before it.
+-- Each command of a history met the policies of what it used, given the history before it.
 abbrev pub AllMeetPolicies : History → Type 0
 AllMeetPolicies [] = Unit {0}
 AllMeetPolicies (Done c ∷ history) = UsesMeetPolicies history c × AllMeetPolicies history

@@ -1,5 +1,5 @@
--- PCRs that did not change since TPM2_PolicyPCR. TPM 2.0 Library, Part 3, section 23.7, where the
--- update counter of PCRs is recorded, and section 24.6 (TPM2_Clear counts as an update).
+-- PCRs that have not changed since a TPM2_PolicyPCR. TPM 2.0 Library, Part 3, section 23.7, which
+-- records the update counter of PCRs, and section 24.6 (TPM2_Clear counts as an update).
 use Rattle.std.specs.Prelude.{◌≡◌, ◌≤◌, ℕ, Bool, true, false, List, [], ◌∷◌, ◌++◌, Some, Ok}
 use Rattle.std.specs.List.{AllByRecursion, list_any}
 use Rattle.std.specs.Option.{option_map_or}
@@ -16,7 +16,7 @@ use Rattle.tpm_step.specs.History.{AcceptedCommand, Done, History, PastEvent, Po
 use Rattle.tpm_step.specs.Pcrs.{digest_in, updates_of, writes}
 use Rattle.tpm_step.specs.Sessions.{LiveSession, policy_in, sessions_of}
 
--- whether an assertion is one of TPM2_PolicyPCR, and whether one of these assertions is
+-- whether an assertion is by TPM2_PolicyPCR, and whether a session has such an assertion
 abbrev pub is_pcr : Assertion → Bool
 is_pcr (Pcr parts) = true
 is_pcr _ = false
@@ -24,25 +24,24 @@ is_pcr _ = false
 abbrev pub asserts_pcrs : LiveSession → Bool
 asserts_pcrs s = list_any is_pcr s.assertions
 
--- whether TPM2_PolicyPCR is among the assertions of the session of a handle, if one lives
+-- whether a session is live at this handle and has an assertion by TPM2_PolicyPCR
 abbrev pub has_pcrs : History → Handle → Bool
 has_pcrs history handle = option_map_or asserts_pcrs (sessions_of history handle) false
 
--- An event writes no value of a bank, and is neither a TPM2_Clear, nor a TPM2_Startup, nor a power
--- cycle.
+-- The event writes no PCR, and is neither a TPM2_Clear, nor a TPM2_Startup, nor a power cycle.
 abbrev pub IsQuiet : PastEvent → Type 0
 IsQuiet (Done c) =
     (is_startup c.command.code ≡ false) × (writes c.command.code c.request ≡ 0)
 IsQuiet PowerCycled = ⊥
 
--- After each of these events, the latest first, PCRs are asserted on the session of a handle.
+-- After each of these events, the latest first, the session of this handle asserts PCRs.
 abbrev pub KeepsPcrs : Handle → (events before : History) → Type 0
 KeepsPcrs handle [] before = Unit {0}
 KeepsPcrs handle (event ∷ events) before =
     (has_pcrs (event ∷ events ++ before) handle ≡ true) × KeepsPcrs handle events before
 
--- A history ends in the first TPM2_PolicyPCR that is asserted on the session of a handle, and in
--- quiet events alone after it; since then some TPM2_PolicyPCR is asserted on that session.
+-- A history ends in a first TPM2_PolicyPCR on the session of this handle, with only quiet events
+-- after it. Since then the session has asserted PCRs after every event.
 pub record AreQuietSince (handle : Handle) (history : History) : Type 0 where
   pub since : History
   pub first : AcceptedCommand
@@ -54,31 +53,31 @@ pub record AreQuietSince (handle : Handle) (history : History) : Type 0 where
   pub keeps : KeepsPcrs handle (since ++ Done first ∷ []) before
   pub quiet : AllByRecursion IsQuiet since
 
--- What TPM2_PolicyPCR asserted on a session of this hash holds where the selected PCRs have the
--- asserted digest after a history; other assertions always do.
+-- What this assertion says of PCRs holds after a history: the selected PCRs have the digest that
+-- TPM2_PolicyPCR asserted, with the session's hash. Every other assertion says nothing of them.
 abbrev pub HoldsOf : History → HashAlg → Assertion → Type 0
 HoldsOf history hash (Pcr parts) =
     (selection : List BankSelection) × (parts.selection ≡ selection_text selection)
     × (parts.digest ≡ digest_in history hash selection)
 HoldsOf history hash _ = Unit {0}
 
--- No PCR was updated since the first TPM2_PolicyPCR on the session of a handle, and so all that was
--- asserted of PCRs holds.
+-- No PCR was updated since the first TPM2_PolicyPCR on the session of this handle. So all that
+-- the session asserts of PCRs holds.
 pub record HoldsPcrs (handle : Handle) (history : History) (s : LiveSession) : Type 0 where
   pub quiet : AreQuietSince handle history
   pub hold : AllByRecursion (HoldsOf history s.hash) s.assertions
 
 -- ---- the update counter that a policy records
 
--- The update counter that a session records is not above that of the history; and where the two are
--- the same, what the session asserts of PCRs holds.
+-- The update counter that the session recorded is not above that of the history. If the two are
+-- equal, what the session asserts of PCRs holds.
 pub record RecordsUpdates (handle : Handle) (history : History) (s : LiveSession) : Type 0 where
   pub count : ℕ
   pub recorded : (policy_in s).update_count ≡ Some count
   pub within : count ≤ updates_of history
   pub hold : count ≡ updates_of history → HoldsPcrs handle history s
 
--- Each live policy session on which PCRs are asserted records such an update counter.
+-- Each live policy session that asserts PCRs recorded such an update counter.
 abbrev pub AllRecordUpdates : History → Type 0
 AllRecordUpdates history =
     (handle : Handle) (s : LiveSession) → sessions_of history handle ≡ Some s

@@ -15,7 +15,7 @@ use Rattle.tpm_step.specs.Sessions.{LiveSession, sessions_of}
 
 -- ---- a session that lives on
 
--- whether a command of this code whose answer has this handle starts a session under a handle
+-- whether a command of this code, with this handle in its answer, starts a session under a handle
 abbrev pub starts_under : CommandCode → Option Handle → Handle → Bool
 starts_under command.StartAuthSession (Some made) handle = handle.number == made.number
 starts_under _ made handle = false
@@ -24,8 +24,8 @@ abbrev pub starts : PastEvent → Handle → Bool
 starts (Done c) handle = starts_under c.command.code c.answer.handle handle
 starts PowerCycled handle = false
 
--- The session of a handle lives on through these events, the latest first, after this history: none
--- of them starts a session under the handle, and after each of them a session lives there.
+-- The session at this handle lives through these events, the latest first, after this history. No
+-- event starts a session under the handle, and a session lives there after each.
 abbrev pub LivesThrough : Handle → (events before : History) → Type 0
 LivesThrough handle [] before = Unit {0}
 LivesThrough handle (event ∷ events) before =
@@ -34,8 +34,8 @@ LivesThrough handle (event ∷ events) before =
 
 -- ---- a replay
 
--- One buffer spells two commands, the one accepted after a history and the other after a later one.
--- Their entry in a place, from 0, has an HMAC, and names an HMAC session that lives all the while.
+-- One buffer encodes two accepted commands, the second after a longer history. Their entry at
+-- this place, counted from 0, has an HMAC and names an HMAC session, which survives in between.
 pub record IsReplay (buffer : List ℕ) (before : History) (first : AcceptedCommand)
     (between : History) (second : AcceptedCommand) (place : ℕ) (e : Entry) (s : LiveSession)
     : Type 0
@@ -49,22 +49,22 @@ pub record IsReplay (buffer : List ℕ) (before : History) (first : AcceptedComm
     pub is_hmac : s.kind ≡ type.Hmac
     pub lives_on : LivesThrough e.session (between ++ Done first ∷ []) before
 
--- The nonceTPM that a session has now is the one that it had at an earlier time, and is among those
--- that it had before.
+-- The session's nonceTPM is the one that it had at an earlier time, and is among the nonces that
+-- it had before.
 abbrev pub HasNonceAgain : (earlier now : LiveSession) → Type 0
 HasNonceAgain earlier now =
     (now.nonce_tpm ≡ earlier.nonce_tpm) × IsAmong now.nonce_tpm now.earlier_nonces
 
--- The texts of an entry at two events differ, and the entry's HMAC is that of each, under the key
--- of its event.
+-- The entry has different texts at the two events, and its HMAC is right for each of them, with
+-- the key at that event.
 abbrev pub HaveOneHmac : (before : History) (first : AcceptedCommand) (after : History)
     (second : AcceptedCommand) (place : ℕ) (e : Entry) (s t : LiveSession) → Type 0
 HaveOneHmac before first after second place e s t =
     (text_in before first place e s ≢ text_in after second place e t)
     × (e.hmac ≡ hmac_in before first place e s) × (e.hmac ≡ hmac_in after second place e t)
 
--- At the second event of a replay the session, of the same hash, has the nonce of the first event
--- again; or two texts have one HMAC.
+-- At the second event of a replay the session has the same hash, and again the nonce of the first
+-- event; or two texts have one HMAC.
 pub record Repeats (before : History) (first : AcceptedCommand) (between : History)
     (second : AcceptedCommand) (place : ℕ) (e : Entry) (s : LiveSession) : Type 0 where
   pub now : LiveSession

@@ -8,9 +8,9 @@ use Rattle.tpm_step.specs.Execution.{Executes}
 use Rattle.tpm_step.specs.Step.{outcome_step, step}
 use Rattle.tpm_step.specs.declared.event.Outcome.{Outcome}
 
--- The events ran from an old record to a new one, each executed with a record after it. A closure
--- in state p was called with the outcome of each, in order, which left it in state q. `can` says
--- whether memory can be refused.
+-- The events were executed one after another, from the old record to the new one. A closure in
+-- state p was called with each outcome, in order, and ended in state q. `can` says whether memory
+-- can be refused.
 abbrev pub Runs : {F : Type 0} → Mut F (Bor Outcome × Unit {0}) (Unit {0})
     → Bool → Record → F → List PlainEvent → Record → F → Type 0
 Runs g can old p [] new q = (new ≡ old) × (q ≡ p)
@@ -19,7 +19,7 @@ Runs {F} g can old p (event ∷ events) new q =
     × Executes can old event (outcome_step mid outcome)
     × CalledAt g p outcome tt next × Runs g can mid next events new q
 
--- the record to which the events lead
+-- the record after all these events
 abbrev pub after_all : Record → List PlainEvent → Record
 after_all r [] = r
 after_all r (event ∷ events) = after_all (step r event).after events

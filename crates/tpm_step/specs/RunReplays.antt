@@ -14,8 +14,8 @@ use Rattle.tpm_step.specs.History.{AcceptedCommand, Done, History, recorded}
 use Rattle.tpm_step.specs.Replays.{LivesThrough, Repeats}
 use Rattle.tpm_step.specs.Sessions.{LiveSession, sessions_of}
 
--- An event is recorded as an accepted command, whatever history was before it; and its buffer
--- spells that command.
+-- The event is recorded as an accepted command, after any history, and this buffer encodes that
+-- command.
 pub record IsRecorded (old : Record) (event : PlainEvent) (x : Stepped) (buffer : List ℕ) : Type 0 where
   pub command : AcceptedCommand
   pub spelled : command_at buffer ≡ Ok (command.command, [])
@@ -26,9 +26,9 @@ abbrev pub Gives : List ℕ → PlainEvent → Type 0
 Gives buffer (Given given locality elapsed random) = given ≡ buffer
 Gives buffer Cycled = ⊥
 
--- Two events, after these earlier ones and with others between them, have one buffer, and both are
--- accepted. An entry of the command that the buffer spells has an HMAC, and names an HMAC session
--- that lives from the first event to the second.
+-- Two accepted events, after these earlier ones and with others in between, have one buffer. An
+-- entry of the buffer's command has an HMAC, and names an HMAC session that lives from the first
+-- event to the second.
 pub record IsRunReplay (history : History) (earlier : List Execution) (one : Execution)
     (meanwhile : List Execution) (two : Execution) (place : ℕ) (e : Entry) (s : LiveSession) : Type 0
   where
@@ -47,7 +47,8 @@ pub record IsRunReplay (history : History) (earlier : List Execution) (one : Exe
     pub lives_on : LivesThrough e.session (history_after [] (one ∷ meanwhile))
         (history_after history earlier)
 
--- What was accepted at the two events of a replay repeats a nonce, or two texts have one HMAC.
+-- The commands that were accepted at the two events of a replay repeat a nonce, or two texts have
+-- one HMAC.
 pub record RunRepeats (history : History) (earlier : List Execution) (one : Execution)
     (meanwhile : List Execution) (two : Execution) (place : ℕ) (e : Entry) (s : LiveSession) : Type 0
   where

@@ -1,4 +1,5 @@
--- What a refusal leaves, and what a success may take, of random bytes and of the answer's size.
+-- What a refusal changes, how many random bytes a success may draw, and how long its answer may
+-- be.
 use Rattle.std.specs.Prelude.{◌≡◌, ◌≢◌, ℕ, ◌≤◌, List, length, Ok, IfOk}
 use Rattle.tpm_record.specs.Record.{Record}
 use Rattle.tpm_record.specs.Tick.{ticked}
@@ -12,13 +13,13 @@ use Rattle.tpm_step.specs.Entries.{DrawsFew}
 use Rattle.tpm_step.specs.Events.{PlainEvent, Given, Cycled}
 use Rattle.tpm_step.specs.Step.{Accepted, Stepped, accepted, counted_in}
 
--- the record once a command's time has elapsed, otherwise as it was
+-- the record after a command's elapsed time; a power cycle leaves it as it is
 abbrev pub only_ticked : Record → PlainEvent → Record
 only_ticked r (Given buffer locality elapsed random) = ticked r elapsed
 only_ticked r Cycled = r
 
--- A refusal is the ten bytes of its text, reports its check, and changes nothing but what time
--- changes and what it counts; which command the row names is not said here.
+-- A refusal has a response of ten bytes, its text, and reports its check. It changes only what
+-- time changes and what it counts. Which command the row names is not said here.
 abbrev pub IsHarmless : Record → PlainEvent → Stepped → Type 0
 IsHarmless r event x = x.row.check ≢ 0
     → (length x.response ≡ 10)
@@ -26,15 +27,15 @@ IsHarmless r event x = x.row.check ≢ 0
     × (x.row.check ≡ check_number refused.check)
     × (x.after ≡ counted_in refused.counted (only_ticked r event))
 
--- A success is modest: its row draws no more of the event's 256 random bytes than the limit, 96,
--- and with three nonces of 32 bytes after them at most 192 are drawn. Its parameters have no more
--- bytes than the limit.
+-- A success is modest. Its row draws at most 96 of the event's 256 random bytes (the limit), and
+-- with three nonces of 32 bytes after them at most 192 are drawn. The parameters of its answer
+-- are no longer than the limit.
 abbrev pub IsModest : List ℕ → Accepted → Type 0
 IsModest random a =
     (a.success.answer.drawn ≤ draw_limit) × (length (answer_body_text a.success.answer.body) ≤ answer_limit)
     × DrawsFew random a.success.after a.command.entries a.success.answer.drawn
 
--- Where a command is accepted, its success is modest.
+-- If a command is accepted, its success is modest.
 abbrev pub IsModestIfAccepted : Record → PlainEvent → Type 0
 IsModestIfAccepted r (Given buffer locality elapsed random) =
     IfOk (accepted (ticked r elapsed) buffer locality random) (IsModest random)

@@ -1,5 +1,6 @@
--- Sessions by the history alone. TPM 2.0 Library, Part 1, sections 19.6 (session nonces and keys,
--- bound sessions) and 19.7 (policies). No session is salted: tpmKey is TPM_RH_NULL.
+-- Sessions, computed from the history alone. TPM 2.0 Library, Part 1, sections 19.6 (session
+-- nonces and keys, bound sessions) and 19.7 (policies). No session is salted: tpmKey is
+-- TPM_RH_NULL.
 use Rattle.std.specs.Prelude.{◌≡◌, ℕ, ◌==◌, is_some, List, [], ◌∷◌, length, take, drop, fold, map, if◌then◌else◌, Option, Some, None, option_map, Result, Ok, Err, ok_or}
 use Rattle.std.specs.List.{zip}
 use Rattle.std.specs.Option.{option_map_or}
@@ -36,17 +37,17 @@ use Rattle.tpm_step.specs.Policies.{assertion_by, with_assertion}
 use Rattle.tpm_step.specs.View.{View, view_name}
 use Rattle.tpm_step.specs.Views.{view_protection}
 
--- what a session is bound to, as it was at the start: the entity's Name, its authorization value,
--- and how it was protected against dictionary attacks
+-- the entity to which a session is bound, as it was at the session's start: its Name, its
+-- authorization value, and its protection against dictionary attacks
 pub record Bound : Type 0 where
   pub name : List ℕ
   pub auth_value : List ℕ
   pub protection : Protection
 
--- a live session: the type, the hash, the symmetric algorithm, what it is bound to, and the key,
--- all as at its start; its latest nonceTPM, and those that it had before, the latest first; and its
--- assertions, the latest first, since its start, its latest TPM2_PolicyRestart or its latest use
--- for authorization, whichever came last
+-- a live session. Its type, hash, symmetric algorithm, binding and key are those of its start. It
+-- has its latest nonceTPM, and the earlier ones, the latest first. It has the assertions, the
+-- latest first, since its start, its latest TPM2_PolicyRestart or its latest use for
+-- authorization, whichever came last
 pub record LiveSession : Type 0 where
   pub kind : SessionType
   pub hash : HashAlg
@@ -57,15 +58,15 @@ pub record LiveSession : Type 0 where
   pub earlier_nonces : List (List ℕ)
   pub assertions : List Assertion
 
--- the policy of a live session: the digest, and what is compared when it authorizes
+-- the policy of a live session: the digest, and what is compared when the session authorizes
 abbrev pub policy_in : LiveSession → Policy
 policy_in s = evaluated s.hash (is_trial s.kind) s.assertions
 
--- the session of each handle, if one lives
+-- the live session at each handle, if there is one
 abbrev pub LiveSessions : Type 0
 LiveSessions = Handle → Option LiveSession
 
--- the live sessions with that of a handle changed, if one lives
+-- the live sessions, with the one at a handle changed, if there is one
 abbrev pub changed_session : (LiveSession → LiveSession) → Handle → LiveSessions → LiveSessions
 changed_session change handle live = changed_at handle (option_map change) live
 
@@ -74,7 +75,8 @@ without_session handle live = with_at handle None live
 
 -- ---- a session starts
 
--- what a new session is bound to: the second of the command's handles, unless that is TPM_RH_NULL
+-- the binding of a new session: the entity of the command's second handle, unless that is
+-- TPM_RH_NULL
 abbrev pub bound_in : List Handle → List View → (auth_values : List (List ℕ)) → Option Bound
 bound_in (key ∷ bind ∷ handles) (key_view ∷ view ∷ views) (key_value ∷ value ∷ values) =
     if bind.number == null_handle.number then None
@@ -85,8 +87,8 @@ bound_in (key ∷ bind ∷ handles) (key_view ∷ view ∷ views) (key_value ∷
     })
 bound_in handles views values = None
 
--- the session key: KDFa(authHash, bind.authValue, "ATH", nonceTPM, nonceCaller, bits of a digest),
--- or empty without a binding
+-- the session key: KDFa(authHash, bind.authValue, "ATH", nonceTPM, nonceCaller, bits of a
+-- digest), or empty for a session without a binding
 unfoldable pub start_key : HashAlg → Option Bound → (nonce_tpm nonce_caller : List ℕ) → List ℕ
 start_key hash None nonce_tpm nonce_caller = []
 start_key hash (Some bound) nonce_tpm nonce_caller =
@@ -104,32 +106,32 @@ started_with p bound nonce_tpm = record {
   assertions = [];
 }
 
--- A new session has had no nonceTPM before, and no assertion.
+-- A new session has no earlier nonceTPM and no assertion.
 pub record IsNewSession (s : LiveSession) : Type 0 where
   pub no_earlier : s.earlier_nonces ≡ []
   pub no_assertion : s.assertions ≡ []
 
--- the session that TPM2_StartAuthSession starts: its nonceTPM is the front of the random bytes, and
--- as long as nonceCaller
+-- the session that TPM2_StartAuthSession starts; its nonceTPM is the front of the random bytes,
+-- and has the size of nonceCaller
 abbrev pub started_by : Result Parameters Refused → Option Bound → (random : List ℕ)
     → Option LiveSession
 started_by (Ok p) bound random = Some (started_with p bound (take (length p.nonce_caller) random))
 started_by (Err e) bound random = None
 
--- the session that a command starts, by the authorization values of its handles before it
+-- the session that a command starts, given the authorization values of its handles before it
 unfoldable pub started : AcceptedCommand → (auth_values : List (List ℕ)) → Option LiveSession
 started c auth_values = started_by (parameters_in c.request.parameters)
     (bound_in c.request.handles c.views auth_values) c.request.random
 
 -- ---- what a command does with sessions, apart from its entries
 
--- the live sessions after TPM2_StartAuthSession: it starts one under the handle that it answers
+-- the live sessions after TPM2_StartAuthSession, with a new one at the handle that it answers
 abbrev pub with_started : AcceptedCommand → History → LiveSessions → LiveSessions
 with_started c history live =
     by_handle (ok_or c.answer.handle handle_refusal)
     (λ handle. with_at handle (started c (map (auth_of history) c.request.handles))) live
 
--- a live session after a command that asserts something on it
+-- a live session after a command that makes an assertion on it
 abbrev pub asserted_by : CommandCode → AcceptedCommand → History → LiveSession → LiveSession
 asserted_by code c history s = record s {
   assertions = with_assertion (assertion_by code c history s.hash s.nonce_tpm) s.assertions;
@@ -144,9 +146,9 @@ with_asserted code c history live =
 abbrev pub restarted : LiveSession → LiveSession
 restarted s = record s { assertions = [] }
 
--- the live sessions after a command of this code: TPM2_FlushContext ends one, TPM2_PolicyRestart
--- takes away the assertions of one, and no command but these two, TPM2_StartAuthSession and those
--- that assert something changes any
+-- the live sessions after a command of this code. TPM2_FlushContext ends a session, and
+-- TPM2_PolicyRestart clears the assertions of one. Apart from these two, only
+-- TPM2_StartAuthSession and the commands that assert change any
 abbrev pub sessions_by : CommandCode → AcceptedCommand → History → LiveSessions → LiveSessions
 sessions_by command.StartAuthSession c history live = with_started c history live
 sessions_by command.FlushContext c history live =
@@ -172,7 +174,7 @@ sessions_by _ c history live = live
 
 -- ---- entries that name sessions
 
--- live sessions with their new nonces, and the random bytes that are left
+-- live sessions with new nonces, and the random bytes that are left
 pub record Rolled : Type 0 where
   pub sessions : LiveSessions
   pub left : List ℕ
@@ -181,8 +183,8 @@ abbrev pub with_nonce : List ℕ → LiveSession → LiveSession
 with_nonce nonce s =
     record s { nonce_tpm = nonce; earlier_nonces = s.nonce_tpm ∷ s.earlier_nonces }
 
--- the size of a session's next nonceTPM: that of the latest one; where no session lives none is
--- drawn
+-- the size of a session's next nonceTPM, which is that of the latest one; 0 if there is no
+-- session
 abbrev pub nonce_size : Option LiveSession → ℕ
 nonce_size session = option_map_or (λ (s : LiveSession). length s.nonce_tpm) session 0
 
@@ -199,8 +201,8 @@ entries_rolled live [] left = record { sessions = live; left = left }
 entries_rolled live (e ∷ es) left =
     let first = entry_rolled live e left in entries_rolled first.sessions es first.left
 
--- a session that authorized something: if it is a policy session, and no trial one, it begins its
--- policy anew
+-- a session that authorized something: a policy session that is no trial session loses its
+-- assertions
 abbrev pub used_by : SessionType → LiveSession → LiveSession
 used_by type.Hmac s = s
 used_by type.Policy s = restarted s
@@ -209,7 +211,7 @@ used_by type.Trial s = s
 abbrev pub used : LiveSession → LiveSession
 used s = used_by s.kind s
 
--- the live sessions after an entry: its session ends where the entry has no continueSession
+-- the live sessions after an entry; an entry without continueSession ends its session
 abbrev pub entry_ended : LiveSessions → Entry → Option Grant → LiveSessions
 entry_ended live e grant =
     if continues_session e.attributes
@@ -221,15 +223,15 @@ entries_ended live granted = fold (λ live g. entry_ended live g.0 g.1) live gra
 
 -- ---- the sessions after a history
 
--- the live sessions with the new nonces of a command's entries: these come from the event's random
--- bytes after those that the command itself draws, in the order of the entries
+-- the live sessions with the new nonces of a command's entries, in the order of the entries. The
+-- nonces follow the command's own draws in the event's random bytes
 abbrev pub rolled_by : AcceptedCommand → History → LiveSessions → Rolled
 rolled_by c history live =
     entries_rolled (sessions_by c.command.code c history live) c.command.entries
     (drop (draws_of c.command.code c.request) c.request.random)
 
--- the sessions that live after a history. A command that asserts on a session and uses it asserts
--- first
+-- the live sessions after a history. If a command asserts on a session and uses it too, it
+-- asserts first
 abbrev pub sessions_of : History → LiveSessions
 sessions_of [] handle = None
 sessions_of (Done c ∷ history) handle =
@@ -237,7 +239,7 @@ sessions_of (Done c ∷ history) handle =
     (zip c.command.entries c.grants) handle
 sessions_of (PowerCycled ∷ history) handle = None
 
--- the latest nonceTPM, the key and the policy of the session of a handle
+-- the latest nonceTPM, the key and the policy of the session at a handle
 abbrev pub nonce_of : History → Handle → Option (List ℕ)
 nonce_of history handle = option_map (λ (s : LiveSession). s.nonce_tpm) (sessions_of history handle)
 
@@ -247,7 +249,7 @@ key_of history handle = option_map (λ (s : LiveSession). s.key) (sessions_of hi
 abbrev pub policy_of : History → Handle → Option Policy
 policy_of history handle = option_map policy_in (sessions_of history handle)
 
--- the start of a session: the type, the hash, the symmetric algorithm, and what it is bound to
+-- the start of a session: its type, its hash, its symmetric algorithm, and its binding
 pub record Start : Type 0 where
   pub kind : SessionType
   pub hash : HashAlg

@@ -1,5 +1,6 @@
--- One event: time passes, the general checks, the authorization, the command's row, the answer. TPM
--- 2.0 Library, Part 1, section 18 (command and response structures), and Part 3, sections 5 and 6.
+-- The step of one event: time passes, then come the general checks, the authorization, the
+-- command's row and the answer. TPM 2.0 Library, Part 1, section 18 (command and response
+-- structures), and Part 3, sections 5 and 6.
 use Rattle.std.specs.Prelude.{◌≡◌, ℕ, Bool, true, false, List, [], Option, Result, Ok, Err, if◌then◌else◌}
 use Rattle.tpm_bytes.specs.Reading.{◌>>=◌}
 use Rattle.tpm_types_command.specs.Command.{Whole}
@@ -34,13 +35,13 @@ use Rattle.tpm_step.specs.declared.event.Outcome.{Outcome}
 use Rattle.tpm_step.specs.declared.event.Row.{Row}
 use Rattle.tpm_step.specs.declared.refused_command.RefusedCommand.{RefusedCommand}
 
--- what an event does: the response, the row that is reported, and the record after it
+-- what an event does: the response, the reported row, and the record after it
 pub record Stepped : Type 0 where
   pub response : List ℕ
   pub row : Row
   pub after : Record
 
--- a command that is accepted: as it was sent, what each of its entries authorizes, its request, and
+-- an accepted command: the command as it was sent, what each entry authorizes, the request, and
 -- the success of its row
 pub record Accepted : Type 0 where
   pub command : Whole
@@ -48,7 +49,7 @@ pub record Accepted : Type 0 where
   pub request : Request
   pub success : Success
 
--- the request of a command: its parameters are those that its sessions decrypt
+-- the request of a command, with the parameters as its sessions decrypt them
 abbrev pub request_in : Record → Whole → List (Option Grant) → ℕ → List ℕ → Request
 request_in r c grants locality random = record {
   handles = c.handles;
@@ -57,7 +58,7 @@ request_in r c grants locality random = record {
   random = random;
 }
 
--- the acceptance of a command: its authorization, and then its row
+-- the acceptance of a command: first its authorization, then its row
 unfoldable pub acceptance : Record → Whole → ℕ → List ℕ → Result Accepted Refused
 acceptance r c locality random = do
   grants ← authorize r c locality
@@ -65,14 +66,14 @@ acceptance r c locality random = do
   success ← row_of r c.code q
   Ok (record { command = c; grants = grants; request = q; success = success })
 
--- The refusal is that of the acceptance; or memory was refused, where it can be, in place of the
--- success of a command that grows something.
+-- The refusal is that of the command's acceptance. Or memory can be refused, and it is MEMORY
+-- instead of the success of a command that grows something.
 abbrev pub RefusesOrWantsMemory : Bool → Whole → Result Accepted Refused → Refused → Type 0
 RefusesOrWantsMemory can c (Err refused) e = e ≡ refused
 RefusesOrWantsMemory can c (Ok a) e =
     (can ≡ true) × (a.command ≡ c) × ((shape_of c.code).grows ≡ true) × (e ≡ memory_refusal)
 
--- A success of a command with these grants has this answer, and leaves this record.
+-- The command succeeds with these grants and this answer, and leaves this record.
 abbrev pub Succeeds : Result Accepted Refused → Whole → List (Option Grant)
     → Answer → Record → Type 0
 Succeeds (Ok a) c grants answer new =
@@ -80,21 +81,21 @@ Succeeds (Ok a) c grants answer new =
     × (new ≡ a.success.after)
 Succeeds (Err refused) c grants answer new = ⊥
 
--- The code accepted a command with these grants as the definition does, or refused it as that does;
--- a refusal leaves the record.
+-- The code accepted or refused the command as the definition does, with these grants if it was
+-- accepted. A refusal leaves the record unchanged.
 abbrev pub Accepts : Bool → Result Accepted Refused → Whole → List (Option Grant)
     → Record → Result (Unit {0}) Refused → Answer → Record → Type 0
 Accepts can a c grants old (Ok done) answer new = Succeeds a c grants answer new
 Accepts can a c grants old (Err e) answer new = (new ≡ old) × RefusesOrWantsMemory can c a e
 
--- the command of a buffer, accepted by a record whose time has passed, or the first refusal
+-- the command of a buffer, accepted by a record whose time has passed; or the first refusal
 unfoldable pub accepted : Record → List ℕ → ℕ → List ℕ → Result Accepted RefusedCommand
 accepted r buffer locality random = do
   command ← general r buffer
   in_command command.code (acceptance r command locality random)
 
--- what a refusal counts against dictionary attacks: a failed try at what is protected, or at
--- lockoutAuth, which closes it
+-- what a refusal counts against dictionary attacks: nothing, a failed try on a protected entity,
+-- or a failed try on lockoutAuth, which closes lockoutAuth
 abbrev pub lockout_counted : Counted → LockoutState → LockoutState
 lockout_counted counted.None s = s
 lockout_counted counted.Try s = after_failure s
@@ -103,7 +104,7 @@ lockout_counted counted.Lockout s = closed_by_failure s
 abbrev pub counted_in : Counted → Record → Record
 counted_in counted r = with_lockout r (lockout_counted counted r.fixed.lockout)
 
--- the step of a refusal, which leaves the record but for what the refusal counts
+-- the step of a refusal, which changes nothing in the record except what the refusal counts
 abbrev pub refusal_step : Record → RefusedCommand → Stepped
 refusal_step r e = record {
   response = refusal_text e.refused;
@@ -111,8 +112,8 @@ refusal_step r e = record {
   after = counted_in e.refused.counted r;
 }
 
--- the record after a success: what a TPM2_Shutdown saved is cancelled, unless the command keeps it
--- (Part 3, section 9.4)
+-- the record after a success, which cancels what a TPM2_Shutdown saved unless the command keeps
+-- it (Part 3, section 9.4)
 abbrev pub settled : CommandCode → Record → Record
 settled code r = if (shape_of code).keeps_shutdown then r else with_saved r Nothing
 
@@ -130,49 +131,51 @@ abbrev pub stepped_of : Record → List ℕ → Result Accepted RefusedCommand �
 stepped_of r random (Ok a) = success_step a random
 stepped_of r random (Err e) = refusal_step r e
 
--- the step that an outcome tells of, with this record after it
+-- the step that has the response and the row of an outcome, and this record after it
 abbrev pub outcome_step : Record → Outcome → Stepped
 outcome_step r o = record { response = o.response.items; row = o.row; after = r }
 
--- the step where memory was refused: MEMORY, check M, and the record as it was
+-- the step of a command that is refused memory: MEMORY, check M, and the record unchanged
 abbrev pub refusal_without_memory : Record → Whole → Stepped
 refusal_without_memory r c =
     refusal_step r (record { code = code_number c.code; refused = memory_refusal })
 
--- the step of an accepted command where memory is refused: MEMORY, if the command grows something
+-- the step of an accepted command when memory is refused: MEMORY if the command grows something,
+-- its success if not
 abbrev pub success_without_memory : Record → List ℕ → Accepted → Stepped
 success_without_memory r random a =
     if (shape_of a.command.code).grows then refusal_without_memory r a.command
     else success_step a random
 
--- the step of a command where memory is refused; a command that is refused anyway takes no memory
+-- the step of a command when memory is refused; a command that is refused anyway needs no memory
 abbrev pub answer_without_memory : Record → List ℕ → Result Accepted RefusedCommand → Stepped
 answer_without_memory r random (Ok a) = success_without_memory r random a
 answer_without_memory r random (Err e) = refusal_step r e
 
--- the step of a command, to which memory is refused (true) or is not (false)
+-- the step of a command, when memory is refused (true) or not (false)
 abbrev pub answer_where : Bool → Record → List ℕ → Result Accepted RefusedCommand → Stepped
 answer_where false r random a = stepped_of r random a
 answer_where true r random a = answer_without_memory r random a
 
--- the step of an event, to which memory is refused (true) or is not: for a command first its time
--- passes
+-- the step of an event, when memory is refused (true) or not (false); the time of a command
+-- passes first
 abbrev pub step_where : Bool → Record → PlainEvent → Stepped
 step_where refused r (Given buffer locality elapsed random) =
     let t = ticked r elapsed in answer_where refused t random (accepted t buffer locality random)
 step_where refused r Cycled =
     record { response = []; row = record { code = 0; check = 0 }; after = cycled r }
 
--- the step of an event, to which no memory is refused
+-- the step of an event when no memory is refused
 abbrev pub step : Record → PlainEvent → Stepped
 step r event = step_where false r event
 
--- The step of a command, where memory is refused only if the device's state can be refused it.
+-- This is the step of the command. Memory is refused only if the device's state can be refused
+-- it.
 abbrev pub Answers : Bool → Record → List ℕ → Result Accepted RefusedCommand → Stepped → Type 0
 Answers can r random a x =
     (refused : Bool) × (refused ≡ true → can ≡ true) × (x ≡ answer_where refused r random a)
 
--- The step of an event, where memory is refused only if the device's state can be refused it.
+-- This is the step of the event. Memory is refused only if the device's state can be refused it.
 abbrev pub Steps : Bool → Record → PlainEvent → Stepped → Type 0
 Steps can r event x =
     (refused : Bool) × (refused ≡ true → can ≡ true) × (x ≡ step_where refused r event)

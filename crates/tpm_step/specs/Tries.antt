@@ -41,13 +41,13 @@ use Rattle.tpm_step.specs.Potential.{period}
 
 -- ---- an event that fails a try
 
--- whether a refusal counts a failed try, at a protected entity other than LOCKOUT
+-- whether a refusal counts a failed try on a protected entity other than LOCKOUT
 abbrev pub is_try : Counted → Bool
 is_try counted.None = false
 is_try counted.Try = true
 is_try counted.Lockout = false
 
--- whether a command is refused, and the refusal counts a failed try
+-- whether a command is refused and the refusal counts a failed try
 abbrev pub counts_try : Result Accepted RefusedCommand → Bool
 counts_try (Ok a) = false
 counts_try (Err e) = is_try e.refused.counted
@@ -58,27 +58,28 @@ fails_try r (Given buffer locality elapsed random) =
     counts_try (accepted (ticked r elapsed) buffer locality random)
 fails_try r Cycled = false
 
--- What an entry touches is what its comparison uses: the authorization value of the entity that it
--- is to authorize, where the password is compared with it or it is part of the HMAC's key; and
--- otherwise that of the entity to which the entry's session was bound at the start. Where a session
--- may not authorize the entity, nothing is compared, and nothing is touched.
+-- An entry touches the entity whose authorization value its comparison uses. If that value is
+-- compared with the password, or is part of the HMAC's key, this is the entity that the entry has
+-- to authorize. Otherwise it is the entity to which the session was bound at its start. If a
+-- session may not authorize the entity, nothing is compared and nothing is touched.
 
--- the protection of the entity that a session's entry touches, where the entry is to authorize this
--- handle, by what the session demands for that, or by why it may not
+-- the protection of the entity that a session's entry touches, if the entry has to authorize this
+-- handle; given what the session demands for that, or why it may not authorize it
 abbrev pub touched_where : Record → Session → Handle → Result Demand Refused → Protection
 touched_where r s handle (Ok demand) =
     entry_protection r s (Some (record { handle = handle; demand = demand }))
 touched_where r s handle (Err e) = protection.None
 
--- the protection of the entity that entry n touches, of a session, which is to authorize this
--- handle or none
+-- the protection of the entity that entry n touches, for an entry of this session, which has to
+-- authorize this handle or none
 abbrev pub touched_of_session : Record → Whole → (locality n : ℕ) → Option Handle → Session
     → Protection
 touched_of_session r c locality n (Some handle) s =
     touched_where r s handle (demanded r c locality n handle s)
 touched_of_session r c locality n None s = entry_protection r s None
 
--- the protection of the entity that any entry touches: a password touches what it is to authorize
+-- the protection of the entity that any entry touches; a password touches what it has to
+-- authorize
 abbrev pub touched_by : SessionKind → Record → Whole → (locality n : ℕ) → Option Handle → Entry
     → Protection
 touched_by kind.Password r c locality n used e = used_protection r used
@@ -89,8 +90,8 @@ touched_by kind.Other r c locality n used e = protection.None
 abbrev pub touched : Record → Whole → (locality n : ℕ) → Option Handle → Entry → Protection
 touched r c locality n used e = touched_by (session_kind e.session) r c locality n used e
 
--- A command's authorization is refused with AUTH_FAIL for the entry in this place, counted from 0,
--- and that entry touches a protected entity other than LOCKOUT.
+-- The command's authorization is refused with AUTH_FAIL for the entry at this place, counted from
+-- 0, and the entry touches a protected entity other than LOCKOUT.
 pub record FailsTry (r : Record) (locality : ℕ) (buffer : List ℕ) : Type 0 where
   pub command : Whole
   pub place : ℕ
@@ -103,7 +104,7 @@ pub record FailsTry (r : Record) (locality : ℕ) (buffer : List ℕ) : Type 0 w
   pub is : authorize r command locality ≡ Err refused
   pub fails : refused.rc ≡ entry_fault (place + 1) code.AuthFail
 
--- An event is a command that fails a try.
+-- The event is a command that fails a try.
 abbrev pub IsRefusedTry : Record → PlainEvent → Type 0
 IsRefusedTry r (Given buffer locality elapsed random) =
     FailsTry (ticked r elapsed) locality buffer
@@ -111,22 +112,22 @@ IsRefusedTry r Cycled = ⊥
 
 -- ---- how a failed try is answered
 
--- the check by which an entry whose comparison fails is refused: G9 where the entry is to authorize
--- a handle, else G10
+-- the check that refuses an entry whose comparison fails: G9 if the entry has to authorize a
+-- handle, G10 if not
 abbrev pub check_for : Option Handle → Check
 check_for (Some handle) = check.Authorization
 check_for None = check.Others
 
--- the refusal of the entry in a place that touches a protected entity other than LOCKOUT: AUTH_FAIL
+-- the refusal, AUTH_FAIL, of an entry that touches a protected entity other than LOCKOUT
 abbrev pub try_refusal : Whole → (place : ℕ) → Refused
 try_refusal c place = failure (check_for (used_in c place)) (place + 1) protection.Tries
 
--- The response and the row of an event are those of this refusal.
+-- The event has the response of this refusal, and its check.
 pub record IsAnsweredFailure (e : Refused) (x : Stepped) : Type 0 where
   pub response : x.response ≡ refusal_text e
   pub check : x.row.check ≡ check_number e.check
 
--- An event is a command that fails a try, and is answered with that refusal for its entry.
+-- The event is a command that fails a try, and it is answered with the refusal of that entry.
 abbrev pub IsAnsweredTry : Record → PlainEvent → Stepped → Type 0
 IsAnsweredTry r (Given buffer locality elapsed random) x =
     (fails : FailsTry (ticked r elapsed) locality buffer)
@@ -139,14 +140,14 @@ abbrev pub elapsed_of : PlainEvent → ℕ
 elapsed_of (Given buffer locality elapsed random) = elapsed
 elapsed_of Cycled = 0
 
--- the milliseconds that pass in a stretch of events, and how many of its events fail a try
+-- the milliseconds that pass in a stretch of events, and how many of the events fail a try
 abbrev pub elapsed_in : List Execution → ℕ
 elapsed_in executions = sum_by (λ (one : Execution). elapsed_of one.event) executions
 
 abbrev pub failures_in : List Execution → ℕ
 failures_in executions = count_by (λ (one : Execution). fails_try one.before one.event) executions
 
--- whether a command takes failed tries back, or sets their parameters
+-- whether a command clears the failed tries or sets their parameters
 abbrev pub resets_tries : CommandCode → Bool
 resets_tries command.DictionaryAttackLockReset = true
 resets_tries command.DictionaryAttackParameters = true
@@ -157,18 +158,18 @@ abbrev pub is_reset : PastEvent → Bool
 is_reset (Done c) = resets_tries c.command.code
 is_reset PowerCycled = false
 
--- No command of a history takes failed tries back, or sets their parameters.
+-- No command of this history clears the failed tries or sets their parameters.
 abbrev pub HasNoReset : History → Type 0
 HasNoReset history = AllByRecursion (λ (one : PastEvent). is_reset one ≡ false) history
 
--- how many tries may fail in a stretch of events: maxTries, and one for each recoveryTime that
--- passes
+-- how many tries may fail in a stretch of events: maxTries, and one more for each recoveryTime
+-- that passes
 abbrev pub tries_within : Record → List Execution → ℕ
 tries_within old executions =
     old.fixed.lockout.fields.max_tries + elapsed_in executions / period old.fixed.lockout
 
--- In a stretch of events without a reset, where tries are counted, no more tries fail than
--- `tries_within` allows.
+-- In a stretch of events without a reset, at most `tries_within` tries fail, if tries are
+-- counted.
 abbrev pub FailsWithin : Bool → Record → List Execution → Record → Type 0
 FailsWithin can old executions new =
     Leads can old executions new
@@ -176,7 +177,7 @@ FailsWithin can old executions new =
     → old.fixed.lockout.fields.recovery_time ≢ 0
     → failures_in executions ≤ tries_within old executions
 
--- the bound on the tries that may fail in a stretch of events: maxTries, one more, and one for each
+-- a bound on the tries that fail in a stretch of events: maxTries, one more, and one for each
 -- recoveryTime that passes
 abbrev pub tries_at_most : Record → List Execution → ℕ
 tries_at_most old executions =
@@ -190,7 +191,7 @@ FailsFew can old executions new =
     → old.fixed.lockout.fields.recovery_time ≢ 0
     → failures_in executions ≤ tries_at_most old executions
 
--- An event is an accepted command that takes failed tries back, or sets their parameters.
+-- The event is an accepted command that clears the failed tries or sets their parameters.
 pub record IsReset (one : PastEvent) : Type 0 where
   pub accepted : AcceptedCommand
   pub is : one ≡ Done accepted

@@ -11,8 +11,8 @@ use Rattle.tpm_types_object.specs.declared.public.Public.{Public}
 use Rattle.tpm_record.specs.Entity.{AnIndex, AnObject, Entity, Permanent, entity_at}
 use Rattle.tpm_record.specs.Record.{Record}
 
--- what everybody may read of a handle: the public area of an object or of an NV index, and of all
--- else the handle itself
+-- what everybody may read of a handle: the public area of an object or of an NV index; of
+-- anything else, the handle itself
 pub data View : Type 0 where
   OfObject : (public : Public) → View
   OfIndex : (public : NvPublic) → View
@@ -32,6 +32,6 @@ view_name (OfObject public) = object_name public
 view_name (OfIndex public) = nv_name public
 view_name (OfHandle handle) = handle_name handle
 
--- the Name of the entity in a place of these views, counted from 0
+-- the Name of the entity at a place in these views, counted from 0
 abbrev pub name_in : List View → ℕ → List ℕ
 name_in views place = option_map_or view_name (slice_get views place) []

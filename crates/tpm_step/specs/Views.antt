@@ -1,7 +1,7 @@
--- What the view of a handle tells of what the handle names: its Name, its policy, whether it is
--- written, how its authorization value is protected, and by what it can be authorized. TPM 2.0
--- Library, Part 1, sections 16 (Names), 19.2 (roles), 19.7 (policies) and 19.8 (dictionary
--- attacks), and Part 2, section 13.4 (TPMA_NV).
+-- What the view of a handle shows of the entity: its Name, its policy, whether it is written, its
+-- protection against dictionary attacks, and what can authorize it. TPM 2.0 Library, Part 1,
+-- sections 16 (Names), 19.2 (roles), 19.7 (policies) and 19.8 (dictionary attacks), and Part 2,
+-- section 13.4 (TPMA_NV).
 use Rattle.std.specs.Prelude.{◌≡◌, ℕ, ◌==◌, ◌&&◌, not, Bool, true, false, List, length, if◌then◌else◌, Option, Some, None}
 use Rattle.tpm_policy.specs.Use.{EntityParts}
 use Rattle.tpm_session.specs.declared.session.Protection.{Protection}
@@ -21,7 +21,7 @@ use Rattle.tpm_record.specs.declared.entity.Means.{Means}
 use Rattle.tpm_record.specs.declared.entity.Means.TheVariants as means
 use Rattle.tpm_step.specs.View.{OfHandle, OfIndex, OfObject, View, view_name}
 
--- the nameAlg and the authPolicy of an object or an index; nothing else has a policy
+-- the nameAlg and the authPolicy of an object or an index; no other entity has a policy
 abbrev pub view_policy : View → Option EntityParts
 view_policy (OfObject public) =
     Some (record { hash = public.name_alg; digest = public.auth_policy })
@@ -29,8 +29,8 @@ view_policy (OfIndex public) =
     Some (record { hash = public.name_alg; digest = public.auth_policy })
 view_policy (OfHandle handle) = None
 
--- how an entity is protected against dictionary attacks: an object unless it has noDA, an index
--- unless it has TPMA_NV_NO_DA
+-- the protection of an entity against dictionary attacks: an object is protected unless it has
+-- noDA, an index unless it has TPMA_NV_NO_DA
 abbrev pub view_protection : View → Protection
 view_protection (OfObject public) =
     if has public.attributes attribute.NoDa then protection.None else protection.Tries
@@ -38,19 +38,19 @@ view_protection (OfIndex public) =
     if index_has public.attributes mark.NoDa then protection.None else protection.Tries
 view_protection (OfHandle handle) = permanent_protection handle
 
--- whether an authPolicy is a policy: the empty one is not
+-- whether an authPolicy is a policy, which the empty one is not
 abbrev pub is_policy : List ℕ → Bool
 is_policy digest = not (length digest == 0)
 
--- whether an object may be authorized by this means: by its authValue where it has userWithAuth, by
--- its policy where its authPolicy is not empty
+-- whether this means may authorize an object: its authValue if it has userWithAuth, its policy if
+-- its authPolicy is not empty
 abbrev pub object_takes : Means → Public → Bool
 object_takes means.AuthValue public = has public.attributes attribute.UserWithAuth
 object_takes means.Policy public = is_policy public.auth_policy
 
--- whether an NV index may be authorized by this means, for a command that makes this use of it: by
--- its authValue where it has AUTHREAD or AUTHWRITE, and never in the role ADMIN; by its policy
--- where it has POLICYREAD or POLICYWRITE, and in the role ADMIN always, if it has one
+-- whether this means may authorize an NV index, for a command that uses the index in this way.
+-- Its authValue may if it has AUTHREAD or AUTHWRITE, but never in the role ADMIN. Its policy, if
+-- it has one, may if it has POLICYREAD or POLICYWRITE, and always in the role ADMIN
 abbrev pub index_takes : Means → NvUse → NvPublic → Bool
 index_takes means.AuthValue does.Read public = index_has public.attributes mark.AuthRead
 index_takes means.AuthValue does.Write public = index_has public.attributes mark.AuthWrite
@@ -61,25 +61,24 @@ index_takes means.Policy does.Write public =
     index_has public.attributes mark.PolicyWrite && is_policy public.auth_policy
 index_takes means.Policy does.Administer public = is_policy public.auth_policy
 
--- whether the entity of a view may be authorized by this means, for a command that makes this use
--- of it
+-- whether this means may authorize the viewed entity, for a command that uses it in this way
 abbrev pub view_takes : Means → NvUse → View → Bool
 view_takes means nv_use (OfObject public) = object_takes means public
 view_takes means nv_use (OfIndex public) = index_takes means nv_use public
 view_takes means nv_use (OfHandle handle) = permanent_is_available means
 
--- whether an entity is written, where it is an NV index
+-- whether an entity is written, if it is an NV index
 abbrev pub view_written : View → Option Bool
 view_written (OfIndex public) = Some (index_has public.attributes mark.Written)
 view_written other = None
 
--- whether the entity of a view is there: a handle of an object's or an index's type that names
--- nothing has no public area
+-- whether the viewed entity exists: a handle of an object's or an index's type that names nothing
+-- has no public area
 abbrev pub is_there : View → Bool
 is_there (OfHandle handle) = not (names_kept handle)
 is_there _ = true
 
--- A view tells of a handle what the record has of it.
+-- The view shows what the record has of this handle.
 pub record TellsOf (view : View) (r : Record) (handle : Handle) : Type 0 where
   pub name : view_name view ≡ name_of r handle
   pub policy : view_policy view ≡ policy_of r handle

@@ -1,7 +1,7 @@
-//! What a session does with a first parameter: decrypting a command's, or encrypting an answer's
-//! (TPM 2.0 Library, Part 1, section 21).
+//! What a session does to a first parameter: it decrypts that of a command, or encrypts that of
+//! an answer (TPM 2.0 Library, Part 1, section 21).
 
-/// What a session does with a first parameter (TPM 2.0 Library, Part 1, section 21).
+/// What a session does to a first parameter (TPM 2.0 Library, Part 1, section 21).
 #[derive(Clone, Copy, PartialEq, Eq)]
 pub enum Direction {
     /// The session decrypts the first parameter of a command.

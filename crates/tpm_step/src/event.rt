@@ -1,18 +1,18 @@
-//! An event, a command or a power cycle, and its outcome: the response, and the row that is
-//! reported.
+//! An event, which is a command or a power cycle, and its outcome: the response, and the row that
+//! is reported.
 
 ghost use Rattle.std.specs.Prelude.{◌≡◌};
 
 use arrayvec::ArrayVec;
 use tpm_types::{BUFFER_LIMIT, Locality};
 
-/// The whole bytes of a response.
+/// All bytes of a response.
 pub type Response = ArrayVec<u8, BUFFER_LIMIT>;
 
-/// One atomic step of the device.
+/// One event: the device changes by whole events only.
 #[derive(Drop)]
 pub enum Event<'a> {
-    /// A command buffer, whatever its bytes are: where it comes from, the milliseconds since the
+    /// A command: its buffer, whatever the bytes are, its locality, the milliseconds since the
     /// command before it (its elapsed time), and the random bytes that it may draw.
     Command {
         buffer: &'a [u8],
@@ -20,7 +20,7 @@ pub enum Event<'a> {
         elapsed_ms: u32,
         random: [u8; 256],
     },
-    /// Power goes off and on again.
+    /// A power cycle.
     PowerCycle,
 }
 
@@ -37,8 +37,8 @@ impl<'a> Event<'a> {
     ) -> Event<'a>
         ensures value { result ≡ Command buffer.entry locality elapsed_ms random }
 
-        // The event of a command comes from locality 0 to 4, with a time of 32 bits and 256 random
-        // bytes.
+        // The event of a command can happen: it has a locality of 0 to 4, an elapsed time of 32
+        // bits, and 256 random bytes.
         ensures event { IsEvent (plain_event result) }
     {
         Event::Command {
@@ -50,15 +50,15 @@ impl<'a> Event<'a> {
     }
 }
 
-/// What was decided about an event: the command's code, or 0 where none was found or power was
-/// cycled, and the number of the check that refused the command, or 0 where none did.
+/// What was decided about an event: the command's code, and the number of the check that refused
+/// it. The code is 0 if none was found, and for a power cycle; the check is 0 if none refused.
 #[derive(Clone, Copy, PartialEq, Eq)]
 pub struct Row {
     pub code: u32,
     pub check: u8,
 }
 
-/// What an event gave: the response, empty for a power cycle, and the row.
+/// What an event resulted in: the response, empty for a power cycle, and the row.
 #[derive(Drop)]
 pub struct Outcome {
     pub response: Response,
@@ -68,7 +68,7 @@ pub struct Outcome {
 impl Outcome {
     ghost use Rattle.std.specs.Prelude.{[]};
 
-    /// The outcome of an event that answers nothing, to be written over.
+    /// An outcome with an empty response, to be overwritten.
     pub fn empty() -> Outcome
         ensures response { result.response.items ≡ [] }
         ensures row { result.row ≡ record { code = 0; check = 0 } }

@@ -1,11 +1,11 @@
-//! What a device has accepted, and that this decides what the device is: its PCRs, its sessions and
-//! their policies, its authorization values and its counters. It also says on what grounds the
-//! device let itself be used, what a replay repeats, and how many tries may fail.
+//! What a device has accepted decides what it is: its PCRs, its sessions and their policies, its
+//! authorization values and its counters. This module also says on what grounds the device was
+//! used, what a replay repeats, and how many tries may fail.
 //!
 //! Each law is the contract of a function that does nothing. The laws follow from the definitions
-//! of the step and from the laws over all rows, which [`crate::rows`] has; beside those, only the
-//! rows are opened that set what a history tells. The contracts of the calls of tpm_machine, and of
-//! tpm_image and tpm_wire above it, have them.
+//! of the step and from the laws over all rows in [`crate::rows`]. Apart from these, only those
+//! rows are opened that change what a history determines. The contracts of tpm_machine's calls
+//! have these laws, and so do those of tpm_image and tpm_wire above it.
 
 ghost use Rattle.std.specs.Prelude.{◌≡◌, ◌↔◌, ◌+◌, ◌++◌, ℕ, Bool, true, false, List, [], ◌∷◌, None, Some, map};
 ghost use Rattle.tpm_mac.specs.declared.algorithm.HashAlg.{HashAlg};
@@ -55,8 +55,8 @@ ghost use Rattle.tpm_step.specs.Views.{TellsOf};
 
 use crate::event::Outcome;
 
-/// A manufactured device follows the empty history; every execution of an event leads from a
-/// history to that with the event, if it was accepted; and so does a power cycle.
+/// A manufactured device follows the empty history. Every execution of an event leads from a
+/// history to the one with this event, if the event was accepted; and so does a power cycle.
 #[inline(always)]
 pub fn following_laws()
     ensures manufactured { (random : List ℕ) → Follows (manufactured random) [] }
@@ -66,9 +66,9 @@ pub fn following_laws()
         → Follows r history → Follows (cycled r) (PowerCycled ∷ history) }
 {}
 
-/// A power cycle, and the opening of what was saved, is one execution more of a stretch of events;
-/// two stretches, of which the second begins where the first ended, are one; and a stretch in which
-/// no memory can be refused is one in which it may be.
+/// A power cycle is one more execution of a stretch of events, and so is opening what was saved.
+/// Two stretches are one if the second begins where the first ended. A stretch in which no memory
+/// can be refused is also one in which it can.
 #[inline(always)]
 pub fn stretch_laws()
     ensures power_cycle { (can : Bool) (r : Record)
@@ -80,8 +80,8 @@ pub fn stretch_laws()
         → Leads false old executions new → Leads can old executions new }
 {}
 
-/// A stretch of events leads a device that follows a history to one that follows the history with
-/// all of the events that were accepted. The law also says what else holds of such a stretch.
+/// A stretch of events leads a device from a history to that with all accepted events of the
+/// stretch. The law also says what else holds of a stretch.
 #[inline(always)]
 pub fn stretch_history_laws()
     ensures { (can : Bool) (old : Record) (executions : List Execution) (new : Record)
@@ -89,8 +89,8 @@ pub fn stretch_history_laws()
         → StretchFollows can old executions new history }
 {}
 
-/// A run executes its events one after another, and leads to the history with all of them that were
-/// accepted. Executions that lead so, each outcome of which was told, are a run.
+/// A run executes its events one after another, and leads to the history with all accepted ones.
+/// Such executions are a run if a closure is called with each outcome.
 #[inline(always)]
 pub fn run_history_laws<F: FnMut(&Outcome)>()
     ensures follows { (can : Bool) (old : Record) (p : F) (events : List PlainEvent) (new : Record)
@@ -101,8 +101,8 @@ pub fn run_history_laws<F: FnMut(&Outcome)>()
         → Runs F.FnMut can old p (map (λ (one : Execution). one.event) executions) new q }
 {}
 
-/// What everybody may read of a handle tells what the record has: the Name, the policy, the
-/// protection, and what authorizes it; and the record of a command is of what was so before the
+/// The view of a handle shows what the record has: the Name, the policy, the protection, and what
+/// can authorize the entity. The views that a history has of a command are those before the
 /// command.
 #[inline(always)]
 pub fn view_laws()
@@ -120,8 +120,8 @@ pub fn shutdown_laws()
         → (pcrs_after history).saved bank pcr ≡ pcr_of (before_shutdown history) bank pcr }
 {}
 
-/// A session of a device has the start, the key, the nonceTPM and the policy that the history gives
-/// its handle.
+/// A session of a device has the start, the key, the nonceTPM and the policy that the history
+/// determines for its handle.
 #[inline(always)]
 #[tactic(auto, using(crate::proofs::DeviceSessions::live_sessions))]
 pub fn live_session_laws()
@@ -130,9 +130,9 @@ pub fn live_session_laws()
         → IsLive history handle s }
 {}
 
-/// What a handle names, if it is there, has the authorization value that the history gives the
-/// handle. What is neither a hierarchy nor lockout, nor an NV index or an object, has the empty
-/// one: a PCR and TPM_RH_NULL. No authorization value ends in a zero.
+/// An entity that exists has the authorization value that the history determines for its handle.
+/// If a handle is neither a hierarchy, lockout, an NV index nor an object, its value is empty: a
+/// PCR and TPM_RH_NULL. No authorization value ends in a zero.
 #[inline(always)]
 #[tactic(auto, using(crate::proofs::DeviceAuthValues::present_auth_value, crate::proofs::TrimmedValues::told_values_are_trimmed))]
 pub fn auth_value_laws()
@@ -145,17 +145,17 @@ pub fn auth_value_laws()
         → trimmed (auth_of history handle) ≡ auth_of history handle }
 {}
 
-/// By the history alone the first value of a counter exceeds all that any counter had before it,
-/// and a counter does not go down as long as no index is defined anew under its handle.
+/// By the history alone, the first value of a counter exceeds every value that any counter had
+/// before, and a counter does not go down as long as no index is defined again under its handle.
 #[inline(always)]
 #[tactic(auto, using(crate::proofs::CountLaws::count_laws))]
 pub fn count_laws()
     ensures { CountLaws }
 {}
 
-/// No counter of a device goes down as long as no index is defined anew under its handle; a counter
-/// that has no value yet begins above all that any counter had; and so does one that is defined
-/// meanwhile.
+/// No counter of a device goes down as long as no index is defined again under its handle. A
+/// counter without a value begins above every value that any counter had, and so does one that is
+/// defined in between.
 #[inline(always)]
 pub fn counter_laws()
     ensures keeps { (old new : Record) (history meanwhile : History) (handle : Handle)
@@ -171,7 +171,8 @@ pub fn counter_laws()
         → ExceedsEarlier new history meanwhile handle after }
 {}
 
-/// A command that an execution with check 0 accepted is recorded, and the event's buffer spells it.
+/// If an execution with check 0 accepted a command, the history records it, and the event's
+/// buffer encodes it.
 #[inline(always)]
 pub fn recorded_laws()
     ensures { (can : Bool) (old : Record) (buffer : List ℕ) (locality elapsed : ℕ)
@@ -180,9 +181,9 @@ pub fn recorded_laws()
         → IsRecorded old (Given buffer locality elapsed random) x buffer }
 {}
 
-/// In every history of a device each use of an entity was authorized on one of three grounds, by
-/// the history before the use: a password, an HMAC session, or a policy session each of whose
-/// conditions is true.
+/// In every history of a device each use of an entity was authorized on one of three grounds,
+/// given the history before the use: a password, an HMAC session, or a policy session whose
+/// conditions are all true.
 #[inline(always)]
 pub fn grounds_laws()
     ensures { (can : Bool) (random : List ℕ) (executions : List Execution) (new : Record)
@@ -190,20 +191,20 @@ pub fn grounds_laws()
         → AllHaveGrounds (history_after [] executions) }
 {}
 
-/// A buffer that is accepted twice, with an HMAC for an HMAC session that lives all the while,
-/// finds the nonceTPM of the first event again; or two texts have one HMAC, each under the key of
-/// its event.
+/// If a buffer with an HMAC is accepted twice, and its HMAC session survives in between, the
+/// session has the nonceTPM of the first event again; or two texts have one HMAC, each with the
+/// key at its event.
 #[inline(always)]
 pub fn replay_laws()
     ensures { (can : Bool) (random : List ℕ) (executions : List Execution) (new : Record)
         → Leads can (manufactured random) executions new → RunReplaysRepeat [] executions }
 {}
 
-/// An entity that is used by a policy session with TPM2_PolicyPCR as its only assertion has the
-/// policy of PCRs with the values that they have at the use; they had them since the first
-/// TPM2_PolicyPCR. If TPM2_PolicyCommandCode is the only assertion, the entity has the policy of
-/// the command that uses it; if TPM2_PolicyNvWritten is, the entity is an NV index, written or not
-/// as that says.
+/// If TPM2_PolicyPCR is the only assertion of a policy session that uses an entity, the entity's
+/// policy is that the PCRs have their values at the use, which they had since the first
+/// TPM2_PolicyPCR. If TPM2_PolicyCommandCode is the only assertion, the policy is the code of the
+/// command that uses the entity. If TPM2_PolicyNvWritten is, the entity is an NV index, WRITTEN
+/// or not as the assertion says.
 #[inline(always)]
 pub fn policy_laws()
     ensures pcrs { UsesPcrsAsTheyAre }
@@ -212,8 +213,8 @@ pub fn policy_laws()
     ensures command { UsesItsCommand }
 {}
 
-/// An event fails a try exactly where its authorization is refused with AUTH_FAIL for an entry that
-/// touches a protected entity other than LOCKOUT; and AUTH_FAIL for that entry is its answer.
+/// An event fails a try exactly if its authorization is refused with AUTH_FAIL for an entry that
+/// touches a protected entity other than LOCKOUT. The answer is AUTH_FAIL for that entry.
 #[inline(always)]
 pub fn failed_try_laws()
     ensures exactly { (old : Record) (event : PlainEvent)
@@ -222,7 +223,7 @@ pub fn failed_try_laws()
         → Executes can old event x → fails_try old event ≡ true → IsAnsweredTry old event x }
 {}
 
-/// A session that starts has had no nonceTPM before, and no assertion.
+/// A new session has no earlier nonceTPM and no assertion.
 #[inline(always)]
 pub fn session_start_laws()
     ensures { (c : AcceptedCommand) (auth_values : List (List ℕ)) (s : LiveSession)
@@ -230,23 +231,23 @@ pub fn session_start_laws()
 {}
 
 /// Only an accepted TPM2_DictionaryAttackLockReset, TPM2_DictionaryAttackParameters or TPM2_Clear
-/// takes failed tries back, or sets their parameters.
+/// clears the failed tries or sets their parameters.
 #[inline(always)]
 pub fn reset_laws()
     ensures { (one : PastEvent) → (is_reset one ≡ true ↔ IsReset one) }
 {}
 
-/// As many tries can fail as the sharper bound says: an example is a run of reads of an NV index
-/// with a wrong password.
+/// The sharper bound is reached: in an example run, which reads an NV index with a wrong
+/// password, as many tries fail as it says.
 #[inline(always)]
 pub fn failed_run_laws()
     ensures { IsFailedRun }
 {}
 
-/// In a stretch of events in which no TPM2_DictionaryAttackLockReset, no
-/// TPM2_DictionaryAttackParameters and no TPM2_Clear is accepted, where recoveryTime is not 0, no
-/// more tries fail than maxTries and one for each whole recoveryTime that passes. The bound
-/// `tries_at_most` is one higher.
+/// In a stretch of events at most maxTries tries fail, and one more for each whole recoveryTime
+/// that passes. This holds if recoveryTime is not 0, and no TPM2_DictionaryAttackLockReset,
+/// TPM2_DictionaryAttackParameters or TPM2_Clear is accepted. The bound `tries_at_most` is one
+/// higher.
 #[inline(always)]
 pub fn few_tries_laws()
     ensures sharply { (can : Bool) (old : Record) (executions : List Execution) (new : Record)
@@ -257,16 +258,16 @@ pub fn few_tries_laws()
         → tries_at_most old executions ≡ tries_within old executions + 1 }
 {}
 
-/// Two devices that follow one history, and of whose handles everybody may read the same, with the
-/// same failed tries, authorize each command alike: with the same grants, or with the same refusal.
+/// If two devices follow one history, show the same of each handle, and have the same failed
+/// tries, they authorize each command alike: with the same grants, or with the same refusal.
 #[inline(always)]
 pub fn alike_laws()
     ensures { AuthorizeAlike }
 {}
 
-/// In every history of a device each use has a ground, and each use by a policy session meets every
-/// policy whose digest is the authPolicy of the entity that is used, along one branch at each
-/// TPM2_PolicyOR; or the hash is broken, by texts that the policy and the session spell.
+/// In every history of a device each use has a ground. Each use by a policy session meets every
+/// policy whose digest is the authPolicy of the used entity, along one branch at each
+/// TPM2_PolicyOR. Or the hash is broken, by texts of the policy and of the session.
 #[inline(always)]
 pub fn auth_policy_laws()
     ensures { (can : Bool) (random : List ℕ) (executions : List Execution) (new : Record)
@@ -274,13 +275,13 @@ pub fn auth_policy_laws()
         → AllMeetPolicies (history_after [] executions) }
 {}
 
-/// Since a device was manufactured, an object without userWithAuth was used by policy sessions
-/// alone, and each use met its policy. With a policy of PCRs the object was used only while they
-/// had the values of the policy, and if the policy asks for a PIN too, only by someone who had it;
-/// with a policy of a PIN or a recovery secret, only by someone who had one of them; with a policy
-/// that compares a counter, only where TPM2_PolicyNV was accepted. An NV index without AUTHWRITE,
-/// whose policy is that it is not written, was written only while it was not. All this is so, or
-/// the hash is broken.
+/// Since a device was manufactured, only policy sessions used an object without userWithAuth, and
+/// each use met its policy. With a policy of PCRs, the object was used only while they had the
+/// policy's values. If the policy asks for a PIN too, only someone who had the PIN used it. With
+/// a policy of a PIN or a recovery secret, only someone who had one of them used it. With a
+/// policy that compares a counter, it was used only after an accepted TPM2_PolicyNV. An NV index
+/// without AUTHWRITE whose policy is that it is not written was written only while it was not.
+/// All this holds, or the hash is broken.
 #[inline(always)]
 pub fn policy_review_laws()
     ensures every { OfEachAccepted NeedsItsPolicy }

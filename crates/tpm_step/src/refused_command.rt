@@ -1,4 +1,4 @@
-//! A refusal together with the code of the command that is refused.
+//! A refusal with the code of the refused command.
 
 ghost use Rattle.std.specs.Prelude.{◌≡◌};
 ghost use Rattle.tpm_commands.specs.CommandCode.{code_number};
@@ -6,7 +6,7 @@ ghost use Rattle.tpm_commands.specs.CommandCode.{code_number};
 use tpm_commands::CommandCode;
 use tpm_types::Refused;
 
-/// A refusal, and the code of the command that is refused, or 0 where none was found.
+/// A refusal, and the code of the refused command, or 0 if no code was found.
 #[derive(Clone, Copy, PartialEq, Eq)]
 pub struct RefusedCommand {
     pub code: u32,
@@ -14,7 +14,7 @@ pub struct RefusedCommand {
 }
 
 impl RefusedCommand {
-    /// A refusal of a command.
+    /// The refusal of a command.
     pub fn of(code: CommandCode, refused: Refused) -> RefusedCommand
         ensures { result ≡ record { code = code_number code; refused = refused } }
     {

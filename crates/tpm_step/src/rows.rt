@@ -1,11 +1,11 @@
-//! Laws over the rows of all commands, each the contract of a function that does nothing: what of
-//! the record a row's success touches, what a command's shape says of it, that sessions in use
-//! stay, and what is never refused. After a row the step, and no row, rolls and ends sessions; the
-//! sizes of sessions stay through all of a step.
+//! Laws over the rows of all commands. Each is the contract of a function that does nothing. They
+//! say which part of the record a row's success touches, what its command's shape says of it,
+//! that sessions in use stay, and what is never refused. The step renews and ends sessions after
+//! a row; no row does. Through all of a step sessions keep their sizes.
 //!
-//! The laws are about the definitions of the step. What holds of a row is one record, proved where
-//! the row is opened, so that theorems over histories need not open any row; each law over all
-//! commands is a part of these records.
+//! The laws are about the definitions of the step. All laws of a row are one record, proved once,
+//! so that theorems over histories open no row. Each law over all commands is a part of these
+//! records.
 
 ghost use Rattle.std.specs.Prelude.{◌≡◌, ◌≢◌, ℕ, ◌+◌, ◌*◌, ◌≤◌, Bool, IfOk, List, [], ◌∷◌, Ok, Option};
 ghost use Rattle.std.specs.Prelude.{IfErr, false, length, true};
@@ -49,7 +49,7 @@ ghost use Rattle.tpm_step.specs.rows.Sizes.{AreSized};
 
 use crate::event::Outcome;
 
-/// A success touches the part of its command, and nothing else.
+/// A success touches its command's part of the state, and nothing else.
 #[inline(always)]
 #[tactic(auto, using(crate::proofs::rows::Table::row_touches))]
 pub fn footprint_laws()
@@ -57,9 +57,10 @@ pub fn footprint_laws()
         → IfOk (row_of r c q) (λ s. Touches (part_of c) r s.after) }
 {}
 
-/// A success makes of the NV indices what is said of the part that it touches: an index is written
-/// or locked, a counter counts, an index has another authorization value, comes or goes; a startup
-/// and TPM2_Clear have their effects on all; and every other success leaves them as they were.
+/// A success changes the NV indices only as the part that it touches says. An index is written or
+/// locked, a counter is incremented, an authorization value changes, or an index is defined or
+/// undefined. A startup and TPM2_Clear have their effects on all indices. Every other success
+/// leaves them as they were.
 #[inline(always)]
 #[tactic(auto, using(crate::proofs::rows::Table::row_changes))]
 pub fn index_change_laws()
@@ -67,7 +68,8 @@ pub fn index_change_laws()
         → IfOk (row_of r c q) (λ s. ChangesIndices (part_of c) q r.nv s.after.nv) }
 {}
 
-/// A success answers a handle, and a sized buffer first, exactly where its command's shape says so.
+/// A success answers a handle, and a sized buffer as its first parameter, exactly if its
+/// command's shape says so.
 #[inline(always)]
 #[tactic(auto, using(crate::proofs::rows::Table::row_answers))]
 pub fn answer_shape_laws()
@@ -75,8 +77,9 @@ pub fn answer_shape_laws()
         → IfOk (row_of r c q) (AnswersItsShape c) }
 {}
 
-/// A success of a command that grows takes one place more, and a success of any other no more; but
-/// TPM2_EvictControl, which may also remove an object, takes one more or one less.
+/// A success of a command that grows takes one place more, and a success of any other command no
+/// more. The exception is TPM2_EvictControl, which may also remove an object: it takes one more
+/// or one less.
 #[inline(always)]
 #[tactic(auto, using(crate::proofs::rows::Table::row_grows))]
 pub fn growth_laws()
@@ -84,8 +87,8 @@ pub fn growth_laws()
         → IfOk (row_of r c q) (λ s. GrowsAsShaped c r s.after) }
 {}
 
-/// A row that refuses no handle refuses parameters exactly where they are not of the kinds that its
-/// command's shape lists, and then with their first fault.
+/// If a row refuses no handle, it refuses parameters exactly if they are not of the kinds that
+/// its command's shape lists, and then with their first fault.
 #[inline(always)]
 #[tactic(auto, using(crate::proofs::rows::Table::row_reads))]
 pub fn parameter_laws()
@@ -93,7 +96,7 @@ pub fn parameter_laws()
         → ReadsParameters (spelled 1 (shape_of c).parameters q.parameters) (row_of r c q) }
 {}
 
-/// The row of a command that may have sessions leaves every session there.
+/// If a command may have sessions, every session is still there after its row.
 #[inline(always)]
 #[tactic(auto, using(crate::proofs::rows::Table::row_stays))]
 pub fn row_session_laws()
@@ -102,7 +105,7 @@ pub fn row_session_laws()
         → IfOk (row_of r c q) (λ s. SessionsStay r s.after) }
 {}
 
-/// After the row of a command that may have sessions, the session of each entry is still there.
+/// If a command may have sessions, the session of each entry is still there after its row.
 #[inline(always)]
 #[tactic(auto, using(crate::proofs::rows::Accepted::accepted_has))]
 pub fn used_session_laws()
@@ -111,9 +114,9 @@ pub fn used_session_laws()
         → HaveSessions a.success.after c.entries }
 {}
 
-/// A row tells nothing of what is secret, unless its command reads it: on the device and on the
-/// device without its secrets it is refused alike, or answers the same, and leaves the same but for
-/// what is secret.
+/// A row reveals no secret unless its command reads one. On the device and on the device without
+/// its secrets the row refuses alike, or answers the same and leaves the same except for the
+/// secrets.
 #[inline(always)]
 #[tactic(auto, using(crate::proofs::rows::Table::row_tells))]
 pub fn row_secrecy_laws()
@@ -122,9 +125,9 @@ pub fn row_secrecy_laws()
         → Same s (row_of (without_secrets s r) c q) (row_of r c q) }
 {}
 
-/// A row refuses no handle where the handles fit the rules of its command's shape. A row says what
-/// it does with any request, and so refuses a handle that is missing or names nothing; but no such
-/// request comes to it.
+/// A row refuses no handle if the handles fit the rules of its command's shape. The row is
+/// defined for any request, and so refuses a handle that is missing or names nothing; but no
+/// command leads to such a request.
 #[inline(always)]
 #[tactic(auto, using(crate::proofs::rows::Table::row_passes))]
 pub fn row_handle_laws()
@@ -132,7 +135,8 @@ pub fn row_handle_laws()
         → HandlesFit r (shape_of c).handles q.handles → Passes check.Handles (row_of r c q) }
 {}
 
-/// Of handles that fit rules, the first fits the first rule, and the second the second one.
+/// If handles fit rules, the first handle fits the first rule, and the second handle the second
+/// rule.
 #[inline(always)]
 #[tactic(auto, using(crate::proofs::rows::HandleRules::first_fits, crate::proofs::rows::HandleRules::second_fits))]
 pub fn handle_place_laws()
@@ -144,7 +148,7 @@ pub fn handle_place_laws()
         → second_handle handles ≡ Ok handle → FitsRule r rule handle }
 {}
 
-/// The general checks let a command through only where its handles fit these rules.
+/// If a command passes the general checks, its handles fit the rules of its shape.
 #[inline(always)]
 #[tactic(auto, using(crate::proofs::rows::Handles::general_fits))]
 pub fn handle_fit_laws()
@@ -152,8 +156,8 @@ pub fn handle_fit_laws()
         → IfOk (general r buffer) (λ c. HandlesFit r (shape_of c.code).handles c.handles) }
 {}
 
-/// A command that the general checks let through is not refused for a handle: neither by the
-/// authorization nor by the row.
+/// If a command passes the general checks, neither the authorization nor the row refuses one of
+/// its handles.
 #[inline(always)]
 #[tactic(auto, using(crate::proofs::rows::Handles::acceptance_passes))]
 pub fn later_handle_laws()
@@ -161,8 +165,8 @@ pub fn later_handle_laws()
         → general r buffer ≡ Ok c → Passes check.Handles (acceptance r c locality random) }
 {}
 
-/// A command that the general checks let through is the one that the whole buffer spells: so one
-/// buffer decodes to one command, whatever the record.
+/// If a command passes the general checks, the whole buffer encodes it. So one buffer decodes to
+/// one command, whatever the record.
 #[inline(always)]
 #[tactic(auto, using(crate::proofs::Decoding::general_reads, crate::proofs::Decoding::one_command))]
 pub fn decoding_laws()
@@ -172,14 +176,14 @@ pub fn decoding_laws()
         → general r buffer ≡ Ok c → general s buffer ≡ Ok d → c ≡ d }
 {}
 
-/// No row refuses anything for want of memory.
+/// No row refuses with MEMORY.
 #[inline(always)]
 #[tactic(auto, using(crate::proofs::rows::Table::row_wants))]
 pub fn row_memory_laws()
     ensures { (r : Record) (c : CommandCode) (q : Request) → Passes check.Memory (row_of r c q) }
 {}
 
-/// No step to which memory is not refused reports M, and no execution where memory cannot be
+/// No step reports M if memory is not refused to it, and no execution if memory cannot be
 /// refused.
 #[inline(always)]
 #[tactic(auto, using(crate::proofs::rows::Memory::step_wants, crate::proofs::rows::Memory::execution_wants))]
@@ -190,8 +194,9 @@ pub fn step_memory_laws()
         → Executes false old event x → x.row.check ≢ check_number check.Memory }
 {}
 
-/// Where the entries' own checks pass, the walk of grants finds the session of each entry that is
-/// no password: it refuses what is not authorized, and no entry for want of its session.
+/// If the entries' own checks pass, the checks of the grants find the session of each entry that
+/// is not a password. They refuse entries that are not authorized, but none because its session
+/// is missing.
 #[inline(always)]
 #[tactic(auto, using(crate::proofs::rows::Grants::grants_refuse))]
 pub fn granted_session_laws()
@@ -200,8 +205,8 @@ pub fn granted_session_laws()
         → RefusesAuthorization (grants_pass r c locality [] c.entries) }
 {}
 
-/// An authorization gives a grant for each entry: to the first entries the handles that need
-/// authorization, in their order, and to the others no handle.
+/// A successful authorization has a grant, or none, for each entry. The first entries are granted
+/// the handles that need authorization, in their order, and the others no handle.
 #[inline(always)]
 #[tactic(auto, using(crate::proofs::rows::Grants::grants_fit))]
 pub fn grant_laws()
@@ -209,8 +214,8 @@ pub fn grant_laws()
         → IfOk (authorize r c locality) (GrantsFit c) }
 {}
 
-/// A command that is accepted is due, its handles fit, its entries authorize what they are granted,
-/// and its row succeeds.
+/// An accepted command is due, its handles fit, its entries authorize what they are granted, and
+/// its row succeeds.
 #[inline(always)]
 #[tactic(auto, using(crate::proofs::rows::Acceptance::accepted_is))]
 pub fn acceptance_laws()
@@ -218,7 +223,7 @@ pub fn acceptance_laws()
         → IfOk (accepted r buffer locality random) (IsAcceptance r locality random) }
 {}
 
-/// The step changes nothing of a row's effect but sessions, and what a shutdown saved.
+/// After a row the step changes only sessions, and what a shutdown saved.
 #[inline(always)]
 #[tactic(auto, using(crate::proofs::rows::Leaving::answered_only, crate::proofs::rows::Leaving::success_leaves))]
 pub fn effect_laws()
@@ -228,7 +233,7 @@ pub fn effect_laws()
         → LeavesEffect a.success.after (success_step a random).after }
 {}
 
-/// After an accepted command the device is started.
+/// The device is started after an accepted command.
 #[inline(always)]
 #[tactic(auto, using(crate::proofs::rows::Started::is_started))]
 pub fn started_laws()
@@ -237,8 +242,8 @@ pub fn started_laws()
         → (success_step a random).after.fixed.started ≡ true }
 {}
 
-/// Neither a general check nor a row counts anything against dictionary attacks: only the
-/// authorization does.
+/// Only the authorization counts anything against dictionary attacks. Neither a general check nor
+/// a row does.
 #[inline(always)]
 #[tactic(auto, using(crate::proofs::rows::Table::row_plain, crate::proofs::rows::Uncounted::general_plain))]
 pub fn uncounted_laws()
@@ -248,8 +253,8 @@ pub fn uncounted_laws()
         → IfErr (general r buffer) (λ e. e.refused.counted ≡ counted.None) }
 {}
 
-/// A device as it is manufactured has no session, and so all of its sessions have their sizes; and
-/// so do those of a device after a power cycle, which has none either.
+/// All sessions of a manufactured device have their sizes, and so do those of a device after a
+/// power cycle. Neither has a session.
 #[inline(always)]
 #[tactic(auto, using(crate::proofs::rows::SizedSteps::manufactured_sized, crate::proofs::rows::SizedSteps::cycled_sized))]
 pub fn new_device_size_laws()
@@ -257,9 +262,9 @@ pub fn new_device_size_laws()
     ensures cycled { (r : Record) → AreSized (cycled r) }
 {}
 
-/// A success draws no more of the event's 256 random bytes than a command may, and as many as its
-/// command's code and parameters say. TPM2_Startup is said to draw none: it has no entries for
-/// whose nonces its draws would count.
+/// A success draws no more of the event's 256 random bytes than a command may, and exactly as
+/// many as its command's code and parameters say. TPM2_Startup counts as 0 here: it has no
+/// entries, whose nonces would come after its draws.
 #[inline(always)]
 #[tactic(auto, using(crate::proofs::rows::Table::row_draws, crate::proofs::rows::Table::row_draws_so))]
 pub fn draw_laws()
@@ -271,8 +276,7 @@ pub fn draw_laws()
         → ((shape_of c).forbids_sessions ≡ true) × (draws_of c q ≡ 0) }
 {}
 
-/// A success of a row leaves sessions of their sizes, where there are random bytes enough for a
-/// nonce.
+/// Sessions keep their sizes in a row's success, if there are enough random bytes for a nonce.
 #[inline(always)]
 #[tactic(auto, using(crate::proofs::rows::Table::row_sized))]
 pub fn row_size_laws()
@@ -280,8 +284,8 @@ pub fn row_size_laws()
         → 32 ≤ length q.random → AreSized r → IfOk (row_of r c q) (λ s. AreSized s.after) }
 {}
 
-/// The answer to a success leaves sessions of their sizes, where there are random bytes enough for
-/// a nonce of each entry: sessions take new nonces, policies start over, sessions end.
+/// Sessions keep their sizes in the answer to a success, if there are enough random bytes for a
+/// nonce of each entry. The answer renews nonces, starts policies again and ends sessions.
 #[inline(always)]
 pub fn answer_size_laws()
     ensures { (c : Whole) (grants : List (Option Grant)) (a : Written) (effect : Record)
@@ -289,7 +293,7 @@ pub fn answer_size_laws()
         → AreSized (answer_to c grants a effect random).after }
 {}
 
-/// Every event leaves sessions of their sizes, whether memory is refused or not: 256 random bytes
+/// Sessions keep their sizes in every event, whether memory is refused or not: 256 random bytes
 /// are enough for each command.
 #[inline(always)]
 pub fn step_size_laws()
@@ -297,14 +301,14 @@ pub fn step_size_laws()
         → IsEvent event → AreSized r → AreSized (step_where refused r event).after }
 {}
 
-/// Every execution of an event leaves sessions of their sizes.
+/// Sessions keep their sizes in every execution of an event.
 #[inline(always)]
 pub fn execution_size_laws()
     ensures { (can : Bool) (old : Record) (event : PlainEvent) (x : Stepped)
         → Executes can old event x → AreSized old → AreSized x.after }
 {}
 
-/// Every run of events leaves sessions of their sizes.
+/// Sessions keep their sizes in every run of events.
 #[inline(always)]
 pub fn run_size_laws<F: FnMut(&Outcome)>()
     ensures { (can : Bool) (old : Record) (p : F) (events : List PlainEvent) (new : Record) (q : F)

@@ -1,10 +1,10 @@
-//! Each call of a map whose keys ascend, once, on both kinds of map.
+//! Calls each function of a sorted map once, on both kinds of map.
 
 use super::comparison::check;
 use std::process::Abort;
 use tpm_containers::{KeyFault, ListMap, SlotMap, SortedMap};
 
-/// Writes a value under a key, and tells whether the key is there.
+/// Stores a value with a key; returns whether the key is now present.
 fn set<M: SortedMap<u32, 3>>(map: &mut M, key: u32, value: u32) -> bool {
     match map.get_mut(key) {
         Some(place) => {
@@ -15,7 +15,7 @@ fn set<M: SortedMap<u32, 3>>(map: &mut M, key: u32, value: u32) -> bool {
     }
 }
 
-/// Makes each call on a map of at most three values, and checks the answers.
+/// Makes each call on a map with at most three values, and checks the results.
 fn exercise<R: Abort, M: SortedMap<u32, 3>>(rt: &R, mut map: M) {
     check(rt, map.len(), 0);
     check(rt, map.next(0), None);

@@ -1,5 +1,5 @@
-//! The digest of a selection of PCRs, compared with digests by Python's `hashlib`; and values that
-//! are saved.
+//! The digest of a selection of PCRs, compared with digests computed by Python's `hashlib`; and
+//! the values that are saved.
 
 use super::comparison::check;
 use arrayvec::ArrayVec;
@@ -26,7 +26,8 @@ fn bank(hash: HashAlg, octets: [u8; 3]) -> BankSelection {
     BankSelection { hash, select }
 }
 
-// The selection is PCRs 0 to 7 and 16 to 18 by SHA-256, and after them 5, 17, 22 and 23 by SHA-1.
+// The selection consists of the SHA-256 PCRs 0 to 7 and 16 to 18, then the SHA-1 PCRs 5, 17, 22
+// and 23.
 #[test]
 fn a_digest_is_over_all_selected_values(rt: HostRuntime) {
     let mut banks = ArrayVec::new();

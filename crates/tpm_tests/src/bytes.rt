@@ -1,15 +1,15 @@
-//! Each reader and writer of bytes, once, and what a tap tells of its device.
+//! Uses each reader and writer of bytes once, and checks what a tap reports about its device.
 
 use super::comparison::check;
 use std::io;
 use std::io::{ErrorKind, Read, Write};
 use tpm_bytes::{Cursor, Full, Short, Sink, SizedFault, Tap};
 
-/// Sixteen bytes, no two alike: to be read as numbers of one byte, of two, of four and of eight,
-/// and one byte more.
+/// Sixteen different bytes, to be read as numbers of one, two, four and eight bytes, followed by
+/// one more byte.
 const TEXT: &[u8] = b"\x10\x21\x32\x43\x54\x65\x76\x87\x98\xa9\xba\xcb\xdc\xed\xfe\x0f";
 
-/// The same bytes, passed through a call: the prover then knows nothing of them, and so computes
+/// Returns the same bytes from a call, so that the prover knows nothing about them and computes
 /// nothing.
 fn unknown(bytes: &[u8]) -> &[u8] {
     bytes
@@ -38,7 +38,8 @@ fn a_sized_buffer_has_a_limit(rt: HostRuntime) {
     check(&rt, cursor.sized(3), Err(SizedFault::Short));
 }
 
-/// Writes fifteen bytes as numbers of each width, then three in a sized buffer and two bare ones.
+/// Writes fifteen bytes as numbers of each width, then three bytes in a sized buffer and two
+/// plain ones.
 fn fill(sink: &mut Sink<20>) -> Result<(), Full> {
     sink.put_u8(0x10)?;
     sink.put_u16(0x2132)?;
@@ -65,9 +66,9 @@ fn a_sink_takes_what_fits(rt: HostRuntime) {
 /// What a device does at each call.
 #[derive(Clone, Copy)]
 enum Conduct {
-    /// The device gives or takes one byte, where there is room for one.
+    /// The device reads or writes one byte, if the buffer has space for it.
     OneByte,
-    /// The device gives or takes nothing.
+    /// The device reads or writes nothing.
     Nothing,
     Fails,
 }
@@ -82,7 +83,7 @@ impl Conduct {
     }
 }
 
-/// A reader and a writer that behaves in each of these ways in turn, and then gives or takes
+/// A reader and writer that behaves in each of these ways in turn, and afterwards reads or writes
 /// nothing.
 #[derive(Drop)]
 struct Device {
@@ -120,7 +121,7 @@ impl Write for Device {
     }
 }
 
-/// The number of bytes that a call gave or took, or the kind of its error.
+/// The number of bytes that a call read or wrote, or the kind of its error.
 fn outcome_of(given: io::Result<usize>) -> Result<usize, ErrorKind> {
     match given {
         Ok(count) => Ok(count),
@@ -128,7 +129,7 @@ fn outcome_of(given: io::Result<usize>) -> Result<usize, ErrorKind> {
     }
 }
 
-/// Whether a tap's device failed or ended, and how many reads it had.
+/// Whether a tap's device failed, whether it reached its end, and how many reads were made.
 fn marks_of(tap: &Tap<Device>) -> (bool, bool, u64) {
     (tap.failed(), tap.ended(), tap.reads())
 }
@@ -203,7 +204,7 @@ fn a_tap_writes_a_whole_text(rt: HostRuntime) {
     }
 }
 
-/// A reader and a writer that behaves alike at each call, and counts the calls.
+/// A reader and writer that behaves in the same way at each call, and counts the calls.
 #[derive(Drop)]
 struct CountedDevice {
     conduct: Conduct,
@@ -234,7 +235,7 @@ impl Write for CountedDevice {
     }
 }
 
-/// How often a device of this conduct is called in a read, in a write, and in a flush.
+/// How often a device that behaves in this way is called by a read, by a write, and by a flush.
 fn calls_of(conduct: Conduct, bytes: &[u8]) -> [u32; 3] {
     let calls = 0;
     let mut read = Tap::new(CountedDevice { conduct, calls });

@@ -74,7 +74,7 @@ fn blocks_of_published_keys(rt: HostRuntime) {
     }
 }
 
-/// The S-box gives the bytes that the standard prints for 00 and 53 (figure 7).
+/// The S-box has the printed values for 00 and 53 (figure 7).
 fn printed_bytes()
     ensures first { sub_byte 0x00 ≡ 0x63 }
     ensures other { sub_byte 0x53 ≡ 0xed }
@@ -82,8 +82,8 @@ fn printed_bytes()
     table_laws();
 }
 
-/// The block of zeros under a key of one byte, by OpenSSL. The first round and the first round key
-/// look only this byte up.
+/// The ciphertext of a block of zeros with a key that repeats one byte, computed by OpenSSL. The
+/// first round and the first round key look up only this byte.
 const ZEROS_BY_ONE_BYTE: [(u8, [u8; 16]); 2] = [
     (
         0x00,
@@ -109,8 +109,8 @@ fn bytes_of_the_s_box(rt: HostRuntime) {
     }
 }
 
-// The front of a text encrypts to the front of its cipher text, since each block depends on those
-// before it alone.
+// A prefix of a text encrypts to a prefix of its ciphertext, because each block depends only on
+// those before it.
 #[test]
 fn feedback_of_every_length_there_and_back(rt: HostRuntime) {
     let cipher = Aes128::new(&KEY);

@@ -1,5 +1,5 @@
-//! Published digests (FIPS 180-4 examples) and HMACs (RFC 2202, RFC 4231), and keys by KDFa that
-//! were computed by Python's `hmac`.
+//! Published digests (FIPS 180-4 examples) and HMACs (RFC 2202, RFC 4231), and KDFa keys computed
+//! with Python's `hmac`.
 
 use super::comparison::check;
 use tpm_bytes::copied;
@@ -219,7 +219,7 @@ struct KeyCase {
     derived: &'static [u8],
 }
 
-// Keys of 45 bytes, which is no multiple of a digest's size
+// Keys of 45 bytes, which is not a multiple of a digest's size
 const KEYS: [KeyCase; 2] = [
     KeyCase {
         alg: HashAlg::Sha1,
@@ -244,11 +244,11 @@ fn keys_are_derived(rt: HostRuntime) {
     }
 }
 
-/// A buffer before a key is derived into its front.
+/// The buffer before a key is derived into its first bytes.
 const UNTOUCHED: [u8; 80] = [0x55; 80];
 
-// The block of KDFa with this counter, computed by HMAC alone, where KDFa wants this number of bits
-// in all.
+// The block of KDFa with this counter, computed only with HMAC; `bits` is the total number of
+// bits that KDFa derives.
 fn block_by_hmac(alg: HashAlg, counter: u32, bits: u32) -> Digest {
     let counter: &[u8] = &counter.to_be_bytes();
     let bits: &[u8] = &bits.to_be_bytes();

@@ -1,11 +1,11 @@
 #![tactic(auto)]
 
-//! Tests of the crates below the sessions and NV indices, for what no clause says and no script
-//! under `tests/` shows: published vectors and numbers that were computed outside, each public call
-//! once, and what a tap tells of its device.
+//! Tests of the crates below the sessions and NV indices, for behaviour that neither a contract
+//! nor a script under `tests/` covers: published vectors, values computed by other programs, one
+//! call of each public function, and what a tap reports about its device.
 //!
-//! The crate uses those crates, and no crate uses it. A crate with tests is proved twice, so the
-//! tests are in a crate of their own.
+//! The crate depends on those crates, and no crate depends on it. The tests are in a separate
+//! crate because a crate with tests is proved twice.
 
 #[cfg(test)]
 mod ascending;

@@ -1,10 +1,11 @@
-//! Failed tries and lockoutAuth to the millisecond, and near the largest values of their numbers.
+//! Failed tries and lockoutAuth, tested to the millisecond and near the maximum values of their
+//! numbers.
 
 use super::comparison::check;
 use tpm_lockout::{Lockout, LockoutFields};
 
-/// Lockout with this number of failed tries, of at most three, each forgiven after these seconds,
-/// and with lockoutAuth closed, which opens after as many.
+/// Lockout with this number of failed tries, out of at most three. Each is forgiven after this
+/// many seconds, and lockoutAuth is disabled for the same time.
 fn locked(failed_tries: u32, seconds: u32) -> Lockout {
     Lockout::restore(LockoutFields {
         failed_tries,
@@ -64,7 +65,7 @@ fn times_begin_anew(rt: HostRuntime) {
 #[test]
 fn the_longest_elapsed_time_forgives_many(rt: HostRuntime) {
     let mut lockout = locked(5_000_000, 1);
-    // Time passes by 4,294,967 seconds, and 295 milliseconds carry over
+    // 4,294,967 seconds elapse, and 295 milliseconds remain
     lockout.tick(u32::MAX);
     check(&rt, tries(&lockout), 705_033);
     lockout.tick(704);

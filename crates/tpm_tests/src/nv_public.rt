@@ -1,4 +1,4 @@
-//! The public areas of NV indices: each public call once, with Names that were computed outside, by
+//! The public areas of NV indices: calls each public function once, with Names computed by
 //! Python's `hashlib`.
 
 use super::comparison::check;
@@ -7,14 +7,15 @@ use tpm_bytes::{Cursor, Sink};
 use tpm_types::ResponseCode;
 use tpm_types_nv::{NvAttribute, NvAttributes, NvPublic, NvType};
 
-/// An ordinary index of eight bytes by SHA-256, in a sized buffer.
+/// The public area of an ordinary index of eight bytes with nameAlg SHA-256, in a sized buffer.
 const ORDINARY: &[u8] = b"\0\x0e\x01\0\0\x01\0\x0b\0\x04\0\x04\0\0\0\x08";
 
 /// The Name of that ordinary index.
 const ORDINARY_NAME: &[u8] = b"\x00\x0b\xc6\x28\x87\x6e\xb0\x6c\xbf\xae\xb9\x4f\x49\xb1\x80\xab\
     \x06\xf3\xf9\xef\xee\x52\x92\x9d\x18\xb5\xe8\x08\xa4\xbc\x62\x3e\xb0\xa0";
 
-/// A written index with a policy of twenty bytes by SHA-1, in a sized buffer.
+/// The public area of a written index with nameAlg SHA-1 and a policy of twenty bytes, in a sized
+/// buffer.
 const WITH_POLICY: &[u8] = b"\0\x22\x01\xc0\0\x02\0\x04\x62\x04\0\x04\
     \0\x14\x11\x11\x11\x11\x11\x11\x11\x11\x11\x11\x11\x11\x11\x11\x11\x11\x11\x11\x11\x11\0\x20";
 
@@ -26,14 +27,14 @@ fn public_of(text: &[u8]) -> Option<NvPublic> {
     NvPublic::read_sized(&mut Cursor::new(text)).ok()
 }
 
-/// The public area that a text spells, written again with its size.
+/// The public area decoded from a text, encoded again with its size.
 fn rewritten(text: &[u8]) -> Option<ArrayVec<u8, 48>> {
     let mut sink = Sink::new();
     public_of(text)?.copy().write_sized(&mut sink).ok()?;
     Some(sink.into_bytes())
 }
 
-/// The public area that a text spells, written again without its size.
+/// The public area decoded from a text, encoded again without its size.
 fn rewritten_bare(text: &[u8]) -> Option<ArrayVec<u8, 46>> {
     let mut sink = Sink::new();
     public_of(text)?.write(&mut sink).ok()?;
@@ -56,7 +57,7 @@ fn has_name(text: &[u8], name: &[u8]) -> bool {
     }
 }
 
-/// The fault by which a bare public area is refused, if any.
+/// The error for a public area without its size, if it is refused.
 fn fault_of(text: &[u8]) -> Option<ResponseCode> {
     match NvPublic::read(&mut Cursor::new(text)) {
         Ok(_) => None,

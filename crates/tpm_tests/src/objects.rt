@@ -1,5 +1,5 @@
-//! The areas of objects, and the objects made of them: each public call once, with a Name that was
-//! computed outside, by Python's `hashlib` and `hmac`.
+//! The areas of objects, and the objects made from them: calls each public function once, with a
+//! Name computed by Python's `hashlib` and `hmac`.
 
 use super::comparison::check;
 use arrayvec::ArrayVec;
@@ -13,20 +13,22 @@ use tpm_types::HierarchyHandle;
 use tpm_types_name::Name;
 use tpm_types_object::{CreationData, Public, Sensitive, SensitiveCreate};
 
-/// The owner's seed of a device that is manufactured with the bytes 00 to ff.
+/// The owner seed of a device that is manufactured with the random bytes 00 to ff.
 const SEED: &[u8; 32] = b"\x00\x01\x02\x03\x04\x05\x06\x07\x08\x09\x0a\x0b\x0c\x0d\x0e\x0f\
     \x10\x11\x12\x13\x14\x15\x16\x17\x18\x19\x1a\x1b\x1c\x1d\x1e\x1f";
 
-/// A key of HMACs by SHA-256, in a sized buffer.
+/// The public area of an HMAC key for SHA-256, in a sized buffer.
 const KEY: &[u8] = b"\0\x10\0\x08\0\x0b\0\x04\x04\x40\0\0\0\x05\0\x0b\0\0";
 
-/// A storage key, in a sized buffer.
+/// The public area of a storage key, in a sized buffer.
 const STORAGE: &[u8] = b"\0\x12\0\x25\0\x0b\0\x03\0\x72\0\0\0\x06\0\x80\0\x43\0\0";
 
-/// What is given beside a template, in a sized buffer: no authorization value, and the key "Jefe".
+/// The input that accompanies a template, in a sized buffer: no authorization value, and the key
+/// "Jefe".
 const JEFE: &[u8] = b"\0\x08\0\0\0\x04Jefe";
 
-/// What is given beside a template, in a sized buffer: neither an authorization value nor a key.
+/// The input that accompanies a template, in a sized buffer: neither an authorization value nor a
+/// key.
 const NOTHING: &[u8] = b"\0\x04\0\0\0\0";
 
 /// The Name of the HMAC key, derived from that seed.
@@ -41,20 +43,20 @@ fn given_of(text: &[u8]) -> Option<SensitiveCreate> {
     SensitiveCreate::read_sized(&mut Cursor::new(text)).ok()
 }
 
-/// The primary object of a template and what is given beside it.
+/// The primary object made from a template and its other input.
 fn primary_of(template: &[u8], given: &[u8]) -> Option<Object> {
     let (template, given) = (public_of(template)?, given_of(given)?);
     Some(derive_primary(HierarchyHandle::Owner, SEED, &template, &given))
 }
 
-/// The public area that a text spells, written again, without its size.
+/// The public area decoded from a text, encoded again without its size.
 fn rewritten_public(text: &[u8]) -> Option<ArrayVec<u8, 82>> {
     let mut sink = Sink::new();
     public_of(text)?.copy().write(&mut sink).ok()?;
     Some(sink.into_bytes())
 }
 
-/// The sensitive area that a text spells, written again, without its size.
+/// The sensitive area decoded from a text, encoded again without its size.
 fn rewritten_sensitive(text: &[u8]) -> Option<ArrayVec<u8, 200>> {
     let area = Sensitive::read_sized(&mut Cursor::new(text)).ok()?;
     let mut sink = Sink::new();
@@ -62,7 +64,7 @@ fn rewritten_sensitive(text: &[u8]) -> Option<ArrayVec<u8, 200>> {
     Some(sink.into_bytes())
 }
 
-/// The creation data that a text spells, written again, without their size.
+/// The creation data decoded from a text, encoded again without their size.
 fn rewritten_creation(text: &[u8]) -> Option<ArrayVec<u8, 245>> {
     let creation = CreationData::read_sized(&mut Cursor::new(text)).ok()?;
     let mut sink = Sink::new();
@@ -87,7 +89,7 @@ fn structures_are_written_as_they_were_read(rt: HostRuntime) {
     check(&rt, is_rest(rewritten_creation(creation), creation), true);
 }
 
-/// Whether the object has this Name, and its copy too.
+/// Whether the object and its copy have this Name.
 fn is_named(object: Option<Object>, name: &[u8]) -> bool {
     match object {
         Some(object) => {
@@ -103,7 +105,7 @@ fn a_primary_object_has_the_name_that_was_computed_outside(rt: HostRuntime) {
     check(&rt, is_named(primary_of(STORAGE, NOTHING), NAME), false);
 }
 
-/// Whether the template is refused, and whether what is given beside it is.
+/// Whether the template is refused, and whether its other input is.
 fn faults_of(template: &[u8], given: &[u8]) -> Option<(bool, bool)> {
     let (template, given) = (public_of(template)?, given_of(given)?);
     let is_fixed_wrongly = check_template(&template, false) == Err(TemplateFault::Attributes);
@@ -118,8 +120,8 @@ fn templates_are_checked(rt: HostRuntime) {
     check(&rt, faults_of(KEY, NOTHING), Some((false, true)));
 }
 
-/// Whether the sensitive area that is created under a storage key and wrapped is unwrapped, for the
-/// public area that it was wrapped for and no other.
+/// Whether a sensitive area that is created and wrapped by a storage key can be unwrapped with
+/// the public area for which it was wrapped, and with no other.
 fn is_unwrapped() -> Option<bool> {
     let parent = primary_of(STORAGE, NOTHING)?;
     let (template, given) = (public_of(KEY)?, given_of(JEFE)?);

@@ -1,5 +1,5 @@
-//! Structures byte by byte, as in TPM 2.0 Library, Part 1, section 18, and Part 2. The scripts
-//! under `tests/` show what the device reads and answers.
+//! Structures byte by byte, as in TPM 2.0 Library, Part 1, section 18, and Part 2. What the
+//! device reads and writes is tested by the scripts under `tests/`.
 
 use super::comparison::check;
 use arrayvec::ArrayVec;
@@ -13,23 +13,23 @@ use tpm_types::{
 use tpm_types_command::{AuthEntry, Command};
 use tpm_types_name::Name;
 
-/// The buffer of PCR_Reset of PCR 16, with a nonce of two bytes and the password "abc": the header,
-/// the handle, the area's size, and its entry.
+/// A buffer with TPM2_PCR_Reset of PCR 16, a nonce of two bytes and the password "abc": the
+/// header, the handle, the area's size, and its entry.
 const PCR_RESET: &[u8] = b"\x80\x02\x00\x00\x00\x20\x00\x00\x01\x3d\
     \x00\x00\x00\x10\
     \x00\x00\x00\x0e\
     \x40\x00\x00\x09\x00\x02\xaa\xbb\x01\x00\x03abc";
 
-/// The selection of PCRs 0, 10 and 23 by SHA-256.
+/// The selection of the SHA-256 PCRs 0, 10 and 23.
 const SELECTION: &[u8] = b"\x00\x00\x00\x01\x00\x0b\x03\x01\x04\x80";
 
-/// A list of two digests: twenty bytes 1 by SHA-1, and thirty-two bytes 2 by SHA-256.
+/// A list of two digests: SHA-1 with twenty bytes 01, and SHA-256 with thirty-two bytes 02.
 const DIGESTS: &[u8] = b"\x00\x00\x00\x02\
     \x00\x04\x01\x01\x01\x01\x01\x01\x01\x01\x01\x01\x01\x01\x01\x01\x01\x01\x01\x01\x01\x01\
     \x00\x0b\x02\x02\x02\x02\x02\x02\x02\x02\x02\x02\x02\x02\x02\x02\x02\x02\
     \x02\x02\x02\x02\x02\x02\x02\x02\x02\x02\x02\x02\x02\x02\x02\x02";
 
-/// Response codes at a place, and without one.
+/// Response codes that contain a parameter, handle or session number, and others.
 fn placed_codes() -> [(Rc, u32); 6] {
     [
         (ResponseCode::Value.anywhere().at_parameter(1), 0x1c4),
@@ -132,7 +132,7 @@ fn a_hierarchy_has_its_handle_as_its_name(rt: HostRuntime) {
     check(&rt, name.is_same(&Name::of_handle(Handle::PLATFORM)), false);
 }
 
-/// The number of the fault in a command's buffer, or 0.
+/// The number of the error in a command's buffer, or 0.
 fn fault_of(buffer: &[u8]) -> u32 {
     match Command::read(&mut Cursor::new(buffer)) {
         Ok(_) => 0,
@@ -140,7 +140,7 @@ fn fault_of(buffer: &[u8]) -> u32 {
     }
 }
 
-/// Buffers, each with the number of its first fault.
+/// Buffers, each with the number of its first error.
 const FAULTS: [(&[u8], u32); 7] = [
     (b"\x00\xc1\x00\x00\x00\x0b\x00\x00\x01", 0x142),
     (b"\x00\xc1\x00\x00\x00\x0b\x00\x00\x01\x46", 0x01e),
@@ -169,7 +169,7 @@ fn header_of(buffer: &[u8]) -> Option<(u16, u32)> {
     }
 }
 
-/// How many handles and entries a command has, and how long it is.
+/// The number of a command's handles, the number of its entries, and its size.
 fn counts_of(buffer: &[u8]) -> Option<(usize, usize, Option<usize>)> {
     match Command::read(&mut Cursor::new(buffer)) {
         Ok(command) => {
@@ -186,7 +186,7 @@ fn a_command_has_parts(rt: HostRuntime) {
     check(&rt, counts_of(PCR_RESET), Some((1, 1, Some(32))));
 }
 
-/// The command that a buffer spells, written again.
+/// The command decoded from a buffer, encoded again.
 fn rewritten_command(buffer: &[u8]) -> Option<ArrayVec<u8, 32>> {
     let Ok(command) = Command::read(&mut Cursor::new(buffer)) else {
         return None;
@@ -198,7 +198,7 @@ fn rewritten_command(buffer: &[u8]) -> Option<ArrayVec<u8, 32>> {
     Some(sink.into_bytes())
 }
 
-/// The selection that a text spells, written again.
+/// The selection decoded from a text, encoded again.
 fn rewritten_selection(text: &[u8]) -> Option<ArrayVec<u8, 10>> {
     let Ok(selection) = PcrSelection::read(&mut Cursor::new(text)) else {
         return None;
@@ -210,7 +210,7 @@ fn rewritten_selection(text: &[u8]) -> Option<ArrayVec<u8, 10>> {
     Some(sink.into_bytes())
 }
 
-/// The digests that a text spells, written again.
+/// The digests decoded from a text, encoded again.
 fn rewritten_digests(text: &[u8]) -> Option<ArrayVec<u8, 62>> {
     let Ok(digests) = DigestValues::read(&mut Cursor::new(text)) else {
         return None;
@@ -222,7 +222,7 @@ fn rewritten_digests(text: &[u8]) -> Option<ArrayVec<u8, 62>> {
     Some(sink.into_bytes())
 }
 
-/// Whether there is a text, and it is this one.
+/// Whether a text is present and equals this one.
 fn is_text<const N: usize>(bytes: Option<ArrayVec<u8, N>>, text: &[u8]) -> bool {
     match bytes {
         Some(bytes) => bytes.as_slice() == text,
@@ -241,7 +241,7 @@ fn what_is_read_is_written_so(rt: HostRuntime) {
     check(&rt, is_text(rewritten_digests(DIGESTS), DIGESTS), true);
 }
 
-/// Whether a text spells the selection of these banks.
+/// Whether a text encodes the selection of these banks.
 fn has_banks(text: &[u8], banks: &[BankSelection]) -> bool {
     match PcrSelection::read(&mut Cursor::new(text)) {
         Ok(selection) => selection.banks.as_slice() == banks,
@@ -249,7 +249,7 @@ fn has_banks(text: &[u8], banks: &[BankSelection]) -> bool {
     }
 }
 
-/// Whether a text spells these digests.
+/// Whether a text encodes these digests.
 fn has_digests(text: &[u8], values: &[DigestValue]) -> bool {
     match DigestValues::read(&mut Cursor::new(text)) {
         Ok(digests) => digests.values.as_slice() == values,
@@ -268,7 +268,7 @@ fn fields_are_where_they_stand(rt: HostRuntime) {
     check(&rt, has_digests(DIGESTS, &values), true);
 }
 
-/// The attributes of an entry, and how long it is.
+/// The attributes of an entry, and its size.
 fn entry_of(text: &[u8]) -> Option<(u8, Option<usize>)> {
     match AuthEntry::read(&mut Cursor::new(text)) {
         Ok(entry) => Some((entry.attributes.octet, entry.text_len())),

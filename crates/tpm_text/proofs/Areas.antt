@@ -1,4 +1,4 @@
--- Authorization areas that are added to a draft, and headers that are put in front of it.
+-- Adding authorization areas to a draft, and putting headers before it.
 use Rattle.std.proofs.Common.{◌≡◌, ℕ, ◌+◌, ◌-◌, ◌≤◌, Ok, List, ◌++◌, length, take, drop, Option, Some, None, IfSome, subst, refl, sym, ap, ◌∙◌, arith}
 use Rattle.std.specs.Option.{option_map}
 use Rattle.std.specs.Int.{w32, to_be_bytes}
@@ -19,11 +19,11 @@ pub no_area : (old : Option (List ℕ)) → (let none : Option (List ℕ) = None
 unfolding with_area
 no_area old = refl
 
--- the text of a draft is as long as the bytes that were written
+-- the size of a draft's text is the number of bytes written
 pub taken_size : (draft : Draft) (size : ℕ) → draft.used ≡ Some size → length (take size draft.bytes) ≡ size
 taken_size draft size e = let small = draft.within size e in length-take-le size draft.bytes (omega (arith, small, draft.capacity))
 
--- a header in the place of ten bytes
+-- a header replaces the first ten bytes
 pub headed : (header bytes : List ℕ) (size : ℕ) → length header ≡ 10 → 10 ≤ size → take size (header ++ drop 10 bytes) ≡ header ++ drop 10 (take size bytes)
 headed header bytes size ten large =
     let whole : length header + (size - 10) ≡ size = omega (arith, ten) in

@@ -68,7 +68,7 @@ sessions_err (Err other) old new (Err found) fault left e h = ap Err (sym h ∙ 
 
 -- ---- the authorization area
 
--- an area that was written on its own, added to the draft
+-- an area that was written separately, and is then added to the draft
 area_is : (old area : Option (List ℕ)) (text : List ℕ) → area ≡ grown (Some []) text → with_area old area ≡ grown old (to_be_bytes w32 (length text) ++ text)
 unfolding with_area
 area_is old area text e = by (nat_le (length text) buffer_limit) refl
@@ -105,7 +105,7 @@ not_fitting : (tag : Tag) (code : CommandCode) → finished tag code None ≡ Er
 unfolding finished
 not_fitting tag code = refl
 
--- a draft of ten bytes or more is still one after more bytes
+-- a draft of at least ten bytes still contains at least ten after more bytes are added
 pub still_ten : (draft : Option (List ℕ)) (bytes : List ℕ) → IfSome draft (λ text. 10 ≤ length text) → IfSome (grown draft bytes) (λ text. 10 ≤ length text)
 still_ten None bytes h = subst (λ (d : Option (List ℕ)). IfSome d (λ text. 10 ≤ length text)) (sym (none_grows bytes)) tt
 still_ten (Some text) bytes h = by (nat_le (length text + length bytes) buffer_limit) refl
@@ -114,7 +114,7 @@ still_ten (Some text) bytes h = by (nat_le (length text + length bytes) buffer_l
     by true short = subst (λ (d : Option (List ℕ)). IfSome d (λ text. 10 ≤ length text)) (sym (fits text bytes (leb-true _ _ short))) (omega (arith, h, length-append text bytes))
     by false long = subst (λ (d : Option (List ℕ)). IfSome d (λ text. 10 ≤ length text)) (sym (spills text bytes (leb-false _ _ long))) tt
 
--- a draft that was begun has ten bytes
+-- a draft that has just begun contains ten bytes
 pub begun : (draft : Option (List ℕ)) → IsSome draft → IfSome draft (λ text. length text ≡ 10) → (ten : List ℕ) × (draft ≡ Some ten) × (length ten ≡ 10)
 begun None is h = absurd cc
 begun (Some ten) is h = (ten, refl, h)

@@ -1,4 +1,4 @@
--- The texts of entries, as they are written.
+-- The texts of entries, as the code writes them.
 use Rattle.std.proofs.Common.{◌≡◌, ℕ, ◌<◌, ◌==◌, List, [], ◌∷◌, ◌++◌, length, Option, Result, Ok, Err, refl, ap, ◌∙◌, arith}
 use Rattle.std.specs.Int.{w8, w32, to_be_bytes}
 use Rattle.std.proofs.lemmas.List.Splits.{length-slice_split}
@@ -15,7 +15,7 @@ use Rattle.tpm_text.proofs.Growing.{grown-grown}
 use Rattle.tpm_number.specs.declared.fault.TokenFault.{TokenFault}
 use Rattle.tpm_number.specs.declared.fault.TokenFault.TheVariants.{Bad}
 
--- the front of a password's entry, before the size of the password
+-- the first part of a password's entry, before the size of the password
 abbrev pub password_front : List ℕ
 password_front = to_be_bytes w32 password_handle.number ++ 0 ∷ 0 ∷ 1 ∷ []
 
@@ -27,7 +27,7 @@ password_text password = by (bytes_in password)
     by (Ok bytes) = refl
     by (Err fault) = refl
 
--- five pieces are no entry of a session
+-- five pieces are not the entry of a session
 five_are_bad : (a b c d : List ℕ) (others : List (List ℕ)) → 0 < length others → session_pieces_of (a ∷ b ∷ c ∷ d ∷ others) ≡ Err Bad
 five_are_bad a b c d [] some = absurd (omega (arith, some))
 five_are_bad a b c d (e ∷ others) some = refl
@@ -61,7 +61,7 @@ pub no_session_text : (text : List ℕ) (fault : TokenFault) → session_pieces_
 unfolding session_entry
 no_session_text text fault e = rw e refl
 
--- the four parts of a session's entry that were written
+-- the four parts of a session's entry, after they were written
 pub parts_drafted : (session octet : List ℕ) (nonce : List ℕ) (hmac : Result (List ℕ) TokenFault) (old one two three : Option (List ℕ)) (result : Result (Unit {0}) TokenFault) (new : Option (List ℕ))
     → one ≡ grown old session → two ≡ grown one nonce → three ≡ grown two octet → Drafts hmac three result new
     → Drafts (hmac >>= λ bytes. Ok (session ++ nonce ++ octet ++ bytes)) old result new

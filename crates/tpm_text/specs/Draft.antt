@@ -10,34 +10,35 @@ use Rattle.tpm_text.specs.declared.fault.AsmFault.{AsmFault}
 use Rattle.tpm_text.specs.declared.fault.AsmFault.TheVariants.{TooLong}
 use Rattle.tpm_text.specs.declared.draft.Draft.{Draft}
 
--- the bytes of a draft so far; None once they were more than a command may have
+-- the bytes of a draft so far; None once there were more than a command may have
 abbrev pub drafted : Draft → Option (List ℕ)
 drafted draft = option_map (λ size. take size draft.bytes) draft.used
 
--- a draft with more bytes
+-- a draft with more bytes added
 unfoldable pub grown : Option (List ℕ) → List ℕ → Option (List ℕ)
 grown None bytes = None
 grown (Some text) bytes =
     if nat_le (length text + length bytes) buffer_limit then Some (text ++ bytes) else None
 
--- a draft with an authorization area: the size of its entries, and these
+-- a draft with an authorization area added: the size of its entries, then the entries
 unfoldable pub with_area : Option (List ℕ) → Option (List ℕ) → Option (List ℕ)
 with_area draft None = None
 with_area draft (Some entries) = grown draft (to_be_bytes w32 (length entries) ++ entries)
 
--- the command of a draft, whose first ten bytes only hold the header's place
+-- the command in a draft; the first ten bytes of the draft are only a placeholder for the header
 unfoldable pub finished : Tag → CommandCode → Option (List ℕ) → Result (List ℕ) AsmFault
 finished tag code None = Err TooLong
 finished tag code (Some text) = Ok (header_text tag (length text) code ++ drop 10 text)
 
--- A write added to the draft the text that the definition gives, or found the definition's fault.
+-- A write added the text of its definition to the draft, or failed with the fault of its
+-- definition.
 abbrev pub Drafts : {E : Type 0}
     → Result (List ℕ) E → Option (List ℕ) → Result (Unit {0}) E → Option (List ℕ) → Type 0
 Drafts (Ok text) old (Ok done) new = new ≡ grown old text
 Drafts (Err fault) old (Err found) new = found ≡ fault
 Drafts _ old _ new = ⊥
 
--- The code finished the command that the definition gives, or found the definition's fault.
+-- The code finished the command of its definition, or failed with the fault of its definition.
 abbrev pub Finishes : {E : Type 0}
     → Result (List ℕ) E → Result (Unit {0}) E → Option (List ℕ) → Type 0
 Finishes (Ok text) (Ok done) new = new ≡ Some text

@@ -36,8 +36,7 @@ octet_in piece = do
   bytes ← hex_in piece
   Ok (from_be_bytes w8 bytes)
 
--- the entry of a password: of TPM_RS_PW, without a nonce, with continueSession, and with the
--- password as the HMAC
+-- the entry for a password: TPM_RS_PW, no nonce, continueSession, and the password as the HMAC
 unfoldable pub password_entry : List ℕ → Result Entry TokenFault
 password_entry password = do
   bytes ← bytes_in password
@@ -60,7 +59,7 @@ session_pieces_of (session ∷ nonce ∷ attributes ∷ hmac ∷ []) =
     Ok (record { session = session; nonce = nonce; attributes = attributes; hmac = hmac })
 session_pieces_of other = Err Bad
 
--- the entry of a session: its handle, nonce, attributes and HMAC, with a colon between two
+-- the entry for a session: its handle, nonce, attributes and HMAC, separated by colons
 unfoldable pub session_entry : List ℕ → Result Entry TokenFault
 session_entry text = do
   pieces ← session_pieces_of (pieces_of colon text)
@@ -81,7 +80,7 @@ begins_password token = starts_with nat_eq token (codes "pw:")
 abbrev pub begins_session : List ℕ → Bool
 begins_session token = starts_with nat_eq token (codes "s:")
 
--- whether a token is to be read as an entry
+-- whether a token is read as an entry
 abbrev pub begins_entry : List ℕ → Bool
 begins_entry token = begins_password token || begins_session token
 

@@ -5,12 +5,12 @@ use Rattle.tpm_text.specs.declared.fault.AsmFault.TheVariants as line
 use Rattle.tpm_number.specs.declared.fault.TokenFault.{TokenFault}
 use Rattle.tpm_number.specs.declared.fault.TokenFault.TheVariants as token
 
--- the fault of a line whose token at this column is at fault
+-- the fault of a line whose token at this column has the given fault
 abbrev pub fault_at : ℕ → TokenFault → AsmFault
 fault_at column token.Bad = line.BadField column
 fault_at column token.Range = line.Range column
 
--- what was read of a token at this column
+-- the result of reading a token at this column
 abbrev pub at_column : {A : Type 0} → ℕ → Result A TokenFault → Result A AsmFault
 at_column column (Ok x) = Ok x
 at_column column (Err fault) = Err (fault_at column fault)

@@ -1,4 +1,4 @@
--- Hex digits in a token, and checks of hex digits that decode none of them.
+-- Hex digits in a token, and checks of hex digits that do not decode them.
 use Rattle.std.specs.Prelude.{◌≡◌, ℕ, ◌==◌, if◌then◌else◌, List, [], length, codes, Result, Ok, Err}
 use Rattle.hex.specs.Hex.{decode_of}
 use Rattle.tpm_bytes.specs.Reading.{or_fault}
@@ -6,17 +6,17 @@ use Rattle.tpm_number.specs.declared.fault.TokenFault.{TokenFault}
 use Rattle.tpm_number.specs.declared.fault.TokenFault.TheVariants.{Bad}
 use Rattle.tpm_number.specs.Number.{is_word}
 
--- the bytes that hex digits of either case write, two digits for each byte
+-- the bytes that hex digits of either case encode, two digits for each byte
 abbrev pub hex_in : List ℕ → Result (List ℕ) TokenFault
 hex_in digits = or_fault (decode_of digits) Bad
 
--- the bytes that a token writes in hex; the token - writes no bytes
+-- the bytes that a token encodes in hex; the token - stands for no bytes
 unfoldable pub bytes_in : List ℕ → Result (List ℕ) TokenFault
 bytes_in token =
     if is_word (codes "-") token then Ok []
     else (if length token == 0 then Err Bad else hex_in token)
 
--- A check found what the definition gives to be there, or its fault where it is not.
+-- A check succeeded because its definition has a value, or it found the fault of its definition.
 abbrev pub IsChecked : {X E : Type 0} → Result X E → Result (Unit {0}) E → Type 0
 IsChecked (Ok x) (Ok done) = Unit {0}
 IsChecked (Err fault) (Err found) = found ≡ fault

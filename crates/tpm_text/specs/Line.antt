@@ -1,5 +1,5 @@
--- Lines: a command in words, one space between two tokens. First its name, then its handles, its
--- authorization entries, and its parameters, in the order of TPM 2.0 Library, Part 3.
+-- Lines: commands in words, with tokens separated by single spaces. The order is that of TPM 2.0
+-- Library, Part 3: the name, the handles, the authorization entries, the parameters.
 use Rattle.tpm_types.specs.Limits.{buffer_limit}
 use Rattle.std.specs.Prelude.{◌≡◌, ℕ, zero, suc, nat_lt, cond, List, [], ◌∷◌, ◌++◌}
 use Rattle.std.specs.Prelude.{Result, Ok, Err, ok_or}
@@ -18,7 +18,7 @@ use Rattle.tpm_text.specs.Fault.{at_column}
 use Rattle.tpm_text.specs.Parameter.{parameter_text}
 use Rattle.tpm_text.specs.Pieces.{Token, tokens_of}
 
--- what is read of the first token, and the tokens after it; Missing where there is none
+-- the value of the first token, and the tokens after it; Missing if there is no token
 abbrev pub token_in : {A : Type 0}
     → (List ℕ → Result A TokenFault) → List Token → Result (A × List Token) AsmFault
 token_in read [] = Err fault.Missing
@@ -26,15 +26,15 @@ token_in read (token ∷ tokens) = do
   value ← at_column token.column (read token.text)
   Ok (value, tokens)
 
--- the command that the first token names; a name of no command is a fault of its own. Each line has
--- a first token, though it may be empty
+-- the command that the first token names; an unknown name has a fault of its own. Each line has a
+-- first token, which may be empty
 abbrev pub name_in : List Token → Result (CommandCode × List Token) AsmFault
 name_in [] = Err fault.BadName
 name_in (token ∷ tokens) = do
   code ← ok_or (code_called token.text) fault.BadName
   Ok (code, tokens)
 
--- a number of handles, one from each of the first tokens, and the tokens after them
+-- `count` handles, one for each of the first tokens, and the tokens after them
 unfoldable pub handles_in : ℕ → List Token → Result (List Handle × List Token) AsmFault
 handles_in zero tokens = Ok ([], tokens)
 handles_in (suc count) tokens = do
@@ -42,8 +42,8 @@ handles_in (suc count) tokens = do
   others ← handles_in count first.1
   Ok (first.0 ∷ others.0, others.1)
 
--- the entries at the front of the tokens, at most this many; the first token that does not begin
--- like an entry ends them
+-- the entries in the first tokens, at most `most`, up to the first token that does not begin like
+-- an entry
 unfoldable pub entry_tokens_in : ℕ → List Token → Result (List Entry × List Token) AsmFault
 entry_tokens_in zero tokens = Ok ([], tokens)
 entry_tokens_in (suc most) [] = Ok ([], [])
@@ -53,7 +53,8 @@ entry_tokens_in (suc most) (token ∷ tokens) = cond (begins_entry token.text) (
   Ok (first ∷ others.0, others.1))
     (Ok ([], token ∷ tokens))
 
--- the text of a parameter of each kind, one after another, and the tokens after them
+-- the bytes of parameters of these kinds, one for each of the first tokens, and the tokens after
+-- them
 unfoldable pub parameters_in : List ParameterKind → List Token
     → Result (List ℕ × List Token) AsmFault
 parameters_in [] tokens = Ok ([], tokens)
@@ -62,12 +63,12 @@ parameters_in (kind ∷ kinds) tokens = do
   others ← parameters_in kinds first.1
   Ok (first.0 ++ others.0, others.1)
 
--- the check that no token is left over
+-- checks that no token remains
 abbrev pub ended : List Token → Result (Unit {0}) AsmFault
 ended [] = Ok tt
 ended (token ∷ tokens) = Err (fault.BadField token.column)
 
--- the command that a line spells, or the first fault from the left
+-- the command that a line encodes, or the first fault from the left
 unfoldable pub spelled : List ℕ → Result Whole AsmFault
 spelled line = do
   name ← name_in (tokens_of line)
@@ -82,15 +83,15 @@ spelled line = do
     parameters = parameters.0;
   })
 
--- the text of the command that a line spells, which is too long only where nothing else is wrong
+-- the text of the command that a line encodes; it is too long only if nothing else is wrong
 unfoldable pub assembled : List ℕ → Result (List ℕ) AsmFault
 assembled line = do
   command ← spelled line
   fits ← refused_if (nat_lt buffer_limit (command_size command)) fault.TooLong
   Ok (command_text command)
 
--- A call gave the text of the command that a line spells, or the fault of the line, or had no
--- memory for a text.
+-- A call returned the text of the command that a line encodes; or it returned the fault of the
+-- line; or it could not allocate the text.
 abbrev pub Assembles : {X : Type 0} → (X → List ℕ)
     → Result (List ℕ) AsmFault → Result X AsmFault → Type 0
 Assembles view (Ok text) (Ok buffer) = view buffer ≡ text

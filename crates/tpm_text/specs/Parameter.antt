@@ -1,4 +1,4 @@
--- Parameters in a line: the word for each kind, and its text on the wire.
+-- Parameters in a line: the word for each kind, and its bytes in a command buffer.
 use Rattle.std.specs.Prelude.{ℕ, ◌==◌, ◌+◌, ◌*◌, not, if◌then◌else◌, List, ◌++◌, length, take, drop, codes}
 use Rattle.std.specs.Prelude.{Some, None, Result, Ok, Err, ok_or}
 use Rattle.std.specs.List.{flat_map, fold, position}
@@ -24,7 +24,7 @@ use Rattle.tpm_number.specs.Number.{is_word, number_in}
 use Rattle.tpm_text.specs.Hex.{bytes_in, hex_in}
 use Rattle.tpm_text.specs.Pieces.{colon, comma, each_in, pieces_of, plus}
 
--- the bytes of the number that a token writes, which is at most this one
+-- the bytes of the number in a token; the number is at most `most`
 abbrev pub number_text : Width → (most : ℕ) → List ℕ → Result (List ℕ) TokenFault
 number_text width most token = do
   number ← number_in most token
@@ -35,7 +35,7 @@ hash_in word =
     if is_word (codes "sha1") word then Ok Sha1
     else (if is_word (codes "sha256") word then Ok Sha256 else Err Bad)
 
--- the text of a hash algorithm's word, or of null
+-- the text of the word for a hash algorithm, or of null
 unfoldable pub hash_text : List ℕ → Result (List ℕ) TokenFault
 hash_text word = do
   algorithm ← if is_word (codes "null") word then Ok None
@@ -50,39 +50,39 @@ symmetric_in word =
     else (if is_word (codes "xor-sha256") word then Ok (symmetric.Xor Sha256)
     else Err Bad)))
 
--- the text of a word for how a session encrypts parameters
+-- the text of the word for how a session encrypts parameters
 unfoldable pub symmetric_word_text : List ℕ → Result (List ℕ) TokenFault
 symmetric_word_text word = do
   definition ← symmetric_in word
   Ok (symmetric_text definition)
 
--- the text of a buffer with its size (TPM2B), from a token in hex
+-- the text of a sized buffer (TPM2B), from a token in hex
 unfoldable pub buffer_text : List ℕ → Result (List ℕ) TokenFault
 buffer_text token = do
   bytes ← bytes_in token
   Ok (sized_text bytes)
 
--- the hash algorithm before the first colon of a piece, and all that stands after the colon
+-- the hash algorithm before the first colon of a piece, and all text after the colon
 unfoldable pub hash_and_rest_in : List ℕ → Result (HashAlg × List ℕ) TokenFault
 hash_and_rest_in piece = do
   place ← ok_or (position (λ byte. byte == colon) piece) Bad
   hash ← hash_in (take place piece)
   Ok (hash, drop (place + 1) piece)
 
--- the selection of the PCRs whose numbers, each at most 23, are joined by commas
+-- the selection of the PCRs whose numbers, each at most 23, are separated by commas
 unfoldable pub pcrs_in : List ℕ → Result ℕ TokenFault
 pcrs_in numbers = do
   pcrs ← each_in (number_in 23) (pieces_of comma numbers)
   Ok (fold with_pcr 0 pcrs)
 
--- the text of a bank's hash algorithm and of the PCRs that are selected there: sha256:0,10
+-- the text of a bank's hash algorithm and of its selected PCRs, written as sha256:0,10
 unfoldable pub bank_word_text : List ℕ → Result (List ℕ) TokenFault
 bank_word_text piece = do
   bank ← hash_and_rest_in piece
   select ← pcrs_in bank.1
   Ok (bank_text (record { hash = bank.0; select = select }))
 
--- the text of a hash algorithm and of a digest of its size: sha1:HEX
+-- the text of a hash algorithm and of a digest of its size, written as sha1:HEX
 unfoldable pub digest_word_text : List ℕ → Result (List ℕ) TokenFault
 digest_word_text piece = do
   parts ← hash_and_rest_in piece
@@ -101,18 +101,20 @@ elements_text element pieces = do
   texts ← each_in (element_text element) pieces
   Ok (flat_map (λ text. text) texts)
 
--- the text of a list, whose elements are joined by +: how many there are, and these
+-- the text of a list, whose elements are separated by +: the number of elements, then the
+-- elements
 unfoldable pub list_text : Element → List ℕ → Result (List ℕ) TokenFault
 list_text element token = do
   elements ← elements_text element (pieces_of plus token)
   Ok (to_be_bytes w32 (length (pieces_of plus token)) ++ elements)
 
--- the text of a list, where the token - is the empty list
+-- the text of a list; the token - is the empty list
 unfoldable pub list_or_none_text : Element → List ℕ → Result (List ℕ) TokenFault
 list_or_none_text element token =
     if is_word (codes "-") token then Ok (to_be_bytes w32 0) else list_text element token
 
--- the text of a parameter of this kind; how long a buffer may be is the device's to check
+-- the text of a parameter of this kind; the device, not this definition, limits the size of a
+-- buffer
 unfoldable pub parameter_text : ParameterKind → List ℕ → Result (List ℕ) TokenFault
 parameter_text kind.StartupType token = number_text w16 0xffff token
 parameter_text kind.SessionType token = number_text w8 0xff token

@@ -1,4 +1,4 @@
--- How a line is cut into tokens, and a token into pieces.
+-- How a line is split into tokens, and a token into pieces.
 use Rattle.std.specs.Prelude.{◌≡◌, ℕ, ◌+◌, ◌==◌, List, [], ◌∷◌, length, Option, Some, None}
 use Rattle.std.specs.Prelude.{Result, Ok}
 use Rattle.std.specs.List.{slice_split}
@@ -6,8 +6,8 @@ use Rattle.tpm_bytes.specs.Reading.{◌>>=◌}
 use Rattle.tpm_text.specs.declared.token.Token as declared
 use Rattle.tpm_number.specs.declared.fault.TokenFault.{TokenFault}
 
--- the separators: of tokens, of the elements of a list, of numbers, and of a word from what stands
--- after it
+-- the separators: between tokens, between the elements of a list, between numbers, and between a
+-- word and the text after it
 abbrev pub space : ℕ
 space = 32
 
@@ -20,17 +20,16 @@ comma = 44
 abbrev pub colon : ℕ
 colon = 58
 
--- the pieces of a text that stand between its separators: one more than there are separators
+-- the pieces of a text between its separators: one more than there are separators
 abbrev pub pieces_of : ℕ → List ℕ → List (List ℕ)
 pieces_of separator text = slice_split (λ byte. byte == separator) text
 
--- a token of a line, and the place of its first byte, from 1
+-- a token of a line, and the position of its first byte, counted from 1
 pub record Token : Type 0 where
   pub column : ℕ
   pub text : List ℕ
 
--- the tokens of these texts, which stand one after another from a column on, with a space between
--- two
+-- the tokens with these texts, separated by single spaces; the first one begins at this column
 abbrev pub placed : ℕ → List (List ℕ) → List Token
 placed column [] = []
 placed column (text ∷ texts) =
@@ -43,7 +42,7 @@ tokens_of line = placed 1 (pieces_of space line)
 abbrev pub token_of : declared.Token → Token
 token_of token = record { column = token.column; text = token.text.now }
 
--- what is read of each piece of a token, or the first fault from the left
+-- the value of each piece of a token, or the first fault from the left
 unfoldable pub each_in : {A : Type 0}
     → (List ℕ → Result A TokenFault) → List (List ℕ) → Result (List A) TokenFault
 each_in read [] = Ok []
@@ -52,7 +51,7 @@ each_in read (piece ∷ pieces) = do
   others ← each_in read pieces
   Ok (first ∷ others)
 
--- The first of what was left was taken, or nothing was left.
+-- The first element was taken, or nothing remained.
 abbrev pub TakesFirst : {X Y : Type 0} → (X → Y) → List Y → Option X → List Y → Type 0
 TakesFirst view old None new = (old ≡ []) × (new ≡ [])
 TakesFirst view old (Some x) new = old ≡ view x ∷ new

@@ -1,4 +1,4 @@
--- Reading tokens, and writing the text of what they spell.
+-- Reads tokens, and writes the text that they encode.
 use Rattle.std.specs.Prelude.{◌≡◌, ℕ, Bool, true, false, List, [], ◌∷◌, Option, Some, None, Result, Ok, Err}
 use Rattle.tpm_types_command.specs.declared.tag.Tag.{Tag}
 use Rattle.tpm_types_command.specs.AuthEntry.{Entry}
@@ -9,15 +9,15 @@ use Rattle.tpm_text.specs.Pieces.{Token}
 use Rattle.tpm_text.specs.declared.fault.AsmFault.{AsmFault}
 use Rattle.tpm_text.specs.declared.fault.AsmFault.TheVariants.{Missing}
 
--- A reading of tokens wrote the text of what its definition gives, and left the tokens that the
--- definition leaves; or it found the definition's fault.
+-- The tokens were read as the definition says. If it returns a value, the text of that value was
+-- written, and the same tokens remain; otherwise its fault was returned.
 abbrev pub DraftsRead : {A E : Type 0} → (A → List ℕ) → Result (A × List Token) E
     → Option (List ℕ) → Result (Unit {0}) E → Option (List ℕ) → List Token → Type 0
 DraftsRead text (Ok read) old (Ok done) new left = (new ≡ grown old (text read.0)) × (left ≡ read.1)
 DraftsRead text (Err fault) old (Err found) new left = found ≡ fault
 DraftsRead text _ old _ new left = ⊥
 
--- The first token was taken, or the fault is that none was left.
+-- The first token was taken; or there was none, and the fault says so.
 abbrev pub Takes : {X : Type 0} → (X → Token) → List Token → Result X AsmFault → List Token → Type 0
 Takes view old (Ok token) new = old ≡ view token ∷ new
 Takes view old (Err found) new = (old ≡ []) × (found ≡ Missing)
@@ -27,23 +27,23 @@ abbrev pub first_is_entry : List Token → Bool
 first_is_entry [] = false
 first_is_entry (token ∷ tokens) = begins_entry token.text
 
--- The first token was taken, and begins like an entry; or nothing was taken, and the first token
--- does not begin so.
+-- The first token was taken, because it begins like an entry; or nothing was taken, because it
+-- does not.
 abbrev pub TakesEntry : {X : Type 0} → (X → Token) → List Token → Option X → List Token → Type 0
 TakesEntry view old (Some token) new =
     (old ≡ view token ∷ new) × (begins_entry (view token).text ≡ true)
 TakesEntry view old None new = (new ≡ old) × (first_is_entry old ≡ false)
 
--- A reading of tokens gave what its definition gives, and left the tokens that the definition
--- leaves; or it found the definition's fault.
+-- The tokens were read as the definition says. If it returns a value, that value was returned,
+-- and the same tokens remain; otherwise its fault was returned.
 abbrev pub ReadsTokens : {X A E : Type 0} → (X → A) → Result (A × List Token) E
     → Result X E → List Token → Type 0
 ReadsTokens view (Ok read) (Ok x) left = (read.0 ≡ view x) × (left ≡ read.1)
 ReadsTokens view (Err fault) (Err found) left = found ≡ fault
 ReadsTokens view _ _ left = ⊥
 
--- The authorization area of the entries was written, if there are some, and the tag was given that
--- says whether there are.
+-- The authorization area of the entries was written, if there are any. The returned tag says
+-- whether there are any.
 abbrev pub DraftsSessions : {E : Type 0} → Result (List Entry × List Token) E
     → Option (List ℕ) → Result Tag E → Option (List ℕ) → List Token → Type 0
 DraftsSessions (Ok read) old (Ok tag) new left =

@@ -1,5 +1,5 @@
--- The trace of an event: in one line which command came from which locality after how long, which
--- row of the table it took, and what was answered.
+-- The trace of an event: one line with the command, its locality, the time before it, the row of
+-- the table that it took, and the response code.
 use Rattle.std.specs.Prelude.{◌≡◌, ℕ, ◌-◌, ◌≤◌, ◌==◌, nat_le, if◌then◌else◌, ◌⊎◌}
 use Rattle.std.specs.Prelude.{List, ◌++◌, length, codes, option_map, unwrap_or}
 use Rattle.std.specs.List.{slice_range}
@@ -13,28 +13,28 @@ use Rattle.tpm_step.specs.Events.{PlainEvent, Given, Cycled}
 use Rattle.tpm_step.specs.Step.{Stepped}
 use Rattle.tpm_step.specs.declared.event.Row.{Row}
 
--- A row of the table names a command that is served, or no command by 0, and the check that refused
--- the command, or no check by 0.
+-- A row of the table consists of the number of a served command, or 0 for none, and the number of
+-- the check that refused the command, or 0 for none.
 abbrev pub IsRow : Row → Type 0
 IsRow row =
     ((row.code ≡ 0) ⊎ ((code : CommandCode) × (row.code ≡ code_number code)))
     × ((row.check ≡ 0) ⊎ ((check : Check) × (row.check ≡ check_number check)))
 
--- A command is answered by at least a header, which has ten bytes.
+-- The response to a command contains at least a header of ten bytes.
 abbrev pub IsAnswered : PlainEvent → List ℕ → Type 0
 IsAnswered (Given buffer locality elapsed random) response = 10 ≤ length response
 IsAnswered Cycled response = Unit {0}
 
--- An event and its step have a trace.
+-- An event and its step can be traced.
 abbrev pub IsTraceable : PlainEvent → Stepped → Type 0
 IsTraceable event x = IsRow x.row × IsAnswered event x.response
 
--- the name of the command with this number, or ? where no command has it
+-- the name of the command with this number, or ? if there is none
 unfoldable pub name_text : ℕ → List ℕ
 name_text number = unwrap_or (option_map code_name (code_named number)) (codes "?")
 
--- the name of the check with this number: ok where none refused; G1 to G11 are those of every
--- command, A1 to A7 the command's own, and M is refused memory
+-- the name of the check with this number: ok if none refused; G1 to G11 for the checks of every
+-- command, A1 to A7 for the command's own checks, and M for a failed allocation
 unfoldable pub check_text : ℕ → List ℕ
 check_text number =
     if number == 0 then codes "ok"
@@ -42,13 +42,12 @@ check_text number =
     else if number == 255 then codes "M"
     else codes "A" ++ decimal (number - 20)
 
--- the response code in hex, which stands after a response's tag and size
+-- the response code in hex, which follows a response's tag and size
 abbrev pub response_code_text : List ℕ → List ℕ
 response_code_text response = encode_lower (slice_range response 6 10)
 
--- the trace of an event: of a power cycle; or of a command, with its name, the locality that it
--- came from, the milliseconds that passed before it, the check that refused it, and the response
--- code
+-- the trace of an event: `power` for a power cycle; for a command, its name, its locality, the
+-- milliseconds before it, the check that refused it, and the response code
 abbrev pub trace_text : PlainEvent → Row → (response : List ℕ) → List ℕ
 trace_text Cycled row response = codes "power"
 trace_text (Given buffer locality elapsed random) row response =

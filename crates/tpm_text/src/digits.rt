@@ -1,4 +1,4 @@
-//! The check that a token is bytes in hex, before the bytes are decoded.
+//! Checks that a token consists of bytes in hex, before they are decoded.
 
 ghost use Rattle.std.specs.Prelude.{◌≡◌, Err, MatchResult};
 ghost use Rattle.std.specs.List.{list_all};
@@ -19,8 +19,8 @@ fn are_hex_digits(bytes: &[u8]) -> bool
     bytes.iter().all(|byte| is_hex_digit(*byte))
 }
 
-/// Checks that hex digits of either case write bytes, and does not decode them: Bad where they do
-/// not.
+/// Checks, without decoding, that a text consists of hex digits of either case for whole bytes.
+/// The fault is Bad if it does not.
 #[tactic(auto, using(crate::proofs::HexDigits::hex_digits))]
 pub fn check_hex(digits: &[u8]) -> Result<(), TokenFault>
     ensures { IsChecked (hex_in digits.now) result }
@@ -31,7 +31,7 @@ pub fn check_hex(digits: &[u8]) -> Result<(), TokenFault>
     Ok(())
 }
 
-/// The hex digits of a token, where the token `-` has none: Bad where it is empty.
+/// The hex digits of a token; none for the token `-`. The fault is Bad if the token is empty.
 #[tactic(auto, using(crate::proofs::HexDigits::none_is_good), unfolding(crate::specs::Hex::bytes_in))]
 pub fn digits_of(token: &[u8]) -> Result<&[u8], TokenFault>
     ensures { MatchResult result

@@ -1,5 +1,5 @@
-//! The buffer of a command while it is written, which remembers whether it has become too long, and
-//! gets its header last.
+//! The buffer of a command while it is being written. It records whether the command has become
+//! too long; the header is written last.
 
 ghost use Rattle.tpm_types.specs.Limits.{buffer_limit};
 ghost use Rattle.std.specs.Prelude.{◌≡◌, ◌≤◌, length, [], Some, IfSome, IsSome};
@@ -14,11 +14,11 @@ use tpm_number::TokenFault;
 use tpm_types::BUFFER_LIMIT;
 use tpm_types_command::{HEADER_SIZE, Tag};
 
-/// A command's text that is being written, which remembers whether it has become too long.
+/// The text of a command that is being written, or the fact that it has become too long.
 #[derive(Drop)]
 pub struct Draft {
     bytes: [u8; BUFFER_LIMIT],
-    /// How many bytes were written; None once they were too many.
+    /// The number of bytes written; None once there were too many.
     used: Option<usize>,
     ghost capacity: { length bytes ≡ buffer_limit },
     ghost within: { ForSome used (λ size. size ≤ buffer_limit) },
@@ -39,7 +39,7 @@ impl Draft {
         }
     }
 
-    /// Begins a draft anew, after the ten bytes of a header.
+    /// Clears the draft, and reserves ten bytes for a header.
     pub fn begin(&mut self)
         ensures ten { IfSome (drafted self.new) (λ text. length text ≡ 10) }
         ensures some { IsSome (drafted self.new) }
@@ -64,7 +64,7 @@ impl Draft {
         self.used = Some(end);
     }
 
-    /// Adds the bytes that hex digits write: Bad where the text is not hex.
+    /// Decodes hex digits and adds their bytes. The fault is Bad if the text is not hex.
     #[tactic(auto, unfolding(crate::specs::Draft::grown))]
     pub fn put_hex(&mut self, digits: &[u8]) -> Result<(), TokenFault>
         ensures { Drafts (hex_in digits.now) (drafted self.old) result (drafted self.new) }
@@ -85,7 +85,7 @@ impl Draft {
         Ok(())
     }
 
-    /// Adds a buffer with its size (TPM2B), whose bytes a token has in hex.
+    /// Adds a sized buffer (TPM2B) with the bytes that a token contains in hex.
     #[tactic(auto, unfolding(crate::specs::Parameter::buffer_text))]
     pub fn put_buffer(&mut self, token: &[u8]) -> Result<(), TokenFault>
         ensures { Drafts (buffer_text token.now) (drafted self.old) result (drafted self.new) }
@@ -100,7 +100,7 @@ impl Draft {
         self.put_hex(digits)
     }
 
-    /// Adds an authorization area: the size of its entries, and the entries.
+    /// Adds an authorization area: the size of its entries, then the entries.
     pub fn put_area(&mut self, entries: &Draft)
         ensures { drafted self.new ≡ with_area (drafted self.old) (drafted entries.now) }
     {
@@ -113,7 +113,7 @@ impl Draft {
         }
     }
 
-    /// Writes the header of the command: TooLong where its text is too long.
+    /// Writes the header of the command. The fault is TooLong if its text is too long.
     #[tactic(auto, unfolding(crate::specs::Draft::finished))]
     pub fn finish(&mut self, tag: Tag, code: CommandCode) -> Result<(), AsmFault>
         requires { IfSome (drafted self.old) (λ text. 10 ≤ length text) }
@@ -127,7 +127,7 @@ impl Draft {
         Ok(())
     }
 
-    /// The bytes so far; empty once they were too many.
+    /// The bytes so far, or an empty slice once there were too many.
     pub fn as_slice(&self) -> &[u8]
         ensures value { IfSome (drafted self.now) (λ text. result.now ≡ text) }
         ensures small { length result.now ≤ buffer_limit }
@@ -136,7 +136,7 @@ impl Draft {
     }
 }
 
-/// The header of a command of this length.
+/// The header of a command of this size.
 #[tactic(auto, unfolding(tpm_types_command::specs::Header::header_text))]
 fn header_of(tag: Tag, size: u32, code: CommandCode) -> Sink<10>
     ensures value { result ≡ header_text tag size code }

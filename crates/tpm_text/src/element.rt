@@ -1,10 +1,9 @@
-//! What the elements of a list in words may be: selected PCRs, digests with their algorithm, or
-//! digests alone.
+//! The elements of lists in words: selected PCRs, digests with their algorithm, or digests alone.
 
-/// The kinds of elements that a list may have.
+/// The kinds of elements in a list.
 #[derive(Clone, Copy, PartialEq, Eq)]
 pub enum Element {
-    /// The PCRs that are selected in a bank: TPMS_PCR_SELECTION.
+    /// The selected PCRs of a bank: TPMS_PCR_SELECTION.
     Bank,
     /// A digest with its hash algorithm: TPMT_HA.
     Digest,

@@ -1,5 +1,5 @@
-//! Handles and authorization entries in words: a password, or a session with nonce, attributes and
-//! HMAC.
+//! Handles and authorization entries in words. An entry is a password, or a session with nonce,
+//! attributes and HMAC.
 
 ghost use Rattle.std.specs.Prelude.{◌≡◌};
 ghost use Rattle.tpm_text.specs.Draft.{Drafts, drafted};
@@ -13,7 +13,7 @@ use crate::token::cut;
 use tpm_number::{TokenFault, is_word};
 use tpm_types::Handle;
 
-/// The handle that eight hex digits write.
+/// Parses a handle of eight hex digits.
 #[tactic(auto, unfolding(crate::specs::Entry::hex_handle_in))]
 fn hex_handle_in(token: &[u8]) -> Result<Handle, TokenFault>
     ensures { Gives (λ handle. handle) (hex_handle_in token.now) result }
@@ -30,7 +30,7 @@ fn hex_handle_in(token: &[u8]) -> Result<Handle, TokenFault>
     })
 }
 
-/// The handle of a token: the name of a permanent entity, or eight hex digits.
+/// Parses a handle: the name of a permanent entity, or eight hex digits.
 #[tactic(auto, unfolding(crate::specs::Entry::handle_in))]
 pub fn handle_in(token: &[u8]) -> Result<Handle, TokenFault>
     ensures { Gives (λ handle. handle) (handle_in token.now) result }
@@ -50,7 +50,7 @@ pub fn handle_in(token: &[u8]) -> Result<Handle, TokenFault>
     }
 }
 
-/// The octet that two hex digits write.
+/// Parses an octet of two hex digits.
 #[tactic(auto, unfolding(crate::specs::Entry::octet_in))]
 fn octet_in(piece: &[u8]) -> Result<u8, TokenFault>
     ensures { Gives (λ octet. octet) (octet_in piece.now) result }
@@ -97,7 +97,7 @@ fn session_pieces(text: &[u8]) -> Result<SessionPieces, TokenFault>
     }
 }
 
-/// Writes the entry of a password: TPM_RS_PW, no nonce, continueSession, and the password.
+/// Writes the entry for a password: TPM_RS_PW, no nonce, continueSession, and the password.
 fn put_password(password: &[u8], draft: &mut Draft) -> Result<(), TokenFault>
     ensures { Drafts (text_of_entry (password_entry password.now)) (drafted draft.old) result
         (drafted draft.new) }
@@ -107,7 +107,7 @@ fn put_password(password: &[u8], draft: &mut Draft) -> Result<(), TokenFault>
     draft.put_buffer(password)
 }
 
-/// Writes the entry of a session: its handle, nonce, attributes and HMAC.
+/// Writes the entry for a session: its handle, nonce, attributes and HMAC.
 fn put_session(text: &[u8], draft: &mut Draft) -> Result<(), TokenFault>
     ensures { Drafts (text_of_entry (session_entry text.now)) (drafted draft.old) result
         (drafted draft.new) }
@@ -119,14 +119,14 @@ fn put_session(text: &[u8], draft: &mut Draft) -> Result<(), TokenFault>
     draft.put_buffer(pieces.hmac)
 }
 
-/// Whether a token is to be read as an entry.
+/// Whether a token is read as an entry.
 pub fn begins_entry(token: &[u8]) -> bool
     ensures { result ≡ begins_entry token.now }
 {
     token.starts_with(b"pw:") || token.starts_with(b"s:")
 }
 
-/// Writes the entry that a token spells.
+/// Writes the entry that a token encodes.
 #[tactic(auto, unfolding(crate::specs::Entry::entry_in))]
 pub fn put_entry(token: &[u8], draft: &mut Draft) -> Result<(), TokenFault>
     ensures { Drafts (text_of_entry (entry_in token.now)) (drafted draft.old) result

@@ -1,4 +1,4 @@
-//! Why a line spells no command: the first fault from the left, with its column.
+//! Why a line is not a command: the first fault from the left, with its column.
 
 ghost use Rattle.std.specs.Prelude.{◌≡◌};
 ghost use Rattle.tpm_text.specs.Fault.{fault_at};
@@ -6,21 +6,21 @@ ghost use Rattle.tpm_text.specs.Fault.{fault_at};
 use std::alloc::AllocError;
 use tpm_number::TokenFault;
 
-/// Why a line spells no command, or one that no buffer can hold: the first fault from the left. A
-/// column is the place of a token's first byte, from 1.
+/// The reasons why a line is not a command, or not one that fits in a buffer: the first fault
+/// from the left. A column is the position of a token's first byte, counted from 1.
 #[derive(Clone, Copy, PartialEq, Eq)]
 pub enum AsmFault {
-    /// The first token is no command's name.
+    /// The first token is not the name of a command.
     BadName,
-    /// The token at this column is not what is wanted in its place, or is left over.
+    /// The token at this column is not the expected one, or no token is expected there.
     BadField { column: usize },
-    /// The line has ended where a token is wanted.
+    /// The line ends before an expected token.
     Missing,
     /// A number in the token at this column is too large.
     Range { column: usize },
-    /// The command would have more bytes than a buffer may have. Nothing else is wrong.
+    /// The command would exceed the size of a buffer, and nothing else is wrong.
     TooLong,
-    /// Memory was refused. Nothing is wrong with the line.
+    /// An allocation failed, and nothing is wrong with the line.
     NoMemory,
 }
 
@@ -34,7 +34,7 @@ impl From<AllocError> for AsmFault {
     }
 }
 
-/// The fault of a line whose token at this column is at fault.
+/// The fault of a line whose token at this column has the given fault.
 pub fn fault_at(column: usize, fault: TokenFault) -> AsmFault
     ensures { result ≡ fault_at column fault }
 {

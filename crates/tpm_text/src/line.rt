@@ -1,5 +1,5 @@
-//! The assembly of a line in words to the buffer of a command. The buffer is read back as the
-//! command that the line spells.
+//! Assembles a line in words into the buffer of a command. Reading the buffer yields the command
+//! that the line encodes.
 
 ghost use Rattle.tpm_types.specs.Limits.{buffer_limit};
 ghost use Rattle.std.specs.Prelude.{◌≡◌, ◌≤◌, ℕ, List, [], length, IfOk, Ok};
@@ -21,7 +21,7 @@ use std::alloc::Global;
 use tpm_commands::{CommandCode, ParameterKind};
 use tpm_types_command::Tag;
 
-/// Writes a number of handles, one from each token.
+/// Writes `count` handles, one for each token.
 fn put_handles(count: usize, tokens: &mut Tokens, draft: &mut Draft) -> Result<(), AsmFault>
     ensures { DraftsRead handles_text (handles_in count (tokens_left tokens.old))
         (drafted draft.old) result (drafted draft.new) (tokens_left tokens.new) }
@@ -50,7 +50,7 @@ fn put_entries(most: usize, tokens: &mut Tokens, draft: &mut Draft) -> Result<()
     put_entries(most - 1, tokens, draft)
 }
 
-/// Writes a parameter of each kind, one from each token.
+/// Writes a parameter of each kind, one for each token.
 fn put_parameters(
     kinds: &[ParameterKind],
     tokens: &mut Tokens,
@@ -67,7 +67,8 @@ fn put_parameters(
     put_parameters(others, tokens, draft)
 }
 
-/// Writes the authorization area, if the next token begins like an entry, and tells whether it did.
+/// Writes the authorization area if the next token begins like an entry. Returns the tag that
+/// says whether it did.
 fn put_authorization(tokens: &mut Tokens, draft: &mut Draft) -> Result<Tag, AsmFault>
     ensures { DraftsSessions (entry_tokens_in 3 (tokens_left tokens.old)) (drafted draft.old)
         result (drafted draft.new) (tokens_left tokens.new) }
@@ -92,7 +93,7 @@ fn read_name(tokens: &mut Tokens) -> Result<CommandCode, AsmFault>
     CommandCode::called(token.text).ok_or(AsmFault::BadName)
 }
 
-/// Checks that no token is left over.
+/// Checks that no token remains.
 fn check_end(tokens: &mut Tokens) -> Result<(), AsmFault>
     ensures { Gives (λ done. done) (ended (tokens_left tokens.old)) result }
 {
@@ -104,7 +105,8 @@ fn check_end(tokens: &mut Tokens) -> Result<(), AsmFault>
     }
 }
 
-/// The buffer of the command that a line spells, or the first fault of the line from the left.
+/// Returns the buffer of the command that a line encodes, or the first fault of the line from the
+/// left.
 pub fn assemble_in<'a>(line: &[u8], draft: &'a mut Draft) -> Result<&'a [u8], AsmFault>
     ensures value { Gives (λ bytes. bytes.now) (assembled line.now) result }
     ensures fits { IfOk result (λ bytes. length bytes.now ≤ buffer_limit) }
@@ -113,7 +115,7 @@ pub fn assemble_in<'a>(line: &[u8], draft: &'a mut Draft) -> Result<&'a [u8], As
     Ok(draft.as_slice())
 }
 
-/// Writes the command that a line spells.
+/// Writes the command that a line encodes.
 fn write_command(line: &[u8], draft: &mut Draft) -> Result<(), AsmFault>
     ensures { Finishes (assembled line.now) result (drafted draft.new) }
 {
@@ -128,8 +130,8 @@ fn write_command(line: &[u8], draft: &mut Draft) -> Result<(), AsmFault>
     draft.finish(tag, code)
 }
 
-/// The buffer of the command that a line spells, or the first fault of the line from the left.
-/// NoMemory comes only where the line spells a command that fits a buffer.
+/// Returns the buffer of the command that a line encodes, or the first fault of the line from the
+/// left. NoMemory occurs only if the line encodes a command that fits in a buffer.
 pub fn assemble(alloc: Global, line: &str) -> Result<Vec<u8>, AsmFault>
     ensures { Assembles (λ buffer. buffer.items) (assembled line.now) result }
 {
@@ -140,7 +142,7 @@ pub fn assemble(alloc: Global, line: &str) -> Result<Vec<u8>, AsmFault>
     Ok(buffer)
 }
 
-/// The buffer of a line is read as the command that the line spells.
+/// Reading the buffer of a line yields the command that the line encodes.
 pub fn read_back_laws()
     ensures { (line : List ℕ) (c : Whole) → spelled line ≡ Ok c → command_size c ≤ buffer_limit
         → command_at (command_text c) ≡ Ok (c, []) }

@@ -18,7 +18,7 @@ use tpm_mac::HashAlg;
 use tpm_number::{TokenFault, is_word, number_in};
 use tpm_types::{BankSelection, PcrIndex, PcrSelect, hash_number};
 
-/// The hash algorithm before the first colon, and all that stands after the colon.
+/// The hash algorithm before the first colon, and all text after the colon.
 #[tactic(auto, unfolding(crate::specs::Parameter::hash_and_rest_in))]
 fn hash_and_rest_in(piece: &[u8]) -> Result<(HashAlg, &[u8]), TokenFault>
     ensures { Gives (λ pair. (pair.0, pair.1.now)) (hash_and_rest_in piece.now) result }
@@ -30,7 +30,7 @@ fn hash_and_rest_in(piece: &[u8]) -> Result<(HashAlg, &[u8]), TokenFault>
     Ok((hash, &piece[place + 1..]))
 }
 
-/// The PCR of a number, 0 to 23.
+/// Parses the number of a PCR, 0 to 23.
 fn pcr_in(piece: &[u8]) -> Result<PcrIndex, TokenFault>
     ensures { Gives (λ pcr. pcr) (number_in 23 piece.now) result }
 {
@@ -38,7 +38,7 @@ fn pcr_in(piece: &[u8]) -> Result<PcrIndex, TokenFault>
     PcrIndex::new(number as u8).ok_or(TokenFault::Range)
 }
 
-/// The selection of the PCRs of these numbers, joined by commas.
+/// Parses PCR numbers that are separated by commas. Returns the selection of these PCRs.
 fn pcrs_in(numbers: &[u8]) -> Result<PcrSelect, TokenFault>
     ensures { Gives (λ select. select) (pcrs_in numbers.now) result }
 {
@@ -54,7 +54,7 @@ fn pcrs_in(numbers: &[u8]) -> Result<PcrSelect, TokenFault>
     }
 }
 
-/// Writes a bank's selection.
+/// Writes the selection of a bank.
 #[tactic(auto, unfolding(crate::specs::Parameter::bank_word_text))]
 fn put_bank(piece: &[u8], draft: &mut Draft) -> Result<(), TokenFault>
     ensures { Drafts (bank_word_text piece.now) (drafted draft.old) result (drafted draft.new) }
@@ -91,7 +91,7 @@ fn put_element(element: Element, piece: &[u8], draft: &mut Draft) -> Result<(), 
     }
 }
 
-/// Writes the elements of a list, joined by +.
+/// Writes the elements of a list, which are separated by +.
 fn put_elements(element: Element, token: &[u8], draft: &mut Draft) -> Result<(), TokenFault>
     ensures { Drafts (elements_text element (pieces_of plus token.now)) (drafted draft.old) result
         (drafted draft.new) }
@@ -113,15 +113,15 @@ fn separator_count(separator: u8, text: &[u8]) -> usize
     text.iter().filter(|byte| **byte == separator).count()
 }
 
-/// How many pieces a separator makes of a text, in 32 bits. A text with more pieces than 32 bits
-/// count is that of a command that is too long.
+/// The number of pieces between separators in a text, modulo 2^32. If a text has more pieces than
+/// fit in 32 bits, its command is too long.
 fn piece_count(separator: u8, text: &[u8]) -> u32
     ensures { to_be_bytes w32 result ≡ to_be_bytes w32 (length (pieces_of separator text.now)) }
 {
     ((separator_count(separator, text) % 0x1_0000_0000 + 1) % 0x1_0000_0000) as u32
 }
 
-/// Writes a list, whose elements are joined by +.
+/// Writes a list, whose elements are separated by +.
 #[tactic(auto, unfolding(crate::specs::Parameter::list_text))]
 pub fn put_list(element: Element, token: &[u8], draft: &mut Draft) -> Result<(), TokenFault>
     ensures { Drafts (list_text element token.now) (drafted draft.old) result (drafted draft.new) }
@@ -130,7 +130,7 @@ pub fn put_list(element: Element, token: &[u8], draft: &mut Draft) -> Result<(),
     put_elements(element, token, draft)
 }
 
-/// Writes a list, whose elements are joined by +, where `-` is the empty list.
+/// Writes a list, whose elements are separated by +; `-` is the empty list.
 #[tactic(auto, unfolding(crate::specs::Parameter::list_or_none_text))]
 pub fn put_list_or_none(element: Element, token: &[u8], draft: &mut Draft) -> Result<(), TokenFault>
     ensures { Drafts (list_or_none_text element token.now) (drafted draft.old) result

@@ -1,4 +1,4 @@
-//! A parameter in words, of any kind that a command's shape names.
+//! A parameter in words, of any kind in a command's shape.
 
 ghost use Rattle.std.specs.Prelude.{◌≡◌, MatchResult};
 ghost use Rattle.tpm_text.specs.Draft.{Drafts, drafted};
@@ -13,7 +13,7 @@ use crate::word::{hash_in, put_hash, put_symmetric};
 use tpm_commands::ParameterKind;
 use tpm_number::{TokenFault, is_word, number_in};
 
-/// Writes a parameter of this kind, given as a token.
+/// Writes the parameter of this kind that a token encodes.
 #[tactic(auto, unfolding(crate::specs::Parameter::parameter_text))]
 pub fn put_parameter(kind: ParameterKind, token: &[u8], draft: &mut Draft) -> Result<(), TokenFault>
     ensures { Drafts (parameter_text kind token.now) (drafted draft.old)

@@ -1,4 +1,4 @@
-//! The tokens of a line, with a space between two, each with its column.
+//! The tokens of a line, separated by single spaces, each with its column.
 
 ghost use Rattle.std.specs.Prelude.{◌≡◌, ◌==◌, ◌+◌, ◌<◌, ◌≤◌, ◌^◌, [], ◌∷◌, length, IfSome};
 ghost use Rattle.std.specs.List.{position};
@@ -10,7 +10,7 @@ use crate::fault::{AsmFault, fault_at};
 use memchr::memchr;
 use tpm_number::TokenFault;
 
-/// The place of the first such byte in a text.
+/// The position of the first byte with this value.
 pub fn position_of(byte: u8, bytes: &[u8]) -> Option<usize>
     ensures { result ≡ position (λ other. other == byte) bytes.now }
 {
@@ -31,17 +31,17 @@ pub fn cut(separator: u8, text: &[u8]) -> (&[u8], Option<&[u8]>)
     }
 }
 
-/// A token of a line, and the place of its first byte, from 1.
+/// A token of a line, and the position of its first byte, counted from 1.
 #[derive(Clone, Copy)]
 pub struct Token<'a> {
     pub column: usize,
     pub text: &'a [u8],
 }
 
-/// The tokens of a line that are left to be read. One space stands between two.
+/// The remaining tokens of a line, separated by single spaces.
 #[derive(Clone, Copy)]
 pub struct Tokens<'a> {
-    /// How many bytes the whole line has.
+    /// The size of the whole line.
     size: usize,
     /// The text after the last space that was passed; None after the last token.
     rest: Option<&'a [u8]>,
@@ -52,7 +52,7 @@ pub struct Tokens<'a> {
 impl<'a> Token<'a> {
     ghost use Rattle.tpm_text.specs.Fault.{at_column};
 
-    /// The result of reading the token, with its column where that is a fault.
+    /// Returns the result of reading the token; adds the token's column to a fault.
     pub fn told<T>(self, read: Result<T, TokenFault>) -> Result<T, AsmFault>
         ensures { result ≡ at_column self.entry.column read }
     {
@@ -79,7 +79,7 @@ impl<'a> Tokens<'a> {
         }
     }
 
-    /// Takes the next token, or fails where none is left.
+    /// Takes the next token, or fails if there is none.
     pub fn wanted(&mut self) -> Result<Token<'a>, AsmFault>
         ensures { Takes token_of (tokens_left self.old) result (tokens_left self.new) }
     {

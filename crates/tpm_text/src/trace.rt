@@ -1,5 +1,4 @@
-//! The trace of an event: one line that tells the command, its locality, its row and its response
-//! code.
+//! The trace of an event: one line with the command, its locality, its row and its response code.
 
 ghost use Rattle.std.specs.Prelude.{◌≡◌, ℕ, ◌+◌, ◌≤◌, ◌++◌, ◌⊎◌, Bool, length, codes, IfOk};
 ghost use Rattle.std.specs.Fmt.{decimal};
@@ -25,7 +24,7 @@ use tpm_step::{Event, Outcome, Row};
 /// A line that traces an event.
 pub type Trace = ArrayString<64>;
 
-/// The trace of an event and its outcome, in new memory: [`trace_text`].
+/// Returns the trace of an event and its outcome, in new memory, as [`trace_text`] does.
 pub fn trace_line(alloc: Global, event: &Event, outcome: &Outcome) -> Result<String, NoMemory>
     requires row { IsRow outcome.now.row }
     requires response { IsAnswered (plain_event event.now) outcome.now.response.items }
@@ -36,8 +35,8 @@ pub fn trace_line(alloc: Global, event: &Event, outcome: &Outcome) -> Result<Str
     String::from_str(alloc, text.as_str()).map_err(|_| NoMemory)
 }
 
-/// The trace of an event with this row and this response: `power` for a power cycle, and for a
-/// command a line such as `Startup L0 +0 ok 00000000`.
+/// The trace of an event with this row and this response: `power` for a power cycle; for a
+/// command, a line such as `Startup L0 +0 ok 00000000`.
 pub fn trace_text(event: &Event, row: Row, response: &[u8]) -> Trace
     requires row { IsRow row }
     requires response { IsAnswered (plain_event event.now) response.now }
@@ -66,7 +65,7 @@ pub fn trace_text(event: &Event, row: Row, response: &[u8]) -> Trace
     text
 }
 
-/// Every execution of an event gives something that can be traced.
+/// Every execution of an event has a row and a response that can be traced.
 pub fn traceable_laws()
     ensures { (can : Bool) (old : Record) (event : PlainEvent) (x : Stepped)
         → Executes can old event x → IsTraceable event x }

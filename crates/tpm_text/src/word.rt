@@ -11,7 +11,7 @@ use tpm_mac::HashAlg;
 use tpm_number::{TokenFault, is_word};
 use tpm_types::{SymmetricDefinition, hash_number, hash_or_null_number};
 
-/// The hash algorithm of a word.
+/// The hash algorithm that a word stands for.
 pub fn hash_in(word: &[u8]) -> Result<HashAlg, TokenFault>
     ensures { Gives (λ hash. hash) (hash_in word.now) result }
 {
@@ -38,7 +38,7 @@ pub fn put_hash(word: &[u8], draft: &mut Draft) -> Result<(), TokenFault>
     Ok(())
 }
 
-/// The symmetric definition of a word.
+/// The symmetric definition that a word stands for.
 fn symmetric_in(word: &[u8]) -> Result<SymmetricDefinition, TokenFault>
     ensures { Gives (λ definition. definition) (symmetric_in word.now) result }
 {

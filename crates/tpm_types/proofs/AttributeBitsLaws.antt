@@ -1,4 +1,5 @@
--- Attributes, a bit of 32 for each: a value is read only from its text, and from every such text.
+-- Attributes, the bits of a 32-bit number: the encoding of each value, and nothing else, decodes
+-- to that value.
 use Rattle.std.proofs.Common.{ℕ, ◌^◌, List, Ok, refl, subst}
 use Rattle.std.specs.Prelude.{◌==◌, not, bit_and}
 use Rattle.std.specs.Int.{w32, to_be_bytes}

@@ -1,4 +1,4 @@
--- That a loop over the digests of a list writes the text of the list.
+-- A loop over the digests of a list writes the encoding of the list.
 use Rattle.std.proofs.Common.{◌≡◌, ℕ, ◌+◌, ◌*◌, ◌<◌, ◌≤◌, List, [], ◌++◌, length, take, get_or, refl, ap, sym, ◌∙◌, append_assoc, arith, length-append}
 use Rattle.std.proofs.lemmas.Grind.{common_steps}
 use Rattle.std.proofs.lemmas.List.{take_more, map-append, length-map}
@@ -15,7 +15,7 @@ pub digests_text_more : (digests : List (ArrayVec ℕ)) (i : ℕ) (d : ArrayVec 
 unfolding digests_text
 digests_text_more digests i d below = rw (take_more digests i d below, map-append) (grind (arith, common_steps))
 
--- a digest is written after those before it, in at most 34 bytes
+-- writing one more digest appends at most 34 bytes to the digests before it
 pub digest_written : (digests : List (ArrayVec ℕ)) (i : ℕ) (digest : ArrayVec ℕ) (bytes start so_far new : List ℕ) → i < length digests → digest ≡ get_or digests i digest → bytes ≡ digest.items → length bytes ≤ 32 → so_far ≡ start ++ digests_text (digests_of (take i digests)) → length so_far ≤ length start + 34 * i → new ≡ so_far ++ sized_text bytes → (new ≡ start ++ digests_text (digests_of (take (i + 1) digests))) × (length new ≤ length start + 34 * (i + 1))
 digest_written digests i digest bytes start so_far new below is same short so small sized = (
   sized
@@ -27,7 +27,7 @@ digest_written digests i digest bytes start so_far new below is same short so sm
   rw sized (omega (arith, length-append so_far (sized_text bytes))),
 )
 
--- the count and then the digests are the list's text
+-- the count followed by the digests is the encoding of the list
 pub digest_list_written : (digests : List (ArrayVec ℕ)) (start : List ℕ) → start ++ to_be_bytes w32 (length digests) ++ digests_text (digests_of digests) ≡ start ++ digest_list_text (digests_of digests)
 unfolding digest_list_text
 digest_list_written digests start =

@@ -1,4 +1,4 @@
--- Lists of digests: a value is read only from its text, and from every such text.
+-- Lists of digests: the encoding of each value, and nothing else, decodes to that value.
 use Rattle.std.proofs.Common.{◌≡◌, ℕ, ltb, ◌||◌, List, ◌++◌, Ok, arith}
 use Rattle.std.proofs.lemmas.Bool.{ltb-false, le-ltb, or_parts, or_from}
 use Rattle.tpm_bytes.specs.Writing.{sized_text}

@@ -1,5 +1,5 @@
--- Structures that fill a sized buffer: a value is read only from its text, and from every such
--- text, where the same holds of the structure alone.
+-- Structures that fill a sized buffer: the encoding of each value, and nothing else, decodes to
+-- that value, if this holds for the structure without the buffer.
 use Rattle.std.proofs.Common.{◌≡◌, ℕ, ◌^◌, ◌<◌, List, [], ◌∷◌, ◌++◌, length, Result, Ok, Err, refl, sym, ap, subst, ◌∙◌, append-nil, arith}
 use Rattle.std.specs.Prelude.{◌==◌, not}
 use Rattle.std.specs.Int.{w16, to_be_bytes}
@@ -23,7 +23,7 @@ none_left : (left : List ℕ) → length left ≡ 0 → left ≡ []
 none_left [] none = refl
 none_left (byte ∷ left) none = absurd (omega arith)
 
--- the content of a sized buffer is of bytes
+-- each number in a sized buffer is a byte
 content_fits : (bytes content rest : List ℕ) → AreBytes bytes → Takes bytes (sized_text content) rest → AreBytes content
 content_fits bytes content rest fits t =
     let size = to_be_bytes w16 (length content) in

@@ -1,5 +1,5 @@
--- A number on the wire and what it names: what is found under a number has that number, and is
--- found by it.
+-- Numbers on the wire and what they name: the value found for a number has that number, and each
+-- value is found by its number.
 use Rattle.std.proofs.Common.{◌≡◌, ℕ, ◌<◌, ◌^◌, Bool, true, false, cond, List, Option, Some, None, Ok, refl, ap, subst, ◌∙◌, arith}
 use Rattle.std.specs.Prelude.{◌==◌, ok_or}
 use Rattle.std.specs.Int.{w16, to_be_bytes}
@@ -15,8 +15,8 @@ use Rattle.tpm_types.specs.Algorithm.{hash_named, hash_number, hash_or_null_name
 use Rattle.tpm_types.specs.Rc.{plain}
 use Rattle.tpm_types.proofs.Spelled.{Spelled}
 
--- one link of a chain of tests: the number names the first value, whose number it is, or the links
--- after it name one
+-- one link of a chain of tests: the number names the first value if it is that value's number;
+-- otherwise it names what the later links find
 pub link : {A : Type 0} (number_of : A → ℕ) (number : ℕ) (first : A) (others : Option A) (x : A) → ((o : A) → others ≡ Some o → number ≡ number_of o) → cond (number == number_of first) (Some first) others ≡ Some x → number ≡ number_of x
 link number_of number first others x after = chosen (number == number_of first) refl
   where
@@ -55,7 +55,7 @@ pub hash_or_null_number-small : (hash : Option HashAlg) → hash_or_null_number 
 hash_or_null_number-small (Some hash) = hash_number-small hash
 hash_or_null_number-small None = omega arith
 
--- ---- a number of two bytes that names something
+-- ---- a two-byte number that names something
 
 pub named_spelled : {A : Type 0} (number_of : A → ℕ) (named : ℕ → Option A) (unknown : ResponseCode) → ((n : ℕ) (x : A) → named n ≡ Some x → n ≡ number_of x) → ((x : A) → named (number_of x) ≡ Some x) → ((x : A) → number_of x < 2 ^ 16) → Spelled (λ x. to_be_bytes w16 (number_of x)) (λ x. Unit {0}) (λ text. or_fault (number_at w16 text) (plain code.Insufficient) >>= λ number. ok_or (named number.0) (plain unknown) >>= λ one. Ok (one, number.1))
 named_spelled {A} number_of named unknown is found small = record {

@@ -1,4 +1,4 @@
--- Selections of PCRs: a value is read only from its text, and from every such text.
+-- Selections of PCRs: the encoding of each value, and nothing else, decodes to that value.
 use Rattle.std.proofs.Common.{◌≡◌, ℕ, zero, suc, ◌/◌, ◌%◌, ◌^◌, ◌<◌, Bool, true, false, ltb, List, [], ◌∷◌, ◌++◌, length, take, Ok, refl, sym, ap, subst, ◌∙◌, append_assoc, arith}
 use Rattle.std.specs.Prelude.{◌==◌, not}
 use Rattle.std.specs.Int.{w8, w16, w32, to_be_bytes, from_le_bytes, to_le_bytes}
@@ -16,7 +16,7 @@ use Rattle.tpm_types.specs.PcrSelection.{IsBank, IsSelection, bank_at, bank_text
 use Rattle.tpm_types.proofs.CountedLaws.{counted_again, counted_takes}
 use Rattle.tpm_types.proofs.HashLaws.{hash_again, hash_takes}
 
--- two numbers whose inequality test failed are equal
+-- two numbers are equal if the test for inequality failed
 pub is_equal : (m n : ℕ) → not (m == n) ≡ false → m ≡ n
 is_equal m n e = eqb-true m n (same (m == n) e)
   where

@@ -1,4 +1,5 @@
--- Digests with their algorithms: a value is read only from its text, and from every such text.
+-- Digests with their algorithms: the encoding of each value, and nothing else, decodes to that
+-- value.
 use Rattle.std.proofs.Common.{◌≡◌, ℕ, ltb, List, ◌++◌, Ok, refl, sym, ap, subst, ◌∙◌, append_assoc, arith}
 use Rattle.std.specs.Int.{w16, to_be_bytes}
 use Rattle.std.proofs.lemmas.Bool.{ltb-false, le-ltb}

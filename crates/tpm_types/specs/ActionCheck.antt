@@ -1,9 +1,10 @@
--- The places of a command's own checks, which are those of its section in TPM 2.0 Library, Part 3.
+-- The numbers of a command's own checks. A check's number is its position in the command's section
+-- of TPM 2.0 Library, Part 3.
 use Rattle.std.specs.Prelude.{ℕ, ◌==◌, if◌then◌else◌}
 use Rattle.tpm_types.specs.declared.action_check.ActionCheck.{ActionCheck}
 use Rattle.tpm_types.specs.declared.action_check.ActionCheck.TheVariants as action
 
--- the place of a check among a command's own
+-- the number of one of a command's own checks
 abbrev pub action_number : ActionCheck → ℕ
 action_number action.First = 1
 action_number action.Second = 2
@@ -13,7 +14,7 @@ action_number action.Fifth = 5
 action_number action.Sixth = 6
 action_number action.Seventh = 7
 
--- the check in a place; the seventh for any other number
+-- the check with this number, or the seventh if no check has it
 abbrev pub action_named : ℕ → ActionCheck
 action_named number =
     if number == 1 then action.First

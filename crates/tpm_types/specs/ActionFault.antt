@@ -1,5 +1,5 @@
--- Why one of a command's own checks refuses it. TPM 2.0 Library, Part 3: the response codes of each
--- command.
+-- The refusal of a command by one of its own checks. TPM 2.0 Library, Part 3: the response codes
+-- of each command.
 use Rattle.std.specs.Prelude.{ℕ}
 use Rattle.tpm_types.specs.declared.action_check.ActionCheck.{ActionCheck}
 use Rattle.tpm_types.specs.declared.action_fault.ActionFault.{ActionFault}
@@ -7,11 +7,11 @@ use Rattle.tpm_types.specs.declared.rc.Place.TheVariants as place
 use Rattle.tpm_types.specs.declared.rc.ResponseCode.{ResponseCode}
 use Rattle.tpm_types.specs.Rc.{at, plain}
 
--- the fault of a check that concerns no handle, parameter or session
+-- a fault that is not in a handle, parameter or session
 abbrev pub plain_fault : ActionCheck → ResponseCode → ActionFault
 plain_fault check code = record { check = check; rc = plain code }
 
--- the fault of a check that concerns the parameter of this number
+-- a fault in the parameter with this number
 abbrev pub parameter_fault : ActionCheck → (parameter : ℕ) → ResponseCode → ActionFault
 parameter_fault check parameter code =
     record { check = check; rc = at (place.Parameter parameter) (plain code) }

@@ -15,16 +15,16 @@ abbrev pub hash_number : HashAlg → ℕ
 hash_number Sha1 = 0x0004
 hash_number Sha256 = 0x000b
 
--- whether an authPolicy of this size goes with this nameAlg: it is empty, or has the size of a
--- digest
+-- whether an authPolicy of this size is allowed with this nameAlg: it must be empty or have the
+-- size of the digest
 abbrev pub is_policy_size : HashAlg → (size : ℕ) → Bool
 is_policy_size name_alg size = size == 0 || size == digest_size name_alg
 
--- the hash algorithm of a number, if it is served
+-- the hash algorithm with this number, or None if it is not served
 abbrev pub hash_named : ℕ → Option HashAlg
 hash_named number = if number == 0x0004 then Some Sha1 else (if number == 0x000b then Some Sha256 else None)
 
--- the hash algorithm at the front of a text, and what is after it
+-- the hash algorithm at the front of a text, and the rest of the text
 unfoldable pub hash_at : List ℕ → Result (HashAlg × List ℕ) Rc
 hash_at text = do
   number ← or_fault (number_at w16 text) (plain code.Insufficient)
@@ -37,12 +37,13 @@ abbrev pub hash_or_null_number : Option HashAlg → ℕ
 hash_or_null_number (Some algorithm) = hash_number algorithm
 hash_or_null_number None = 0x0010
 
--- nothing for the number of NULL, or the hash algorithm of a number, if it is served
+-- the hash algorithm with this number, or Some None for the number of NULL; None if the algorithm
+-- is not served
 abbrev pub hash_or_null_named : ℕ → Option (Option HashAlg)
 hash_or_null_named number =
     if number == 0x0010 then Some None else option_map Some (hash_named number)
 
--- the hash algorithm at the front of a text, or nothing for NULL, and what is after it
+-- the hash algorithm at the front of a text (None for NULL), and the rest of the text
 unfoldable pub hash_or_null_at : List ℕ → Result (Option HashAlg × List ℕ) Rc
 hash_or_null_at text = do
   number ← or_fault (number_at w16 text) (plain code.Insufficient)

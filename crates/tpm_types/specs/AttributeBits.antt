@@ -1,5 +1,5 @@
--- Attributes, a bit of 32 for each, of which some are reserved. TPM 2.0 Library, Part 2, section
--- 8.3 (TPMA_OBJECT) and section 13.4 (TPMA_NV).
+-- Attributes, which are the bits of a 32-bit number; some bits are reserved. TPM 2.0 Library, Part
+-- 2, section 8.3 (TPMA_OBJECT) and section 13.4 (TPMA_NV).
 use Rattle.std.specs.Prelude.{◌≡◌, ℕ, ◌<◌, ◌^◌, ◌==◌, not, bit_and, List, Result, Ok}
 use Rattle.std.specs.Int.{w32}
 use Rattle.tpm_bytes.specs.Reading.{◌>>=◌, number_at, or_fault, refused_if}
@@ -7,12 +7,12 @@ use Rattle.tpm_types.specs.declared.rc.Rc.{Rc}
 use Rattle.tpm_types.specs.declared.rc.ResponseCode.TheVariants as code
 use Rattle.tpm_types.specs.Rc.{plain}
 
--- Attributes have a text: they fit 32 bits, and no reserved bit is set.
+-- Attributes that can be encoded: they fit in 32 bits, and no reserved bit is set.
 pub record AreAttributeBits (reserved bits : ℕ) : Type 0 where
   pub fits : bits < 2 ^ 32
   pub named : bit_and bits reserved ≡ 0
 
--- the bits of the attributes at the front of a text, and what is after them
+-- the bits of the attributes at the front of a text, and the rest of the text
 unfoldable pub attribute_bits_at : (reserved : ℕ) → List ℕ → Result (ℕ × List ℕ) Rc
 attribute_bits_at reserved text = do
   bits ← or_fault (number_at w32 text) (plain code.Insufficient)

@@ -1,4 +1,4 @@
--- Sized buffers of a command. TPM 2.0 Library, Part 2, section 10.4 (TPM2B: a size of two bytes,
+-- Sized buffers in a command. TPM 2.0 Library, Part 2, section 10.4 (TPM2B: a size of two bytes,
 -- and that many bytes), and Part 3, section 5.8 (parameter unmarshaling).
 use Rattle.std.specs.Prelude.{ℕ, ◌==◌, not, Bool, List, length, Result, Ok, Err}
 use Rattle.tpm_bytes.specs.Reading.{sized_at}
@@ -8,8 +8,8 @@ use Rattle.tpm_types.specs.declared.rc.Rc.{Rc}
 use Rattle.tpm_types.specs.declared.rc.ResponseCode.TheVariants as code
 use Rattle.tpm_types.specs.Rc.{plain}
 
--- the response code for a bad sized buffer: one over its limit is SIZE, whether it is whole or cut,
--- and otherwise a cut one is INSUFFICIENT
+-- the response code for a bad sized buffer: SIZE if it is over its limit, even if it is also
+-- truncated; else INSUFFICIENT if it is truncated
 abbrev pub sized_rc : SizedFault → Rc
 sized_rc fault.TooLong = plain code.Size
 sized_rc fault.Short = plain code.Insufficient
@@ -18,10 +18,11 @@ abbrev pub or_sized_rc : {X : Type 0} → Result X SizedFault → Result X Rc
 or_sized_rc (Ok x) = Ok x
 or_sized_rc (Err fault) = Err (sized_rc fault)
 
--- the bytes of the sized buffer at the front of a text, at most this many, and what is after it
+-- the content of the sized buffer at the front of a text, with at most this many bytes, and the
+-- rest of the text
 unfoldable pub buffer_at : ℕ → List ℕ → Result (List ℕ × List ℕ) Rc
 buffer_at limit text = or_sized_rc (sized_at limit text)
 
--- whether the caller gave something for a buffer: else it is empty
+-- whether a buffer contains anything, which is how a caller provides an optional value
 abbrev pub is_given : List ℕ → Bool
 is_given bytes = not (length bytes == 0)

@@ -1,12 +1,12 @@
--- The numbers of the checks, which a row reports; 0 in a row says that none refused, or that power
--- was cycled.
+-- The numbers of the checks, which a row reports. The number 0 in a row means that no check
+-- refused, or that the event is a power cycle.
 use Rattle.std.specs.Prelude.{ℕ, ◌+◌}
 use Rattle.tpm_types.specs.ActionCheck.{action_number}
 use Rattle.tpm_types.specs.declared.check.Check.{Check}
 use Rattle.tpm_types.specs.declared.check.Check.TheVariants as check
 
--- the number of a check: 1 to 11 are the general checks G1 to G11, those of every command, 20 + k
--- is the k-th check Ak of a command's own, and 255 is refused memory
+-- the number of a check: 1 to 11 for the general checks G1 to G11 of every command, 20 + k for Ak,
+-- the command's own k-th check, and 255 for out of memory
 abbrev pub check_number : Check → ℕ
 check_number check.Length = 1
 check_number check.Tag = 2

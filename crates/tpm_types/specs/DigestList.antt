@@ -1,5 +1,5 @@
--- Lists of digests. TPM 2.0 Library, Part 2, section 10.9.5 (TPML_DIGEST): how many, and each as a
--- sized buffer.
+-- Lists of digests. TPM 2.0 Library, Part 2, section 10.9.5 (TPML_DIGEST): a count, then each
+-- digest as a sized buffer.
 use Rattle.std.specs.Prelude.{ℕ, ◌≤◌, ◌||◌, nat_lt, List, ◌++◌, length, map, Result}
 use Rattle.std.specs.List.{flat_map, AllByRecursion}
 use Rattle.std.specs.Int.{w32, to_be_bytes}
@@ -12,7 +12,7 @@ use Rattle.tpm_types.specs.declared.rc.ResponseCode.TheVariants as code
 use Rattle.tpm_types.specs.Buffer.{buffer_at}
 use Rattle.tpm_types.specs.Rc.{plain}
 
--- digests as their bytes
+-- the bytes of each digest
 abbrev pub digests_of : List (ArrayVec ℕ) → List (List ℕ)
 digests_of digests = map (λ digest. digest.items) digests
 
@@ -22,12 +22,12 @@ digests_text digests = flat_map sized_text digests
 unfoldable pub digest_list_text : List (List ℕ) → List ℕ
 digest_list_text digests = to_be_bytes w32 (length digests) ++ digests_text digests
 
--- A digest has at most 32 bytes.
+-- A digest is at most 32 bytes long.
 abbrev pub IsDigest : List ℕ → Type 0
 IsDigest digest = length digest ≤ 32
 
--- A list of digests that is read has two to eight of them: only TPM2_PolicyOR's is read (Part 3,
--- section 23.6).
+-- A list of digests, when it is read, contains two to eight of them. Only TPM2_PolicyOR has such a
+-- list as a parameter (Part 3, section 23.6).
 pub record IsDigestList (digests : List (List ℕ)) : Type 0 where
   pub several : 2 ≤ length digests
   pub few : length digests ≤ 8

@@ -1,5 +1,5 @@
--- Digests with their algorithms. TPM 2.0 Library, Part 2, section 10.3.2 (TPMT_HA) and section
--- 10.9.6 (TPML_DIGEST_VALUES).
+-- Digests tagged with their algorithms. TPM 2.0 Library, Part 2, section 10.3.2 (TPMT_HA) and
+-- section 10.9.6 (TPML_DIGEST_VALUES).
 use Rattle.std.specs.Prelude.{◌≡◌, ℕ, ◌≤◌, nat_lt, List, ◌++◌, length, Result, Ok}
 use Rattle.std.specs.List.{flat_map, AllByRecursion}
 use Rattle.std.specs.Int.{w16, w32, to_be_bytes}
@@ -22,8 +22,8 @@ abbrev pub digest_of : DigestValue → List ℕ
 digest_of (Sha1 digest) = digest
 digest_of (Sha256 digest) = digest
 
--- the text of a digest with its algorithm: the algorithm's number, and as many bytes as the
--- algorithm gives
+-- the encoding of a digest with its algorithm: the algorithm's number, then the digest, whose size
+-- follows from the algorithm
 unfoldable pub digest_value_text : DigestValue → List ℕ
 digest_value_text value = to_be_bytes w16 (hash_number (hash_of_value value)) ++ digest_of value
 
@@ -33,12 +33,12 @@ values_text values = flat_map digest_value_text values
 unfoldable pub digest_values_text : List DigestValue → List ℕ
 digest_values_text values = to_be_bytes w32 (length values) ++ values_text values
 
--- A digest is as long as its algorithm gives.
+-- A digest has the size that its algorithm requires.
 abbrev pub IsDigestValue : DigestValue → Type 0
 IsDigestValue (Sha1 digest) = length digest ≡ 20
 IsDigestValue (Sha256 digest) = length digest ≡ 32
 
--- A list of digests has a text: it has at most two.
+-- A list of digests that can be encoded: it contains at most two.
 pub record IsDigestValues (values : List DigestValue) : Type 0 where
   pub few : length values ≤ 2
   pub each : AllByRecursion IsDigestValue values

@@ -8,8 +8,8 @@ use Rattle.tpm_types.specs.declared.rc.ResponseCode.TheVariants as code
 use Rattle.tpm_types.specs.Buffer.{buffer_at}
 use Rattle.tpm_types.specs.Rc.{plain}
 
--- the response code of a fault within a sized buffer: where the buffer's bytes run out, its size is
--- wrong; other faults stay
+-- the response code for a fault inside a sized buffer: running out of bytes means that the
+-- buffer's size is wrong; other codes stay the same
 abbrev pub within_buffer : ResponseCode → ResponseCode
 within_buffer code.Insufficient = code.Size
 within_buffer other = other
@@ -18,8 +18,9 @@ abbrev pub or_size : {X : Type 0} → Result X Rc → Result X Rc
 or_size (Ok x) = Ok x
 or_size (Err fault) = Err (record fault { code = within_buffer fault.code })
 
--- the structure that fills the sized buffer at the front of a text, and what is after the buffer: a
--- cut buffer is INSUFFICIENT, and one with too few bytes or too many is SIZE
+-- the structure that fills the sized buffer at the front of a text, and the rest of the text. The
+-- fault is INSUFFICIENT if the buffer is truncated, SIZE if it is shorter or longer than the
+-- structure
 unfoldable pub filled_by : {X : Type 0}
     → (List ℕ → Result (X × List ℕ) Rc)
     → List ℕ → Result (X × List ℕ) Rc

@@ -10,16 +10,16 @@ use Rattle.tpm_types.specs.declared.pcr.PcrIndex.{PcrIndex}
 use Rattle.tpm_types.specs.declared.handle.SessionKind.{SessionKind}
 use Rattle.tpm_types.specs.declared.handle.SessionKind.TheVariants.{Password, Session, Other}
 
--- the handle that has this number
+-- the handle with this number
 abbrev pub numbered : ℕ → Handle
 numbered number = record { number = number }
 
--- the highest byte of a handle: the kind of what it names (TPM_HT)
+-- the highest byte of a handle, which is the type of the entity (TPM_HT)
 abbrev pub handle_type : Handle → ℕ
 handle_type handle = handle.number / 2 ^ 24
 
--- whether a handle's type is that of an NV index (01), a session (02 for HMACs, 03 for policies and
--- trials), a transient object (80) or a persistent object (81), whether it names something or not
+-- whether a handle has the type of an NV index (01), a session (02 for HMAC, 03 for policy and
+-- trial), a transient object (80) or a persistent object (81). The entity need not exist
 abbrev pub is_nv_index : Handle → Bool
 is_nv_index handle = handle_type handle == 0x01
 
@@ -63,7 +63,7 @@ session_kind handle =
     else (if is_session handle then Session
     else Other)
 
--- which hierarchy's authorization value, or lockoutAuth, a handle names (Part 2:
+-- the hierarchy or lockout that a handle names, as the owner of an authorization value (Part 2:
 -- TPMI_RH_HIERARCHY_AUTH)
 abbrev pub hierarchy_auth_of : Handle → Option HierarchyAuth
 hierarchy_auth_of handle =
@@ -89,7 +89,7 @@ hierarchy_of handle =
     else (if handle.number == null_handle.number then Some hierarchy.Null
     else None)))
 
--- the PCR that a handle names: handles 0 to 23 (TPM_HT_PCR)
+-- the PCR that a handle names, if it is 0 to 23 (TPM_HT_PCR)
 abbrev pub pcr_of : Handle → Option ℕ
 pcr_of handle = if nat_lt handle.number 24 then Some handle.number else None
 

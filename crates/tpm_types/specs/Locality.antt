@@ -1,12 +1,12 @@
--- Localities zero to four. TPM 2.0 Library, Part 2, section 8.5 (TPMA_LOCALITY has a bit for each);
--- the extended localities from 32 on are left out.
+-- Localities 0 to 4. TPM 2.0 Library, Part 2, section 8.5 (TPMA_LOCALITY has a bit for each); the
+-- device does not support extended localities (32 and above).
 use Rattle.std.specs.Prelude.{◌≡◌, ℕ, ◌≤◌, ◌<◌, Option, Some, None}
 use Rattle.tpm_types.specs.declared.locality.Locality.{Locality}
 
 abbrev pub locality_number : Locality → ℕ
 locality_number locality = locality.number
 
--- There is a locality of a number, and it has that number, exactly if the number is 0 to 4.
+-- The result is the locality with this number if the number is 0 to 4, and None otherwise.
 abbrev pub SomeLocality : ℕ → Option Locality → Type 0
 SomeLocality number (Some locality) = (number ≤ 4) × (locality_number locality ≡ number)
 SomeLocality number None = 4 < number

@@ -1,4 +1,4 @@
--- How two operands are compared. TPM 2.0 Library, Part 2, section 6.8 (TPM_EO).
+-- Comparisons of two operands. TPM 2.0 Library, Part 2, section 6.8 (TPM_EO).
 use Rattle.std.specs.Prelude.{ℕ, ◌==◌, List, [], ◌∷◌, Option, Result, Ok, ok_or}
 use Rattle.std.specs.Int.{w16}
 use Rattle.std.specs.List.{find}
@@ -29,11 +29,11 @@ all_operations =
     ∷ SignedGreaterOrEqual ∷ UnsignedGreaterOrEqual ∷ SignedLessOrEqual ∷ UnsignedLessOrEqual
     ∷ BitSet ∷ BitClear ∷ []
 
--- the operation of a number
+-- the operation with this number, or None
 abbrev pub operation_named : ℕ → Option Operation
 operation_named number = find (λ operation. number == operation_number operation) all_operations
 
--- the operation at the front of a text, and what is after it
+-- the operation at the front of a text, and the rest of the text
 unfoldable pub operation_at : List ℕ → Result (Operation × List ℕ) Rc
 operation_at text = do
   number ← or_fault (number_at w16 text) (plain code.Insufficient)

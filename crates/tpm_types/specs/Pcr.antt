@@ -1,17 +1,16 @@
--- PCRs and which of them are selected. TPM 2.0 Library, Part 2, sections 10.6.1 and 10.6.2: PCR n
--- is bit n mod 8 of octet n div 8, that is bit n of the octets as one number whose first octet is
--- the lowest.
+-- PCRs and selections of them. TPM 2.0 Library, Part 2, sections 10.6.1 and 10.6.2: PCR n is bit n
+-- mod 8 of octet n div 8. That is bit n of the octets read as one little-endian number.
 use Rattle.std.specs.Prelude.{◌≡◌, ℕ, ◌≤◌, ◌<◌, ◌^◌, ◌==◌, bit_or, Bool}
 use Rattle.std.specs.Prelude.{List, [], ◌∷◌, ◌++◌, take, Option, Some, None}
 use Rattle.std.specs.Int.{w32, bit_at, from_le_bytes, to_le_bytes}
 use Rattle.tpm_types.specs.declared.pcr.PcrIndex.{PcrIndex}
 
--- There is a PCR of a number, and it has that number, exactly if the number is 0 to 23.
+-- The result is the PCR with this number if the number is 0 to 23, and None otherwise.
 abbrev pub SomePcr : ℕ → Option PcrIndex → Type 0
 SomePcr number (Some pcr) = (number < 24) × (pcr ≡ number)
 SomePcr number None = 24 ≤ number
 
--- the number that the three octets of a selection stand for, with a fourth of zero to fill 32 bits,
+-- the number encoded by the three octets of a selection, extended with a zero octet to 32 bits;
 -- and the octets of a number
 abbrev pub select_of : List ℕ → ℕ
 select_of octets = from_le_bytes w32 (octets ++ 0 ∷ [])
@@ -22,6 +21,6 @@ select_text select = take 3 (to_le_bytes w32 select)
 abbrev pub is_selected : ℕ → ℕ → Bool
 is_selected select pcr = bit_at select pcr == 1
 
--- a selection with one more PCR
+-- a selection to which one PCR was added
 abbrev pub with_pcr : ℕ → ℕ → ℕ
 with_pcr select pcr = bit_or select (2 ^ pcr)

@@ -9,8 +9,8 @@ use Rattle.tpm_types.specs.declared.rc.ResponseCode.TheVariants as code
 use Rattle.tpm_types.specs.Handle.{is_persistent, numbered}
 use Rattle.tpm_types.specs.Rc.{plain}
 
--- the handle of a persistent object at the front of a text, whether it names one or not, and what
--- is after it
+-- the handle of a persistent object at the front of a text, and the rest of the text. The object
+-- need not exist
 unfoldable pub persistent_handle_at : List ℕ → Result (Handle × List ℕ) Rc
 persistent_handle_at text = do
   number ← or_fault (number_at w32 text) (plain code.Insufficient)

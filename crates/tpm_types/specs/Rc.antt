@@ -1,5 +1,5 @@
--- Response codes on the wire. TPM 2.0 Library, Part 2, sections 6.6.2 (how a place is added) and
--- 6.6.3 (the codes).
+-- Response codes on the wire. TPM 2.0 Library, Part 2, sections 6.6.2 (how a handle, parameter or
+-- session number is added) and 6.6.3 (the codes).
 use Rattle.std.specs.Prelude.{ℕ, ◌+◌, ◌*◌}
 use Rattle.tpm_types.specs.declared.rc.ResponseCode.{ResponseCode}
 use Rattle.tpm_types.specs.declared.rc.ResponseCode.TheVariants as code
@@ -59,7 +59,7 @@ code_number code.ReservedBits = 0x0a1
 code_number code.BadAuth = 0x0a2
 code_number code.PolicyCc = 0x0a4
 
--- what a place adds to a code
+-- what the place of a fault adds to the number of its code
 abbrev pub place_number : Place → ℕ
 place_number place.Nowhere = 0
 place_number (place.Handle n) = 0x100 * n
@@ -73,10 +73,10 @@ rc_number rc = code_number rc.code + place_number rc.place
 abbrev pub plain : ResponseCode → Rc
 plain code = record { code = code; place = place.Nowhere }
 
--- a response code with another place
+-- the same response code for another place
 abbrev pub at : Place → Rc → Rc
 at place rc = record rc { place = place }
 
--- the fault of the authorization entry of this number
+-- the fault of the authorization entry with this number
 abbrev pub entry_fault : ℕ → ResponseCode → Rc
 entry_fault n fault = at (place.Session n) (plain fault)

@@ -1,17 +1,16 @@
--- Refusals, of every part of the device.
+-- Refusals by any part of the device.
 use Rattle.std.specs.Prelude.{Result, Ok, Err}
 use Rattle.tpm_types.specs.declared.rc.Rc.{Rc}
 use Rattle.tpm_types.specs.declared.check.Check.{Check}
 use Rattle.tpm_types.specs.declared.refused.Counted.TheVariants as counted
 use Rattle.tpm_types.specs.declared.refused.Refused.{Refused}
 
--- the refusal by this check with this response code, which counts nothing against dictionary
+-- the refusal by this check with this response code, which does not count against dictionary
 -- attacks
 abbrev pub refusal : Check → Rc → Refused
 refusal check rc = record { rc = rc; check = check; counted = counted.None }
 
--- the result of a reading, or of an entry's checks, with the refusal by this check in place of its
--- fault
+-- the result of a read or of an entry's checks, in which a fault becomes a refusal by this check
 abbrev pub checked : {X : Type 0} → Check → Result X Rc → Result X Refused
 checked check (Ok x) = Ok x
 checked check (Err rc) = Err (refusal check rc)

@@ -13,27 +13,27 @@ type_number Hmac = 0x00
 type_number Policy = 0x01
 type_number Trial = 0x03
 
--- the session type of a number
+-- the session type with this number, or None
 abbrev pub type_named : ℕ → Option SessionType
 type_named number =
     if number == 0x00 then Some Hmac
     else (if number == 0x01 then Some Policy
     else (if number == 0x03 then Some Trial else None))
 
--- the highest byte of a session's handle: 02 of an HMAC session, 03 of a policy session or a trial
--- session
+-- the highest byte of a session's handle: 02 for an HMAC session, 03 for a policy session or a
+-- trial session
 abbrev pub type_byte : SessionType → ℕ
 type_byte Hmac = 0x02
 type_byte Policy = 0x03
 type_byte Trial = 0x03
 
--- whether a session is a trial session, which computes a policy and authorizes nothing
+-- whether a session is a trial session, which computes a policy digest and authorizes nothing
 abbrev pub is_trial : SessionType → Bool
 is_trial Hmac = false
 is_trial Policy = false
 is_trial Trial = true
 
--- the session type at the front of a text, and what is after it
+-- the session type at the front of a text, and the rest of the text
 unfoldable pub session_type_at : List ℕ → Result (SessionType × List ℕ) Rc
 session_type_at text = do
   number ← or_fault (number_at w8 text) (plain code.Insufficient)

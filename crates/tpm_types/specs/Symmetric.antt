@@ -1,5 +1,5 @@
--- Symmetric definitions. TPM 2.0 Library, Part 2, sections 11.1.6 (TPMT_SYM_DEF, of a session),
--- 11.1.7 (TPMT_SYM_DEF_OBJECT, of an object) and 6.3 (TPM_ALG_ID: NULL 0010, AES 0006, CFB 0043,
+-- Symmetric definitions. TPM 2.0 Library, Part 2, sections 11.1.6 (TPMT_SYM_DEF, for a session),
+-- 11.1.7 (TPMT_SYM_DEF_OBJECT, for an object) and 6.3 (TPM_ALG_ID: NULL 0010, AES 0006, CFB 0043,
 -- XOR 000A).
 use Rattle.std.specs.Prelude.{ℕ, ◌==◌, not, Bool, true, false, List, ◌++◌, if◌then◌else◌, Result, Ok, Err}
 use Rattle.std.specs.Int.{w16, to_be_bytes}
@@ -16,15 +16,15 @@ is_null Null = true
 is_null Aes128Cfb = false
 is_null (Xor hash) = false
 
--- the text of a symmetric definition: NULL alone; or AES, the bits of its key, and its mode; or
--- XOR, and the hash of its masks
+-- the encoding of a symmetric definition: only NULL; or AES, the size of its key in bits, and its
+-- mode; or XOR, and the hash that generates its masks
 unfoldable pub symmetric_text : SymmetricDefinition → List ℕ
 symmetric_text Null = to_be_bytes w16 0x0010
 symmetric_text Aes128Cfb =
     to_be_bytes w16 0x0006 ++ to_be_bytes w16 0x0080 ++ to_be_bytes w16 0x0043
 symmetric_text (Xor hash) = to_be_bytes w16 0x000a ++ to_be_bytes w16 (hash_number hash)
 
--- a symmetric definition from what stands after the number of AES: 128 bits, and the mode CFB
+-- the symmetric definition after the number of AES: a key size of 128 bits, and the mode CFB
 unfoldable pub aes_at : List ℕ → Result (SymmetricDefinition × List ℕ) Rc
 aes_at text = do
   bits ← or_fault (number_at w16 text) (plain code.Insufficient)
@@ -33,13 +33,13 @@ aes_at text = do
   feedback ← refused_if (not (mode.0 == 0x0043)) (plain code.Mode)
   Ok (Aes128Cfb, mode.1)
 
--- a symmetric definition from what stands after the number of XOR: a hash
+-- the symmetric definition after the number of XOR: a hash algorithm
 unfoldable pub xor_at : List ℕ → Result (SymmetricDefinition × List ℕ) Rc
 xor_at text = do
   hash ← hash_at text
   Ok (Xor hash.0, hash.1)
 
--- a symmetric definition from what stands after the number of its algorithm
+-- the symmetric definition after this algorithm number
 abbrev pub behind_at : ℕ → List ℕ → Result (SymmetricDefinition × List ℕ) Rc
 behind_at number text =
     if number == 0x0010 then Ok (Null, text)
@@ -47,14 +47,14 @@ behind_at number text =
     else (if number == 0x000a then xor_at text
     else Err (plain code.Symmetric)))
 
--- the symmetric definition at the front of a text, and what is after it
+-- the symmetric definition at the front of a text, and the rest of the text
 unfoldable pub symmetric_at : List ℕ → Result (SymmetricDefinition × List ℕ) Rc
 symmetric_at text = do
   algorithm ← or_fault (number_at w16 text) (plain code.Insufficient)
   behind_at algorithm.0 algorithm.1
 
--- the cipher that a storage key or a SYMCIPHER key can have, AES, at the front of a text, and what
--- is after it
+-- the cipher at the front of a text, and the rest of the text. A storage key or a SYMCIPHER key
+-- can only use AES
 unfoldable pub cipher_at : List ℕ → Result (SymmetricDefinition × List ℕ) Rc
 cipher_at text = do
   algorithm ← or_fault (number_at w16 text) (plain code.Insufficient)

@@ -1,9 +1,8 @@
-//! Which of a command's own checks refused it, by the place of the check in the command's section
-//! of Part 3.
+//! A command's own checks, numbered by their order in the command's section of Part 3.
 
 ghost use Rattle.std.specs.Prelude.{◌≡◌};
 
-/// Which of a command's own checks refused it, by its place in the command's section.
+/// The check of a command's own that refused it, numbered by its order in the command's section.
 #[derive(Clone, Copy, PartialEq, Eq)]
 pub enum ActionCheck {
     First = 1,
@@ -18,14 +17,14 @@ pub enum ActionCheck {
 impl ActionCheck {
     ghost use Rattle.tpm_types.specs.ActionCheck.{action_named, action_number};
 
-    /// The place of the check, from 1.
+    /// The number of the check, from 1.
     pub fn number(self) -> u8
         ensures { result ≡ action_number self }
     {
         self as u8
     }
 
-    /// The check in this place; the seventh where there is none.
+    /// The check with this number, or the seventh if no check has it.
     pub fn named(number: u8) -> ActionCheck
         ensures { result ≡ action_named number }
     {

@@ -1,11 +1,11 @@
-//! Why one of a command's own checks refuses it.
+//! The refusal of a command by one of its own checks.
 
 ghost use Rattle.std.specs.Prelude.{◌≡◌};
 
 use crate::action_check::ActionCheck;
 use crate::rc::{Rc, ResponseCode};
 
-/// Why a command is refused by a check of its own: which check it is, and the response code.
+/// A refusal by one of a command's own checks: the check and the response code.
 #[derive(Clone, Copy, PartialEq, Eq)]
 pub struct ActionFault {
     pub check: ActionCheck,
@@ -15,7 +15,7 @@ pub struct ActionFault {
 impl ActionFault {
     ghost use Rattle.tpm_types.specs.ActionFault.{parameter_fault, plain_fault};
 
-    /// The fault of a check that concerns no handle, parameter or session.
+    /// A fault that is not in a handle, parameter or session.
     pub fn plain(check: ActionCheck, code: ResponseCode) -> ActionFault
         ensures { result ≡ plain_fault check code }
     {
@@ -25,7 +25,7 @@ impl ActionFault {
         }
     }
 
-    /// The fault of a check that concerns the parameter of this number.
+    /// A fault in the parameter with this number.
     pub fn in_parameter(check: ActionCheck, parameter: u8, code: ResponseCode) -> ActionFault
         ensures { result ≡ parameter_fault check parameter code }
     {

@@ -1,5 +1,5 @@
-//! The numbers of hash algorithms on the wire, and the readers of an algorithm, with or without
-//! NULL (TPM_ALG_ID; TPM 2.0 Library, Part 2, section 6.3).
+//! The numbers of hash algorithms on the wire, and the readers of an algorithm, with NULL allowed
+//! or not (TPM_ALG_ID; TPM 2.0 Library, Part 2, section 6.3).
 
 ghost use Rattle.std.specs.Prelude.{◌≡◌};
 ghost use Rattle.tpm_bytes.specs.Reading.{Reads};
@@ -10,10 +10,10 @@ use crate::rc::{Rc, ResponseCode};
 use tpm_bytes::Cursor;
 use tpm_mac::HashAlg;
 
-/// The number of NULL in the place of an algorithm: TPM_ALG_NULL.
+/// The wire number of NULL as an algorithm: TPM_ALG_NULL.
 const NULL: u16 = 0x0010;
 
-/// The number of a hash algorithm on the wire: TPM_ALG_ID of TPM 2.0 Library, Part 2, section 6.3.
+/// The wire number of a hash algorithm: TPM_ALG_ID of TPM 2.0 Library, Part 2, section 6.3.
 pub fn hash_number(algorithm: HashAlg) -> u16
     ensures { result ≡ hash_number algorithm }
 {
@@ -23,15 +23,15 @@ pub fn hash_number(algorithm: HashAlg) -> u16
     }
 }
 
-/// Whether an authPolicy of this many bytes goes with this nameAlg: it is empty, or has the size of
-/// a digest.
+/// Whether an authPolicy of this size is allowed with this nameAlg: it must be empty or have the
+/// size of the digest.
 pub fn is_policy_size(name_alg: HashAlg, size: usize) -> bool
     ensures { result ≡ is_policy_size name_alg size }
 {
     size == 0 || size == name_alg.size()
 }
 
-/// The hash algorithm of this number, if it is served.
+/// The hash algorithm with this number, or None if it is not served.
 pub fn hash_named(number: u16) -> Option<HashAlg>
     ensures { result ≡ hash_named number }
 {
@@ -42,8 +42,8 @@ pub fn hash_named(number: u16) -> Option<HashAlg>
     }
 }
 
-/// Reads a hash algorithm (TPMI_ALG_HASH, Part 2, section 9): INSUFFICIENT where it is cut, HASH
-/// where it is not served.
+/// Reads a hash algorithm (TPMI_ALG_HASH, Part 2, section 9). The fault is INSUFFICIENT if it is
+/// truncated, HASH if it is not served.
 #[tactic(auto, unfolding(crate::specs::Algorithm::hash_at))]
 pub fn read_hash(text: &mut Cursor) -> Result<HashAlg, Rc>
     ensures { Reads (λ algorithm. algorithm) (hash_at text.old) text.old result text.new }
@@ -59,7 +59,7 @@ pub fn read_hash(text: &mut Cursor) -> Result<HashAlg, Rc>
     Ok(algorithm)
 }
 
-/// The number of a hash algorithm, or of NULL where there is none.
+/// The number of a hash algorithm, or of NULL for None.
 pub fn hash_or_null_number(algorithm: Option<HashAlg>) -> u16
     ensures { result ≡ hash_or_null_number algorithm }
 {
@@ -69,7 +69,8 @@ pub fn hash_or_null_number(algorithm: Option<HashAlg>) -> u16
     }
 }
 
-/// None for the number of NULL, or the hash algorithm of this number, if it is served.
+/// The hash algorithm with this number, or `Some(None)` for the number of NULL; None if the
+/// algorithm is not served.
 pub fn hash_or_null_named(number: u16) -> Option<Option<HashAlg>>
     ensures { result ≡ hash_or_null_named number }
 {
@@ -80,8 +81,8 @@ pub fn hash_or_null_named(number: u16) -> Option<Option<HashAlg>>
     }
 }
 
-/// Reads a hash algorithm or NULL (TPMI_ALG_HASH+, Part 2, section 9): INSUFFICIENT where it is
-/// cut, HASH where it is neither NULL nor a served algorithm.
+/// Reads a hash algorithm or NULL (TPMI_ALG_HASH+, Part 2, section 9). The fault is INSUFFICIENT
+/// if it is truncated, HASH if it is neither NULL nor a served algorithm.
 #[tactic(auto, unfolding(crate::specs::Algorithm::hash_or_null_at))]
 pub fn read_hash_or_null(text: &mut Cursor) -> Result<Option<HashAlg>, Rc>
     ensures { Reads (λ algorithm. algorithm) (hash_or_null_at text.old) text.old result text.new }

@@ -1,5 +1,5 @@
-//! The reader of attributes, a bit of 32 for each (TPMA_OBJECT and TPMA_NV; TPM 2.0 Library, Part
-//! 2, sections 8.3 and 13.4).
+//! Reads attributes, which are the bits of a 32-bit number (TPMA_OBJECT and TPMA_NV; TPM 2.0
+//! Library, Part 2, sections 8.3 and 13.4).
 
 ghost use Rattle.std.specs.Prelude.{◌≡◌, bit_and, IfOk};
 ghost use Rattle.tpm_bytes.specs.Reading.{Reads};
@@ -8,7 +8,7 @@ ghost use Rattle.tpm_types.specs.AttributeBits.{attribute_bits_at};
 use crate::rc::{Rc, ResponseCode};
 use tpm_bytes::Cursor;
 
-/// Reads the bits of attributes: INSUFFICIENT where they are cut, RESERVED_BITS where one of the
+/// Reads attributes. The fault is INSUFFICIENT if they are truncated, RESERVED_BITS if one of the
 /// `reserved` bits is set.
 #[tactic(auto, unfolding(crate::specs::AttributeBits::attribute_bits_at))]
 pub fn read_attribute_bits(text: &mut Cursor, reserved: u32) -> Result<u32, Rc>

@@ -1,5 +1,5 @@
-//! The reader of a sized buffer (TPM2B) that stays where it lies in the text, and the most bytes of
-//! a digest.
+//! Reads a sized buffer (TPM2B) by borrowing its bytes from the input, without a copy. Also
+//! defines the largest size of a digest.
 
 ghost use Rattle.std.specs.Prelude.{◌≤◌, IfOk, length};
 ghost use Rattle.tpm_bytes.specs.Reading.{Reads};
@@ -8,11 +8,11 @@ ghost use Rattle.tpm_types.specs.Buffer.{buffer_at};
 use crate::rc::{Rc, ResponseCode};
 use tpm_bytes::{Cursor, SizedFault};
 
-/// The most bytes of a digest, and so of a nonce and an HMAC.
+/// The largest size in bytes of a digest, and therefore of a nonce or an HMAC.
 pub const DIGEST_LIMIT: usize = 32;
 
-/// Reads a sized buffer of at most `limit` bytes (TPM2B of TPM 2.0 Library, Part 2, section 10.4):
-/// SIZE where its size says more, else INSUFFICIENT where it is cut.
+/// Reads a sized buffer of at most `limit` bytes (TPM2B of TPM 2.0 Library, Part 2, section 10.4).
+/// The fault is SIZE if its size is over the limit, else INSUFFICIENT if it is truncated.
 pub fn read_buffer<'a>(text: &mut Cursor<'a>, limit: usize) -> Result<&'a [u8], Rc>
     ensures exact { Reads (λ buffer. buffer.now) (buffer_at limit text.old) text.old
         result text.new }

@@ -1,47 +1,48 @@
-//! The check that refused a command: one of those of all commands, one of its own, or memory. The
-//! row of an event reports the check's number.
+//! The check that refused a command: one of the general checks, one of the command's own, or the
+//! check for memory. The row of an event reports the check's number.
 
 ghost use Rattle.std.specs.Prelude.{◌≡◌};
 
 use crate::action_check::ActionCheck;
 
-/// The check that refused a command: G1 to G11 for all commands, then A1 to A7 of the command's
-/// own, and M. A row reports the check's number.
+/// The check that refused a command: one of G1 to G11, which every command has; one of A1 to A7,
+/// the command's own; or M. A row reports its number.
 #[derive(Clone, Copy, PartialEq, Eq)]
 pub enum Check {
-    /// G1: fewer bytes than a header, or more than the limit of a buffer.
+    /// G1: the buffer is shorter than a header, or longer than the limit.
     Length,
-    /// G2: a tag that is neither of the two.
+    /// G2: the tag is neither TPM_ST_SESSIONS nor TPM_ST_NO_SESSIONS.
     Tag,
-    /// G3: a commandSize that is not the length.
+    /// G3: commandSize differs from the length of the buffer.
     Size,
-    /// G4: a command that is not served.
+    /// G4: the command code is not served.
     Code,
-    /// G5: a device that is not started and another command than Startup, or one that is started
-    /// and Startup.
+    /// G5: the device is not started and the command is not TPM2_Startup, or the device is started
+    /// and the command is TPM2_Startup.
     Started,
-    /// G6: a handle that is cut, not of the command's kind, or that names nothing.
+    /// G6: a handle is truncated, has a type that the command does not accept, or names nothing.
     Handles,
-    /// G7: sessions where the command may have none, or none where a handle needs authorization.
+    /// G7: the command has sessions but allows none, or has no sessions but a handle needs
+    /// authorization.
     Sessions,
-    /// G8: the authorization area and its entries.
+    /// G8: the authorization area or one of its entries has a fault.
     Entries,
-    /// G9: what authorizes the command's handles.
+    /// G9: the authorization of one of the command's handles fails.
     Authorization,
-    /// G10: the other entries, and a first parameter that cannot be decrypted.
+    /// G10: one of the other entries fails, or the first parameter cannot be decrypted.
     Others,
-    /// G11: the parameters, and bytes left over after them.
+    /// G11: a parameter has a fault, or bytes follow the last parameter.
     Parameters,
     /// A1 to A7: the command's own checks.
     Action(ActionCheck),
-    /// M: memory was refused.
+    /// M: out of memory.
     Memory,
 }
 
 impl Check {
     ghost use Rattle.tpm_types.specs.Check.{check_number};
 
-    /// The number by which a row reports the check.
+    /// The number that a row reports for the check.
     pub fn number(self) -> u8
         ensures { result ≡ check_number self }
     {

@@ -1,4 +1,4 @@
-//! Lists of up to eight digests, read and written (TPML_DIGEST; TPM 2.0 Library, Part 2, section
+//! Reads and writes lists of up to eight digests (TPML_DIGEST; TPM 2.0 Library, Part 2, section
 //! 10.9.5).
 
 ghost use Rattle.std.specs.Prelude.{◌≡◌, ◌+◌, ◌≤◌, ℕ, List, ◌++◌, length, Ok, IfOk};
@@ -12,13 +12,13 @@ use arrayvec::ArrayVec;
 use tpm_bytes::{Cursor, Full, Readable, Sink, append, read_many};
 use tpm_mac::Digest;
 
-/// The fewest digests of a list that is read.
+/// The fewest digests that a list may contain when it is read.
 pub const FEWEST_DIGESTS: u32 = 2;
 
-/// The most digests of a list that is read.
+/// The most digests that a list may contain when it is read.
 pub const DIGEST_LIST_LIMIT: u32 = 8;
 
-/// A digest of a list, where it lies in the text.
+/// One digest of a list, borrowed from the input.
 #[derive(Drop)]
 struct ListedDigest<'a> {
     bytes: &'a [u8],
@@ -55,16 +55,17 @@ pub struct DigestList {
 impl DigestList {
     ghost use Rattle.tpm_types.specs.DigestList.{IsDigestList, digest_list_at, digest_list_text, digests_of};
 
-    /// Reads a list of two to eight digests: INSUFFICIENT where it is cut, SIZE where it has fewer
-    /// or more, and the first fault of a digest.
+    /// Reads a list of two to eight digests. The fault is INSUFFICIENT if the list is truncated,
+    /// SIZE if it has fewer than two or more than eight digests, or else the first fault of a
+    /// digest.
     pub fn read(text: &mut Cursor) -> Result<DigestList, Rc>
-        // Says which digests are read, or the first fault.
+        // The result is the decoded digests, or the first fault.
         ensures exact { Reads (λ list. digests_of list.digests.items) (digest_list_at text.old)
             text.old result text.new }
-        // A value is read only from its text.
+        // Decoding succeeds only on the encoding of the value that it returns.
         ensures found { IfOk result (λ list. IsDigestList (digests_of list.digests.items)
             × (text.old ≡ digest_list_text (digests_of list.digests.items) ++ text.new)) }
-        // A value is read from its text, whatever comes after it.
+        // The encoding of a value decodes to that value, whatever follows it.
         ensures only { (digests : List (List ℕ)) (rest : List ℕ) → IsDigestList digests
             → text.old ≡ digest_list_text digests ++ rest
             → Reads (λ list. digests_of list.digests.items) (Ok (digests, rest))
@@ -93,7 +94,8 @@ impl DigestList {
         })
     }
 
-    /// Writes the list at the end, at most 276 bytes, or nothing where it does not fit.
+    /// Appends the list, at most 276 bytes. If it does not fit, writes nothing and returns an
+    /// error.
     pub fn write<const N: usize>(&self, sink: &mut Sink<N>) -> Result<(), Full>
         ensures written { Puts N (digest_list_text (digests_of self.now.digests.items))
             sink.old result sink.new }
@@ -103,8 +105,8 @@ impl DigestList {
         sink.put(text.as_slice())
     }
 
-    /// The text of the list, in the room for the longest: four bytes, and eight times a size and 32
-    /// bytes.
+    /// The encoding of the list, in a buffer with space for the longest: four bytes, and eight
+    /// digests of 2 + 32 bytes.
     fn text(&self) -> Sink<276>
         ensures { result ≡ digest_list_text (digests_of self.now.digests.items) }
     {
@@ -113,7 +115,7 @@ impl DigestList {
         text
     }
 
-    /// Writes the list at the end, where there is room for the longest: 276 bytes.
+    /// Appends the list. The sink must have room for the longest list, 276 bytes.
     pub fn append_to<const N: usize>(&self, sink: &mut Sink<N>)
         requires { length sink.old + 276 ≤ N }
         ensures written { sink.new
@@ -139,7 +141,7 @@ fn append_digests<const N: usize>(digests: &[Digest], sink: &mut Sink<N>)
     }
 }
 
-/// The digests, copied from the text.
+/// Owned copies of the borrowed digests.
 fn copied(listed: &[ListedDigest]) -> ArrayVec<Digest, 8>
     requires { length listed.now ≤ 8 }
     ensures { digests_of result.items ≡ map (λ one. one.bytes.now) listed.now }

@@ -1,5 +1,5 @@
-//! Digests with their hash algorithms, alone (TPMT_HA) and in lists (TPML_DIGEST_VALUES), read and
-//! written (TPM 2.0 Library, Part 2, sections 10.3.2 and 10.9.6).
+//! Reads and writes digests tagged with their hash algorithm, singly (TPMT_HA) and in lists
+//! (TPML_DIGEST_VALUES; TPM 2.0 Library, Part 2, sections 10.3.2 and 10.9.6).
 
 ghost use Rattle.std.specs.Prelude.{◌≡◌, ◌+◌, ◌*◌, ◌≤◌, ℕ, List, ◌++◌, length, replicate, Ok, IfOk};
 ghost use Rattle.tpm_bytes.specs.Reading.{AreBytes, Reads};
@@ -14,10 +14,10 @@ use arrayvec::ArrayVec;
 use tpm_bytes::{Cursor, Full, Readable, Sink, read_many};
 use tpm_mac::HashAlg;
 
-/// How many digests a list may have: one for each hash algorithm.
+/// The most digests that a list may contain: one for each hash algorithm.
 pub const DIGEST_VALUES_LIMIT: u32 = 2;
 
-/// A digest with its algorithm: TPMT_HA of TPM 2.0 Library, Part 2, section 10.3.2.
+/// A digest and its hash algorithm: TPMT_HA of TPM 2.0 Library, Part 2, section 10.3.2.
 #[derive(Clone, Copy, PartialEq, Eq)]
 pub enum DigestValue {
     Sha1([u8; 20]),
@@ -32,7 +32,7 @@ impl Default for DigestValue {
     }
 }
 
-/// Up to two digests with their algorithms: TPML_DIGEST_VALUES (Part 2, section 10.9.6).
+/// Up to two digests and their hash algorithms: TPML_DIGEST_VALUES (Part 2, section 10.9.6).
 #[derive(Drop)]
 pub struct DigestValues {
     pub values: ArrayVec<DigestValue, 2>,
@@ -60,7 +60,8 @@ impl DigestValue {
         }
     }
 
-    /// Reads a digest: INSUFFICIENT where it is cut, HASH where its algorithm is not served.
+    /// Reads a digest. The fault is INSUFFICIENT if it is truncated, HASH if its algorithm is not
+    /// served.
     #[tactic(auto, unfolding(crate::specs::DigestValues::digest_value_at))]
     pub fn read(text: &mut Cursor) -> Result<DigestValue, Rc>
         ensures { Reads (λ value. value) (digest_value_at text.old) text.old result text.new }
@@ -74,7 +75,8 @@ impl DigestValue {
         Ok(value)
     }
 
-    /// Writes the digest at the end, at most 34 bytes, or nothing where it does not fit.
+    /// Appends the digest, at most 34 bytes. If it does not fit, writes nothing and returns an
+    /// error.
     #[tactic(auto, unfolding(crate::specs::DigestValues::digest_value_text))]
     pub fn write<const N: usize>(&self, sink: &mut Sink<N>) -> Result<(), Full>
         ensures written { Puts N (digest_value_text self.now) sink.old result sink.new }
@@ -85,7 +87,7 @@ impl DigestValue {
         sink.put(text.as_slice())
     }
 
-    /// Writes the digest at the end, where there is room for the longest: 34 bytes.
+    /// Appends the digest. The sink must have room for the longest digest, 34 bytes.
     #[tactic(auto, unfolding(crate::specs::DigestValues::digest_value_text))]
     pub fn append_to<const N: usize>(&self, sink: &mut Sink<N>)
         requires { length sink.old + 34 ≤ N }
@@ -113,7 +115,7 @@ impl<'a> Readable<'a> for DigestValue {
 
 ghost use Rattle.tpm_types.specs.DigestValues.{octets_at};
 
-/// Reads the next `N` bytes: INSUFFICIENT where they are cut.
+/// Reads the next `N` bytes. The fault is INSUFFICIENT if fewer are left.
 fn read_octets<const N: usize>(text: &mut Cursor) -> Result<[u8; N], Rc>
     ensures { Reads (λ octets. octets) (octets_at N text.old) text.old result text.new }
 {
@@ -126,16 +128,16 @@ fn read_octets<const N: usize>(text: &mut Cursor) -> Result<[u8; N], Rc>
 }
 
 impl DigestValues {
-    /// Reads a list of digests: INSUFFICIENT where it is cut, SIZE where it has more than two, and
-    /// the first fault of a digest.
+    /// Reads a list of digests. The fault is INSUFFICIENT if it is truncated, SIZE if it has more
+    /// than two digests, or else the first fault of a digest.
     pub fn read(text: &mut Cursor) -> Result<DigestValues, Rc>
-        // Says which digests are read, or the first fault.
+        // The result is the decoded digests, or the first fault.
         ensures exact { Reads (λ digests. digests.values.items) (digest_values_at text.old)
             text.old result text.new }
-        // A value is read only from its text.
+        // Decoding succeeds only on the encoding of the value that it returns.
         ensures found { IfOk result (λ digests. IsDigestValues digests.values.items
             × (text.old ≡ digest_values_text digests.values.items ++ text.new)) }
-        // A value is read from its text, whatever comes after it.
+        // The encoding of a value decodes to that value, whatever follows it.
         ensures only { (values : List DigestValue) (rest : List ℕ) → IsDigestValues values
             → text.old ≡ digest_values_text values ++ rest
             → Reads (λ digests. digests.values.items) (Ok (values, rest)) text.old result text.new }
@@ -161,7 +163,8 @@ impl DigestValues {
         Ok(DigestValues { values })
     }
 
-    /// Writes the list at the end, at most 72 bytes, or nothing where it does not fit.
+    /// Appends the list, at most 72 bytes. If it does not fit, writes nothing and returns an
+    /// error.
     pub fn write<const N: usize>(&self, sink: &mut Sink<N>) -> Result<(), Full>
         ensures written { Puts N (digest_values_text self.now.values.items)
             sink.old result sink.new }
@@ -171,8 +174,8 @@ impl DigestValues {
         sink.put(text.as_slice())
     }
 
-    /// The text of the list, in the room for the longest: four bytes, and twice an algorithm and 32
-    /// bytes.
+    /// The encoding of the list, in a buffer with space for the longest: four bytes, and two
+    /// digests of 2 + 32 bytes.
     fn text(&self) -> Sink<72>
         ensures { result ≡ digest_values_text self.now.values.items }
     {
@@ -181,7 +184,7 @@ impl DigestValues {
         text
     }
 
-    /// Writes the list at the end, where there is room for the longest: 72 bytes.
+    /// Appends the list. The sink must have room for the longest list, 72 bytes.
     pub fn append_to<const N: usize>(&self, sink: &mut Sink<N>)
         requires { length sink.old + 72 ≤ N }
         ensures written { sink.new ≡ sink.old ++ digest_values_text self.now.values.items }

@@ -1,5 +1,5 @@
-//! The reader of a structure that must fill its sized buffer (TPM2B; TPM 2.0 Library, Part 2,
-//! section 10.4.1).
+//! Reads a structure that must fill its sized buffer (TPM2B; TPM 2.0 Library, Part 2, section
+//! 10.4.1).
 
 ghost use Rattle.std.specs.Prelude.{◌≡◌};
 ghost use Rattle.tpm_bytes.specs.Reading.{AreBytes, Reads};
@@ -9,8 +9,8 @@ use crate::buffer::read_buffer;
 use crate::rc::{Rc, ResponseCode};
 use tpm_bytes::{Cursor, Readable};
 
-/// A fault within a sized buffer: SIZE where the buffer's bytes ran out, and otherwise the fault
-/// itself.
+/// Maps a fault inside a sized buffer: running out of bytes becomes SIZE, and other faults stay
+/// the same.
 fn within_buffer(fault: Rc) -> Rc
     ensures { result ≡ record fault { code = within_buffer fault.code } }
 {
@@ -23,13 +23,13 @@ fn within_buffer(fault: Rc) -> Rc
     }
 }
 
-/// Reads a structure that fills a sized buffer (TPM2B of TPM 2.0 Library, Part 2, section 10.4.1):
-/// INSUFFICIENT where the buffer is cut, SIZE where it has too few bytes for the structure or too
-/// many, and the first fault of the structure before the latter.
+/// Reads a structure that fills a sized buffer (TPM2B of TPM 2.0 Library, Part 2, section 10.4.1).
+/// The fault is INSUFFICIENT if the buffer is truncated, SIZE if the buffer is shorter or longer
+/// than the structure. A fault in the structure is reported before surplus bytes.
 #[tactic(auto, unfolding(crate::specs::Filled::filled_by))]
 pub fn read_filled<'a, T: Readable<'a, Fault = Rc> + Drop>(text: &mut Cursor<'a>) -> Result<T, Rc>
     ensures exact { Reads T.seen (filled_by T.at text.old) text.old result text.new }
-    // The text is of bytes.
+    // The input consists of bytes.
     ensures bytes { AreBytes text.old }
 {
     let mut ahead = Cursor::new(text.rest());

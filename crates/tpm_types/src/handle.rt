@@ -1,4 +1,4 @@
-//! Handles, and what they name by their number: PCRs, hierarchies, sessions, NV indices and objects
+//! Handles and the entities that they name: PCRs, hierarchies, sessions, NV indices and objects
 //! (TPM_HANDLE; TPM 2.0 Library, Part 2, section 7).
 
 ghost use Rattle.std.specs.Prelude.{◌≡◌};
@@ -6,16 +6,16 @@ ghost use Rattle.std.specs.Prelude.{◌≡◌};
 use crate::pcr::{PCR_COUNT, PcrIndex};
 
 /// The handle of an entity: TPM_HANDLE of TPM 2.0 Library, Part 2, section 7.1. Its highest byte
-/// says what it names (TPM_HT, section 7.2).
+/// is the type of the entity (TPM_HT, section 7.2).
 #[derive(Clone, Copy, PartialEq, Eq, Default)]
 pub struct Handle {
     pub number: u32,
 }
 
-/// What a handle in an authorization entry names.
+/// What the handle of an authorization entry names.
 #[derive(Clone, Copy, PartialEq, Eq)]
 pub enum SessionKind {
-    /// TPM_RS_PW: no session, a password.
+    /// TPM_RS_PW: a password instead of a session.
     Password,
     /// An HMAC session or a policy session.
     Session,
@@ -23,7 +23,8 @@ pub enum SessionKind {
     Other,
 }
 
-/// An authorization value of the device's own: TPMI_RH_HIERARCHY_AUTH of Part 2.
+/// A hierarchy or lockout, whose authorization value belongs to the device itself:
+/// TPMI_RH_HIERARCHY_AUTH of Part 2.
 #[derive(Clone, Copy, PartialEq, Eq)]
 pub enum HierarchyAuth {
     /// TPM_RH_OWNER: ownerAuth.
@@ -36,10 +37,10 @@ pub enum HierarchyAuth {
     Platform,
 }
 
-/// A hierarchy, to which objects belong: TPMI_RH_HIERARCHY+ of Part 2, section 9.13.
+/// A hierarchy to which objects belong: TPMI_RH_HIERARCHY+ of Part 2, section 9.13.
 #[derive(Clone, Copy, PartialEq, Eq)]
 pub enum HierarchyHandle {
-    /// TPM_RH_OWNER: the owner's hierarchy, which the standard calls the storage hierarchy.
+    /// TPM_RH_OWNER: the owner hierarchy, which the standard calls the storage hierarchy.
     Owner,
     /// TPM_RH_ENDORSEMENT: the endorsement hierarchy.
     Endorsement,
@@ -52,7 +53,7 @@ pub enum HierarchyHandle {
 impl HierarchyHandle {
     ghost use Rattle.tpm_types.specs.Handle.{hierarchy_handle};
 
-    /// The handle that names the hierarchy.
+    /// The handle of the hierarchy.
     pub fn handle(self) -> Handle
         ensures { result ≡ hierarchy_handle self }
     {
@@ -78,7 +79,7 @@ impl Handle {
         number: 0x4000_0007,
     };
 
-    /// The handle of the owner: TPM_RH_OWNER, section 7.4.
+    /// The handle of the owner hierarchy: TPM_RH_OWNER, section 7.4.
     pub const OWNER: Handle = Handle {
         number: 0x4000_0001,
     };
@@ -93,12 +94,12 @@ impl Handle {
         number: 0x4000_000b,
     };
 
-    /// The handle of the platform: TPM_RH_PLATFORM, section 7.4.
+    /// The handle of the platform hierarchy: TPM_RH_PLATFORM, section 7.4.
     pub const PLATFORM: Handle = Handle {
         number: 0x4000_000c,
     };
 
-    /// The PCR that the handle names, if it names one.
+    /// The PCR that the handle names, or None.
     pub fn pcr(self) -> Option<PcrIndex>
         ensures { SomePcrOf (pcr_of self) result }
     {
@@ -120,7 +121,7 @@ impl Handle {
         }
     }
 
-    /// The authorization value that the handle names, if it names a hierarchy's or lockoutAuth.
+    /// The hierarchy or lockout that the handle names, or None.
     pub fn hierarchy_auth(self) -> Option<HierarchyAuth>
         ensures { result ≡ hierarchy_auth_of self }
     {
@@ -133,7 +134,7 @@ impl Handle {
         }
     }
 
-    /// The hierarchy that the handle names, if it names one.
+    /// The hierarchy that the handle names, or None.
     pub fn hierarchy(self) -> Option<HierarchyHandle>
         ensures { result ≡ hierarchy_of self }
     {
@@ -146,42 +147,42 @@ impl Handle {
         }
     }
 
-    /// The highest byte of the handle, which says what the handle names (TPM_HT).
+    /// The highest byte of the handle, which is the type of the entity (TPM_HT).
     fn type_byte(self) -> u32
         ensures { result ≡ handle_type self }
     {
         self.number >> 24
     }
 
-    /// Whether the handle's type is that of an NV index, whether the index is there or not.
+    /// Whether the handle has the type of an NV index. The index need not exist.
     pub fn is_nv_index(self) -> bool
         ensures { result ≡ is_nv_index self }
     {
         self.type_byte() == 0x01
     }
 
-    /// Whether the handle's type is that of a session, whether the session is there or not.
+    /// Whether the handle has the type of a session. The session need not exist.
     pub fn is_session(self) -> bool
         ensures { result ≡ is_session self }
     {
         matches!(self.type_byte(), 0x02 | 0x03)
     }
 
-    /// Whether the handle's type is that of a policy or trial session, there or not.
+    /// Whether the handle has the type of a policy or trial session. The session need not exist.
     pub fn is_policy_session(self) -> bool
         ensures { result ≡ is_policy_session self }
     {
         self.type_byte() == 0x03
     }
 
-    /// Whether the handle's type is that of a transient object, there or not.
+    /// Whether the handle has the type of a transient object. The object need not exist.
     pub fn is_transient(self) -> bool
         ensures { result ≡ is_transient self }
     {
         self.type_byte() == 0x80
     }
 
-    /// Whether the handle's type is that of a persistent object, there or not.
+    /// Whether the handle has the type of a persistent object. The object need not exist.
     pub fn is_persistent(self) -> bool
         ensures { result ≡ is_persistent self }
     {

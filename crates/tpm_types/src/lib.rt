@@ -1,18 +1,19 @@
 #![tactic(auto)]
 
-//! The structures of TPM 2.0 Library, Part 2, that every part of the device speaks of: response
-//! codes, handles, algorithms, PCR selections, digests, authorization values, types of sessions,
-//! and the device's [`limits`]. Commands are in `tpm_types_command`, the areas of objects in
-//! `tpm_types_object`, those of NV indices in `tpm_types_nv`. Each structure is a type of its own,
-//! which is read from a [`tpm_bytes::cursor::Cursor`] and written to a [`tpm_bytes::sink::Sink`]. A
-//! refusal, of every part of the device, is [`refused::Refused`]: the response code, the check that
-//! found it ([`check`]), and what it counts.
+//! The structures of TPM 2.0 Library, Part 2, that every part of the device uses: response codes,
+//! handles, algorithms, PCR selections, digests, authorization values, types of sessions, and the
+//! device's [`limits`]. Commands are in `tpm_types_command`, the areas of objects in
+//! `tpm_types_object`, those of NV indices in `tpm_types_nv`. Each structure has a type of its
+//! own, which is read from a [`tpm_bytes::cursor::Cursor`] and written to a
+//! [`tpm_bytes::sink::Sink`]. A refusal by any part of the device is a [`refused::Refused`]: the
+//! response code, the check that found it ([`check`]), and what it counts against dictionary
+//! attacks.
 //!
 //! The crate uses `tpm_bytes` for the bytes and `tpm_mac` for digests and hash algorithms. A read
-//! gives the value or the first fault, as the response code that the standard has for it, and a
-//! refused read or write changes nothing. Selections of PCRs, digests with their algorithms, lists
-//! of digests and symmetric definitions have one text for each value: a value is read only from its
-//! text, and from every such text. No call here takes memory.
+//! returns the value, or the first fault as the standard's response code for it; a read or write
+//! that fails changes nothing. Each selection of PCRs, digest with its algorithm, list of digests
+//! and symmetric definition has exactly one encoding, and nothing else decodes to it. No call here
+//! allocates memory.
 
 pub mod action_check;
 pub mod action_fault;

@@ -1,43 +1,44 @@
-//! How much this device can hold and take, where the standard leaves that to whoever builds it. The
-//! sizes that follow, as that of the longest image, are computed from these constants. The bounds
-//! of one structure are defined with that structure. `specs/Limits.antt` has the same numbers for
-//! the definitions.
+//! This device's limits on memory and data, which the standard leaves to the implementer. Sizes
+//! that follow from them, such as that of the longest image, are computed from these constants.
+//! Bounds of a single structure are defined with that structure. `specs/Limits.antt` defines the
+//! same numbers for the specification.
 
 ghost use Rattle.std.specs.Prelude.{◌≡◌};
 ghost use Rattle.tpm_types.specs.Limits.{answer_limit, buffer_limit, data_limit, nv_data_limit, nv_index_limit, nv_space_limit, object_limit, persistent_limit, sensitive_limit, session_limit};
 
-/// The most bytes of a command's buffer, and of a response's.
+/// The largest size in bytes of a command buffer and of a response.
 pub const BUFFER_LIMIT: usize = 4_096;
 
-/// The most bytes of data that one command takes or gives: MAX_NV_BUFFER_SIZE and
+/// The most bytes of data that one command takes or returns: MAX_NV_BUFFER_SIZE and
 /// MAX_DIGEST_BUFFER.
 pub const DATA_LIMIT: usize = 1_024;
 
-/// The most bytes of a response's parameters: TPM2_NV_Read's, a sized buffer of the longest data.
+/// The largest size in bytes of a response's parameters: those of TPM2_NV_Read, a sized buffer
+/// with the longest data.
 pub const ANSWER_LIMIT: usize = DATA_LIMIT + 2;
 
-/// The most bytes of what an object keeps secret: a key, or data that is sealed (MAX_SYM_DATA).
+/// The largest size in bytes of an object's secret: a key, or sealed data (MAX_SYM_DATA).
 pub const SENSITIVE_LIMIT: usize = 128;
 
-/// How many sessions there may be, of all types together.
+/// The largest number of sessions, of all types together.
 pub const SESSION_LIMIT: usize = 16;
 
-/// How many transient objects there may be.
+/// The largest number of transient objects.
 pub const OBJECT_LIMIT: usize = 8;
 
-/// How many persistent objects there may be.
+/// The largest number of persistent objects.
 pub const PERSISTENT_LIMIT: usize = 16;
 
-/// How many NV indices there may be.
+/// The largest number of NV indices.
 pub const NV_INDEX_LIMIT: usize = 64;
 
-/// The most bytes of data that all NV indices have together.
+/// The most bytes of data that all NV indices together may contain.
 pub const NV_SPACE_LIMIT: usize = 16_384;
 
-/// The most bytes of data that one ordinary NV index has.
+/// The most bytes of data that one ordinary NV index may contain.
 pub const NV_DATA_LIMIT: usize = 2_048;
 
-/// Each constant is the number that the definitions have. The function does nothing.
+/// Each constant equals its definition. A proof only: it has no effect at run time.
 #[inline(always)]
 pub fn limit_laws()
     ensures buffer { BUFFER_LIMIT ≡ buffer_limit }

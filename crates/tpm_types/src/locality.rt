@@ -1,4 +1,4 @@
-//! Localities, 0 to 4, from which commands come (TPM 2.0 Library, Part 1, section 3, and Part 2,
+//! Localities 0 to 4, from which commands come (TPM 2.0 Library, Part 1, section 3, and Part 2,
 //! section 8.5).
 
 ghost use Rattle.std.specs.Prelude.{◌≡◌, ◌≤◌};
@@ -14,7 +14,7 @@ pub struct Locality {
 impl Locality {
     ghost use Rattle.tpm_types.specs.Locality.{locality_number, SomeLocality};
 
-    /// The locality of this number, where there is one.
+    /// The locality with this number, or None if there is none.
     pub fn new(number: u8) -> Option<Locality>
         ensures { SomeLocality number result }
     {

@@ -1,14 +1,14 @@
-//! The use that a command makes of the NV index that authorizes it: reading, writing or
-//! administering. The attributes of the index then say whether the command may.
+//! How a command uses the NV index that authorizes it: to read, to write or to administer it.
+//! Whether the index's attributes allow the command depends on this use.
 
-/// The use that a command makes of an NV index by whose authorization it runs: from it follows
-/// which attributes of the index allow that (TPM 2.0 Library, Part 2, section 13.4, TPMA_NV).
+/// How a command uses the NV index that authorizes it. This determines which attributes of the
+/// index must allow the command (TPM 2.0 Library, Part 2, section 13.4, TPMA_NV).
 #[derive(Clone, Copy, PartialEq, Eq)]
 pub enum NvUse {
     /// The command reads the index, as TPM2_NV_Read does.
     Read,
     /// The command writes the index, as TPM2_NV_Write does.
     Write,
-    /// The index is authorized in the role ADMIN.
+    /// The command authorizes the index in the role ADMIN.
     Administer,
 }

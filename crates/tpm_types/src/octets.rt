@@ -1,5 +1,4 @@
-//! The bytes of a sized buffer (TPM2B), kept in a value of their own, at most as many as its type
-//! says.
+//! An owned copy of the bytes of a sized buffer (TPM2B). Its type determines the largest size.
 
 ghost use Rattle.std.specs.Prelude.{◌≡◌, ◌≤◌, [], length};
 ghost use Rattle.std.specs.Str.{bytes_eq};
@@ -13,7 +12,7 @@ use std::marker::Model;
 use tpm_bytes::{Cursor, copied};
 
 /// The bytes of a sized buffer, at most `N` of them (TPM2B of TPM 2.0 Library, Part 2, section
-/// 10.4). Contracts see them as a list.
+/// 10.4). In contracts they are a list.
 #[derive(Drop)]
 pub struct Octets<const N: usize> {
     bytes: ArrayVec<u8, N>,
@@ -37,7 +36,7 @@ impl<const N: usize> Octets<N> {
         }
     }
 
-    /// A buffer of these bytes.
+    /// A buffer that contains these bytes.
     pub fn of(bytes: &[u8]) -> Octets<N>
         requires { length bytes.now ≤ N }
         ensures { result ≡ bytes.now }
@@ -47,8 +46,8 @@ impl<const N: usize> Octets<N> {
         }
     }
 
-    /// Reads a sized buffer: SIZE where its size says more than `N` bytes, else INSUFFICIENT where
-    /// it is cut.
+    /// Reads a sized buffer. The fault is SIZE if it is longer than `N` bytes, else INSUFFICIENT
+    /// if it is truncated.
     pub fn read(text: &mut Cursor) -> Result<Octets<N>, Rc>
         ensures { Reads (λ octets. octets) (buffer_at N text.old) text.old result text.new }
     {
@@ -77,7 +76,7 @@ impl<const N: usize> Octets<N> {
         Octets::of(self.bytes.as_slice())
     }
 
-    /// Whether these are the bytes of the buffer.
+    /// Whether the buffer contains exactly these bytes.
     pub fn is_same(&self, bytes: &[u8]) -> bool
         ensures { result ≡ bytes_eq self.now bytes.now }
     {

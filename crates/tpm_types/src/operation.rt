@@ -1,5 +1,5 @@
-//! Comparisons of two operands, as policies on NV data make them (TPM_EO; TPM 2.0 Library, Part 2,
-//! section 6.8).
+//! Comparisons of two operands, as a policy on NV data makes them (TPM_EO; TPM 2.0 Library, Part
+//! 2, section 6.8).
 
 ghost use Rattle.std.specs.Prelude.{◌≡◌};
 ghost use Rattle.tpm_bytes.specs.Reading.{Reads};
@@ -20,7 +20,7 @@ pub enum Operation {
     UnsignedGreaterOrEqual,
     SignedLessOrEqual,
     UnsignedLessOrEqual,
-    /// Each bit that is set in the second operand is set in the first.
+    /// Each bit that is set in the second operand is also set in the first.
     BitSet,
     /// Each bit that is set in the second operand is clear in the first.
     BitClear,
@@ -29,7 +29,7 @@ pub enum Operation {
 impl Operation {
     ghost use Rattle.tpm_types.specs.Operation.{operation_at, operation_named, operation_number};
 
-    /// The number of the operation on the wire.
+    /// The wire number of the operation.
     pub fn number(self) -> u16
         ensures { result ≡ operation_number self }
     {
@@ -49,7 +49,7 @@ impl Operation {
         }
     }
 
-    /// The operation of this number.
+    /// The operation with this number, or None.
     pub fn named(number: u16) -> Option<Operation>
         ensures { result ≡ operation_named number }
     {
@@ -70,7 +70,8 @@ impl Operation {
         })
     }
 
-    /// Reads an operation: INSUFFICIENT where it is cut, VALUE where there is none of its number.
+    /// Reads an operation. The fault is INSUFFICIENT if it is truncated, VALUE if no operation has
+    /// its number.
     #[tactic(auto, unfolding(crate::specs::Operation::operation_at))]
     pub fn read(text: &mut Cursor) -> Result<Operation, Rc>
         ensures { Reads (λ operation. operation) (operation_at text.old) text.old

@@ -1,14 +1,14 @@
-//! The numbers of PCRs, 0 to 23, and which PCRs of one bank are selected (TPM 2.0 Library, Part 2,
+//! The numbers of PCRs, 0 to 23, and selections of PCRs of one bank (TPM 2.0 Library, Part 2,
 //! section 10.6.2).
 
 ghost use Rattle.std.specs.Prelude.{◌≡◌, ◌<◌, ◌^◌, ℕ};
 
 use std::marker::Model;
 
-/// How many PCRs a bank has.
+/// The number of PCRs in a bank.
 pub const PCR_COUNT: u8 = 24;
 
-/// How many octets a selection of PCRs has.
+/// The number of octets in a selection of PCRs.
 pub const SELECT_SIZE: u8 = 3;
 
 /// The number of a PCR, 0 to 23 (TPM 2.0 Library, Part 1, section 17).
@@ -30,7 +30,7 @@ impl Model for PcrIndex {
 impl PcrIndex {
     ghost use Rattle.tpm_types.specs.Pcr.{SomePcr};
 
-    /// The PCR of this number, where there is one.
+    /// The PCR with this number, or None if there is none.
     pub fn new(number: u8) -> Option<PcrIndex>
         ensures { SomePcr number result }
     {
@@ -49,8 +49,8 @@ impl PcrIndex {
     }
 }
 
-/// Which PCRs of a bank are selected: `pcrSelect` of TPMS_PCR_SELECTION (Part 2, section 10.6.2).
-/// Contracts see it as a number, whose bit n stands for PCR n.
+/// The selected PCRs of a bank: `pcrSelect` of TPMS_PCR_SELECTION (Part 2, section 10.6.2). In
+/// contracts it is a number whose bit n stands for PCR n.
 #[derive(Clone, Copy, PartialEq, Eq)]
 pub struct PcrSelect {
     bits: u32,
@@ -69,7 +69,7 @@ impl Model for PcrSelect {
 impl PcrSelect {
     ghost use Rattle.tpm_types.specs.Pcr.{is_selected, select_of, select_text, with_pcr};
 
-    /// The selection of no PCR.
+    /// The empty selection.
     pub fn none() -> PcrSelect
         ensures { result ≡ 0 }
     {
@@ -101,7 +101,7 @@ impl PcrSelect {
         (self.bits >> pcr.number()) & 1 == 1
     }
 
-    /// Selects the PCR too.
+    /// Adds a PCR to the selection.
     pub fn insert(&mut self, pcr: PcrIndex)
         ensures { self.new ≡ with_pcr self.old pcr }
     {

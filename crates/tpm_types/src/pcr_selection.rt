@@ -1,4 +1,4 @@
-//! Selections of PCRs in one bank or in several, read and written (TPML_PCR_SELECTION; TPM 2.0
+//! Reads and writes selections of PCRs in one or several banks (TPML_PCR_SELECTION; TPM 2.0
 //! Library, Part 2, section 10.9.7).
 
 ghost use Rattle.std.specs.Prelude.{◌≡◌, ◌+◌, ◌*◌, ◌≤◌, ◌<◌, ℕ, List, ◌++◌, length, IfOk};
@@ -13,10 +13,10 @@ use arrayvec::ArrayVec;
 use tpm_bytes::{Cursor, Full, Readable, Sink, read_many};
 use tpm_mac::HashAlg;
 
-/// How many banks a selection may name.
+/// The most banks that a selection may name.
 pub const BANK_LIMIT: u32 = 16;
 
-/// PCRs of one bank: TPMS_PCR_SELECTION (TPM 2.0 Library, Part 2, section 10.6.2).
+/// The selected PCRs of one bank: TPMS_PCR_SELECTION (TPM 2.0 Library, Part 2, section 10.6.2).
 #[derive(Clone, Copy, PartialEq, Eq)]
 pub struct BankSelection {
     pub hash: HashAlg,
@@ -37,8 +37,8 @@ impl Default for BankSelection {
 impl BankSelection {
     ghost use Rattle.tpm_types.specs.PcrSelection.{bank_at, bank_text};
 
-    /// Reads one bank's selection: INSUFFICIENT where it is cut, HASH where its algorithm is not
-    /// served, and VALUE where it does not have three octets.
+    /// Reads the selection of one bank. The fault is INSUFFICIENT if it is truncated, HASH if its
+    /// algorithm is not served, VALUE if it is not three octets long.
     #[tactic(auto, unfolding(crate::specs::PcrSelection::bank_at))]
     pub fn read(text: &mut Cursor) -> Result<BankSelection, Rc>
         ensures { Reads (λ bank. bank) (bank_at text.old) text.old result text.new }
@@ -59,7 +59,7 @@ impl BankSelection {
         Ok(BankSelection { hash, select })
     }
 
-    /// Writes the selection at the end, six bytes, or nothing where it does not fit.
+    /// Appends the selection, six bytes. If it does not fit, writes nothing and returns an error.
     #[tactic(auto, unfolding(crate::specs::PcrSelection::bank_text))]
     pub fn write<const N: usize>(&self, sink: &mut Sink<N>) -> Result<(), Full>
         ensures { Puts N (bank_text self.now) sink.old result sink.new }
@@ -71,7 +71,7 @@ impl BankSelection {
         Ok(())
     }
 
-    /// Writes the selection at the end, where there is room for six bytes.
+    /// Appends the selection. The sink must have room for six bytes.
     #[tactic(auto, unfolding(crate::specs::PcrSelection::bank_text))]
     pub fn append_to<const N: usize>(&self, sink: &mut Sink<N>)
         requires { length sink.old + 6 ≤ N }
@@ -99,8 +99,8 @@ impl<'a> Readable<'a> for BankSelection {
     }
 }
 
-/// PCRs of up to sixteen banks, in the order in which they are asked for: TPML_PCR_SELECTION
-/// (Part 2, section 10.9.7).
+/// The selected PCRs of up to sixteen banks, in the order of the request: TPML_PCR_SELECTION (Part
+/// 2, section 10.9.7).
 #[derive(Drop)]
 pub struct PcrSelection {
     pub banks: ArrayVec<BankSelection, 16>,
@@ -110,16 +110,16 @@ impl PcrSelection {
     ghost use Rattle.std.specs.Prelude.{Ok};
     ghost use Rattle.tpm_types.specs.PcrSelection.{IsSelection, selection_at, selection_text};
 
-    /// Reads a selection: INSUFFICIENT where it is cut, SIZE where it names more than sixteen
-    /// banks, and the first fault of a bank.
+    /// Reads a selection. The fault is INSUFFICIENT if it is truncated, SIZE if it names more than
+    /// sixteen banks, or else the first fault of a bank.
     pub fn read(text: &mut Cursor) -> Result<PcrSelection, Rc>
-        // Says which value is read, or the first fault.
+        // The result is the decoded value, or the first fault.
         ensures exact { Reads (λ selection. selection.banks.items) (selection_at text.old)
             text.old result text.new }
-        // A value is read only from its text.
+        // Decoding succeeds only on the encoding of the value that it returns.
         ensures found { IfOk result (λ selection. IsSelection selection.banks.items
             × (text.old ≡ selection_text selection.banks.items ++ text.new)) }
-        // A value is read from its text, whatever comes after it.
+        // The encoding of a value decodes to that value, whatever follows it.
         ensures only { (banks : List BankSelection) (rest : List ℕ) → IsSelection banks
             → text.old ≡ selection_text banks ++ rest
             → Reads (λ selection. selection.banks.items) (Ok (banks, rest))
@@ -146,7 +146,8 @@ impl PcrSelection {
         Ok(PcrSelection { banks })
     }
 
-    /// Writes the selection at the end, at most 100 bytes, or nothing where it does not fit.
+    /// Appends the selection, at most 100 bytes. If it does not fit, writes nothing and returns an
+    /// error.
     pub fn write<const N: usize>(&self, sink: &mut Sink<N>) -> Result<(), Full>
         ensures written { Puts N (selection_text self.now.banks.items) sink.old result sink.new }
         ensures small { length (selection_text self.now.banks.items) ≤ 100 }
@@ -159,7 +160,7 @@ impl PcrSelection {
         Ok(())
     }
 
-    /// Writes the selection at the end, where there is room for the longest: 100 bytes.
+    /// Appends the selection. The sink must have room for the longest selection, 100 bytes.
     pub fn append_to<const N: usize>(&self, sink: &mut Sink<N>)
         requires { length sink.old + 100 ≤ N }
         ensures written { sink.new ≡ sink.old ++ selection_text self.now.banks.items }
@@ -171,7 +172,7 @@ impl PcrSelection {
 
 ghost use Rattle.tpm_types.specs.PcrSelection.{banks_text, selection_text};
 
-/// Writes the selections after their count.
+/// Appends the number of banks, then the selection of each bank.
 #[tactic(auto, using(crate::proofs::BanksLemmas::writing_banks))]
 fn append_selection<const N: usize>(banks: &[BankSelection], sink: &mut Sink<N>)
     requires few { length banks.now ≤ 16 }

@@ -1,10 +1,10 @@
-//! Response codes, with the handle, parameter or session that a fault is in (TPM_RC; TPM 2.0
-//! Library, Part 2, section 6.6).
+//! Response codes, and the handle, parameter or session at fault (TPM_RC; TPM 2.0 Library, Part 2,
+//! section 6.6).
 
 ghost use Rattle.std.specs.Prelude.{◌≡◌, ◌<◌};
 
-/// A response code without its place: TPM_RC of TPM 2.0 Library, Part 2, section 6.6.3, in the
-/// standard's names without `TPM_RC_`.
+/// A response code without the number of a handle, parameter or session: TPM_RC of TPM 2.0
+/// Library, Part 2, section 6.6.3. The names are the standard's, without `TPM_RC_`.
 #[derive(Clone, Copy, PartialEq, Eq)]
 pub enum ResponseCode {
     BadTag = 0x01e,
@@ -59,7 +59,7 @@ pub enum ResponseCode {
     PolicyCc = 0x0a4,
 }
 
-/// The handle, parameter or session that a fault is in, numbered from 1 (Part 2, section 6.6.2).
+/// The place of a fault: a handle, parameter or session, numbered from 1 (Part 2, section 6.6.2).
 #[derive(Clone, Copy, PartialEq, Eq)]
 pub enum Place {
     Nowhere,
@@ -68,7 +68,7 @@ pub enum Place {
     Session(u8),
 }
 
-/// A response code and its place.
+/// A response code, and the handle, parameter or session at fault.
 #[derive(Clone, Copy, PartialEq, Eq)]
 pub struct Rc {
     pub code: ResponseCode,
@@ -78,7 +78,7 @@ pub struct Rc {
 impl ResponseCode {
     ghost use Rattle.tpm_types.specs.Rc.{code_number, plain};
 
-    /// The number of the code on the wire, without a place.
+    /// The wire number of the code, without the bits for a handle, parameter or session.
     #[tactic(auto, unfolding(crate::specs::Rc::code_number))]
     pub fn number(self) -> u32
         ensures value { result ≡ code_number self }
@@ -87,7 +87,7 @@ impl ResponseCode {
         self as u32
     }
 
-    /// The code with no place.
+    /// The code without a place.
     pub fn anywhere(self) -> Rc
         ensures { result ≡ plain self }
     {
@@ -102,7 +102,7 @@ impl Rc {
     ghost use Rattle.tpm_types.specs.Rc.{rc_number, at};
     ghost use Rattle.tpm_types.specs.declared.rc.Place.TheVariants as place;
 
-    /// The number of the code on the wire, with its place.
+    /// The wire number of the code, including the bits for its place.
     pub fn number(self) -> u32
         ensures { result ≡ rc_number self }
     {
@@ -115,7 +115,7 @@ impl Rc {
         self.code.number() + place
     }
 
-    /// The same fault, in the handle of this number.
+    /// The same code, now for the handle with this number.
     pub fn at_handle(self, number: u8) -> Rc
         ensures { result ≡ at (place.Handle number) self }
     {
@@ -125,7 +125,7 @@ impl Rc {
         }
     }
 
-    /// The same fault, in the parameter of this number.
+    /// The same code, now for the parameter with this number.
     pub fn at_parameter(self, number: u8) -> Rc
         ensures { result ≡ at (place.Parameter number) self }
     {
@@ -135,7 +135,7 @@ impl Rc {
         }
     }
 
-    /// The same fault, in the session of this number.
+    /// The same code, now for the session with this number.
     pub fn at_session(self, number: u8) -> Rc
         ensures { result ≡ at (place.Session number) self }
     {

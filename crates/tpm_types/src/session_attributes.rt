@@ -32,14 +32,14 @@ impl SessionAttributes {
         self.octet & bits != 0
     }
 
-    /// Whether the session outlasts the command.
+    /// Whether the session continues after the command.
     pub fn continues_session(self) -> bool
         ensures { result ≡ continues_session self }
     {
         self.has_any(CONTINUE_SESSION)
     }
 
-    /// Whether the session is to be an audit session.
+    /// Whether the session is requested to be an audit session.
     pub fn audits(self) -> bool
         ensures { result ≡ audits self }
     {
@@ -53,21 +53,21 @@ impl SessionAttributes {
         self.has_any(RESERVED)
     }
 
-    /// Whether the session decrypts the command's first parameter.
+    /// Whether the device decrypts the command's first parameter with the session.
     pub fn decrypts(self) -> bool
         ensures { result ≡ decrypts self }
     {
         self.has_any(DECRYPT)
     }
 
-    /// Whether the session encrypts the response's first parameter.
+    /// Whether the device encrypts the response's first parameter with the session.
     pub fn encrypts(self) -> bool
         ensures { result ≡ encrypts self }
     {
         self.has_any(ENCRYPT)
     }
 
-    /// Whether the session decrypts or encrypts a parameter.
+    /// Whether the session is used to encrypt a parameter of the command or of the response.
     pub fn uses_cipher(self) -> bool
         ensures { result ≡ uses_cipher self }
     {

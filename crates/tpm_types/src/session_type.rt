@@ -9,18 +9,18 @@ use tpm_bytes::Cursor;
 /// The type of a session: TPM_SE of TPM 2.0 Library, Part 2, section 6.11.
 #[derive(Clone, Copy, PartialEq, Eq)]
 pub enum SessionType {
-    /// The session authorizes by the entity's authorization value.
+    /// The session authorizes by an HMAC with the entity's authorization value.
     Hmac,
     /// The session authorizes by a policy.
     Policy,
-    /// The session computes a policy, and authorizes nothing.
+    /// The session computes a policy digest and authorizes nothing.
     Trial,
 }
 
 impl SessionType {
     ghost use Rattle.tpm_types.specs.SessionType.{is_trial, session_type_at, type_byte, type_named, type_number};
 
-    /// The number of the type on the wire.
+    /// The wire number of the type.
     pub fn number(self) -> u8
         ensures { result ≡ type_number self }
     {
@@ -31,7 +31,7 @@ impl SessionType {
         }
     }
 
-    /// The type of this number.
+    /// The type with this number, or None.
     pub fn named(number: u8) -> Option<SessionType>
         ensures { result ≡ type_named number }
     {
@@ -43,7 +43,7 @@ impl SessionType {
         }
     }
 
-    /// The highest byte of the handle of a session of this type (TPM_HT, Part 2, section 7.2).
+    /// The highest byte of the handles of such sessions (TPM_HT, Part 2, section 7.2).
     pub fn handle_byte(self) -> u32
         ensures { result ≡ type_byte self }
     {
@@ -53,7 +53,7 @@ impl SessionType {
         }
     }
 
-    /// Whether a session of this type computes a policy, and authorizes nothing.
+    /// Whether it is a trial session, which computes a policy digest and authorizes nothing.
     pub fn is_trial(self) -> bool
         ensures { result ≡ is_trial self }
     {
@@ -63,7 +63,8 @@ impl SessionType {
         }
     }
 
-    /// Reads a session type: INSUFFICIENT where it is cut, VALUE where there is none of its number.
+    /// Reads a session type. The fault is INSUFFICIENT if it is truncated, VALUE if no type has
+    /// its number.
     #[tactic(auto, unfolding(crate::specs::SessionType::session_type_at))]
     pub fn read(text: &mut Cursor) -> Result<SessionType, Rc>
         ensures { Reads (λ kind. kind) (session_type_at text.old) text.old result text.new }

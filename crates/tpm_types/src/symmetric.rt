@@ -1,5 +1,5 @@
-//! How a session encrypts parameters: not at all, by AES-128 in CFB mode, or by the exclusive or
-//! with masks (TPMT_SYM_DEF; TPM 2.0 Library, Part 2, section 11.1.6).
+//! How a session encrypts parameters: not at all, by AES-128 in CFB mode, or by XOR with a mask
+//! (TPMT_SYM_DEF; TPM 2.0 Library, Part 2, section 11.1.6).
 
 ghost use Rattle.std.specs.Prelude.{◌≡◌, ◌+◌, ◌≤◌, ℕ, List, ◌++◌, length, Ok, IfOk};
 ghost use Rattle.tpm_bytes.specs.Reading.{AreBytes, Reads};
@@ -15,9 +15,9 @@ use tpm_mac::HashAlg;
 pub enum SymmetricDefinition {
     /// Parameters are not encrypted.
     Null,
-    /// Parameters are encrypted by AES with a key of 128 bits, in cipher feedback mode.
+    /// Parameters are encrypted by AES with a 128-bit key, in cipher feedback mode.
     Aes128Cfb,
-    /// Parameters are encrypted by the exclusive or with masks that this hash makes.
+    /// Parameters are encrypted by XOR with masks that this hash generates.
     Xor(HashAlg),
 }
 
@@ -25,17 +25,17 @@ impl SymmetricDefinition {
     ghost use Rattle.tpm_types.specs.Symmetric.{aes_at, cipher_at, symmetric_at, symmetric_text, xor_at};
     ghost use Rattle.tpm_types.specs.declared.symmetric.SymmetricDefinition.{SymmetricDefinition};
 
-    /// Reads a symmetric definition: INSUFFICIENT where it is cut, SYMMETRIC where it is neither
-    /// NULL nor AES nor XOR, VALUE where the key does not have 128 bits, MODE where the mode is not
-    /// CFB, and HASH where the hash is not served.
+    /// Reads a symmetric definition. The fault is INSUFFICIENT if it is truncated; SYMMETRIC if
+    /// the algorithm is not NULL, AES or XOR; VALUE if the key is not 128 bits long; MODE if the
+    /// mode is not CFB; and HASH if the hash is not served.
     pub fn read(text: &mut Cursor) -> Result<SymmetricDefinition, Rc>
-        // Says which definition is read, or the first fault.
+        // The result is the decoded definition, or the first fault.
         ensures exact { Reads (λ definition. definition) (symmetric_at text.old) text.old
             result text.new }
-        // A value is read only from its text.
+        // Decoding succeeds only on the encoding of the value that it returns.
         ensures found { IfOk result (λ definition.
             text.old ≡ symmetric_text definition ++ text.new) }
-        // A value is read from its text, whatever comes after it.
+        // The encoding of a value decodes to that value, whatever follows it.
         ensures only { (definition : SymmetricDefinition) (rest : List ℕ)
             → text.old ≡ symmetric_text definition ++ rest
             → Reads (λ definition. definition) (Ok (definition, rest)) text.old result text.new }
@@ -63,7 +63,7 @@ impl SymmetricDefinition {
         Ok(definition)
     }
 
-    /// Reads a symmetric definition after the number of AES.
+    /// Reads what follows the algorithm number of AES in a symmetric definition.
     #[tactic(auto, unfolding(crate::specs::Symmetric::aes_at))]
     fn read_aes(text: &mut Cursor) -> Result<SymmetricDefinition, Rc>
         ensures { Reads (λ definition. definition) (aes_at text.old) text.old result text.new }
@@ -85,7 +85,7 @@ impl SymmetricDefinition {
         Ok(SymmetricDefinition::Aes128Cfb)
     }
 
-    /// Reads a symmetric definition after the number of XOR.
+    /// Reads what follows the algorithm number of XOR in a symmetric definition.
     #[tactic(auto, unfolding(crate::specs::Symmetric::xor_at))]
     fn read_xor(text: &mut Cursor) -> Result<SymmetricDefinition, Rc>
         ensures { Reads (λ definition. definition) (xor_at text.old) text.old result text.new }
@@ -93,8 +93,9 @@ impl SymmetricDefinition {
         Ok(SymmetricDefinition::Xor(read_hash(text)?))
     }
 
-    /// Reads a cipher, which is AES: INSUFFICIENT where it is cut, SYMMETRIC for another algorithm,
-    /// VALUE where the key does not have 128 bits, and MODE where the mode is not CFB.
+    /// Reads the definition of a cipher, which must be AES. The fault is INSUFFICIENT if it is
+    /// truncated; SYMMETRIC if the algorithm is not AES; VALUE if the key is not 128 bits long;
+    /// and MODE if the mode is not CFB.
     #[tactic(auto, unfolding(crate::specs::Symmetric::cipher_at))]
     pub fn read_cipher(text: &mut Cursor) -> Result<SymmetricDefinition, Rc>
         ensures { Reads (λ definition. definition) (cipher_at text.old) text.old result text.new }
@@ -111,14 +112,15 @@ impl SymmetricDefinition {
         Ok(cipher)
     }
 
-    /// Writes the definition at the end, two bytes, four or six, or nothing where it does not fit.
+    /// Appends the definition, which is two, four or six bytes long. If it does not fit, writes
+    /// nothing and returns an error.
     pub fn write<const N: usize>(&self, sink: &mut Sink<N>) -> Result<(), Full>
         ensures { Puts N (symmetric_text self.now) sink.old result sink.new }
     {
         sink.put(self.text())
     }
 
-    /// Writes the definition at the end, where there is room for the longest: six bytes.
+    /// Appends the definition. The sink must have room for the longest definition, six bytes.
     pub fn append_to<const N: usize>(&self, sink: &mut Sink<N>)
         requires { length sink.old + 6 ≤ N }
         ensures written { sink.new ≡ sink.old ++ symmetric_text self.now }
@@ -127,7 +129,7 @@ impl SymmetricDefinition {
         sink.append(self.text());
     }
 
-    /// The text of the definition.
+    /// The encoding of the definition.
     #[tactic(auto, unfolding(crate::specs::Symmetric::symmetric_text))]
     fn text(&self) -> &'static [u8]
         ensures value { result.now ≡ symmetric_text self.now }

@@ -1,4 +1,4 @@
--- Whole commands: a value is read only from its text, and from every such text.
+-- Whole commands: the encoding of each value, and nothing else, decodes to that value.
 use Rattle.std.proofs.Common.{◌≡◌, ℕ, ◌+◌, ◌*◌, ◌<◌, ◌≤◌, ◌^◌, List, [], ◌∷◌, ◌++◌, length, Result, Ok, Err, refl, sym, ap, subst, ◌∙◌, append_assoc, arith, length-append}
 use Rattle.std.specs.Prelude.{IfOk}
 use Rattle.std.specs.List.{flat_map, AllByRecursion}
@@ -23,9 +23,9 @@ header_or_rc_ok : {A : Type 0} (r : Result A HeaderFault) (x : A) → header_or_
 header_or_rc_ok (Ok y) x e = cc
 header_or_rc_ok (Err f) x e = absurd cc
 
--- ---- the authorization area, where there are sessions
+-- ---- the authorization area, if there are sessions
 
--- The entries are those that were read after a header of this tag.
+-- These entries were read after a header with this tag.
 pub record AreSessions (tag : Tag) (bytes : List ℕ) (x : List Entry × List ℕ) : Type 0 where
   pub text : Takes bytes (sessions_text x.0) x.1
   pub tag_is : tag_for x.0 ≡ tag
@@ -110,13 +110,13 @@ pub command_found : (old : List ℕ) (result : Result Command Rc) (new : List �
 command_found old (Ok command) new fits reads = command_takes old (whole_of command, new) fits reads
 command_found old (Err fault) new fits reads = tt
 
--- ---- a command that is written
+-- ---- writing a command
 
--- commandSize from the sizes of the parts
+-- commandSize is the sum of the sizes of the parts
 pub size_is : (c : Whole) (handles sessions : ℕ) → handles ≡ length c.handles → sessions ≡ length (sessions_text c.entries) → 10 + 4 * handles + sessions + length c.parameters ≡ command_size c
 size_is c handles sessions e f = omega (arith, command_size-is c, length-body c)
 
--- the room that is left after the header, and after the handles
+-- the space left after the header, and after the handles
 pub room_behind_header : (c : Whole) (capacity size : ℕ) (tag : Tag) (old one : List ℕ) → one ≡ old ++ header_text tag size c.code → length old + command_size c ≤ capacity → length one + 4 * length c.handles + length (sessions_text c.entries) + length c.parameters ≤ capacity
 room_behind_header c capacity size tag old one is room = rw is (omega (arith, command_size-is c, length-body c, length-append old (header_text tag size c.code), length-header_text tag size c.code))
 

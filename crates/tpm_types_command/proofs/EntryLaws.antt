@@ -1,4 +1,5 @@
--- Authorization entries and areas: a value is read only from its text, and from every such text.
+-- Authorization entries and areas: the encoding of each value, and nothing else, decodes to that
+-- value.
 use Rattle.std.proofs.Common.{◌≡◌, ℕ, zero, suc, ◌+◌, ◌^◌, ◌<◌, ◌≤◌, false, ltb, List, [], ◌∷◌, ◌++◌, length, Ok, refl, sym, ap, subst, ◌∙◌, append_assoc, arith}
 use Rattle.std.specs.List.{AllByRecursion}
 use Rattle.std.specs.Int.{w8, w32, to_be_bytes}
@@ -17,14 +18,14 @@ use Rattle.tpm_types_command.specs.AuthArea.{area_at, area_text, entries_in, ent
 
 -- ---- an entry
 
--- the reading of a sized buffer of any length
+-- reading a sized buffer of any length
 sized_spelled : Spelled sized_text (λ bytes. length bytes < 2 ^ 16) (λ text. or_fault (sized_at 0xffff text) (plain code.Authsize))
 sized_spelled = record {
   taken = λ bytes x fits e. let t = sized_takes 0xffff (plain code.Authsize) bytes x fits e in (t.0, t.1);
   again = λ buffer rest small. sized_again 0xffff (plain code.Authsize) buffer rest small (omega (arith, small));
 }
 
--- the fields of an entry, in their order
+-- the fields of an entry, in order
 abbrev Fields : Type 0
 Fields = ((ℕ × List ℕ) × ℕ) × List ℕ
 
@@ -58,7 +59,7 @@ pub ruleset entry_sizes = (length-auth_entry_text)
 
 -- ---- the entries of an authorization area
 
--- where bytes are left, there is an entry, and others after it
+-- if bytes are left, they start with an entry, which others may follow
 pub entries_in_some : (most : ℕ) (left : List ℕ) → 0 < length left → entries_in (suc most) left ≡ (entry_at left >>= λ first. entries_in most first.1 >>= λ others. Ok (first.0 ∷ others))
 entries_in_some most [] some = absurd (omega arith)
 entries_in_some most (byte ∷ bytes) some = refl

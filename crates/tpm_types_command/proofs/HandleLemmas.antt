@@ -1,4 +1,4 @@
--- The handles of a command, read and written one after another.
+-- The handles of a command are read and written in order.
 use Rattle.std.proofs.Common.{◌≡◌, ℕ, zero, suc, ◌+◌, ◌*◌, ◌^◌, List, [], ◌∷◌, ◌++◌, length, Result, Ok, Err, refl, sym, ap, subst, ◌∙◌, append_assoc, arith, length-append}
 use Rattle.std.specs.List.{flat_map, AllByRecursion}
 use Rattle.std.specs.Int.{w32, to_be_bytes}
@@ -18,16 +18,16 @@ cut_at number = at (place.Handle number) (plain code.Insufficient)
 abbrev behind_first : ℕ → ℕ → ℕ × List ℕ → Result (List Handle × List ℕ) Rc
 behind_first number count first = handles_at (number + 1) count first.1 >>= λ others. Ok (record { number = first.0 } ∷ others.0, others.1)
 
--- ---- handles that are read
+-- ---- reading handles
 
--- one handle more is read
+-- one more handle is read
 pub handle_more : (front : List Handle) (place m n x : ℕ) (text rest : List ℕ) → m ≡ suc n → or_fault (number_at w32 text) (cut_at place) ≡ Ok (x, rest) → behind (front ++ record { number = x } ∷ []) (handles_at (place + 1) n rest) ≡ behind front (handles_at place m text)
 handle_more front place m n x text rest e is =
     moved front (record { number = x }) (handles_at (place + 1) n rest)
     ∙ ap (λ (r : Result (ℕ × List ℕ) Rc). behind front (r >>= behind_first place n)) (sym is)
     ∙ ap (λ k. behind front (handles_at place k text)) (sym e)
 
--- a handle that is cut ends the reading
+-- a truncated handle ends the reading
 pub handle_cut : (front : List Handle) (place m n : ℕ) (fault : Rc) (text : List ℕ) → m ≡ suc n → or_fault (number_at w32 text) (cut_at place) ≡ Err fault → behind front (handles_at place m text) ≡ Err fault
 handle_cut front place m n fault text e is =
     ap (λ k. behind front (handles_at place k text)) e
@@ -50,7 +50,7 @@ handles_again (handle ∷ handles) place rest are =
     ap (handles_at place (suc (length handles))) (append_assoc (handle_text handle) (flat_map handle_text handles) rest)
     ∙ rw (number_or_again w32 (2 ^ 32) wide32 (cut_at place) handle.number (flat_map handle_text handles ++ rest) are.0, handles_again handles (place + 1) rest are.1) refl
 
--- ---- handles that are written
+-- ---- writing handles
 
 pub length-handles : (handles : List Handle) → length (flat_map handle_text handles) ≡ 4 * length handles
 length-handles [] = refl

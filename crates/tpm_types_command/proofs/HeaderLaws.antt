@@ -1,4 +1,4 @@
--- The header of a command: a value is read only from its text, and from every such text.
+-- The header of a command: the encoding of each value, and nothing else, decodes to that value.
 use Rattle.tpm_types.specs.Limits.{buffer_limit}
 use Rattle.std.proofs.Common.{◌≡◌, ℕ, ◌+◌, ◌^◌, ◌≤◌, Bool, true, false, ltb, List, ◌++◌, length, take, drop, Option, Some, Result, Ok, refl, sym, ap, subst, ◌∙◌, arith}
 use Rattle.std.specs.Prelude.{◌==◌, ◌||◌, not, ok_or}
@@ -24,13 +24,13 @@ neither : (a b : Bool) → (a || b) ≡ false → (a ≡ false) × (b ≡ false)
 neither true b e = absurd cc
 neither false b e = (refl, e)
 
--- a number of which all bytes are there is taken from the front
+-- a number that is not truncated is taken from the front
 field_takes : (w : Width) (limit : ℕ) (wide : IsWide w limit) (bytes : List ℕ) → AreBytes bytes → byte_len w ≤ length bytes → Takes bytes (to_be_bytes w (from_be_bytes w (take (byte_len w) bytes))) (drop (byte_len w) bytes)
 field_takes w limit wide bytes fits long =
     let there : ltb (length bytes) (byte_len w) ≡ false = le-ltb _ _ long in
     (number_takes w limit wide bytes (from_be_bytes w (take (byte_len w) bytes)) (drop (byte_len w) bytes) fits (rw there refl)).0
 
--- a text of ten bytes or more begins with its three fields
+-- a text of at least ten bytes starts with the three fields of a header
 fields_take : (bytes : List ℕ) → AreBytes bytes → 10 ≤ length bytes → Takes bytes (to_be_bytes w16 (tag_field bytes) ++ to_be_bytes w32 (size_field bytes) ++ to_be_bytes w32 (code_field bytes)) (drop 10 bytes)
 fields_take bytes fits long =
     let t0 : Takes bytes (to_be_bytes w16 (tag_field bytes)) (drop 2 bytes) = field_takes w16 (2 ^ 16) wide16 bytes fits (omega arith) in
@@ -43,7 +43,7 @@ fields_take bytes fits long =
     let t01 = Takes-then bytes (to_be_bytes w16 (tag_field bytes)) (drop 2 bytes) (to_be_bytes w32 (size_field bytes)) (drop 6 bytes) t0 t1' in
     Takes-then bytes (to_be_bytes w16 (tag_field bytes) ++ to_be_bytes w32 (size_field bytes)) (drop 6 bytes) (to_be_bytes w32 (code_field bytes)) (drop 10 bytes) t01 t2'
 
--- The header has these results of its steps.
+-- The steps of reading this header have these results.
 pub record IsHeader (bytes : List ℕ) (x : Header × List ℕ) : Type 0 where
   pub text : Takes bytes (header_text x.0.tag (length bytes) x.0.code) x.1
   pub least : 10 ≤ length bytes
@@ -71,7 +71,7 @@ header_takes bytes x fits e =
     let made : Header × List ℕ = (record { tag = b.0; code = d.0 }, drop 10 bytes) in
     subst (IsHeader bytes) (ok_is made x d.2) (record { text = t3; least = least; most = most })
 
--- the steps of reading a header, each of which succeeds
+-- the steps of reading a header, if all of them succeed
 steps_again : (outside other_size : Bool) (named : Option Tag) (served : Option CommandCode) (tag : Tag) (code : CommandCode) (rest : List ℕ) → outside ≡ false → named ≡ Some tag → other_size ≡ false → served ≡ Some code → (refused_if outside fault.Length >>= λ length_fits. ok_or named fault.Tag >>= λ tag. refused_if other_size fault.Size >>= λ size_is_length. ok_or served fault.Code >>= λ code. Ok (record { tag = tag; code = code }, rest)) ≡ (let done : Result (Header × List ℕ) HeaderFault = Ok (record { tag = tag; code = code }, rest) in done)
 steps_again outside other_size named served tag code rest e0 e1 e2 e3 = rw (e0, e1, e2, e3) refl
 

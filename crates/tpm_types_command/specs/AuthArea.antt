@@ -1,4 +1,4 @@
--- Authorization areas. TPM 2.0 Library, Part 1, section 18.6: authorizationSize, and one to three
+-- Authorization areas. TPM 2.0 Library, Part 1, section 18.6: authorizationSize, then one to three
 -- entries.
 use Rattle.std.specs.Prelude.{◌≡◌, ℕ, zero, suc, nat_lt}
 use Rattle.std.specs.Prelude.{List, [], ◌∷◌, ◌++◌, length, map, Result, Ok, Err}
@@ -20,7 +20,7 @@ area_text entries = to_be_bytes w32 (length (entries_text entries)) ++ entries_t
 
 -- ---- reading an authorization area: every fault is AUTHSIZE
 
--- the entries of a whole text, at most this many
+-- all entries in a text, at most this many
 abbrev pub entries_in : ℕ → List ℕ → Result (List Entry) Rc
 entries_in most [] = Ok []
 entries_in zero (byte ∷ bytes) = Err (plain code.Authsize)
@@ -37,7 +37,7 @@ area_at text = do
   entries ← entries_in 3 bytes.0
   Ok (entries, bytes.1)
 
--- A reading of these bytes gave all their entries, or the fault of these.
+-- A read of these bytes returned all their entries, or their fault.
 abbrev pub AreEntries : List ℕ → Result (ArrayVec AuthEntry) Rc → Type 0
 AreEntries bytes (Ok entries) = entries_in 3 bytes ≡ Ok (map entry_of entries.items)
 AreEntries bytes (Err fault) = entries_in 3 bytes ≡ Err fault

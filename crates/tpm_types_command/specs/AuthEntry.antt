@@ -11,7 +11,7 @@ use Rattle.tpm_types.specs.declared.rc.Rc.{Rc}
 use Rattle.tpm_types.specs.declared.rc.ResponseCode.TheVariants as code
 use Rattle.tpm_types.specs.Rc.{plain}
 
--- an entry, wherever its bytes lie in memory
+-- an entry, regardless of where its bytes are in memory
 pub record Entry : Type 0 where
   pub session : Handle
   pub nonce : List ℕ
@@ -26,25 +26,26 @@ entry_of e = record {
   hmac = e.hmac.now;
 }
 
--- the text of an entry: the session's handle, the nonce, the attributes, and the HMAC or password
+-- the encoding of an entry: the session's handle, the nonce, the attributes, and the HMAC or
+-- password
 abbrev pub auth_entry_text : Entry → List ℕ
 auth_entry_text e =
     to_be_bytes w32 e.session.number ++ sized_text e.nonce
     ++ to_be_bytes w8 e.attributes.octet ++ sized_text e.hmac
 
--- An entry has a text: each number fits its field.
+-- An entry that can be encoded: each number fits its field.
 pub record IsEntry (e : Entry) : Type 0 where
   pub session : e.session.number < 2 ^ 32
   pub nonce : length e.nonce < 2 ^ 16
   pub attributes : e.attributes.octet < 2 ^ 8
   pub hmac : length e.hmac < 2 ^ 16
 
--- The nonce and the HMAC of an entry have lengths that two bytes can say.
+-- The lengths of the entry's nonce and HMAC fit in two-byte size fields.
 abbrev pub HasSizes : Entry → Type 0
 HasSizes e = (length e.nonce < 2 ^ 16) × (length e.hmac < 2 ^ 16)
 
--- the entry at the front of a text, and what is after it; a cut entry is AUTHSIZE wherever it is
--- cut
+-- the entry at the front of a text, and the rest of the text. If any part of the entry is
+-- truncated, the fault is AUTHSIZE
 unfoldable pub entry_at : List ℕ → Result (Entry × List ℕ) Rc
 entry_at text = do
   session ← or_fault (number_at w32 text) (plain code.Authsize)
@@ -61,8 +62,8 @@ entry_at text = do
     hmac.1,
   )
 
--- A write of an entry put all of its text at the end exactly where the entry has a text and it
--- fits, and otherwise nothing.
+-- A write of an entry appended its whole encoding if the entry can be encoded and fits, and
+-- nothing otherwise.
 abbrev pub PutsEntry : {E : Type 0} → ℕ → Entry → List ℕ → Result (Unit {0}) E → List ℕ → Type 0
 PutsEntry capacity e old result new =
     (IsOk result

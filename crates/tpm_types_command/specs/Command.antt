@@ -1,5 +1,5 @@
--- Whole commands. TPM 2.0 Library, Part 1, sections 18.2 to 18.6: the header, the handles, with
--- sessions the authorization area, and the parameters.
+-- Whole commands. TPM 2.0 Library, Part 1, sections 18.2 to 18.6: the header, the handles, the
+-- authorization area if there are sessions, and the parameters.
 use Rattle.tpm_types.specs.Limits.{buffer_limit}
 use Rattle.std.specs.Prelude.{◌≡◌, ℕ, zero, suc, ◌+◌, ◌<◌, ◌≤◌, ◌^◌, ◌↔◌}
 use Rattle.std.specs.Prelude.{List, [], ◌∷◌, ◌++◌, length, map}
@@ -22,7 +22,7 @@ use Rattle.tpm_types_command.specs.Header.{header_at, header_fault_rc, header_te
 use Rattle.tpm_types.specs.Rc.{at, plain}
 use Rattle.tpm_commands.specs.CommandCode.{handle_count}
 
--- a command, wherever its bytes lie in memory
+-- a command, regardless of where its bytes are in memory
 pub record Whole : Type 0 where
   pub code : CommandCode
   pub handles : List Handle
@@ -37,7 +37,8 @@ whole_of c = record {
   parameters = c.parameters.now;
 }
 
--- the tag of a command with these entries: it has sessions where there are entries
+-- the tag of a command with these entries: TPM_ST_SESSIONS if there are entries,
+-- TPM_ST_NO_SESSIONS if not
 abbrev pub tag_for : List Entry → Tag
 tag_for [] = NoSessions
 tag_for (entry ∷ entries) = Sessions
@@ -48,12 +49,12 @@ handle_text handle = to_be_bytes w32 handle.number
 unfoldable pub handles_text : List Handle → List ℕ
 handles_text handles = flat_map handle_text handles
 
--- the text of the authorization area, which is there only where there are entries
+-- the encoding of the authorization area, which is present only if there are entries
 abbrev pub sessions_text : List Entry → List ℕ
 sessions_text [] = []
 sessions_text (entry ∷ entries) = area_text (entry ∷ entries)
 
--- the text of what stands after a command's header
+-- the encoding of a command without its header
 unfoldable pub command_body_text : Whole → List ℕ
 command_body_text c = handles_text c.handles ++ sessions_text c.entries ++ c.parameters
 
@@ -64,7 +65,7 @@ command_size c = 10 + length (command_body_text c)
 unfoldable pub command_text : Whole → List ℕ
 command_text c = header_text (tag_for c.entries) (command_size c) c.code ++ command_body_text c
 
--- A command has a text: its lengths fit their size fields.
+-- A command that can be encoded: its lengths fit their size fields.
 pub record HasText (c : Whole) : Type 0 where
   pub entries : AllByRecursion HasSizes c.entries
   pub whole : command_size c < 2 ^ 32
@@ -72,8 +73,8 @@ pub record HasText (c : Whole) : Type 0 where
 abbrev pub IsHandle : Handle → Type 0
 IsHandle handle = handle.number < 2 ^ 32
 
--- A command's text can be read: it has as many handles as its code says, at most three entries, and
--- no more bytes than a buffer may have.
+-- A command whose encoding can be read: it has as many handles as its code requires and at most
+-- three entries, and it fits in a buffer.
 pub record IsCommand (c : Whole) : Type 0 where
   pub handle_count : length c.handles ≡ handle_count c.code
   pub handles : AllByRecursion IsHandle c.handles
@@ -83,8 +84,8 @@ pub record IsCommand (c : Whole) : Type 0 where
 
 -- ---- reading a command, with the first fault
 
--- a number of handles at the front of a text, of which the first has this number among the
--- command's handles, and what is after them
+-- several handles at the front of a text, and the rest of the text. Among the command's handles,
+-- the first of them has this number
 abbrev pub handles_at : ℕ → ℕ → List ℕ → Result (List Handle × List ℕ) Rc
 handles_at number zero text = Ok ([], text)
 handles_at number (suc count) text = do
@@ -101,7 +102,7 @@ abbrev pub header_or_rc : {A : Type 0} → Result A HeaderFault → Result A Rc
 header_or_rc (Ok x) = Ok x
 header_or_rc (Err fault) = Err (header_fault_rc fault)
 
--- the command that a whole text is; its parameters are the end of the text
+-- the command encoded by this text, whose end is the parameters; no rest is left
 unfoldable pub command_at : List ℕ → Result (Whole × List ℕ) Rc
 command_at text = do
   header ← header_or_rc (header_at text)
@@ -117,8 +118,8 @@ command_at text = do
     [],
   )
 
--- A write of a command put all of its text at the end exactly where the command has a text and it
--- fits, and otherwise nothing.
+-- A write of a command appended its whole encoding if the command can be encoded and fits, and
+-- nothing otherwise.
 abbrev pub PutsCommand : {E : Type 0} → ℕ → Whole → List ℕ → Result (Unit {0}) E → List ℕ → Type 0
 PutsCommand capacity c old result new =
     (IsOk result ↔ (HasText c × (length old + command_size c ≤ capacity)))

@@ -21,12 +21,12 @@ header_fault_rc fault.Tag = plain code.BadTag
 header_fault_rc fault.Size = plain code.CommandSize
 header_fault_rc fault.Code = plain code.CommandCode
 
--- the text of the header of a command with this whole length
+-- the encoding of the header of a command with this total length
 unfoldable pub header_text : Tag → ℕ → CommandCode → List ℕ
 header_text tag size code =
     to_be_bytes w16 (tag_number tag) ++ to_be_bytes w32 size ++ to_be_bytes w32 (code_number code)
 
--- the fields of the header of a buffer of ten bytes or more: tag, commandSize, commandCode
+-- the header fields of a buffer of ten bytes or more: tag, commandSize, commandCode
 abbrev pub tag_field : List ℕ → ℕ
 tag_field buffer = from_be_bytes w16 (take 2 buffer)
 
@@ -36,7 +36,7 @@ size_field buffer = from_be_bytes w32 (take 4 (drop 2 buffer))
 abbrev pub code_field : List ℕ → ℕ
 code_field buffer = from_be_bytes w32 (take 4 (drop 6 buffer))
 
--- the header of a whole buffer and what is after it, or the first fault of the header
+-- the header of a whole buffer and the bytes after it, or the first fault of the header
 unfoldable pub header_at : List ℕ → Result (Header × List ℕ) HeaderFault
 header_at buffer = do
   length_fits ← refused_if (nat_lt (length buffer) 10 || nat_lt buffer_limit (length buffer)) fault.Length

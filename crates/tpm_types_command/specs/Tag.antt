@@ -7,7 +7,7 @@ abbrev pub tag_number : Tag → ℕ
 tag_number NoSessions = 0x8001
 tag_number Sessions = 0x8002
 
--- the tag of a number
+-- the tag with this number, or None
 abbrev pub tag_named : ℕ → Option Tag
 tag_named number =
     if number == 0x8001 then Some NoSessions

@@ -1,4 +1,4 @@
-//! The authorization area of a command: its size, and one to three entries (TPM 2.0 Library, Part
+//! The authorization area of a command: its size, then one to three entries (TPM 2.0 Library, Part
 //! 1, section 18.6).
 
 ghost use Rattle.std.specs.Prelude.{map};
@@ -9,12 +9,13 @@ use arrayvec::ArrayVec;
 use tpm_bytes::Cursor;
 use tpm_types::{Rc, ResponseCode};
 
-/// How many entries an authorization area may have, and how many bytes the smallest has.
+/// The largest number of entries in an authorization area, and the size in bytes of the smallest
+/// entry.
 pub const ENTRY_LIMIT: usize = 3;
 
 pub const LEAST_AREA: usize = 9;
 
-/// The authorization area of a command with sessions: authorizationSize, and one to three entries
+/// The authorization area of a command with sessions: authorizationSize, then one to three entries
 /// (TPM 2.0 Library, Part 1, section 18.6).
 #[derive(Drop)]
 pub struct AuthArea<'a> {
@@ -25,8 +26,9 @@ impl<'a> AuthArea<'a> {
     ghost use Rattle.tpm_types_command.specs.AuthEntry.{entry_of};
     ghost use Rattle.tpm_types_command.specs.AuthArea.{area_at};
 
-    /// Reads an authorization area: AUTHSIZE where its size is cut, under nine or beyond the text,
-    /// where an entry is cut, and where there is a fourth one.
+    /// Reads an authorization area. The fault is AUTHSIZE if its size is truncated, less than nine
+    /// or more than the bytes that follow, if an entry is truncated, or if there is a fourth
+    /// entry.
     #[tactic(auto, unfolding(crate::specs::AuthArea::area_at))]
     pub fn read(text: &mut Cursor<'a>) -> Result<AuthArea<'a>, Rc>
         ensures { Reads (λ area. map entry_of area.entries.items) (area_at text.old)

@@ -9,7 +9,7 @@ use tpm_bytes::{Cursor, Full, Sink};
 use tpm_types::{Handle, Rc, ResponseCode, SessionAttributes};
 
 /// One entry of a command's authorization area: TPMS_AUTH_COMMAND (Part 2, section 10.13.2). The
-/// nonce and the HMAC (or password) have any length that their sizes can say.
+/// nonce and the HMAC (or password) may be of any length that fits their size fields.
 #[derive(Clone, Copy, Default)]
 pub struct AuthEntry<'a> {
     pub session: Handle,
@@ -22,14 +22,14 @@ impl<'a> AuthEntry<'a> {
     ghost use Rattle.tpm_types_command.specs.AuthEntry.{Entry, HasSizes, IsEntry, PutsEntry};
     ghost use Rattle.tpm_types_command.specs.AuthEntry.{entry_at, entry_of, auth_entry_text};
 
-    /// Reads an entry: AUTHSIZE where it is cut.
+    /// Reads an entry. The fault is AUTHSIZE if it is truncated.
     pub fn read(text: &mut Cursor<'a>) -> Result<AuthEntry<'a>, Rc>
-        // Says which value is read, or the fault.
+        // The result is the decoded value, or the fault.
         ensures exact { Reads entry_of (entry_at text.old) text.old result text.new }
-        // A value is read only from its text.
+        // Decoding succeeds only on the encoding of the value that it returns.
         ensures found { IfOk result (λ entry. IsEntry (entry_of entry)
             × (text.old ≡ auth_entry_text (entry_of entry) ++ text.new)) }
-        // A value is read from its text, whatever comes after it.
+        // The encoding of a value decodes to that value, whatever follows it.
         ensures only { (entry : Entry) (rest : List ℕ) → IsEntry entry
             → text.old ≡ auth_entry_text entry ++ rest
             → Reads entry_of (Ok (entry, rest)) text.old result text.new }
@@ -64,7 +64,7 @@ impl<'a> AuthEntry<'a> {
         })
     }
 
-    /// How many bytes the entry's text has, if the entry has a text.
+    /// The size of the entry's encoding, or None if it cannot be encoded.
     #[tactic(auto, using(crate::proofs::EntryLaws::entry_sizes))]
     pub fn text_len(&self) -> Option<usize>
         ensures { SomeIff result (HasSizes (entry_of self.now))
@@ -77,8 +77,8 @@ impl<'a> AuthEntry<'a> {
         Some(9 + nonce + hmac)
     }
 
-    /// Writes the entry at the end, or nothing where it does not fit or a size does not fit its two
-    /// bytes.
+    /// Appends the entry. If it does not fit, or a size does not fit in two bytes, writes nothing
+    /// and returns an error.
     pub fn write<const N: usize>(&self, sink: &mut Sink<N>) -> Result<(), Full>
         ensures { PutsEntry N (entry_of self.now) sink.old result sink.new }
     {
@@ -93,7 +93,7 @@ impl<'a> AuthEntry<'a> {
         Ok(())
     }
 
-    /// Writes the entry at the end, where its sizes fit their bytes, and there is room for it.
+    /// Appends the entry. Its sizes must fit in two bytes each, and there must be room for it.
     #[tactic(auto, using(crate::proofs::EntryLaws::entry_sizes))]
     pub fn append_to<const N: usize>(&self, sink: &mut Sink<N>)
         requires sizes { HasSizes (entry_of self.now) }

@@ -1,5 +1,5 @@
 //! A whole command: its code, handles, authorization entries and parameters (TPM 2.0 Library, Part
-//! 1, section 18). Its reader and its writer are submodules.
+//! 1, section 18). Submodules read and write it.
 
 ghost use Rattle.std.specs.Prelude.{◌≡◌, length};
 ghost use Rattle.tpm_commands.specs.CommandCode.{handle_count};
@@ -12,9 +12,9 @@ use tpm_types::Handle;
 pub mod reading;
 mod writing;
 
-/// A whole command (TPM 2.0 Library, Part 1, section 18): its handles are as many as its code has,
-/// and its tag is that of sessions exactly where it has entries. The parameters are its other
-/// bytes.
+/// A whole command (TPM 2.0 Library, Part 1, section 18). Its code determines the number of its
+/// handles, and its tag is TPM_ST_SESSIONS exactly if it has entries. The parameters are the bytes
+/// after these.
 #[derive(Drop)]
 pub struct Command<'a> {
     pub code: CommandCode,

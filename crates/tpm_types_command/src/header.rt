@@ -11,10 +11,10 @@ use tpm_bytes::Cursor;
 use tpm_commands::CommandCode;
 use tpm_types::{BUFFER_LIMIT, Handle, Rc, ResponseCode};
 
-/// How many bytes a command's header has.
+/// The size of a command's header in bytes.
 pub const HEADER_SIZE: usize = 10;
 
-/// The header of a command, without its size (TPM 2.0 Library, Part 1, section 18.2).
+/// The header of a command, except commandSize (TPM 2.0 Library, Part 1, section 18.2).
 #[derive(Clone, Copy, PartialEq, Eq)]
 pub struct Header {
     pub tag: Tag,
@@ -24,20 +24,20 @@ pub struct Header {
 /// The first fault of a command's header, in the order of the checks.
 #[derive(Clone, Copy, PartialEq, Eq)]
 pub enum HeaderFault {
-    /// The buffer has fewer bytes than a header, or more than the limit of a buffer.
+    /// The buffer is shorter than a header, or longer than a buffer may be.
     Length,
-    /// The tag is neither of the two tags of commands.
+    /// The tag is neither TPM_ST_SESSIONS nor TPM_ST_NO_SESSIONS.
     Tag,
-    /// The commandSize is not the buffer's length.
+    /// commandSize differs from the length of the buffer.
     Size,
-    /// The command is not served.
+    /// The command code is not served.
     Code,
 }
 
 impl HeaderFault {
     ghost use Rattle.tpm_types_command.specs.Header.{header_fault_rc};
 
-    /// The response code of the fault.
+    /// The response code for the fault.
     pub fn rc(self) -> Rc
         ensures { result ≡ header_fault_rc self }
     {
@@ -52,7 +52,7 @@ impl HeaderFault {
 impl Header {
     ghost use Rattle.tpm_types_command.specs.Header.{header_at};
 
-    /// Reads the header of a command that is the whole rest of the text.
+    /// Reads the header of a command, which must be the whole rest of the text.
     #[tactic(auto, unfolding(crate::specs::Header::header_at))]
     pub fn read(text: &mut Cursor) -> Result<Header, HeaderFault>
         ensures { Reads (λ header. header) (header_at text.old) text.old result text.new }

@@ -3,11 +3,10 @@
 //! Whole commands (TPM 2.0 Library, Part 1, section 18): their headers, handles, authorization
 //! areas and entries.
 //!
-//! The crate uses `tpm_commands` for the commands that are served, and `tpm_types` for handles and
-//! response codes. A read gives the value or the first fault, as the response code that the
-//! standard has for it, and a refused read or write changes nothing. Entries and commands have one
-//! text for each value: a value is read only from its text, and from every such text. No call here
-//! takes memory.
+//! The crate uses `tpm_commands` for the served commands, and `tpm_types` for handles and response
+//! codes. A read returns the value, or the first fault as the standard's response code for it; a
+//! read or write that fails changes nothing. Each entry and each command has exactly one encoding,
+//! and nothing else decodes to it. No call here allocates memory.
 
 pub mod auth_area;
 pub mod auth_entry;

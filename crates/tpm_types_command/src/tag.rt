@@ -1,5 +1,5 @@
-//! The tag of a command or an answer, which says whether it has sessions (TPM_ST; TPM 2.0 Library,
-//! Part 2, section 6.9).
+//! The tag of a command or a response, which says whether it has sessions (TPM_ST; TPM 2.0
+//! Library, Part 2, section 6.9).
 
 ghost use Rattle.std.specs.Prelude.{◌≡◌};
 
@@ -14,7 +14,7 @@ pub enum Tag {
 impl Tag {
     ghost use Rattle.tpm_types_command.specs.Tag.{tag_named, tag_number};
 
-    /// The number of the tag on the wire.
+    /// The wire number of the tag.
     pub fn number(self) -> u16
         ensures { result ≡ tag_number self }
     {
@@ -24,7 +24,7 @@ impl Tag {
         }
     }
 
-    /// The tag of this number.
+    /// The tag with this number, or None.
     pub fn named(number: u16) -> Option<Tag>
         ensures { result ≡ tag_named number }
     {

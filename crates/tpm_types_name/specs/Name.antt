@@ -7,15 +7,16 @@ use Rattle.tpm_mac.specs.Digest.{hash_of}
 use Rattle.tpm_types.specs.declared.handle.Handle.{Handle}
 use Rattle.tpm_types.specs.Algorithm.{hash_number}
 
--- the Name of an entity that has no public area: its handle
+-- the Name of an entity without a public area: its handle
 abbrev pub handle_name : Handle → List ℕ
 handle_name handle = to_be_bytes w32 handle.number
 
--- a Name that is made of a text: a hash algorithm, and the digest of the text by it
+-- the Name of an entity whose public area is encoded as this text: a hash algorithm, followed by
+-- the text's digest by that algorithm
 abbrev pub hashed_name : HashAlg → List ℕ → List ℕ
 hashed_name alg text = to_be_bytes w16 (hash_number alg) ++ hash_of alg text
 
--- the qualified Name of an object: the digest of its parent's qualified Name and its own Name; the
--- qualified Name of a hierarchy is its handle
+-- the qualified Name of an object: the digest of its parent's qualified Name followed by its own
+-- Name. The qualified Name of a hierarchy is its handle
 unfoldable pub qualified_name : HashAlg → (parent name : List ℕ) → List ℕ
 qualified_name alg parent name = hashed_name alg (parent ++ name)

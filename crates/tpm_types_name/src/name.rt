@@ -1,5 +1,5 @@
-//! The Name of an entity, of at most 34 bytes: its handle, or a hash algorithm and a digest by that
-//! algorithm (TPM 2.0 Library, Part 1, section 16).
+//! The Name of an entity, at most 34 bytes long: its handle, or a hash algorithm and a digest by
+//! it (TPM 2.0 Library, Part 1, section 16).
 
 ghost use Rattle.std.specs.Prelude.{◌≡◌, ◌≤◌, [], length};
 ghost use Rattle.std.specs.Str.{bytes_eq};
@@ -12,7 +12,7 @@ use tpm_bytes::{append, copied};
 use tpm_mac::{HashAlg, digest_parts};
 use tpm_types::{Handle, hash_number};
 
-/// The Name of an entity: at most 34 bytes. Contracts see it as its bytes.
+/// The Name of an entity: at most 34 bytes. In contracts it is its list of bytes.
 #[derive(Drop)]
 pub struct Name {
     bytes: ArrayVec<u8, 34>,
@@ -38,7 +38,7 @@ impl Default for Name {
 }
 
 impl Name {
-    /// The Name of an entity that has no public area, as a hierarchy or a PCR: its handle.
+    /// The Name of an entity without a public area, such as a hierarchy or a PCR: its handle.
     pub fn of_handle(handle: Handle) -> Name
         ensures { result ≡ handle_name handle }
     {
@@ -47,7 +47,7 @@ impl Name {
         }
     }
 
-    /// A Name, or a qualified Name, of these bytes.
+    /// The Name or qualified Name that consists of these bytes.
     pub fn of(bytes: &[u8]) -> Name
         requires { length bytes.now ≤ 34 }
         ensures { result ≡ bytes.now }
@@ -57,8 +57,8 @@ impl Name {
         }
     }
 
-    /// The Name of an entity whose public area has this text, in parts: a hash algorithm, and the
-    /// digest of the text by that algorithm.
+    /// The Name of an entity whose public area is encoded as the concatenation of these parts: a
+    /// hash algorithm, followed by the digest by that algorithm.
     pub fn hashed(alg: HashAlg, parts: &[&[u8]]) -> Name
         ensures { result ≡ hashed_name alg (joined_text parts.now) }
     {
@@ -68,7 +68,7 @@ impl Name {
         Name { bytes }
     }
 
-    /// The qualified Name of an object of this Name, under a parent of this qualified Name.
+    /// The qualified Name of an object with this Name, under a parent with this qualified Name.
     #[tactic(auto, unfolding(crate::specs::Name::qualified_name))]
     pub fn qualified(alg: HashAlg, parent: &[u8], name: &[u8]) -> Name
         ensures { result ≡ qualified_name alg parent.now name.now }
@@ -93,7 +93,7 @@ impl Name {
         }
     }
 
-    /// Whether the two Names are the same.
+    /// Whether the two Names are equal.
     pub fn is_same(&self, other: &Name) -> bool
         ensures { result ≡ bytes_eq self.now other.now }
     {

@@ -1,5 +1,5 @@
--- The attributes and the type of an index after an attribute was set or cleared: bits outside a
--- mask change nothing within it.
+-- The attributes and the type of an index after an attribute was set or cleared: changing bits
+-- outside a mask changes nothing inside it.
 use Rattle.std.proofs.Common.{◌≡◌, ◌≢◌, ℕ, ◌-◌, ◌*◌, ◌/◌, ◌%◌, ◌^◌, ◌<◌, refl, ap, ◌∙◌, arith, inl, inr}
 use Rattle.std.specs.Prelude.{bit_and, bit_or}
 use Rattle.std.specs.Int.{w32, bit_at, bit_not}
@@ -20,7 +20,7 @@ set_same n k = omega (arith, bit_at_or n (2 ^ k) k, bit_at-pow_same k, bit_at-lt
 pub set_other : (n k i : ℕ) → i ≢ k → bit_at (bit_or n (2 ^ k)) i ≡ bit_at n i
 set_other n k i apart = omega (arith, bit_at_or n (2 ^ k) i, bit_at-pow_other k i apart)
 
--- the complement of one bit of 32 has all the other bits
+-- the 32-bit complement of one bit consists of all other bits
 not_at : (k i : ℕ) → 2 ^ k < 2 ^ 32 → i < 32 → bit_at (bit_not w32 (2 ^ k)) i ≡ 1 - bit_at (2 ^ k) i
 not_at k i small within = bit_at_not w32 (2 ^ k) i small within
 
@@ -32,7 +32,7 @@ pub cleared_other : (n k i : ℕ) → 2 ^ k < 2 ^ 32 → i < 32 → i ≢ k → 
 cleared_other n k i small within apart =
     omega (arith, bit_at_and n (bit_not w32 (2 ^ k)) i, not_at k i small within, bit_at-pow_other k i apart, bit_at-lt n i)
 
--- ---- a mask without the bit
+-- ---- a mask that does not contain the bit
 
 pub set_masked : (n k mask : ℕ) → bit_at mask k ≡ 0 → bit_and (bit_or n (2 ^ k)) mask ≡ bit_and n mask
 set_masked n k mask free = same_from_bits _ _ at
@@ -76,7 +76,7 @@ pub power_small : (one : NvAttribute) → 2 ^ attribute_bit one < 2 ^ 32
 power_small attribute.PpWrite = omega arith
 power_small _ = omega arith
 
--- the bit of an attribute is not a reserved one, nor one of the type
+-- the bit of an attribute is neither a reserved bit nor a bit of the type
 not_reserved : (one : NvAttribute) → bit_at reserved_bits (attribute_bit one) ≡ 0
 not_reserved attribute.PpWrite = refl
 not_reserved _ = refl
@@ -85,7 +85,7 @@ not_typed : (one : NvAttribute) → bit_at (2 ^ 8 - 2 ^ 4) (attribute_bit one) �
 not_typed attribute.PpWrite = refl
 not_typed _ = refl
 
--- two numbers that agree in the bits of the type have the same type
+-- two numbers with equal type bits encode the same type
 type_bits : (a b : ℕ) → bit_and a (2 ^ 8 - 2 ^ 4) ≡ bit_and b (2 ^ 8 - 2 ^ 4) → a / 2 ^ 4 % 2 ^ 4 ≡ b / 2 ^ 4 % 2 ^ 4
 type_bits a b same =
     let first : bit_and a (2 ^ 8 - 2 ^ 4) ≡ a / 2 ^ 4 % 2 ^ 4 * 2 ^ 4 = and_high a 4 4 in

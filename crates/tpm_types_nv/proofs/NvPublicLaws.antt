@@ -1,4 +1,4 @@
--- Public areas of NV indices: a value is read only from its text, and from every such text.
+-- Public areas of NV indices: the encoding of each value, and nothing else, decodes to that value.
 use Rattle.std.proofs.Common.{◌≡◌, ℕ, ◌^◌, ◌<◌, Bool, true, false, List, [], ◌++◌, length, Ok, refl, subst, append_assoc, append-nil, arith, length-append}
 use Rattle.std.specs.Prelude.{not}
 use Rattle.std.specs.Int.{w16, w32, to_be_bytes}
@@ -61,7 +61,7 @@ nv_index_spelled = record {
 
 -- ---- public areas
 
--- the fields of a public area, in their order
+-- the fields of a public area, in order
 abbrev Fields : Type 0
 Fields = (((Handle × HashAlg) × NvAttributes) × List ℕ) × ℕ
 

@@ -1,11 +1,12 @@
--- The laws of the attributes of an index: which are set after one is set or cleared.
+-- The laws of the attributes of an index: which of them are set after one was set or cleared.
 use Rattle.std.specs.Prelude.{◌≡◌, ◌≢◌, true, false}
 use Rattle.tpm_types_nv.specs.declared.nv_attributes.NvAttribute.{NvAttribute}
 use Rattle.tpm_types_nv.specs.declared.nv_attributes.NvAttributes.{NvAttributes}
 use Rattle.tpm_types_nv.specs.NvAttributes.{IsNvAttributes, attribute_bit, has, index_type, with_attribute, without_attribute}
 
 pub record AreNvAttributes : Type 0 where
-  -- an attribute that is set is there, one that is cleared is not, and all others stay
+  -- setting an attribute makes it present, clearing it makes it absent, and all others are
+  -- unchanged
   pub set_there : (attributes : NvAttributes) (one : NvAttribute)
       → has (with_attribute attributes one) one ≡ true
   pub set_others : (attributes : NvAttributes) (one other : NvAttribute)
@@ -16,12 +17,12 @@ pub record AreNvAttributes : Type 0 where
   pub cleared_others : (attributes : NvAttributes) (one other : NvAttribute)
       → attribute_bit other ≢ attribute_bit one
       → has (without_attribute attributes one) other ≡ has attributes other
-  -- the type of an index stays as an attribute is set or cleared
+  -- setting or clearing an attribute does not change the type of the index
   pub set_type : (attributes : NvAttributes) (one : NvAttribute)
       → index_type (with_attribute attributes one) ≡ index_type attributes
   pub cleared_type : (attributes : NvAttributes) (one : NvAttribute)
       → index_type (without_attribute attributes one) ≡ index_type attributes
-  -- attributes that have a text still have one after one is set or cleared
+  -- attributes that can be encoded still can be after one was set or cleared
   pub set_named : (attributes : NvAttributes) (one : NvAttribute) → IsNvAttributes attributes
       → IsNvAttributes (with_attribute attributes one)
   pub cleared_named : (attributes : NvAttributes) (one : NvAttribute) → IsNvAttributes attributes

@@ -12,7 +12,7 @@ use Rattle.tpm_types_nv.specs.NvType.{nv_type_named, nv_type_number}
 use Rattle.tpm_types.specs.AttributeBits.{AreAttributeBits, attribute_bits_at}
 use Rattle.tpm_types.specs.declared.rc.Rc.{Rc}
 
--- the bit of an attribute, from 0
+-- the bit of an attribute, counted from 0
 abbrev pub attribute_bit : NvAttribute → ℕ
 attribute_bit attribute.PpWrite = 0
 attribute_bit attribute.OwnerWrite = 1
@@ -40,7 +40,7 @@ attribute_bit attribute.ReadStClear = 31
 abbrev pub has : NvAttributes → NvAttribute → Bool
 has attributes attribute = bit_at attributes.bits (attribute_bit attribute) == 1
 
--- the attributes with this one set, and with it cleared; every other bit stays
+-- the attributes after this one was set, and after it was cleared; all other bits are unchanged
 abbrev pub with_attribute : NvAttributes → NvAttribute → NvAttributes
 with_attribute attributes attribute =
     record { bits = bit_or attributes.bits (2 ^ attribute_bit attribute) }
@@ -49,14 +49,14 @@ abbrev pub without_attribute : NvAttributes → NvAttribute → NvAttributes
 without_attribute attributes attribute =
     record { bits = bit_and attributes.bits (bit_not w32 (2 ^ attribute_bit attribute)) }
 
--- the type of an index, which bits 4 to 7 number
+-- the number of an index's type, in bits 4 to 7
 abbrev pub type_number : NvAttributes → ℕ
 type_number attributes = attributes.bits / 2 ^ 4 % 2 ^ 4
 
 abbrev pub index_type : NvAttributes → Option NvType
 index_type attributes = nv_type_named (type_number attributes)
 
--- whether attributes are those of an index of this type
+-- whether the attributes belong to an index of this type
 abbrev pub is_of : NvAttributes → NvType → Bool
 is_of attributes type = type_number attributes == nv_type_number type
 
@@ -86,7 +86,7 @@ all_attributes =
     ∷ attribute.ReadStClear
     ∷ []
 
--- the bits of 32 that are neither an attribute nor one of the type's four
+-- the bits, of 32, that are used neither for an attribute nor for the type
 abbrev pub reserved_bits : ℕ
 reserved_bits =
     2 ^ 32 - 1 - 0xf * 2 ^ 4 - sum_by (λ one. 2 ^ attribute_bit one) all_attributes
@@ -94,11 +94,11 @@ reserved_bits =
 abbrev pub nv_attributes_text : NvAttributes → List ℕ
 nv_attributes_text attributes = to_be_bytes w32 attributes.bits
 
--- The attributes of an index have a text: no reserved bit is set.
+-- The attributes of an index that can be encoded: no reserved bit is set.
 abbrev pub IsNvAttributes : NvAttributes → Type 0
 IsNvAttributes attributes = AreAttributeBits reserved_bits attributes.bits
 
--- the attributes of an index at the front of a text, and what is after them
+-- the attributes of an index at the front of a text, and the rest of the text
 unfoldable pub nv_attributes_at : List ℕ → Result (NvAttributes × List ℕ) Rc
 nv_attributes_at text = do
   bits ← attribute_bits_at reserved_bits text

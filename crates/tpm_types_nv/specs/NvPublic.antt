@@ -18,33 +18,33 @@ use Rattle.tpm_types.specs.Rc.{plain}
 abbrev pub nv_index_text : Handle → List ℕ
 nv_index_text handle = to_be_bytes w32 handle.number
 
--- the handle of an index at the front of a text, and what is after it
+-- the handle of an index at the front of a text, and the rest of the text
 unfoldable pub nv_index_at : List ℕ → Result (Handle × List ℕ) Rc
 nv_index_at text = do
   number ← or_fault (number_at w32 text) (plain code.Insufficient)
   named ← refused_if (not (is_nv_index (numbered number.0))) (plain code.Value)
   Ok (numbered number.0, number.1)
 
--- the text of a public area: the handle of the index, the algorithm of the Name, the attributes,
--- the policy, and the size of the data
+-- the encoding of a public area: the handle of the index, nameAlg, the attributes, the policy, and
+-- the size of the data
 unfoldable pub nv_public_text : NvPublic → List ℕ
 nv_public_text p =
     nv_index_text p.nv_index ++ to_be_bytes w16 (hash_number p.name_alg)
     ++ nv_attributes_text p.attributes ++ sized_text p.auth_policy ++ to_be_bytes w16 p.data_size
 
--- A handle is that of an index: its number has four bytes, of which the highest is 01.
+-- The handle of an index: its number fits in four bytes, and the highest byte is 01.
 pub record IsNvIndex (handle : Handle) : Type 0 where
   pub fits : handle.number < 2 ^ 32
   pub named : is_nv_index handle ≡ true
 
--- The public area of an index has a text.
+-- A public area of an index that can be encoded.
 pub record IsNvPublic (p : NvPublic) : Type 0 where
   pub nv_index : IsNvIndex p.nv_index
   pub attributes : IsNvAttributes p.attributes
   pub auth_policy : length p.auth_policy ≤ 32
   pub data_size : p.data_size < 2 ^ 16
 
--- the public area at the front of a text, and what is after it
+-- the public area at the front of a text, and the rest of the text
 unfoldable pub nv_public_at : List ℕ → Result (NvPublic × List ℕ) Rc
 nv_public_at text = do
   nv_index ← nv_index_at text

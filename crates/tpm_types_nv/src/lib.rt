@@ -3,10 +3,10 @@
 //! The public areas of NV indices (TPM 2.0 Library, Part 2, section 13): their attributes and
 //! types, and the area itself.
 //!
-//! The crate uses `tpm_types` for the structures in these areas. A read gives the value or the
-//! first fault, as the response code that the standard has for it, and a refused read or write
-//! changes nothing. A public area has one text: it is read only from that text, and from every such
-//! text. No call here takes memory.
+//! The crate uses `tpm_types` for the structures in these areas. A read returns the value, or the
+//! first fault as the standard's response code for it; a read or write that fails changes nothing.
+//! Each public area has exactly one encoding, and nothing else decodes to it. No call here
+//! allocates memory.
 
 pub mod laws;
 pub mod nv_attributes;

@@ -1,4 +1,4 @@
-//! The attributes of NV indices, a bit for each, with the four bits of the type (TPMA_NV; TPM 2.0
+//! The attributes of NV indices, one bit each, and the four bits of the type (TPMA_NV; TPM 2.0
 //! Library, Part 2, section 13.4).
 
 ghost use Rattle.std.specs.Prelude.{◌≡◌, ◌<◌};
@@ -8,10 +8,11 @@ use crate::nv_type::NvType;
 use tpm_bytes::Cursor;
 use tpm_types::{Rc, read_attribute_bits};
 
-/// The bits that are neither an attribute nor of the type: 8, 9 and 20 to 24.
+/// The bits that are used neither for an attribute nor for the type: 8, 9 and 20 to 24.
 const RESERVED_BITS: u32 = 0x01f0_0300;
 
-/// An attribute of an NV index, by its bit: TPMA_NV of TPM 2.0 Library, Part 2, section 13.4.
+/// An attribute of an NV index; its value is its bit: TPMA_NV of TPM 2.0 Library, Part 2, section
+/// 13.4.
 #[derive(Clone, Copy, PartialEq, Eq)]
 pub enum NvAttribute {
     PpWrite = 0,
@@ -49,7 +50,7 @@ impl NvAttribute {
     }
 }
 
-/// The attributes of an NV index, a bit for each, and four bits for its type.
+/// The attributes of an NV index, one bit each, and four bits for its type.
 #[derive(Clone, Copy, PartialEq, Eq)]
 pub struct NvAttributes {
     pub bits: u32,
@@ -66,7 +67,7 @@ impl NvAttributes {
         (self.bits >> attribute.bit()) & 1 == 1
     }
 
-    /// The attributes with this one set.
+    /// The attributes after this one was set.
     pub fn with(self, attribute: NvAttribute) -> NvAttributes
         ensures { result ≡ with_attribute self attribute }
     {
@@ -75,7 +76,7 @@ impl NvAttributes {
         }
     }
 
-    /// The attributes with this one cleared.
+    /// The attributes after this one was cleared.
     pub fn without(self, attribute: NvAttribute) -> NvAttributes
         ensures { result ≡ without_attribute self attribute }
     {
@@ -84,7 +85,7 @@ impl NvAttributes {
         }
     }
 
-    /// The type of the index, if it is one that is served.
+    /// The type of the index, or None if it is not served.
     pub fn index_type(self) -> Option<NvType>
         ensures { result ≡ index_type self }
     {
@@ -98,8 +99,8 @@ impl NvAttributes {
         (self.bits >> 4) % 16 == kind.number()
     }
 
-    /// Reads attributes: INSUFFICIENT where they are cut, RESERVED_BITS where a bit is set that is
-    /// neither an attribute nor of the type.
+    /// Reads attributes. The fault is INSUFFICIENT if they are truncated, RESERVED_BITS if a bit
+    /// is set that is used neither for an attribute nor for the type.
     #[tactic(auto, unfolding(crate::specs::NvAttributes::nv_attributes_at))]
     pub fn read(text: &mut Cursor) -> Result<NvAttributes, Rc>
         ensures { Reads (λ attributes. attributes) (nv_attributes_at text.old) text.old

@@ -14,11 +14,11 @@ use tpm_types::{Handle, Octets, Rc, ResponseCode, hash_number, read_filled, read
 pub struct NvPublic {
     /// The handle of the index.
     pub nv_index: Handle,
-    /// The hash algorithm of the index's Name and of its policy, and of an index that is extended.
+    /// The hash algorithm for the index's Name and policy, and for the data of an extend index.
     pub name_alg: HashAlg,
     pub attributes: NvAttributes,
     pub auth_policy: Octets<32>,
-    /// How many bytes of data the index has once it is written.
+    /// The size of the data after the first write.
     pub data_size: u16,
 }
 
@@ -27,14 +27,15 @@ impl NvPublic {
     ghost use Rattle.tpm_types_nv.specs.declared.nv_public.NvPublic.{NvPublic};
     ghost use Rattle.tpm_types.specs.Filled.{filled_by};
 
-    /// Reads a public area: INSUFFICIENT where it is cut, and otherwise the first fault of a field.
+    /// Reads a public area. The fault is INSUFFICIENT if it is truncated, else the first fault of
+    /// a field.
     pub fn read(text: &mut Cursor) -> Result<NvPublic, Rc>
-        // Says which value is read, or the first fault.
+        // The result is the decoded value, or the first fault.
         ensures exact { Reads (λ public. public) (nv_public_at text.old) text.old result text.new }
-        // A value is read only from its text.
+        // Decoding succeeds only on the encoding of the value that it returns.
         ensures found { IfOk result (λ public. IsNvPublic public
             × (text.old ≡ nv_public_text public ++ text.new)) }
-        // A value is read from its text, whatever comes after it.
+        // The encoding of a value decodes to that value, whatever follows it.
         ensures only { (public : NvPublic) (rest : List ℕ) → IsNvPublic public
             → text.old ≡ nv_public_text public ++ rest
             → Reads (λ public. public) (Ok (public, rest)) text.old result text.new }
@@ -42,7 +43,7 @@ impl NvPublic {
         NvPublic::read_fields(text)
     }
 
-    /// Reads a public area that fills a sized buffer (TPM2B_NV_PUBLIC), with the faults of
+    /// Reads a public area that fills a sized buffer (TPM2B_NV_PUBLIC). The faults are those of
     /// [`tpm_types::read_filled`].
     pub fn read_sized(text: &mut Cursor) -> Result<NvPublic, Rc>
         ensures exact { Reads (λ public. public) (filled_by nv_public_at text.old) text.old
@@ -56,8 +57,8 @@ impl NvPublic {
         read_filled(text)
     }
 
-    /// Reads the handle of an index: INSUFFICIENT where it is cut, VALUE where its highest byte is
-    /// not 01.
+    /// Reads the handle of an index. The fault is INSUFFICIENT if it is truncated, VALUE if its
+    /// highest byte is not 01.
     #[tactic(auto, unfolding(crate::specs::NvPublic::nv_index_at))]
     fn read_index(text: &mut Cursor) -> Result<Handle, Rc>
         ensures { Reads (λ handle. handle) (nv_index_at text.old) text.old result text.new }
@@ -110,7 +111,7 @@ impl NvPublic {
         }
     }
 
-    /// The text of the public area, in the room for the longest.
+    /// The encoding of the public area, in a buffer with space for the longest.
     #[tactic(auto, unfolding(crate::specs::NvPublic::nv_public_text))]
     pub fn text(&self) -> Sink<46>
         ensures { result ≡ nv_public_text self.now }
@@ -124,7 +125,8 @@ impl NvPublic {
         text
     }
 
-    /// Writes the public area at the end, at most 46 bytes, or nothing where it does not fit.
+    /// Appends the public area, at most 46 bytes. If it does not fit, writes nothing and returns
+    /// an error.
     pub fn write<const N: usize>(&self, sink: &mut Sink<N>) -> Result<(), Full>
         ensures written { Puts N (nv_public_text self.now) sink.old result sink.new }
         ensures small { length (nv_public_text self.now) ≤ 46 }
@@ -133,8 +135,8 @@ impl NvPublic {
         sink.put(text.as_slice())
     }
 
-    /// Writes the public area as a sized buffer (TPM2B_NV_PUBLIC) at the end, at most 48 bytes, or
-    /// nothing where it does not fit.
+    /// Appends the public area as a sized buffer (TPM2B_NV_PUBLIC), at most 48 bytes. If it does
+    /// not fit, writes nothing and returns an error.
     pub fn write_sized<const N: usize>(&self, sink: &mut Sink<N>) -> Result<(), Full>
         ensures written { Puts N (sized_text (nv_public_text self.now)) sink.old result sink.new }
         ensures small { length (sized_text (nv_public_text self.now)) ≤ 48 }

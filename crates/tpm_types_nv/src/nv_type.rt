@@ -1,5 +1,5 @@
-//! The types of NV indices: bytes, a counter, bits, or a digest that is extended (TPM_NT; TPM 2.0
-//! Library, Part 2, section 13.2).
+//! The types of NV indices: ordinary bytes, a counter, a bit field, or a digest to extend (TPM_NT;
+//! TPM 2.0 Library, Part 2, section 13.2).
 
 ghost use Rattle.std.specs.Prelude.{◌≡◌};
 ghost use Rattle.tpm_types_nv.specs.NvType.{nv_type_named, nv_type_number};
@@ -9,11 +9,11 @@ ghost use Rattle.tpm_types_nv.specs.NvType.{nv_type_named, nv_type_number};
 pub enum NvType {
     /// Bytes that are written and read.
     Ordinary,
-    /// A number of eight bytes that only grows.
+    /// An eight-byte number that only grows.
     Counter,
-    /// A number of eight bytes, of which bits are set.
+    /// An eight-byte number whose bits can be set.
     Bits,
-    /// A digest, which is extended.
+    /// A digest that is extended.
     Extend,
 }
 
@@ -30,7 +30,7 @@ impl NvType {
         }
     }
 
-    /// The type of this number, if it is one that is served.
+    /// The type with this number, or None if it is not served.
     pub fn named(number: u32) -> Option<NvType>
         ensures { result ≡ nv_type_named number }
     {

@@ -1,4 +1,4 @@
--- Creation data: a value is read only from its text, and from every such text.
+-- Creation data: the encoding of each value, and nothing else, decodes to that value.
 use Rattle.std.proofs.Common.{ℕ, ◌^◌, ◌<◌, List, ◌++◌, length, Option, refl, arith, length-append}
 use Rattle.std.specs.Int.{w8, w16, to_be_bytes}
 use Rattle.tpm_bytes.specs.Writing.{sized_text}
@@ -18,7 +18,7 @@ use Rattle.tpm_types.proofs.FilledLaws.{filled_spelled}
 use Rattle.tpm_types.proofs.HashLaws.{hash_or_null_spelled}
 use Rattle.tpm_types.proofs.Spelled.{Spelled, all_read, first, respelled, seven_texts, then}
 
--- the fields of creation data, in their order
+-- the fields of creation data, in order
 abbrev Fields : Type 0
 Fields = (((((List BankSelection × List ℕ) × ℕ) × Option HashAlg) × List ℕ) × List ℕ) × List ℕ
 

@@ -1,4 +1,4 @@
--- Public areas: a value is read only from its text, and from every such text.
+-- Public areas: the encoding of each value, and nothing else, decodes to that value.
 use Rattle.std.proofs.Common.{◌≡◌, ℕ, ◌^◌, ◌<◌, ◌≤◌, cond, List, [], ◌++◌, length, Result, Ok, Err, refl, sym, ap, subst, ◌∙◌, append_assoc, arith, inl, inr, length-append}
 use Rattle.std.specs.Prelude.{◌==◌}
 use Rattle.std.specs.Int.{w16, to_be_bytes}
@@ -111,7 +111,7 @@ parameters_spelled type = record {
 
 -- ---- public areas
 
--- the fields of a public area after its type, in their order
+-- the fields of a public area after its type, in order
 abbrev Fields : Type 0
 Fields = (((HashAlg × ℕ) × List ℕ) × PublicParameters) × List ℕ
 

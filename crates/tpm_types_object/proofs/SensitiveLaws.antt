@@ -1,5 +1,5 @@
--- Sensitive areas, and what the caller gives to a new one: a value is read only from its text, and
--- from every such text.
+-- Sensitive areas, and what a caller provides for a new one: the encoding of each value, and
+-- nothing else, decodes to that value.
 use Rattle.std.proofs.Common.{ℕ, ◌^◌, ◌<◌, List, ◌++◌, length, refl, arith, length-append}
 use Rattle.tpm_bytes.specs.Writing.{sized_text}
 use Rattle.tpm_types_object.specs.declared.public.ObjectType.{ObjectType}
@@ -13,7 +13,7 @@ use Rattle.tpm_types_object.proofs.ObjectFields.{object_type_spelled}
 use Rattle.tpm_types.proofs.FilledLaws.{filled_spelled}
 use Rattle.tpm_types.proofs.Spelled.{Spelled, all_read, first, four_texts, respelled, then, two_texts}
 
--- the fields of a sensitive area, in their order
+-- the fields of a sensitive area, in order
 abbrev Fields : Type 0
 Fields = ((ObjectType × List ℕ) × List ℕ) × List ℕ
 
@@ -49,7 +49,7 @@ sized_sensitive_text s = sized_text (sensitive_text s)
 pub sized_sensitive_spelled : Spelled sized_sensitive_text IsSensitive (filled_by sensitive_at)
 sized_sensitive_spelled = filled_spelled sensitive_spelled sensitive_small
 
--- ---- what a caller gives for a new object
+-- ---- what a caller provides for a new object
 
 abbrev given_of : SensitiveValues → List ℕ × List ℕ
 given_of s = (s.user_auth, s.«data»)

@@ -1,4 +1,4 @@
--- What a new object was made with. TPM 2.0 Library, Part 2, section 15.1 (TPMS_CREATION_DATA).
+-- How a new object was created. TPM 2.0 Library, Part 2, section 15.1 (TPMS_CREATION_DATA).
 use Rattle.std.specs.Prelude.{ℕ, ◌≤◌, ◌<◌, ◌^◌, List, ◌++◌, length, Result, Ok}
 use Rattle.std.specs.Int.{w8, w16, to_be_bytes}
 use Rattle.tpm_bytes.specs.Reading.{◌>>=◌, number_at, or_fault}
@@ -11,15 +11,15 @@ use Rattle.tpm_types.specs.Buffer.{buffer_at}
 use Rattle.tpm_types.specs.PcrSelection.{IsSelection, selection_at, selection_text}
 use Rattle.tpm_types.specs.Rc.{plain}
 
--- the text of creation data: the selected PCRs and the digest of their values, the locality, the
--- algorithm of the parent's Name, that Name and the qualified one, and what the caller adds
+-- the encoding of creation data: the selected PCRs and the digest of their values, the locality,
+-- the parent's nameAlg, Name and qualified Name, and the caller's data
 unfoldable pub creation_data_text : CreationData → List ℕ
 creation_data_text c =
     selection_text c.pcr_select.banks.items ++ sized_text c.pcr_digest ++ to_be_bytes w8 c.locality
     ++ to_be_bytes w16 (hash_or_null_number c.parent_name_alg) ++ sized_text c.parent_name
     ++ sized_text c.parent_qualified_name ++ sized_text c.outside_info
 
--- Creation data have a text.
+-- Creation data that can be encoded.
 pub record IsCreationData (c : CreationData) : Type 0 where
   pub pcr_select : IsSelection c.pcr_select.banks.items
   pub pcr_digest : length c.pcr_digest ≤ 32
@@ -28,7 +28,7 @@ pub record IsCreationData (c : CreationData) : Type 0 where
   pub parent_qualified_name : length c.parent_qualified_name ≤ 34
   pub outside_info : length c.outside_info ≤ 34
 
--- the creation data at the front of a text, and what is after them
+-- the creation data at the front of a text, and the rest of the text
 unfoldable pub creation_data_at : List ℕ → Result (CreationData × List ℕ) Rc
 creation_data_at text = do
   pcr_select ← selection_at text

@@ -1,7 +1,8 @@
--- The public areas of objects. TPM 2.0 Library, Part 2, section 12.2.4 (TPMT_PUBLIC), and for their
--- parameters section 12.2.3.7 (TPMU_PUBLIC_PARMS), with sections 11.1.9 (TPMS_SYMCIPHER_PARMS) and
--- 11.1.23 (TPMT_KEYEDHASH_SCHEME); section 6.3 (TPM_ALG_ID: KEYEDHASH 0008, SYMCIPHER 0025, NULL
--- 0010, HMAC 0005). The response code SCHEME for another scheme is this device's own.
+-- The public areas of objects. TPM 2.0 Library, Part 2, section 12.2.4 (TPMT_PUBLIC), and for
+-- their parameters section 12.2.3.7 (TPMU_PUBLIC_PARMS), with sections 11.1.9
+-- (TPMS_SYMCIPHER_PARMS) and 11.1.23 (TPMT_KEYEDHASH_SCHEME); section 6.3 (TPM_ALG_ID: KEYEDHASH
+-- 0008, SYMCIPHER 0025, NULL 0010, HMAC 0005). Using the response code SCHEME for any other scheme
+-- is this device's own choice.
 use Rattle.std.specs.Prelude.{ℕ, ◌==◌, ◌≤◌, List, ◌++◌, length, if◌then◌else◌}
 use Rattle.std.specs.Prelude.{Option, Some, None, Result, Ok, Err, ok_or}
 use Rattle.std.specs.Int.{w16, to_be_bytes}
@@ -29,7 +30,7 @@ abbrev pub object_type_number : ObjectType → ℕ
 object_type_number object.KeyedHash = 0x0008
 object_type_number object.SymCipher = 0x0025
 
--- the object type of a number
+-- the object type with this number, or None
 abbrev pub object_type_named : ℕ → Option ObjectType
 object_type_named number =
     if number == 0x0008 then Some object.KeyedHash
@@ -38,7 +39,7 @@ object_type_named number =
 abbrev pub object_type_text : ObjectType → List ℕ
 object_type_text type = to_be_bytes w16 (object_type_number type)
 
--- the object type at the front of a text, and what is after it
+-- the object type at the front of a text, and the rest of the text
 unfoldable pub object_type_at : List ℕ → Result (ObjectType × List ℕ) Rc
 object_type_at text = do
   number ← or_fault (number_at w16 text) (plain code.Insufficient)
@@ -47,7 +48,7 @@ object_type_at text = do
 
 -- ---- the parameters of each type of object
 
--- the text of the scheme of a KEYEDHASH: NULL alone; or HMAC and its hash algorithm
+-- the encoding of a KEYEDHASH object's scheme: only NULL; or HMAC and its hash algorithm
 unfoldable pub scheme_text : KeyedHashScheme → List ℕ
 scheme_text Null = to_be_bytes w16 0x0010
 scheme_text (Hmac hash) = to_be_bytes w16 0x0005 ++ to_be_bytes w16 (hash_number hash)
@@ -57,19 +58,20 @@ hmac_at text = do
   hash ← hash_at text
   Ok (Hmac hash.0, hash.1)
 
--- the scheme of a KEYEDHASH from what stands after the scheme's number, and what is after it
+-- the scheme of a KEYEDHASH object after this scheme number, and the rest of the text
 abbrev pub behind_scheme_at : ℕ → List ℕ → Result (KeyedHashScheme × List ℕ) Rc
 behind_scheme_at number text =
     if number == 0x0010 then Ok (Null, text)
     else (if number == 0x0005 then hmac_at text else Err (plain code.Scheme))
 
--- the scheme of a KEYEDHASH at the front of a text, and what is after it
+-- the scheme of a KEYEDHASH object at the front of a text, and the rest of the text
 unfoldable pub scheme_at : List ℕ → Result (KeyedHashScheme × List ℕ) Rc
 scheme_at text = do
   scheme ← or_fault (number_at w16 text) (plain code.Insufficient)
   behind_scheme_at scheme.0 scheme.1
 
--- the parameters of a SYMCIPHER, its cipher, at the front of a text, and what is after them
+-- the parameters of a SYMCIPHER object, which are its cipher, at the front of a text, and the rest
+-- of the text
 unfoldable pub sym_cipher_at : List ℕ → Result (PublicParameters × List ℕ) Rc
 sym_cipher_at text = do
   cipher ← cipher_at text
@@ -80,13 +82,13 @@ keyed_hash_at text = do
   scheme ← scheme_at text
   Ok (parameters_of.KeyedHash scheme.0, scheme.1)
 
--- the parameters of an object of this type at the front of a text, and what is after them
+-- the parameters of an object of this type at the front of a text, and the rest of the text
 abbrev pub parameters_at : ObjectType → List ℕ → Result (PublicParameters × List ℕ) Rc
 parameters_at object.KeyedHash text = keyed_hash_at text
 parameters_at object.SymCipher text = sym_cipher_at text
 
--- the text of an object's parameters: the scheme of a KEYEDHASH; or AES with its key's bits and
--- mode
+-- the encoding of an object's parameters: the scheme of a KEYEDHASH object; or AES, its key size
+-- in bits and its mode
 abbrev pub parameters_text : PublicParameters → List ℕ
 parameters_text (parameters_of.KeyedHash scheme) = scheme_text scheme
 parameters_text parameters_of.SymCipher = symmetric_text symmetric.Aes128Cfb
@@ -100,21 +102,22 @@ type_of_parameters parameters_of.SymCipher = object.SymCipher
 abbrev pub object_type : Public → ObjectType
 object_type p = type_of_parameters p.parameters
 
--- the text of a public area: the type, the algorithm of the Name, the attributes, the policy, the
--- type's parameters, and what makes the object unique
+-- the encoding of a public area: the type, nameAlg, the attributes, the policy, the type's
+-- parameters, and the unique field
 unfoldable pub public_text : Public → List ℕ
 public_text p =
     object_type_text (object_type p) ++ to_be_bytes w16 (hash_number p.name_alg)
     ++ attributes_text p.attributes ++ sized_text p.auth_policy
     ++ parameters_text p.parameters ++ sized_text p.unique
 
--- A public area has a text: its buffers have at most 32 bytes, and no reserved bit is set.
+-- A public area that can be encoded: its buffers are at most 32 bytes long, and no reserved bit is
+-- set.
 pub record IsPublic (p : Public) : Type 0 where
   pub attributes : IsAttributes p.attributes
   pub auth_policy : length p.auth_policy ≤ 32
   pub unique : length p.unique ≤ 32
 
--- the public area at the front of a text, and what is after it
+-- the public area at the front of a text, and the rest of the text
 unfoldable pub public_at : List ℕ → Result (Public × List ℕ) Rc
 public_at text = do
   type ← object_type_at text

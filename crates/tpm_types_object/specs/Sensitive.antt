@@ -8,20 +8,20 @@ use Rattle.tpm_types_object.specs.declared.sensitive.Sensitive.{Sensitive}
 use Rattle.tpm_types.specs.Buffer.{buffer_at}
 use Rattle.tpm_types_object.specs.Public.{object_type_at, object_type_text}
 
--- the text of a sensitive area: the type of the object, its authorization value untrimmed, its seed
--- or obfuscation value, and its key or data
+-- the encoding of a sensitive area: the type of the object, its authorization value with trailing
+-- zeros, its seed or obfuscation value, and its key or data
 unfoldable pub sensitive_text : Sensitive → List ℕ
 sensitive_text s =
     object_type_text s.object_type ++ sized_text s.auth_value ++ sized_text s.seed_value
     ++ sized_text s.sensitive
 
--- A sensitive area has a text.
+-- A sensitive area that can be encoded.
 pub record IsSensitive (s : Sensitive) : Type 0 where
   pub auth_value : length s.auth_value ≤ 32
   pub seed_value : length s.seed_value ≤ 32
   pub sensitive : length s.sensitive ≤ sensitive_limit
 
--- the sensitive area at the front of a text, and what is after it
+-- the sensitive area at the front of a text, and the rest of the text
 unfoldable pub sensitive_at : List ℕ → Result (Sensitive × List ℕ) Rc
 sensitive_at text = do
   type ← object_type_at text

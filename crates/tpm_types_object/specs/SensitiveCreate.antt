@@ -1,5 +1,5 @@
--- What the caller gives to a new object's sensitive area. TPM 2.0 Library, Part 2, section 11.1.15
--- (TPMS_SENSITIVE_CREATE).
+-- What a caller provides for a new object's sensitive area. TPM 2.0 Library, Part 2, section
+-- 11.1.15 (TPMS_SENSITIVE_CREATE).
 use Rattle.std.specs.Prelude.{ℕ, ◌≤◌, List, ◌++◌, length, Result, Ok}
 use Rattle.tpm_bytes.specs.Reading.{◌>>=◌}
 use Rattle.tpm_bytes.specs.Writing.{sized_text}
@@ -8,8 +8,8 @@ use Rattle.tpm_types.specs.declared.rc.Rc.{Rc}
 use Rattle.tpm_types_object.specs.declared.sensitive_create.SensitiveCreate.{SensitiveCreate}
 use Rattle.tpm_types.specs.Buffer.{buffer_at}
 
--- the values that a caller gives, wherever their bytes lie in memory (the standard's `data` is a
--- word of this language)
+-- the values that a caller provides, regardless of where they are in memory (`data` of the
+-- standard is a keyword of this language)
 pub record SensitiveValues : Type 0 where
   pub user_auth : List ℕ
   pub «data» : List ℕ
@@ -17,17 +17,17 @@ pub record SensitiveValues : Type 0 where
 abbrev pub sensitive_values_of : SensitiveCreate → SensitiveValues
 sensitive_values_of s = record { user_auth = s.user_auth.now; «data» = s.«data».now }
 
--- the text of the values that a caller gives: the authorization value, and the key or the data to
--- seal
+-- the encoding of the values that a caller provides: the authorization value, and the key or the
+-- data to seal
 abbrev pub sensitive_create_text : SensitiveValues → List ℕ
 sensitive_create_text s = sized_text s.user_auth ++ sized_text s.«data»
 
--- The values that a caller gives have a text.
+-- A caller's values that can be encoded.
 pub record IsSensitiveCreate (s : SensitiveValues) : Type 0 where
   pub user_auth : length s.user_auth ≤ 32
   pub «data» : length s.«data» ≤ sensitive_limit
 
--- the values of a caller at the front of a text, and what is after them
+-- a caller's values at the front of a text, and the rest of the text
 unfoldable pub sensitive_create_at : List ℕ → Result (SensitiveValues × List ℕ) Rc
 sensitive_create_at text = do
   user_auth ← buffer_at 32 text

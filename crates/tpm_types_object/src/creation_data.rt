@@ -1,5 +1,5 @@
-//! Creation data, which say how an object was created: PCRs, locality, parent and what the caller
-//! adds (TPMS_CREATION_DATA; TPM 2.0 Library, Part 2, section 15.1).
+//! Creation data, which record how an object was created: PCRs, locality, parent and the caller's
+//! data (TPMS_CREATION_DATA; TPM 2.0 Library, Part 2, section 15.1).
 
 ghost use Rattle.std.specs.Prelude.{◌≡◌, ℕ, ◌≤◌, List, ◌++◌, length, Ok, IfOk};
 ghost use Rattle.tpm_bytes.specs.Reading.{AreBytes, Reads};
@@ -11,20 +11,20 @@ use tpm_types::{
     Octets, PcrSelection, Rc, ResponseCode, hash_or_null_number, read_filled, read_hash_or_null,
 };
 
-/// Creation data, which say how an object was created: TPMS_CREATION_DATA of TPM 2.0 Library, Part
-/// 2, section 15.1.
+/// Creation data, which record how an object was created: TPMS_CREATION_DATA of TPM 2.0 Library,
+/// Part 2, section 15.1.
 #[derive(Drop)]
 pub struct CreationData {
     pub pcr_select: PcrSelection,
     /// The digest of the selected PCRs.
     pub pcr_digest: Octets<32>,
-    /// The localities, a bit for each (TPMA_LOCALITY, section 8.5).
+    /// The locality of the creation, as a bit field (TPMA_LOCALITY, section 8.5).
     pub locality: u8,
-    /// The nameAlg of the parent; None where the parent is a hierarchy.
+    /// The nameAlg of the parent; None if the parent is a hierarchy.
     pub parent_name_alg: Option<HashAlg>,
     pub parent_name: Octets<34>,
     pub parent_qualified_name: Octets<34>,
-    /// The data that the caller adds.
+    /// The data that the caller added.
     pub outside_info: Octets<34>,
 }
 
@@ -33,16 +33,16 @@ impl CreationData {
     ghost use Rattle.tpm_types.specs.Filled.{filled_by};
     ghost use Rattle.tpm_types_object.specs.declared.creation_data.CreationData.{CreationData};
 
-    /// Reads creation data: INSUFFICIENT where they are cut, and otherwise the first fault of a
-    /// field.
+    /// Reads creation data. The fault is INSUFFICIENT if they are truncated, else the first fault
+    /// of a field.
     pub fn read(text: &mut Cursor) -> Result<CreationData, Rc>
-        // Says which value is read, or the first fault.
+        // The result is the decoded value, or the first fault.
         ensures exact { Reads (λ creation. creation) (creation_data_at text.old)
             text.old result text.new }
-        // A value is read only from its text.
+        // Decoding succeeds only on the encoding of the value that it returns.
         ensures found { IfOk result (λ creation. IsCreationData creation
             × (text.old ≡ creation_data_text creation ++ text.new)) }
-        // A value is read from its text, whatever comes after it.
+        // The encoding of a value decodes to that value, whatever follows it.
         ensures only { (creation : CreationData) (rest : List ℕ) → IsCreationData creation
             → text.old ≡ creation_data_text creation ++ rest
             → Reads (λ creation. creation) (Ok (creation, rest)) text.old result text.new }
@@ -50,7 +50,8 @@ impl CreationData {
         CreationData::read_fields(text)
     }
 
-    /// Reads creation data that fill a sized buffer (TPM2B), with the faults of [`read_filled`].
+    /// Reads creation data that fill a sized buffer (TPM2B). The faults are those of
+    /// [`read_filled`].
     pub fn read_sized(text: &mut Cursor) -> Result<CreationData, Rc>
         ensures exact { Reads (λ creation. creation) (filled_by creation_data_at text.old) text.old
             result text.new }
@@ -91,7 +92,7 @@ impl CreationData {
         })
     }
 
-    /// The text of the creation data, in the room for the longest.
+    /// The encoding of the creation data, in a buffer with space for the longest.
     #[tactic(auto, unfolding(crate::specs::CreationData::creation_data_text))]
     pub fn text(&self) -> Sink<245>
         ensures { result ≡ creation_data_text self.now }
@@ -107,7 +108,8 @@ impl CreationData {
         text
     }
 
-    /// Writes the creation data at the end, at most 245 bytes, or nothing where they do not fit.
+    /// Appends the creation data, at most 245 bytes. If they do not fit, writes nothing and
+    /// returns an error.
     pub fn write<const N: usize>(&self, sink: &mut Sink<N>) -> Result<(), Full>
         ensures written { Puts N (creation_data_text self.now) sink.old result sink.new }
         ensures small { length (creation_data_text self.now) ≤ 245 }

@@ -1,12 +1,12 @@
 #![tactic(auto)]
 
 //! The areas of objects (TPM 2.0 Library, Part 2, section 12): public and sensitive areas, the
-//! attributes of objects, what a caller gives for a new object, and creation data.
+//! attributes of objects, what a caller provides for a new object, and creation data.
 //!
-//! The crate uses `tpm_types` for the structures in these areas. A read gives the value or the
-//! first fault, as the response code that the standard has for it, and a refused read or write
-//! changes nothing. Each structure has one text for each value: a value is read only from its text,
-//! and from every such text. No call here takes memory.
+//! The crate uses `tpm_types` for the structures in these areas. A read returns the value, or the
+//! first fault as the standard's response code for it; a read or write that fails changes nothing.
+//! Each value of a structure has exactly one encoding, and nothing else decodes to it. No call
+//! here allocates memory.
 
 pub mod creation_data;
 pub mod object_attributes;

@@ -1,4 +1,4 @@
-//! The attributes of objects, a bit for each (TPMA_OBJECT; TPM 2.0 Library, Part 2, section 8.3).
+//! The attributes of objects, one bit each (TPMA_OBJECT; TPM 2.0 Library, Part 2, section 8.3).
 
 ghost use Rattle.std.specs.Prelude.{◌≡◌, ◌<◌};
 ghost use Rattle.tpm_bytes.specs.Reading.{Reads};
@@ -7,10 +7,11 @@ use std::marker::Model;
 use tpm_bytes::Cursor;
 use tpm_types::{Rc, read_attribute_bits};
 
-/// The bits of 32 that are no attribute.
+/// The bits, of 32, that are not used for attributes.
 const RESERVED_BITS: u32 = 0xfff8_f309;
 
-/// An attribute of an object, by its bit: TPMA_OBJECT of TPM 2.0 Library, Part 2, section 8.3.
+/// An attribute of an object; its value is its bit: TPMA_OBJECT of TPM 2.0 Library, Part 2,
+/// section 8.3.
 #[derive(Clone, Copy, PartialEq, Eq)]
 pub enum ObjectAttribute {
     FixedTpm = 1,
@@ -38,8 +39,8 @@ impl ObjectAttribute {
     }
 }
 
-/// The attributes of an object, a bit for each; no other bit is set. Contracts see them as the
-/// number of these bits.
+/// The attributes of an object, one bit each; no other bit is set. In contracts they are the
+/// number that these bits form.
 #[derive(Clone, Copy, PartialEq, Eq)]
 pub struct ObjectAttributes {
     bits: u32,
@@ -61,14 +62,14 @@ impl Model for ObjectAttributes {
 impl ObjectAttributes {
     ghost use Rattle.tpm_types_object.specs.ObjectAttributes.{IsAttributes, attributes_at, has};
 
-    /// The attributes of an object that has none.
+    /// The empty set of attributes.
     pub fn none() -> ObjectAttributes
         ensures { result ≡ 0 }
     {
         ObjectAttributes { bits: 0 }
     }
 
-    /// The number of the attributes' bits.
+    /// The number that the attributes' bits form.
     pub fn bits(self) -> u32
         ensures value { result ≡ self }
         ensures is_attributes { IsAttributes self }
@@ -84,8 +85,8 @@ impl ObjectAttributes {
         (self.bits >> attribute.bit()) & 1 == 1
     }
 
-    /// Reads attributes: INSUFFICIENT where they are cut, RESERVED_BITS where a bit is set that is
-    /// no attribute.
+    /// Reads attributes. The fault is INSUFFICIENT if they are truncated, RESERVED_BITS if a bit
+    /// is set that is not used for an attribute.
     pub fn read(text: &mut Cursor) -> Result<ObjectAttributes, Rc>
         ensures { Reads (λ attributes. attributes) (attributes_at text.old) text.old
             result text.new }

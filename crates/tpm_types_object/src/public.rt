@@ -1,4 +1,4 @@
-//! The public area of an object, with its type and its parameters (TPMT_PUBLIC; TPM 2.0 Library,
+//! The public area of an object, including its type and parameters (TPMT_PUBLIC; TPM 2.0 Library,
 //! Part 2, section 12.2).
 
 ghost use Rattle.std.specs.Prelude.{◌≡◌, ℕ, ◌+◌, ◌≤◌, List, ◌++◌, length, Ok, IfOk};
@@ -15,16 +15,16 @@ use tpm_types::{
 /// The type of an object: TPMI_ALG_PUBLIC of TPM 2.0 Library, Part 2, section 12.2.2.
 #[derive(Clone, Copy, PartialEq, Eq)]
 pub enum ObjectType {
-    /// TPM_ALG_KEYEDHASH: a key of HMACs, or sealed data.
+    /// TPM_ALG_KEYEDHASH: an HMAC key or sealed data.
     KeyedHash,
-    /// TPM_ALG_SYMCIPHER: a key of a symmetric cipher.
+    /// TPM_ALG_SYMCIPHER: a symmetric key.
     SymCipher,
 }
 
 impl ObjectType {
     ghost use Rattle.tpm_types_object.specs.Public.{object_type_at, object_type_named, object_type_number};
 
-    /// The number of the type on the wire.
+    /// The wire number of the type.
     pub fn number(self) -> u16
         ensures { result ≡ object_type_number self }
     {
@@ -34,7 +34,7 @@ impl ObjectType {
         }
     }
 
-    /// The type of this number.
+    /// The type with this number, or None.
     pub fn named(number: u16) -> Option<ObjectType>
         ensures { result ≡ object_type_named number }
     {
@@ -45,7 +45,8 @@ impl ObjectType {
         }
     }
 
-    /// Reads an object type: INSUFFICIENT where it is cut, TYPE where it is not served.
+    /// Reads an object type. The fault is INSUFFICIENT if it is truncated, TYPE if it is not
+    /// served.
     #[tactic(auto, unfolding(crate::specs::Public::object_type_at))]
     pub fn read(text: &mut Cursor) -> Result<ObjectType, Rc>
         ensures { Reads (λ kind. kind) (object_type_at text.old) text.old result text.new }
@@ -62,21 +63,21 @@ impl ObjectType {
     }
 }
 
-/// The scheme of a KEYEDHASH, which says what it is used for: TPMT_KEYEDHASH_SCHEME (Part 2,
-/// section 11.1).
+/// The scheme of a KEYEDHASH object, which restricts how it may be used: TPMT_KEYEDHASH_SCHEME
+/// (Part 2, section 11.1).
 #[derive(Clone, Copy, PartialEq, Eq)]
 pub enum KeyedHashScheme {
-    /// No scheme is set (TPM_ALG_NULL): the object may be used for any.
+    /// TPM_ALG_NULL: no scheme is set, and the object may be used with any.
     Null,
-    /// The object is a key of HMACs by this hash algorithm (TPM_ALG_HMAC).
+    /// TPM_ALG_HMAC: the object is an HMAC key for this hash algorithm.
     Hmac(HashAlg),
 }
 
 impl KeyedHashScheme {
     ghost use Rattle.tpm_types_object.specs.Public.{scheme_at, scheme_text};
 
-    /// Reads a scheme: INSUFFICIENT where it is cut, SCHEME where it is neither NULL nor HMAC, and
-    /// HASH where the algorithm of HMAC is not served.
+    /// Reads a scheme. The fault is INSUFFICIENT if it is truncated, SCHEME if it is neither NULL
+    /// nor HMAC, HASH if the hash algorithm of HMAC is not served.
     #[tactic(auto, unfolding(crate::specs::Public::scheme_at))]
     pub fn read(text: &mut Cursor) -> Result<KeyedHashScheme, Rc>
         ensures { Reads (λ scheme. scheme) (scheme_at text.old) text.old result text.new }
@@ -94,7 +95,8 @@ impl KeyedHashScheme {
         Ok(scheme)
     }
 
-    /// Writes the scheme at the end, at most four bytes, or nothing where it does not fit.
+    /// Appends the scheme, at most four bytes. If it does not fit, writes nothing and returns an
+    /// error.
     #[tactic(auto, unfolding(crate::specs::Public::scheme_text))]
     pub fn write<const N: usize>(self, sink: &mut Sink<N>) -> Result<(), Full>
         ensures written { Puts N (scheme_text self) sink.old result sink.new }
@@ -105,7 +107,7 @@ impl KeyedHashScheme {
         sink.put(text.as_slice())
     }
 
-    /// Writes the scheme at the end, where there is room for the longest: four bytes.
+    /// Appends the scheme. The sink must have room for the longest scheme, four bytes.
     #[tactic(auto, unfolding(crate::specs::Public::scheme_text))]
     pub fn append_to<const N: usize>(self, sink: &mut Sink<N>)
         requires { length sink.old + 4 ≤ N }
@@ -122,18 +124,19 @@ impl KeyedHashScheme {
     }
 }
 
-/// The parameters of an object of a type: TPMU_PUBLIC_PARMS (Part 2, section 12.2.3).
+/// The parameters of an object, which depend on its type: TPMU_PUBLIC_PARMS (Part 2, section
+/// 12.2.3).
 #[derive(Clone, Copy, PartialEq, Eq)]
 pub enum PublicParameters {
     KeyedHash(KeyedHashScheme),
-    /// AES with a key of 128 bits, in cipher feedback mode.
+    /// AES with a 128-bit key, in cipher feedback mode.
     SymCipher,
 }
 
 impl PublicParameters {
     ghost use Rattle.tpm_types_object.specs.Public.{parameters_at, parameters_text, sym_cipher_at, type_of_parameters};
 
-    /// The type of object whose parameters these are.
+    /// The type of an object with these parameters.
     pub fn object_type(self) -> ObjectType
         ensures { result ≡ type_of_parameters self }
     {
@@ -143,7 +146,8 @@ impl PublicParameters {
         }
     }
 
-    /// Reads the parameters of this type, with the first fault of a scheme or a cipher.
+    /// Reads the parameters of an object of this type. The fault is the first fault of its scheme
+    /// or cipher.
     pub fn read(kind: ObjectType, text: &mut Cursor) -> Result<PublicParameters, Rc>
         ensures { Reads (λ parameters. parameters) (parameters_at kind text.old) text.old
             result text.new }
@@ -164,7 +168,8 @@ impl PublicParameters {
         Ok(PublicParameters::SymCipher)
     }
 
-    /// Writes the parameters at the end, at most six bytes, or nothing where they do not fit.
+    /// Appends the parameters, at most six bytes. If they do not fit, writes nothing and returns
+    /// an error.
     #[tactic(auto, unfolding(tpm_types::specs::Symmetric::symmetric_text))]
     pub fn write<const N: usize>(self, sink: &mut Sink<N>) -> Result<(), Full>
         ensures written { Puts N (parameters_text self) sink.old result sink.new }
@@ -176,7 +181,7 @@ impl PublicParameters {
         }
     }
 
-    /// Writes the parameters at the end, where there is room for the longest: six bytes.
+    /// Appends the parameters. The sink must have room for the longest parameters, six bytes.
     #[tactic(auto, unfolding(tpm_types::specs::Symmetric::symmetric_text))]
     pub fn append_to<const N: usize>(self, sink: &mut Sink<N>)
         requires { length sink.old + 6 ≤ N }
@@ -193,7 +198,7 @@ impl PublicParameters {
 /// The public area of an object: TPMT_PUBLIC (Part 2, section 12.2.4).
 #[derive(Drop)]
 pub struct Public {
-    /// The hash algorithm of the object's Name and of its policy.
+    /// The hash algorithm for the object's Name and policy.
     pub name_alg: HashAlg,
     pub attributes: ObjectAttributes,
     pub auth_policy: Octets<32>,
@@ -206,14 +211,15 @@ impl Public {
     ghost use Rattle.tpm_types.specs.Filled.{filled_by};
     ghost use Rattle.tpm_types_object.specs.declared.public.Public.{Public};
 
-    /// Reads a public area: INSUFFICIENT where it is cut, and otherwise the first fault of a field.
+    /// Reads a public area. The fault is INSUFFICIENT if it is truncated, else the first fault of
+    /// a field.
     pub fn read(text: &mut Cursor) -> Result<Public, Rc>
-        // Says which value is read, or the first fault.
+        // The result is the decoded value, or the first fault.
         ensures exact { Reads (λ public. public) (public_at text.old) text.old result text.new }
-        // A value is read only from its text.
+        // Decoding succeeds only on the encoding of the value that it returns.
         ensures found { IfOk result (λ public. IsPublic public
             × (text.old ≡ public_text public ++ text.new)) }
-        // A value is read from its text, whatever comes after it.
+        // The encoding of a value decodes to that value, whatever follows it.
         ensures only { (public : Public) (rest : List ℕ) → IsPublic public
             → text.old ≡ public_text public ++ rest
             → Reads (λ public. public) (Ok (public, rest)) text.old result text.new }
@@ -221,7 +227,8 @@ impl Public {
         Public::read_fields(text)
     }
 
-    /// Reads a public area that fills a sized buffer (TPM2B), with the faults of [`read_filled`].
+    /// Reads a public area that fills a sized buffer (TPM2B). The faults are those of
+    /// [`read_filled`].
     pub fn read_sized(text: &mut Cursor) -> Result<Public, Rc>
         ensures exact { Reads (λ public. public) (filled_by public_at text.old) text.old
             result text.new }
@@ -276,7 +283,7 @@ impl Public {
         }
     }
 
-    /// The text of the public area, in the room for the longest.
+    /// The encoding of the public area, in a buffer with space for the longest.
     #[tactic(auto, unfolding(crate::specs::Public::public_text))]
     pub fn text(&self) -> Sink<82>
         ensures { result ≡ public_text self.now }
@@ -291,7 +298,8 @@ impl Public {
         text
     }
 
-    /// Writes the public area at the end, at most 82 bytes, or nothing where it does not fit.
+    /// Appends the public area, at most 82 bytes. If it does not fit, writes nothing and returns
+    /// an error.
     pub fn write<const N: usize>(&self, sink: &mut Sink<N>) -> Result<(), Full>
         ensures written { Puts N (public_text self.now) sink.old result sink.new }
         ensures small { length (public_text self.now) ≤ 82 }

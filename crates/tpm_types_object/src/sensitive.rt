@@ -13,11 +13,12 @@ use tpm_types::{Octets, Rc, SENSITIVE_LIMIT, read_filled};
 #[derive(Drop)]
 pub struct Sensitive {
     pub object_type: ObjectType,
-    /// The authorization value as it was written: zeros at its end stay.
+    /// The authorization value as it is encoded, including its trailing zeros.
     pub auth_value: Octets<32>,
-    /// The seed of a storage key, or else the value that hides `sensitive` in the public area.
+    /// The seed of a storage key; in any other object, the value that hides `sensitive` in the
+    /// public area.
     pub seed_value: Octets<32>,
-    /// The key, or the sealed data.
+    /// The key or the sealed data.
     pub sensitive: Octets<SENSITIVE_LIMIT>,
 }
 
@@ -26,15 +27,15 @@ impl Sensitive {
     ghost use Rattle.tpm_types.specs.Filled.{filled_by};
     ghost use Rattle.tpm_types_object.specs.declared.sensitive.Sensitive.{Sensitive};
 
-    /// Reads a sensitive area: INSUFFICIENT where it is cut, TYPE where its type is not served, and
-    /// SIZE where a buffer is too long.
+    /// Reads a sensitive area. The fault is INSUFFICIENT if it is truncated, TYPE if its type is
+    /// not served, SIZE if a buffer is too long.
     pub fn read(text: &mut Cursor) -> Result<Sensitive, Rc>
-        // Says which value is read, or the first fault.
+        // The result is the decoded value, or the first fault.
         ensures exact { Reads (λ area. area) (sensitive_at text.old) text.old result text.new }
-        // A value is read only from its text.
+        // Decoding succeeds only on the encoding of the value that it returns.
         ensures found { IfOk result (λ area. IsSensitive area
             × (text.old ≡ sensitive_text area ++ text.new)) }
-        // A value is read from its text, whatever comes after it.
+        // The encoding of a value decodes to that value, whatever follows it.
         ensures only { (area : Sensitive) (rest : List ℕ) → IsSensitive area
             → text.old ≡ sensitive_text area ++ rest
             → Reads (λ area. area) (Ok (area, rest)) text.old result text.new }
@@ -42,7 +43,7 @@ impl Sensitive {
         Sensitive::read_fields(text)
     }
 
-    /// Reads a sensitive area that fills a sized buffer (TPM2B), with the faults of
+    /// Reads a sensitive area that fills a sized buffer (TPM2B). The faults are those of
     /// [`read_filled`].
     pub fn read_sized(text: &mut Cursor) -> Result<Sensitive, Rc>
         ensures exact { Reads (λ area. area) (filled_by sensitive_at text.old) text.old
@@ -87,12 +88,12 @@ impl Sensitive {
         }
     }
 
-    /// The text of the sensitive area, in the room for the longest.
+    /// The encoding of the sensitive area, in a buffer with space for the longest.
     #[inline(never)]
     #[tactic(auto, unfolding(crate::specs::Sensitive::sensitive_text))]
     pub fn text(&self) -> Sink<200>
         ensures value { result ≡ sensitive_text self.now }
-        // No buffer of the area is longer than it may be.
+        // No buffer of the area exceeds its limit.
         ensures fits { IsSensitive self.now }
     {
         let mut text = Sink::new();
@@ -103,7 +104,8 @@ impl Sensitive {
         text
     }
 
-    /// Writes the sensitive area at the end, at most 200 bytes, or nothing where it does not fit.
+    /// Appends the sensitive area, at most 200 bytes. If it does not fit, writes nothing and
+    /// returns an error.
     pub fn write<const N: usize>(&self, sink: &mut Sink<N>) -> Result<(), Full>
         ensures written { Puts N (sensitive_text self.now) sink.old result sink.new }
         ensures small { length (sensitive_text self.now) ≤ 200 }

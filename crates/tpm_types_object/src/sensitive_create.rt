@@ -1,4 +1,4 @@
-//! What a caller gives for the sensitive area of a new object (TPMS_SENSITIVE_CREATE; TPM 2.0
+//! What a caller provides for the sensitive area of a new object (TPMS_SENSITIVE_CREATE; TPM 2.0
 //! Library, Part 2, section 11.1.15).
 
 ghost use Rattle.std.specs.Prelude.{◌≡◌, ◌≤◌, ℕ, List, ◌++◌, length, Ok, IfOk};
@@ -10,8 +10,8 @@ ghost use Rattle.tpm_types.specs.Filled.{filled_by};
 use tpm_bytes::{Cursor, Readable, Sink};
 use tpm_types::{Rc, SENSITIVE_LIMIT, read_buffer, read_filled};
 
-/// The values that a caller gives for a new object's sensitive area: TPMS_SENSITIVE_CREATE of TPM
-/// 2.0 Library, Part 2, section 11.1.15.
+/// The values that a caller provides for a new object's sensitive area: TPMS_SENSITIVE_CREATE of
+/// TPM 2.0 Library, Part 2, section 11.1.15.
 #[derive(Clone, Copy)]
 pub struct SensitiveCreate<'a> {
     pub user_auth: &'a [u8],
@@ -24,16 +24,16 @@ impl<'a> SensitiveCreate<'a> {
     ghost use Rattle.tpm_types_object.specs.SensitiveCreate.{IsSensitiveCreate, SensitiveValues, sensitive_create_at};
     ghost use Rattle.tpm_types_object.specs.SensitiveCreate.{sensitive_create_text, sensitive_values_of};
 
-    /// Reads the values: INSUFFICIENT where they are cut, SIZE where one is too long.
+    /// Reads the values. The fault is INSUFFICIENT if they are truncated, SIZE if one is too long.
     pub fn read(text: &mut Cursor<'a>) -> Result<SensitiveCreate<'a>, Rc>
-        // Says which values are read, or the first fault.
+        // The result is the decoded values, or the first fault.
         ensures exact { Reads sensitive_values_of (sensitive_create_at text.old) text.old
             result text.new }
         ensures fits { IfOk result (λ given. IsSensitiveCreate (sensitive_values_of given)) }
-        // A value is read only from its text.
+        // Decoding succeeds only on the encoding of the value that it returns.
         ensures found { IfOk result (λ given.
             text.old ≡ sensitive_create_text (sensitive_values_of given) ++ text.new) }
-        // A value is read from its text, whatever comes after it.
+        // The encoding of a value decodes to that value, whatever follows it.
         ensures only { (given : SensitiveValues) (rest : List ℕ) → IsSensitiveCreate given
             → text.old ≡ sensitive_create_text given ++ rest
             → Reads sensitive_values_of (Ok (given, rest)) text.old result text.new }
@@ -41,7 +41,7 @@ impl<'a> SensitiveCreate<'a> {
         SensitiveCreate::read_fields(text)
     }
 
-    /// Reads values that fill a sized buffer (TPM2B), with the faults of [`read_filled`].
+    /// Reads values that fill a sized buffer (TPM2B). The faults are those of [`read_filled`].
     pub fn read_sized(text: &mut Cursor<'a>) -> Result<SensitiveCreate<'a>, Rc>
         ensures exact { Reads sensitive_values_of (filled_by sensitive_create_at text.old) text.old
             result text.new }
@@ -68,7 +68,7 @@ impl<'a> SensitiveCreate<'a> {
         Ok(SensitiveCreate { user_auth, data })
     }
 
-    /// The text of the values, in the room for the longest.
+    /// The encoding of the values, in a buffer with space for the longest.
     pub fn text(&self) -> Sink<164>
         ensures { result ≡ sensitive_create_text (sensitive_values_of self.now) }
     {

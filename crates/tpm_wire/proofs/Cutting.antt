@@ -1,4 +1,4 @@
--- A stream is cut alike, whatever is executed of it on the way.
+-- A stream is cut into the same buffers, regardless of which part of it is executed in between.
 use Rattle.tpm_types.specs.Limits.{buffer_limit}
 use Rattle.std.proofs.Common.{◌≡◌, ℕ, ◌+◌, ◌<◌, ◌≤◌, Bool, true, false, List, [], ◌∷◌, ◌++◌, length, take, drop, Option, Some, None, refl, sym, ap, ◌∙◌, subst, append_assoc, append-nil, length-append, length-drop, arith, inl, inr}
 use Rattle.std.proofs.Math.Seq.{drop-append_seam, take-append_seam}
@@ -9,7 +9,7 @@ use Rattle.std.specs.Option.{option_map_or}
 use Rattle.std.proofs.lemmas.Bool.{cases_eq, eq-eqb, ne_eqb, leb-true, leb-false, false≢true}
 use Rattle.tpm_wire.specs.Stream.{Cut, Cutting, CutsTo, Stream, buffer_size, command_size, cut_at, cut_of, cut_with, cut_within, fed, is_last, is_size, is_whole, next_of, opened, size_by, uncut, with_byte, with_rest}
 
--- ---- the size of a buffer, from its first six bytes
+-- ---- the size of a buffer, by its first six bytes
 
 size_longer : (bytes more : List ℕ) (n : ℕ) → buffer_size bytes ≡ Some n → buffer_size (bytes ++ more) ≡ Some n
 unfolding command_size
@@ -58,14 +58,14 @@ size_bounds size =
 some_is : {X : Type 0} (x y : X) → Some x ≡ Some y → x ≡ y
 some_is x y e = cc
 
--- a buffer has at least six bytes and at most 4,096, and while bytes are missing of its first six
--- its size is not known
+-- a buffer is between 6 and 4,096 bytes long; until its first six bytes are complete, its size is
+-- unknown
 buffer_bounds : (bytes : List ℕ) (n : ℕ) → buffer_size bytes ≡ Some n → (6 ≤ n) × (n ≤ buffer_limit)
 unfolding command_size
 buffer_bounds (t ∷ u ∷ a ∷ b ∷ c ∷ d ∷ bytes) n is = rw (← some_is _ _ is) (size_bounds (from_be_bytes w32 (a ∷ b ∷ c ∷ d ∷ [])))
 buffer_bounds bytes n is = absurd cc
 
--- ---- buffers that are whole, and those that are not
+-- ---- whole buffers, and incomplete ones
 
 whole_at : (bytes : List ℕ) (n : ℕ) → buffer_size bytes ≡ Some n → is_whole bytes ≡ (n == length bytes)
 whole_at bytes n is = ap (λ (o : Option ℕ). option_map_or (λ size. size == length bytes) o false) is
@@ -91,7 +91,7 @@ completes done rest byte is = rw is refl
 length-one : (rest : List ℕ) (byte : ℕ) → length (rest ++ byte ∷ []) ≡ length rest + 1
 length-one rest byte = length-append rest (byte ∷ [])
 
--- bytes that complete no buffer leave the cut's buffers
+-- bytes that complete no buffer leave the cut's buffers unchanged
 grows : (done : List (List ℕ)) (rest more all : List ℕ) → rest ++ more ≡ all → ((n : ℕ) → buffer_size all ≡ Some n → length all < n) → fold with_byte (begun done rest) more ≡ begun done all
 grows done rest [] all is less = ap (begun done) (sym (append-nil rest) ∙ is)
 grows done rest (byte ∷ more) all is less =
@@ -114,7 +114,7 @@ whole_later grown more all n same size less =
     not_whole grown (λ m own.
     let e = some_is m n (sym (size_longer grown more m own) ∙ ap buffer_size same ∙ size) in omega (arith, e, less))
 
--- a buffer that is whole, and the buffers after it
+-- a complete buffer is cut off, followed by the buffers after it
 ends_here : (done : List (List ℕ)) (grown more all : List ℕ) (n : ℕ) → grown ++ more ≡ all → length grown ≡ n → 6 ≤ n → fold with_byte (uncut (done ++ grown ∷ []) (is_last grown)) more ≡ fold with_byte (uncut (done ++ take n all ∷ []) (is_last all)) (drop n all)
 ends_here done grown more all n same here six =
     let front : take n all ≡ grown = rw (← here, ← same) (take-append_seam grown more) in
@@ -122,7 +122,7 @@ ends_here done grown more all n same here six =
     let last : is_last all ≡ is_last grown = rw (← same) (last_shorter grown more (omega (arith, here, six))) in
     rw (front, behind, last) refl
 
--- bytes that complete a buffer, and the buffers after it
+-- bytes that complete a buffer add this buffer to the cut, followed by the buffers after it
 completed : (done : List (List ℕ)) (rest more all : List ℕ) (n : ℕ) → rest ++ more ≡ all → buffer_size all ≡ Some n → length rest < n → n ≤ length all → fold with_byte (begun done rest) more ≡ fold with_byte (uncut (done ++ take n all ∷ []) (is_last all)) (drop n all)
 completed done rest [] all n is size less fits = absurd (omega (arith, ap length is, length-append rest []))
 completed done rest (byte ∷ more) all n is size less fits =
@@ -154,7 +154,7 @@ byte_stays c byte = by c.ended
 
 -- ---- the next buffer of a stream
 
--- the next buffer, where it is whole
+-- cutting a stream cuts off its next buffer, if the buffer is complete
 next_if : (done : List (List ℕ)) (taken : List ℕ) (n : ℕ) (c : Cut) → buffer_size taken ≡ Some n → cut_within n (is_last taken) taken ≡ Some c → cut_with done (record { taken = taken; ended = false }) ≡ cut_with (done ++ c.buffer ∷ []) c.after
 next_if done taken n c size is = by (nat_le n (length taken)) refl is
   where
@@ -171,7 +171,7 @@ next_by taken size = option_and_then (λ n. cut_within n (is_last taken) taken) 
 next_is : (taken : List ℕ) (size : Option ℕ) (o : Option Cut) → buffer_size taken ≡ size → next_by taken (buffer_size taken) ≡ o → next_by taken size ≡ o
 next_is taken size o is e = sym (ap (next_by taken) is) ∙ e
 
--- The next buffer of a stream comes after the buffers before it.
+-- In the cut of a stream, the next buffer follows the buffers executed before.
 pub cut_next : (done : List (List ℕ)) (s : Stream) (c : Cut) → next_of s ≡ Some c → cut_with done s ≡ cut_with (done ++ c.buffer ∷ []) c.after
 cut_next done s c is = by s.ended s.taken (buffer_size s.taken) refl is
   where
@@ -189,7 +189,7 @@ stays_ended done rest (byte ∷ bytes) =
     stays_ended done (rest ++ byte ∷ []) bytes
     ∙ ap (λ (l : List ℕ). record { buffers = done; rest = l; ended = true }) (append_assoc rest (byte ∷ []) bytes)
 
--- bytes that do not hold a buffer of that size are fewer
+-- bytes that do not contain a buffer of this size are fewer than this size
 too_few : (n : ℕ) (taken : List ℕ) → cut_within n (is_last taken) taken ≡ None → length taken < n
 too_few n taken is = by (nat_le n (length taken)) refl is
   where
@@ -197,11 +197,11 @@ too_few n taken is = by (nat_le n (length taken)) refl is
     by true fits e = absurd cc
     by false fits e = leb-false n (length taken) fits
 
--- where no buffer is next, the bytes are fewer than the size, if that is known
+-- if there is no next buffer, the bytes are fewer than its size, provided that the size is known
 waits_for : (taken : List ℕ) → next_of (record { taken = taken; ended = false }) ≡ None → (n : ℕ) → buffer_size taken ≡ Some n → length taken < n
 waits_for taken none n size = too_few n taken (next_is taken (Some n) None size none)
 
--- Where no buffer is next, all bytes of the stream are left over in its cut.
+-- If there is no next buffer, all bytes of the stream are the rest of its cut.
 pub cut_last : (done : List (List ℕ)) (s : Stream) → next_of s ≡ None → cut_with done s ≡ record { buffers = done; rest = s.taken; ended = s.ended }
 cut_last done s none = by s.ended s.taken none
   where
@@ -209,7 +209,7 @@ cut_last done s none = by s.ended s.taken none
     by true taken e = stays_ended done [] taken
     by false taken e = grows done [] taken taken refl (waits_for taken e)
 
--- the size of a buffer is known from six bytes on
+-- if the size of a buffer is unknown, there are fewer than six bytes
 size_known : (bytes : List ℕ) → buffer_size bytes ≡ None → length bytes < 6
 unfolding command_size
 size_known (t ∷ u ∷ a ∷ b ∷ c ∷ d ∷ bytes) is = absurd cc
@@ -220,7 +220,7 @@ size_known (t ∷ u ∷ a ∷ []) is = omega arith
 size_known (t ∷ u ∷ a ∷ b ∷ []) is = omega arith
 size_known (t ∷ u ∷ a ∷ b ∷ c ∷ []) is = omega arith
 
--- Where a stream goes on and no buffer is next, there is room for a byte.
+-- If a stream has not ended and has no next buffer, one more byte fits.
 pub next_room : (s : Stream) → next_of s ≡ None → s.ended ≡ false → length s.taken < buffer_limit
 next_room s none lives = by s.ended s.taken (buffer_size s.taken) refl none lives
   where
@@ -229,7 +229,7 @@ next_room s none lives = by s.ended s.taken (buffer_size s.taken) refl none live
     by false taken None size e lives = omega (arith, size_known taken size)
     by false taken (Some n) size e lives = omega (arith, waits_for taken e n size, buffer_bounds taken n size)
 
--- ---- the bytes that a next buffer takes
+-- ---- the bytes of a next buffer
 
 cut_shorter : (n : ℕ) (taken : List ℕ) (c : Cut) → 6 ≤ n → cut_within n (is_last taken) taken ≡ Some c → length c.after.taken < length taken
 cut_shorter n taken c six is = by (nat_le n (length taken)) refl is
@@ -238,7 +238,7 @@ cut_shorter n taken c six is = by (nat_le n (length taken)) refl is
     by true fits e = rw (← some_is _ _ e) (omega (arith, length-drop n taken, leb-true n (length taken) fits))
     by false fits e = absurd cc
 
--- A buffer takes a byte at least.
+-- A stream is shorter after its next buffer is cut off, because a buffer has at least one byte.
 pub next_shorter : (s : Stream) (c : Cut) → next_of s ≡ Some c → length c.after.taken < length s.taken
 next_shorter s c is = by s.ended s.taken (buffer_size s.taken) refl is
   where
@@ -247,19 +247,19 @@ next_shorter s c is = by s.ended s.taken (buffer_size s.taken) refl is
     by false taken None size e = absurd (let f = next_is taken None (Some c) size e in cc)
     by false taken (Some n) size e = cut_shorter n taken c (buffer_bounds taken n size).0 (next_is taken (Some n) (Some c) size e)
 
--- ---- streams that go on
+-- ---- streams that continue
 
--- The cut of a stream with more bytes goes on from the cut of the stream.
+-- The cut of a stream with more bytes continues the cut of the stream.
 pub cut_fed : (done : List (List ℕ)) (s : Stream) (bytes : List ℕ) → fold with_byte (cut_with done s) bytes ≡ cut_with done (fed s bytes)
 cut_fed done s bytes = sym (fold-append with_byte (uncut done s.ended) s.taken bytes)
 
--- All bytes that were read are cut into these buffers, and this stream is left, after one more read
--- too.
+-- If all bytes that were read are cut into these buffers, with this stream left, this also holds
+-- after one more read, which adds to the stream.
 pub read_more : (read bytes : List ℕ) (done : List (List ℕ)) (s : Stream) → cut_of read ≡ cut_with done s → cut_of (read ++ bytes) ≡ cut_with done (fed s bytes)
 read_more read bytes done s is =
     fold-append with_byte (uncut [] false) read bytes ∙ ap (λ (c : Cutting). fold with_byte c bytes) is ∙ cut_fed done s bytes
 
--- a stream is cut into one buffer more
+-- cutting off one more buffer continues the cut of a stream
 pub cuts_one : (s t : Stream) (done : List (List ℕ)) (u : Stream) (c : Cut) → CutsTo s done t → next_of t ≡ Some c → u ≡ c.after → CutsTo s (done ++ c.buffer ∷ []) u
 cuts_one s t done u c to is same before =
     to before ∙ cut_next (before ++ done) t c is
@@ -269,12 +269,13 @@ cuts_one s t done u c to is same before =
 pub cuts_none : (s : Stream) → CutsTo s [] s
 cuts_none s before = ap (λ (l : List (List ℕ)). cut_with l s) (sym (append-nil before))
 
--- a stream of which more was read, and more buffers were cut
+-- if more bytes are read and more buffers are cut off, all of these buffers are cut off the whole
+-- stream
 pub read_on : (read bytes : List ℕ) (done more : List (List ℕ)) (s t u : Stream) → cut_of read ≡ cut_with done s → t ≡ fed s bytes → CutsTo t more u → cut_of (read ++ bytes) ≡ cut_with (done ++ more) u
 read_on read bytes done more s t u is same to =
     read_more read bytes done s is ∙ ap (cut_with done) (sym same) ∙ to done
 
--- The buffers of a cut stay in front, whatever bytes come.
+-- More bytes only add buffers after those of a cut.
 pub buffers_stay : (c : Cutting) (bytes : List ℕ) → (more : List (List ℕ)) × ((fold with_byte c bytes).buffers ≡ c.buffers ++ more)
 buffers_stay c [] = ([], sym (append-nil c.buffers))
 buffers_stay c (byte ∷ bytes) =

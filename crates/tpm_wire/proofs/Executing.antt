@@ -23,7 +23,7 @@ use Rattle.tpm_wire.specs.declared.host.Host.{Host}
 use Rattle.tpm_wire.proofs.Cutting.{buffers_stay, cut_next, cuts_one, read_on}
 use Rattle.tpm_wire.proofs.Folds.{folds_on}
 
--- ---- executions after others
+-- ---- executions that follow others
 
 pub buffers_more : (first more : List Execution) → buffers_of (first ++ more) ≡ buffers_of first ++ buffers_of more
 buffers_more first more = map-append (λ (one : Execution). buffer_in one.event) first more
@@ -38,13 +38,14 @@ written_more held mid holds first more written also =
 pub asks_more : {F : Type 0} (g : Asking F) (asked at asking : F) (first more : List Execution) → AsksForEach g asked first at → AsksForEach g at more asking → AsksForEach g asked (first ++ more) asking
 asks_more g asked at asking first more asks also = folds_on (Asks g) asked at asking first more asks also
 
--- a stream of which more was read, and more buffers were executed
+-- If more bytes are read and more buffers are executed, all executed buffers are cut off the
+-- whole stream.
 pub cut_more : (read bytes : List ℕ) (first more : List Execution) (s t u : Stream) → cut_of read ≡ cut_with (buffers_of first) s → t ≡ fed s bytes → CutsTo t (buffers_of more) u → cut_of (read ++ bytes) ≡ cut_with (buffers_of (first ++ more)) u
 cut_more read bytes first more s t u is same to =
     read_on read bytes (buffers_of first) (buffers_of more) s t u is same to
     ∙ ap (λ (done : List (List ℕ)). cut_with done u) (sym (buffers_more first more))
 
--- ---- one execution more
+-- ---- one more execution
 
 pub leads_one : (can : Bool) (old r new : Record) (executions : List Execution) (buffer : List ℕ) (host : Host) (outcome : Outcome) → Leads can old executions r → Executes can r (given buffer host) (outcome_step new outcome) → Leads can old (executions ++ execution_of r buffer host new outcome ∷ []) new
 leads_one can old r new executions buffer host outcome leads executes =
@@ -67,7 +68,7 @@ pub written_one : (held mid holds : Option (List ℕ)) (executions : List Execut
 written_one held mid holds executions r new buffer host outcome written also =
     subst (Appends held holds) (sym (responses_one executions (execution_of r buffer host new outcome))) (Appends-trans _ _ _ _ _ written also)
 
--- The writer failed at the last response, of which a part was written.
+-- If the writer fails at one more response, a prefix of this last response was written.
 pub lost_last : (held mid holds : Option (List ℕ)) (executions : List Execution) (r new : Record) (buffer : List ℕ) (host : Host) (outcome : Outcome) → Appends held mid (responses_of executions) → AppendsFront mid holds outcome.response.items → LosesLast held holds (executions ++ execution_of r buffer host new outcome ∷ [])
 lost_last held mid holds executions r new buffer host outcome written cut =
     (executions, execution_of r buffer host new outcome, refl, cut.0, cut.1, cut.2, Appends-trans _ _ _ _ _ written cut.3)
@@ -84,7 +85,8 @@ are_fewer cut done left c is next =
     let first = are_first cut (done ++ c.buffer ∷ []) c.after (is ∙ cut_next done left c next) in
     (c.buffer, first.0, first.1 ∙ append_assoc done (c.buffer ∷ []) first.0)
 
--- The writer failed at the last response, after other executions too.
+-- If the writer failed at the last response of some executions, it also failed at the last
+-- response of these and the earlier ones together.
 loses_behind : (held mid holds : Option (List ℕ)) (first more : List Execution) → Appends held mid (responses_of first) → LosesLast mid holds more → LosesLast held holds (first ++ more)
 loses_behind held mid holds first more written (answered, lost, are, front, rest, cut, also) = (
   first ++ answered,
@@ -98,7 +100,8 @@ loses_behind held mid holds first more written (answered, lost, are, front, rest
       (Appends-trans _ _ _ _ _ written also),
 )
 
--- The last response was held back, after other executions too.
+-- If the last response of some executions was not written, it is also the last response of these
+-- and the earlier ones together.
 holds_back_behind : (held mid holds : Option (List ℕ)) (first more : List Execution) → Appends held mid (responses_of first) → HoldsLastBack mid holds more → HoldsLastBack held holds (first ++ more)
 holds_back_behind held mid holds first more written (answered, last, are, also) = (
   first ++ answered,
@@ -107,7 +110,8 @@ holds_back_behind held mid holds first more written (answered, last, are, also) 
   written_more held mid holds first answered written also,
 )
 
--- Where serving a part of what was read ended in some way, serving the whole did too.
+-- If serving ended with a fault after more executions, all executions together ended with that
+-- fault.
 pub ends_so : {F : Type 0} (g : Asking F) (held mid holds : Option (List ℕ)) (before after reader : Marks) (cut : Cutting) (asked at : F) (first more : List Execution) (asking : F) (left : Stream) (e : ServeFault) → cut ≡ cut_with (buffers_of (first ++ more)) left → AsksForEach g asked first at → Appends held mid (responses_of first) → Finishes g mid holds before after at more asking left (Err e) → Ends g held holds reader after cut asked (first ++ more) asking (Err e)
 ends_so g held mid holds before after reader cut asked at first more asking left fault.Write is asks written f =
     (are_first cut (buffers_of (first ++ more)) left is, f.1, asks_more g asked at asking first more asks f.0, loses_behind held mid holds first more written f.2)
@@ -119,7 +123,7 @@ ends_so g held mid holds before after reader cut asked at first more asking left
 ends_so g held mid holds before after reader cut asked at first more asking left fault.Full is asks written f = absurd f
 ends_so g held mid holds before after reader cut asked at first more asking left fault.Read is asks written f = absurd f
 
--- ---- what a witness is told
+-- ---- what a witness is notified of
 
 pub notes_one : {S : Type 0} (notes : S → Execution → S → Type 0) (old mid new : S) (executions : List Execution) (one : Execution) → NotesEach notes old executions mid → notes mid one new → NotesEach notes old (executions ++ one ∷ []) new
 notes_one notes old mid new executions one told also = FoldsTo-push notes old executions mid one new told also
@@ -127,7 +131,7 @@ notes_one notes old mid new executions one told also = FoldsTo-push notes old ex
 pub notes_more : {S : Type 0} (notes : S → Execution → S → Type 0) (old mid new : S) (first more : List Execution) → NotesEach notes old first mid → NotesEach notes mid more new → NotesEach notes old (first ++ more) new
 notes_more notes old mid new first more told also = folds_on notes old mid new first more told also
 
--- Serving finished in this way, where the response of one execution more was not delivered.
+-- If the response of one more execution is not delivered, serving ends with that fault.
 pub unanswered : {F S : Type 0} (g : Asking F) (notes : S → Execution → S → Type 0) (failed : S → Bool) (held mid holds : Option (List ℕ)) (before at after : Marks) (asked asking : F) (witness told new : S) (executions : List Execution) (r left : Record) (buffer : List ℕ) (host : Host) (outcome : Outcome) (stream : Stream) (e : ServeFault) → AsksForEach g asked (executions ++ execution_of r buffer host left outcome ∷ []) asking → Appends held mid (responses_of executions) → NotesEach notes witness executions told → Delivers notes failed mid holds at after (execution_of r buffer host left outcome) told (Err e) new → Finishes g held holds before after asked (executions ++ execution_of r buffer host left outcome ∷ []) asking stream (Err e) × Notes notes failed witness (executions ++ execution_of r buffer host left outcome ∷ []) new (Err e)
 unanswered g notes failed held mid holds before at after asked asking witness told new executions r left buffer host outcome stream fault.Write asks written noted delivers =
     ((asks, delivers.2, lost_last held mid holds executions r left buffer host outcome written delivers.1), notes_one notes witness told new executions (execution_of r buffer host left outcome) noted delivers.0)
@@ -139,7 +143,8 @@ unanswered g notes failed held mid holds before at after asked asking witness to
 unanswered g notes failed held mid holds before at after asked asking witness told new executions r left buffer host outcome stream fault.Read asks written noted delivers = absurd delivers
 unanswered g notes failed held mid holds before at after asked asking witness told new executions r left buffer host outcome stream fault.Host asks written noted delivers = absurd delivers
 
--- Where the notes of a part ended in some way, those of the whole did too.
+-- If notifying a witness of more executions ended with a fault, so did notifying it of all
+-- executions.
 pub notes_so : {S : Type 0} (notes : S → Execution → S → Type 0) (failed : S → Bool) (old mid new : S) (first more : List Execution) (e : ServeFault) → NotesEach notes old first mid → Notes notes failed mid more new (Err e) → Notes notes failed old (first ++ more) new (Err e)
 notes_so notes failed old mid new first more fault.Save told (others, last, are, at, also, fails) =
     (first ++ others, last, ap (λ (l : List Execution). first ++ l) are ∙ sym (append_assoc first others (last ∷ [])), at, notes_more notes old mid at first others told also, fails)
@@ -148,7 +153,7 @@ notes_so notes failed old mid new first more fault.Read told also = notes_more n
 notes_so notes failed old mid new first more fault.Write told also = notes_more notes old mid new first more told also
 notes_so notes failed old mid new first more fault.Host told also = notes_more notes old mid new first more told also
 
--- Where no note can fail, serving never ends since one did.
+-- If notifying the witness cannot fail, serving never ends because of the witness.
 pub never_unsaved : {S : Type 0} (notes : S → Execution → S → Type 0) (old new : S) (executions : List Execution) (result : Result ℕ ServeFault) → Notes notes (λ _. false) old executions new result → result ≢ Err fault.Save
 never_unsaved notes old new executions (Ok count) told = λ is. cc
 never_unsaved notes old new executions (Err fault.Save) (others, last, are, at, also, fails) = λ is. false≢true fails

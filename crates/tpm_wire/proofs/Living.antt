@@ -29,7 +29,7 @@ use Rattle.tpm_wire.specs.declared.turn.Turn.TheVariants.{Answer, Ended, Wants}
 use Rattle.tpm_wire.proofs.Cutting.{buffers_stay, cut_next, read_more}
 use Rattle.tpm_wire.proofs.Folds.{folds_on}
 
--- The streams and the lives are as many, and each connection is served.
+-- There are equally many lives and streams, and each connection is served.
 record Serve (streams : List (Option Stream)) (lives : List (Option Life)) : Type 0 where
   pub many : length lives ≡ length streams
   pub each : (number : ℕ) → IsServed (at_place streams number) (at_place lives number)
@@ -39,7 +39,7 @@ length-set [] i x = refl
 length-set (y ∷ xs) zero x = refl
 length-set (y ∷ xs) (suc i) x = ap (λ (n : ℕ). suc n) (length-set xs i x)
 
--- another stream and another life under one number
+-- replacing the stream and the life at a number by a served pair keeps every connection served
 set_served : (streams : List (Option Stream)) (lives : List (Option Life)) (n : ℕ) (stream : Option Stream) (life : Option Life) → Serve streams lives → n < length streams → IsServed stream life → Serve (slice_set streams n stream) (slice_set lives n life)
 set_served streams lives n stream life so below here = record {
   many = length-set lives n life ∙ so.many ∙ sym (length-set streams n stream);
@@ -56,7 +56,7 @@ set_served streams lives n stream life so below here = record {
         let l = at_set-other lives n number life apart in
         subst (λ (x : Option Stream). IsServed x (at_place (slice_set lives n life) number)) (sym s) (subst (λ (y : Option Life). IsServed (at_place streams number) y) (sym l) (so.each number))
 
--- the life of a connection whose stream is this
+-- a served connection with this stream has a life
 life_of : (stream : Stream) (life : Option Life) → IsServed (Some stream) life → (l : Life) × (life ≡ Some l) × IsServed (Some stream) (Some l)
 life_of stream None served = absurd served
 life_of stream (Some l) served = (l, refl, served)
@@ -64,12 +64,12 @@ life_of stream (Some l) served = (l, refl, served)
 life_at : (streams : List (Option Stream)) (lives : List (Option Life)) (n : ℕ) (s : Stream) → Serve streams lives → at_place streams n ≡ Some s → (l : Life) × (at_place lives n ≡ Some l) × IsServed (Some s) (Some l)
 life_at streams lives n s so is = life_of s (at_place lives n) (subst (λ (x : Option Stream). IsServed x (at_place lives n)) is (so.each n))
 
--- An event has this effect on a record, be it a record of a device or not.
+-- An event has this effect on a record, which need not be the record of a device.
 abbrev Happens : Bool → Record → Event → Record → Type 0
 Happens can old (Executed plain_event outcome) new = Executes can old plain_event (outcome_step new outcome)
 Happens can old PowerCycled new = new ≡ cycled old
 
--- A call led the machine over these events, and the streams and lives are those after it.
+-- A call led the machine through these events, and each connection is served after it.
 record Led (can : Bool) (old new : Wire) (lives : List (Option Life)) (events : List Event) : Type 0 where
   pub machine : FoldsTo (Happens can) old.machine events new.machine
   pub served : Serve new.streams lives
@@ -104,7 +104,7 @@ feeding_led can old new lives n piece count (Some s) is so did =
       served = rw (did.1, l.1, ← same) (set_served old.streams lives n (Some (fed s (take count piece))) (Some (record l.0 { bytes = l.0.bytes ++ take count piece })) so (at_inside old.streams n s is) (fed_served s (take count piece) l.0 l.2));
     }
 
--- the buffer that was due is the one that was cut
+-- the due buffer is the next buffer that is cut
 due_is : (s : Stream) (c : Cut) (l : Life) → IsServed (Some s) (Some l) → next_of s ≡ Some c → buffer_due l ≡ c.buffer
 due_is s c l served next =
     let first = buffers_stay (uncut (served.0 ++ c.buffer ∷ []) c.after.ended) c.after.taken in
@@ -139,7 +139,7 @@ answering_led can old new lives n host outcome (Some s) is so did = by (next_of 
     by None next d = absurd (waits_not s.ended outcome (Ok (Answer outcome)) (Ok (if s.ended then Ended else Wants)) refl refl d.0)
     by (Some c) next d = answer_led can old new lives n host outcome s c is next so d.0 d.1
 
--- a turn that answers nothing changes nothing
+-- a turn that returns no answer changes nothing
 waiting_same : (can : Bool) (old new : Wire) (n : ℕ) (host : Host) (o : Option Stream) → TurnsAt can o old n host (Ok Wants) new → new ≡ old
 waiting_same can old new n host None did = absurd did
 waiting_same can old new n host (Some s) did = by (next_of s) did
@@ -215,7 +215,7 @@ schedule_led can old new lives (call ∷ calls) so run =
       served = others.served;
     }
 
--- where all eight numbers are free, no connection has to be served
+-- if all numbers are free, there is no connection to serve
 none_served : (n number : ℕ) → IsServed (at_place (free {X = Stream} n) number) (at_place (free {X = Life} n) number)
 none_served zero number = tt
 none_served (suc n) zero = tt
@@ -224,11 +224,11 @@ none_served (suc n) (suc number) = none_served n number
 new_served : (r : Record) → Serve (new_wire r).streams (free 8)
 new_served r = record { many = refl; each = none_served 8 }
 
--- a schedule leads a new mux over its events, with each connection served
+-- a schedule leads a new mux through the schedule's events, and each connection is served
 led_anew : (can : Bool) (r : Record) (calls : List Call) (new : Wire) → Schedules can (new_wire r) calls new → Led can (new_wire r) new (lives_after_all (free 8) calls) (events_in (free 8) calls)
 led_anew can r calls new run = schedule_led can (new_wire r) new (free 8) calls (new_served r) run
 
--- Each connection is served after every schedule.
+-- After every schedule, each connection is served.
 pub schedules_served : SchedulesAreServed
 schedules_served can r calls new run = (led_anew can r calls new run).served.each
 
@@ -246,7 +246,7 @@ executions_of can old new (PowerCycled ∷ events) is run =
     let (executions, are, leads) = executions_of can (cycled old) new events executes.is_record others in
     (power_cycle old ∷ executions, (refl, are), (refl, executes, leads))
 
--- The machine is where the events of a schedule lead.
+-- The machine has the record to which the events of a schedule lead.
 pub schedules_lead : SchedulesLead
 schedules_lead can r calls new is run =
     let (executions, are, leads) = executions_of can r new.machine (events_in (free 8) calls) is (led_anew can r calls new run).machine in
@@ -265,7 +265,7 @@ happens_run r new (Executed plain_event outcome ∷ events) run =
 happens_run r new (PowerCycled ∷ events) run =
     happens_run run.0 new events run.2 ∙ ap (λ (m : Record). after_all m (map plain_event_of events)) run.1
 
--- Where no memory can be refused, the events of a schedule are a run.
+-- If no allocation can fail, the events of a schedule are a run.
 pub schedules_run : SchedulesAreRuns
 schedules_run r calls new run =
     happens_run r new.machine (events_in (free 8) calls) (led_anew false r calls new run).machine

@@ -13,7 +13,7 @@ first_still : (buffers done more : List (List ℕ)) → AreFirst buffers done �
 first_still buffers done more first =
     (first.0 ++ more, ap (λ (l : List (List ℕ)). l ++ more) first.1 ∙ append_assoc buffers first.0 more)
 
--- The pieces that were read stay, where more buffers are executed.
+-- Executing more buffers does not change the pieces that were read.
 pub pieces_stay : (done more : List (List ℕ)) (start : List ℕ) (pieces : List (List ℕ)) (read : List ℕ) → FoldsTo (ReadsPiece done) start pieces read → FoldsTo (ReadsPiece (done ++ more)) start pieces read
 pieces_stay done more start [] read run = run
 pieces_stay done more start (piece ∷ pieces) read run =
@@ -28,13 +28,14 @@ one_piece done more pieces read bytes s run is none lives some fits =
     FoldsTo-push (ReadsPiece (done ++ more)) [] pieces read bytes (read ++ bytes) (pieces_stay done more [] pieces read run)
     (refl, some, omega (arith, rest, fits, length-append s.taken bytes), ap (λ (c : Cutting). c.ended) whole ∙ lives, first_still _ done more first)
 
--- One piece more is read, after which more buffers are executed.
+-- Another piece can be read, and more buffers executed after it.
 pub piece_more : (first more : List Execution) (pieces : List (List ℕ)) (read bytes : List ℕ) (s : Stream) → FoldsTo (ReadsPiece (buffers_of first)) [] pieces read → cut_of read ≡ cut_with (buffers_of first) s → next_of s ≡ None → s.ended ≡ false → 0 < length bytes → length (fed s bytes).taken ≤ buffer_limit → FoldsTo (ReadsPiece (buffers_of (first ++ more))) [] (pieces ++ bytes ∷ []) (read ++ bytes)
 piece_more first more pieces read bytes s run is none lives some fits =
     subst (λ (done : List (List ℕ)). FoldsTo (ReadsPiece done) [] (pieces ++ bytes ∷ []) (read ++ bytes)) (sym (buffers_more first more))
     (one_piece (buffers_of first) (buffers_of more) pieces read bytes s run is none lives some fits)
 
--- One piece more is counted, and no more are read than one connection may have.
+-- One more piece raises the count of reads by one, and the count does not exceed the limit for
+-- one connection.
 pub pieces_fit : (pieces : List (List ℕ)) (piece : List ℕ) (reads : ℕ) → length pieces ≡ reads → reads < 1048576 → (length (pieces ++ piece ∷ []) ≡ reads + 1) × (length (pieces ++ piece ∷ []) ≤ 1048576)
 pieces_fit pieces piece reads so few =
     let one = length-append pieces (piece ∷ []) in

@@ -1,5 +1,5 @@
--- Schedules of calls, and their effect: which buffers of which connection are executed, and to
--- which record of the machine that leads.
+-- Schedules of calls, and their effects: the buffers that are executed on each connection, and
+-- the record of the machine after them.
 use Rattle.std.specs.Prelude.{◌≡◌, ℕ, Bool, false, List, [], ◌∷◌, ◌++◌, length, take, map, slice_set, slice_get}
 use Rattle.std.specs.Prelude.{Option, Some, None, option_map, unwrap_or, Result, Ok}
 use Rattle.std.specs.List.{AllZip, FoldsTo}
@@ -24,7 +24,7 @@ use Rattle.tpm_wire.specs.declared.number.ConnectionNumber.{ConnectionNumber}
 use Rattle.tpm_wire.specs.declared.turn.Turn.{Turn}
 use Rattle.tpm_wire.specs.declared.turn.Turn.TheVariants.{Answer}
 
--- a call, and what it answered
+-- a call and its result
 pub data Call : Type 0 where
   Opening : (result : Result ConnectionNumber Full) → Call
   Feeding : (connection : ConnectionNumber) (piece : List ℕ) (result : Result ℕ NoConnection) → Call
@@ -32,7 +32,7 @@ pub data Call : Type 0 where
   PowerCycling : Call
   Closing : (connection : ConnectionNumber) (result : Result (Unit {0}) NoConnection) → Call
 
--- What a call does. `can` says whether memory can be refused.
+-- The effect of a call. `can` says whether an allocation can fail.
 abbrev pub Does : Bool → Wire → Call → Wire → Type 0
 Does can old (Opening result) new = Opens old result new
 Does can old (Feeding connection piece result) new =
@@ -42,14 +42,14 @@ Does can old (Turning connection host result) new =
 Does can old PowerCycling new = new ≡ record old { machine = cycled old.machine }
 Does can old (Closing connection result) new = Closes old (number_of connection) result new
 
--- The calls were made one after another.
+-- The calls were made in this order.
 abbrev pub Schedules : Bool → Wire → List Call → Wire → Type 0
 Schedules can old calls new = FoldsTo (Does can) old calls new
 
--- ---- what the calls and their answers alone say
+-- ---- what follows from the calls and their results only
 
--- the life of a connection since it was opened: all bytes that it took, and all outcomes that its
--- turns answered, in order
+-- the life of a connection since it was opened: all bytes that it received, and all outcomes that
+-- its turns returned, in order
 pub record Life : Type 0 where
   pub bytes : List ℕ
   pub answers : List Outcome
@@ -57,12 +57,12 @@ pub record Life : Type 0 where
 abbrev pub new_life : Life
 new_life = record { bytes = []; answers = [] }
 
--- the lives with the one of a number changed
+-- the lives, with the life at this number changed
 abbrev pub with_life : List (Option Life) → ℕ → (Life → Life) → List (Option Life)
 with_life lives number change = slice_set lives number (option_map change (at_place lives number))
 
--- the lives of the connections that are open, under their numbers, after a call; a call that was
--- refused, or took nothing, or waits, leaves them
+-- the lives of the open connections, by number, after a call; a call that is refused, takes no
+-- bytes or waits leaves them unchanged
 abbrev pub lives_after : List (Option Life) → Call → List (Option Life)
 lives_after lives (Opening (Ok connection)) = slice_set lives (number_of connection) (Some new_life)
 lives_after lives (Feeding connection piece (Ok count)) =
@@ -72,13 +72,12 @@ lives_after lives (Turning connection host (Ok (Answer outcome))) =
 lives_after lives (Closing connection (Ok done)) = slice_set lives (number_of connection) None
 lives_after lives call = lives
 
--- the lives of the connections that are open, after all of these calls
+-- the lives of the open connections after all of these calls
 abbrev pub lives_after_all : List (Option Life) → List Call → List (Option Life)
 lives_after_all lives [] = lives
 lives_after_all lives (call ∷ calls) = lives_after_all (lives_after lives call) calls
 
--- the buffer of a connection that is to be executed next: the first of its cut that was not
--- answered
+-- the connection's buffer that is executed next: the first buffer of its cut without an answer
 abbrev pub buffer_due : Life → List ℕ
 buffer_due l = unwrap_or (slice_get (cut_of l.bytes).buffers (length l.answers)) []
 
@@ -87,7 +86,7 @@ pub data Event : Type 0 where
   Executed : (plain_event : PlainEvent) (outcome : Outcome) → Event
   PowerCycled : Event
 
--- the events of a call: an answered turn executed the connection's buffer that was due
+-- the events of a call: a turn that returned an answer executed the connection's due buffer
 abbrev pub executed : Option Life → Host → Outcome → List Event
 executed None host outcome = []
 executed (Some l) host outcome = Executed (given (buffer_due l) host) outcome ∷ []
@@ -105,14 +104,15 @@ events_in lives (call ∷ calls) = events_of lives call ++ events_in (lives_afte
 
 -- ---- the laws of schedules
 
--- An execution is that of an event: of the event's buffer, with its outcome, or of a power cycle.
+-- An execution belongs to an event: it executed the event's buffer with the event's outcome, or
+-- both are power cycles.
 abbrev pub IsOf : Event → Execution → Type 0
 IsOf (Executed plain_event outcome) one =
     (one.event ≡ plain_event) × (one.seen ≡ outcome_step one.seen.after outcome)
 IsOf PowerCycled one = one.event ≡ Cycled
 
--- These events were executed one after another, and led from an old record to a new one. Where a
--- history leads to the old record, they are a stretch of events after that history.
+-- These events were executed in order, and led from the old record to the new one. If a history
+-- leads to the old record, they are a stretch of events after that history.
 pub record EventsLead (can : Bool) (old : Record) (events : List Event) (new : Record) : Type 0
   where
     pub executions : List Execution
@@ -121,14 +121,15 @@ pub record EventsLead (can : Bool) (old : Record) (events : List Event) (new : R
     pub stretch : (history : History) → Follows old history
         → StretchFollows can old executions new history
 
--- After every schedule of calls on a new mux the machine is where the schedule's events lead.
+-- After every schedule of calls on a new mux, the machine has the record to which the schedule's
+-- events lead.
 abbrev pub SchedulesLead : Type 0
 SchedulesLead = (can : Bool) (r : Record) (calls : List Call) (new : Wire)
     → IsRecord r → Schedules can (new_wire r) calls new
     → EventsLead can r (events_in (free 8) calls) new.machine
 
--- A connection's buffers were executed in order, one for each answer, as far as the answers go, and
--- the connection holds what is left of its bytes after them.
+-- A connection's buffers were executed in order, one for each answer so far, and the connection
+-- stores the bytes that follow them.
 abbrev pub IsServed : Option Stream → Option Life → Type 0
 IsServed None None = Unit {0}
 IsServed (Some s) (Some l) =
@@ -136,7 +137,7 @@ IsServed (Some s) (Some l) =
 IsServed None (Some l) = ⊥
 IsServed (Some s) None = ⊥
 
--- After every schedule each connection is served as far as it was answered.
+-- After every schedule, each connection is served up to its last answer.
 abbrev pub SchedulesAreServed : Type 0
 SchedulesAreServed = (can : Bool) (r : Record) (calls : List Call) (new : Wire)
     → Schedules can (new_wire r) calls new → (number : ℕ)
@@ -146,7 +147,7 @@ abbrev pub plain_event_of : Event → PlainEvent
 plain_event_of (Executed plain_event outcome) = plain_event
 plain_event_of PowerCycled = Cycled
 
--- Where no memory can be refused, the machine is where the run of the events leads.
+-- If no allocation can fail, the machine has the record to which the run of the events leads.
 abbrev pub SchedulesAreRuns : Type 0
 SchedulesAreRuns = (r : Record) (calls : List Call) (new : Wire)
     → Schedules false (new_wire r) calls new

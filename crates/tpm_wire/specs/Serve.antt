@@ -35,13 +35,13 @@ buffers_of executions = map (λ (one : Execution). buffer_in one.event) executio
 abbrev pub responses_of : List Execution → List ℕ
 responses_of executions = flat_map (λ (one : Execution). one.seen.response) executions
 
--- ---- what the host is asked
+-- ---- what the host is asked for
 
--- a closure that is asked for what the host says of a command
+-- a closure that returns the host's values for a command
 abbrev pub Asking : Type 0 → Type 1
 Asking F = Mut F (Unit {0}) (Result Host HostFault)
 
--- The host was asked once, and the buffer was executed with what it said.
+-- The host was asked once for its values, and the buffer was executed with them.
 abbrev pub Asks : {F : Type 0} → Asking F → F → Execution → F → Type 0
 Asks g old one new =
     (host : Host) × Called g old tt (Ok host) new × (one.event ≡ given (buffer_in one.event) host)
@@ -50,14 +50,15 @@ Asks g old one new =
 abbrev pub AsksForEach : {F : Type 0} → Asking F → F → List Execution → F → Type 0
 AsksForEach g old executions new = FoldsTo (Asks g) old executions new
 
--- The host was asked once for each of these executions, and then once more, and answered a fault.
+-- The host was asked once for each of these executions, and then once more, when it returned a
+-- fault.
 abbrev pub AsksInVain : {F : Type 0} → Asking F → F → List Execution → F → Type 0
 AsksInVain {F} g old executions new =
     (last : F) × AsksForEach g old executions last × (e : HostFault) × Called g last tt (Err e) new
 
 -- ---- the steps of serving
 
--- One read of a stream, for which all the room of the stream was lent.
+-- One read into a stream was made, using the whole free part of the stream's buffer.
 abbrev pub Fills : Option (List ℕ) → Option (List ℕ) → Marks → Marks
     → Stream → Result ℕ Failed → Stream → Type 0
 Fills had has before after old (Err failed) new =
@@ -68,9 +69,9 @@ Fills had has before after old (Ok count) new =
     × (length new.taken ≤ buffer_limit)
     × (after ≡ after_read {E = Failed} before (Ok count) (buffer_limit - length old.taken))
 
--- One response was delivered: a witness was told the execution, and then the response was written
--- whole. Where the witness failed, nothing was written; where the writer failed, a part of the
--- response from its front.
+-- One response was delivered: a witness was notified of the execution, and then the whole
+-- response was written. If the witness failed, nothing was written; if the writer failed, a
+-- prefix of the response was written.
 abbrev pub Delivers : {S : Type 0} → (S → Execution → S → Type 0) → (S → Bool)
     → Option (List ℕ) → Option (List ℕ) → Marks → Marks
     → Execution → S → Result (Unit {0}) ServeFault → S → Type 0
@@ -82,22 +83,22 @@ Delivers notes failed held holds before after one old (Err fault.Write) new =
     notes old one new × AppendsFront held holds one.seen.response × (after.failed ≡ true)
 Delivers notes failed held holds before after one old (Err e) new = ⊥
 
--- The writer failed at the response of the last execution: all responses before were written whole,
--- and of the last a part from its front, perhaps none of it.
+-- The writer failed at the response of the last execution: all earlier responses were written
+-- completely, and a prefix of the last one, which may be empty, was written.
 abbrev pub LosesLast : Option (List ℕ) → Option (List ℕ) → List Execution → Type 0
 LosesLast held holds executions =
     (answered : List Execution) × (lost : Execution) × (executions ≡ answered ++ lost ∷ [])
     × (front : List ℕ) × (rest : List ℕ) × (lost.seen.response ≡ front ++ rest)
     × Appends held holds (responses_of answered ++ front)
 
--- The last execution was not answered: all responses before it were written whole, and nothing of
--- its own.
+-- The last execution was not answered: all earlier responses were written completely, and nothing
+-- of its own response was written.
 abbrev pub HoldsLastBack : Option (List ℕ) → Option (List ℕ) → List Execution → Type 0
 HoldsLastBack held holds executions =
     (answered : List Execution) × (last : Execution) × (executions ≡ answered ++ last ∷ [])
     × Appends held holds (responses_of answered)
 
--- All whole buffers were executed, by these executions, and their responses written, with this
+-- These executions executed all complete buffers, and their responses were written, with this
 -- result.
 abbrev pub Finishes : {F : Type 0} → Asking F → Option (List ℕ) → Option (List ℕ)
     → Marks → Marks → F → List Execution → F → Stream → Result ℕ ServeFault → Type 0
@@ -115,17 +116,17 @@ Finishes g held holds before after asked executions asking left (Err e) = ⊥
 
 -- ---- what is read
 
--- The buffers are the first ones of all, of which there may be others.
+-- The first list of buffers is a prefix of the second.
 abbrev pub AreFirst : List (List ℕ) → List (List ℕ) → Type 0
 AreFirst done buffers = (others : List (List ℕ)) × (buffers ≡ done ++ others)
 
--- how many bytes more a connection has room for, where each whole buffer was executed
+-- how many more bytes fit into a connection after all of its complete buffers were executed
 abbrev pub room_left : Cutting → ℕ
 room_left cut = buffer_limit - length cut.rest
 
--- One read gave a piece, of at least one byte and at most as many as there was room for. The read
--- was made only since the stream went on after what was read before, and all buffers that are whole
--- in what was read before are among those that were executed.
+-- One read delivered a piece, of at least one byte and at most the bytes that fit. The stream had
+-- not ended with the bytes read before. All complete buffers in the bytes read before are among
+-- those executed.
 abbrev pub ReadsPiece : (done : List (List ℕ)) → (old piece new : List ℕ) → Type 0
 ReadsPiece done old piece new =
     (new ≡ old ++ piece) × (0 < length piece) × (length piece ≤ room_left (cut_of old))
@@ -133,28 +134,30 @@ ReadsPiece done old piece new =
 
 -- ---- how serving ends
 
--- The buffers are the first ones of all, of which there is at least one more.
+-- The first list of buffers is a proper prefix of the second.
 abbrev pub AreFewer : List (List ℕ) → List (List ℕ) → Type 0
 AreFewer done buffers =
     (next : List ℕ) × (others : List (List ℕ)) × (buffers ≡ done ++ next ∷ others)
 
--- The reader ended, at a read that had all the room that there was; or the stream ended.
+-- The reader ended at a read that could use the whole free part of the buffer; or the stream
+-- ended.
 abbrev pub IsAtEnd : Marks → Cutting → Type 0
 IsAtEnd reader cut =
     ((reader.ended ≡ true) × (reader.room ≡ room_left cut)) ⊎ (cut.ended ≡ true)
 
--- The reader failed, at a read that had all the room that there was; or the reader gave bytes in as
--- many reads as one connection may have.
+-- The reader failed at a read that could use the whole free part of the buffer; or the connection
+-- reached its limit on reads that return bytes.
 abbrev pub ReadsNoMore : Marks → Cutting → Type 0
 ReadsNoMore reader cut =
     ((reader.failed ≡ true) × (reader.room ≡ room_left cut)) ⊎ (reader.reads ≡ 1048576)
 
--- How serving ended. At the end of what the reader gives, or of the stream itself: all buffers were
--- executed and all responses written. Where the reader failed, or gave bytes in as many reads as
--- one connection may have: all buffers were executed and all responses written, too. Where the
--- writer failed: some buffers were executed, the last without its whole response. Where the
--- witness failed: some were executed, the last without its response. Where the host answered a
--- fault: those before the next buffer, which is whole, with their responses.
+-- How serving ended.
+-- - The reader or the stream ended: all buffers were executed and all responses were written.
+-- - The reader failed, or reached the limit on reads that return bytes: the same.
+-- - The writer failed: some buffers were executed, the last one without its whole response.
+-- - The witness failed: some buffers were executed, the last one without its response.
+-- - The host returned a fault: the buffers before the next one, which is whole, were executed,
+--   with their responses.
 abbrev pub Ends : {F : Type 0} → Asking F → Option (List ℕ) → Option (List ℕ)
     → Marks → Marks → Cutting → F → List Execution → F → Result ℕ ServeFault → Type 0
 Ends g held holds reader writer cut asked executions asking (Ok count) =
@@ -174,11 +177,11 @@ Ends g held holds reader writer cut asked executions asking (Err fault.Host) =
     × AsksInVain g asked executions asking × Appends held holds (responses_of executions)
 Ends g held holds reader writer cut asked executions asking (Err fault.Full) = ⊥
 
--- A connection was served: pieces were read of the reader, each in one read and no more of them
--- than one connection may have. The pieces, joined, are cut into buffers, and the first of these
--- were executed. The executions lead from the machine before to the machine after. Where a history
--- leads to the machine before, they are a stretch of events after that history. Ends says how
--- serving ended.
+-- A connection was served: pieces were read from the reader, each in one read, and no more than
+-- the limit for one connection. The pieces are joined and cut into buffers, and the first of
+-- these buffers were executed. The executions lead from the old record to the new one. If a
+-- history leads to the old record, they are a stretch of events after that history. `Ends`
+-- defines how serving ended.
 pub record Serves {F : Type 0} (g : Asking F) (can : Bool) (had has held holds : Option (List ℕ))
     (reader writer : Marks) (old : Record) (asked : F) (result : Result ℕ ServeFault)
     (new : Record) (asking : F) : Type 0
@@ -195,14 +198,14 @@ pub record Serves {F : Type 0} (g : Asking F) (can : Bool) (had has held holds :
         → StretchFollows can old executions new history
     pub ends : Ends g held holds reader writer (cut_of read) asked executions asking result
 
--- ---- what a witness is told
+-- ---- what a witness is notified of
 
--- A witness was told each of these executions, in order.
+-- A witness was notified of each of these executions, in order.
 abbrev pub NotesEach : {S : Type 0} → (S → Execution → S → Type 0) → S → List Execution → S → Type 0
 NotesEach notes old executions new = FoldsTo notes old executions new
 
--- A witness was told each of these executions, in order. Where serving ended since the witness
--- failed, it was told all but the last, and failed.
+-- A witness was notified of each of these executions, in order. If serving ended because the
+-- witness failed, it was notified of all executions except the last, and failed on the last one.
 abbrev pub Notes : {S : Type 0} → (S → Execution → S → Type 0) → (S → Bool)
     → S → List Execution → S → Result ℕ ServeFault → Type 0
 Notes {S} notes failed old executions new (Err fault.Save) =

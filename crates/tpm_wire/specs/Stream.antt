@@ -1,6 +1,6 @@
--- The bytes of a connection, and the command buffers that they are cut into. TPM 2.0 Library, Part
--- 1, section 18 (command structure): after a tag of two bytes a command has commandSize, a number
--- of four bytes, which says how many bytes the whole command has.
+-- The bytes of a connection, and the command buffers that they are cut into. TPM 2.0 Library,
+-- Part 1, section 18 (command structure): after a tag of two bytes a command has commandSize, a
+-- four-byte number, which is the size of the whole command.
 use Rattle.tpm_types.specs.Limits.{buffer_limit}
 use Rattle.std.specs.Prelude.{◌≡◌, ℕ, ◌==◌, ◌-◌, ◌≤◌, ◌&&◌, nat_le, not, Bool, false}
 use Rattle.std.specs.Prelude.{List, [], ◌∷◌, ◌++◌, length, take, drop, min, fold}
@@ -9,43 +9,44 @@ use Rattle.std.specs.Int.{w32, from_be_bytes}
 use Rattle.std.specs.Option.{option_map_or}
 use Rattle.tpm_wire.specs.declared.front.Front.{Front}
 
--- commandSize of the command that begins with these bytes, where they reach so far
+-- commandSize of the command that begins with these bytes, if they include it
 unfoldable pub command_size : List ℕ → Option ℕ
 command_size (t ∷ u ∷ a ∷ b ∷ c ∷ d ∷ bytes) = Some (from_be_bytes w32 (a ∷ b ∷ c ∷ d ∷ []))
 command_size bytes = None
 
--- a size that a buffer can have: at least that of a header, at most the limit
+-- whether a buffer can have this size: at least the size of a header, at most the limit
 abbrev pub is_size : ℕ → Bool
 is_size size = nat_le 10 size && nat_le size buffer_limit
 
--- how many bytes a buffer with this commandSize has: that many, or, where no buffer can have that
--- size, the six bytes that end with commandSize
+-- the size of a buffer with this commandSize: commandSize itself, or, if no buffer can have that
+-- size, 6, which is the offset of the end of commandSize
 abbrev pub size_by : ℕ → ℕ
 size_by size = if is_size size then size else 6
 
--- how many bytes the buffer has that begins with these bytes
+-- the size of the buffer that begins with these bytes
 abbrev pub buffer_size : List ℕ → Option ℕ
 buffer_size bytes = option_map size_by (command_size bytes)
 
--- whether no buffer comes after the one that begins with these bytes, since no buffer can have the
--- size that its commandSize says
+-- whether the buffer that begins with these bytes is the last one, because no buffer can have its
+-- commandSize
 abbrev pub is_last : List ℕ → Bool
 is_last bytes = option_map_or (λ size. not (is_size size)) (command_size bytes) false
 
--- whether a buffer is whole: it has as many bytes as its commandSize says
+-- whether a buffer is complete: its size is the one that its commandSize requires
 abbrev pub is_whole : List ℕ → Bool
 is_whole bytes = option_map_or (λ size. size == length bytes) (buffer_size bytes) false
 
 -- ---- the cut of a stream
 
--- the cut of a stream: its whole buffers in order, the bytes after them, and whether it has ended,
--- so that no buffer comes any more
+-- the cut of a stream: its complete buffers in order, the bytes after them, and whether it has
+-- ended, so that no more buffers follow
 pub record Cutting : Type 0 where
   pub buffers : List (List ℕ)
   pub rest : List ℕ
   pub ended : Bool
 
--- a cut with these bytes after its buffers, which become one more buffer if they are a whole one
+-- a cut with these bytes after its buffers; they become one more buffer if they are a complete
+-- one
 abbrev pub with_rest : Cutting → List ℕ → Cutting
 with_rest c rest =
     if is_whole rest
@@ -62,14 +63,14 @@ with_byte c byte =
 abbrev pub uncut : List (List ℕ) → Bool → Cutting
 uncut buffers ended = record { buffers = buffers; rest = []; ended = ended }
 
--- the cut of a stream of these bytes, taken byte by byte
+-- the cut of a stream with these bytes, taken byte by byte
 abbrev pub cut_of : List ℕ → Cutting
 cut_of bytes = fold with_byte (uncut [] false) bytes
 
--- ---- what a connection holds of its stream
+-- ---- the part of its stream that a connection stores
 
--- what a connection holds of its stream: the bytes taken and not yet executed, and whether no
--- buffer comes any more
+-- the part of its stream that a connection stores: the bytes received but not yet executed, and
+-- whether no more buffers follow
 pub record Stream : Type 0 where
   pub taken : List ℕ
   pub ended : Bool
@@ -78,48 +79,48 @@ pub record Stream : Type 0 where
 abbrev pub opened : Stream
 opened = record { taken = []; ended = false }
 
--- how many of a number of bytes fit into a stream
+-- how many of `count` bytes fit into a stream
 abbrev pub fitting : Stream → ℕ → ℕ
 fitting s count = min count (buffer_limit - length s.taken)
 
--- a stream that has taken these bytes too
+-- a stream after it received these bytes
 abbrev pub fed : Stream → List ℕ → Stream
 fed s bytes = record s { taken = s.taken ++ bytes }
 
--- a buffer that is cut off a stream, and the stream after it
+-- a buffer that was cut off a stream, and the stream after it
 pub record Cut : Type 0 where
   pub buffer : List ℕ
   pub after : Stream
 
--- the cut of a number of bytes at the front as a buffer, which may be the last
+-- cuts `size` bytes off the front, as a buffer that may be the last
 abbrev pub cut_at : ℕ → Bool → List ℕ → Cut
 cut_at size last bytes = record {
   buffer = take size bytes;
   after = record { taken = drop size bytes; ended = last };
 }
 
--- the cut of a number of bytes at the front as a buffer, where there are enough
+-- cuts `size` bytes off the front, as a buffer, if there are enough
 abbrev pub cut_within : ℕ → Bool → List ℕ → Option Cut
 cut_within size last bytes =
     if nat_le size (length bytes) then Some (cut_at size last bytes) else None
 
--- the next buffer, where the bytes taken hold it whole
+-- the next buffer, if the bytes received contain all of it
 abbrev pub next_of : Stream → Option Cut
 next_of s =
     if s.ended then None
     else option_and_then (λ size. cut_within size (is_last s.taken) s.taken) (buffer_size s.taken)
 
--- The front of a stream is that of its next buffer, or there is no next buffer.
+-- The front of a stream describes its next buffer, or there is no next buffer.
 abbrev pub IsFront : Stream → Option Front → Type 0
 IsFront s None = next_of s ≡ None
 IsFront s (Some f) = (f.size ≤ length s.taken) × (next_of s ≡ Some (cut_at f.size f.last s.taken))
 
--- ---- the cut, and what a connection holds
+-- ---- the cut, and what a connection stores
 
--- the cut of a stream of which these buffers were executed and this stream is left
+-- the cut of a whole stream, if these buffers of it were executed and the stream `s` is left
 abbrev pub cut_with : List (List ℕ) → Stream → Cutting
 cut_with done s = fold with_byte (uncut done s.ended) s.taken
 
--- The first stream is cut into these buffers, and then the second is left.
+-- Cutting these buffers off the first stream leaves the second stream.
 abbrev pub CutsTo : Stream → List (List ℕ) → Stream → Type 0
 CutsTo old done new = (before : List (List ℕ)) → cut_with before old ≡ cut_with (before ++ done) new

@@ -1,4 +1,4 @@
--- A machine and the connections to it, and what each call does to them.
+-- A machine with its connections, and the effect of each call on them.
 use Rattle.std.specs.Prelude.{◌≡◌, ℕ, Bool, List, length, take, slice_set, if◌then◌else◌}
 use Rattle.std.specs.Prelude.{Option, Some, None, Result, Ok, Err}
 use Rattle.tpm_types.specs.Locality.{locality_number}
@@ -20,13 +20,13 @@ use Rattle.tpm_wire.specs.declared.number.ConnectionNumber.{ConnectionNumber}
 use Rattle.tpm_wire.specs.declared.turn.Turn.{Turn}
 use Rattle.tpm_wire.specs.declared.turn.Turn.TheVariants.{Wants, Answer, Ended}
 
--- a machine and its connections: the machine's record, and for each of eight numbers the stream of
--- the connection that is open under it, if one is
+-- a machine and its connections: the machine's record, and for each of eight numbers the stream
+-- of the connection that is open with that number, if any
 pub record Wire : Type 0 where
   pub machine : Record
   pub streams : List (Option Stream)
 
--- the machine and the connections of a `Mux`, by a function that gives the record of its machine's
+-- the machine and the connections of a `Mux`; `record_of` returns the record of its machine's
 -- state
 abbrev pub wire_of : {K S O P N : Type 0} → (K → Record) → Mux K S O P N → Wire
 wire_of record_of mux = record {
@@ -34,27 +34,27 @@ wire_of record_of mux = record {
   streams = mux.connections;
 }
 
--- a machine to which no connection is open
+-- a machine without open connections
 abbrev pub new_wire : Record → Wire
 new_wire r = record { machine = r; streams = free 8 }
 
--- the machine and its connections with this stream, or none, under a number
+-- the machine and its connections, with this stream, or no stream, at a number
 abbrev pub with_stream : Wire → ℕ → Option Stream → Wire
 with_stream w number stream = record w { streams = slice_set w.streams number stream }
 
--- A connection was opened under the lowest free number, or all eight numbers are in use.
+-- A connection was opened with the lowest free number, or all eight numbers are in use.
 abbrev pub Opens : Wire → Result ConnectionNumber Full → Wire → Type 0
 Opens old (Ok connection) new =
     (lowest_free old.streams ≡ Some (number_of connection))
     × (new ≡ with_stream old (number_of connection) (Some opened))
 Opens old (Err full) new = (lowest_free old.streams ≡ None) × (new ≡ old)
 
--- No connection is open under the number, and nothing changed.
+-- No connection with this number is open, and nothing changed.
 abbrev pub Refuses : {X : Type 0} → Wire → Result X NoConnection → Wire → Type 0
 Refuses old (Ok x) new = ⊥
 Refuses old (Err e) new = new ≡ old
 
--- The stream took as many bytes of a piece as fit, and the call told how many.
+-- The stream received as many bytes of a piece as fit, and the call returned their number.
 abbrev pub FeedsAt : Option Stream → Wire → ℕ → List ℕ → Result ℕ NoConnection → Wire → Type 0
 FeedsAt None old number piece result new = Refuses old result new
 FeedsAt (Some s) old number piece result new =
@@ -65,28 +65,28 @@ abbrev pub Feeds : Wire → ℕ → List ℕ → Result ℕ NoConnection → Wir
 Feeds old number piece result new =
     FeedsAt (at_place old.streams number) old number piece result new
 
--- the event of a buffer, with what the host says of it
+-- the event of a buffer, with the host's values
 abbrev pub given : List ℕ → Host → PlainEvent
 given buffer host = Given buffer (locality_number host.locality) host.elapsed_ms host.random
 
--- the execution of a buffer with what the host says, from one record to another
+-- the execution of a buffer with the host's values, from one record to another
 abbrev pub execution_of : Record → List ℕ → Host → Record → Outcome → Execution
 execution_of old buffer host new outcome =
     record { before = old; event = given buffer host; seen = outcome_step new outcome }
 
--- No buffer of the stream is whole, and nothing changed.
+-- The stream contains no complete buffer, and nothing changed.
 abbrev pub Waits : Stream → Wire → Result Turn NoConnection → Wire → Type 0
 Waits s old result new = (result ≡ Ok (if s.ended then Ended else Wants)) × (new ≡ old)
 
--- The buffer that was cut was executed with what the host says, and the stream after it is left.
--- `can` says whether memory can be refused.
+-- The cut buffer was executed with the host's values, and the stream after it is left. `can` says
+-- whether an allocation can fail.
 abbrev pub AnswersTurn : Bool → Cut → Wire → ℕ → Host → Result Turn NoConnection → Wire → Type 0
 AnswersTurn can c old number host (Ok (Answer outcome)) new =
     Executes can old.machine (given c.buffer host) (outcome_step new.machine outcome)
     × (new.streams ≡ slice_set old.streams number (Some c.after))
 AnswersTurn can c old number host result new = ⊥
 
--- The next buffer of the connection was executed, if one is whole.
+-- The next buffer of the connection was executed, if it was complete.
 abbrev pub TurnsBy : Bool → Option Cut → Stream
     → Wire → ℕ → Host → Result Turn NoConnection → Wire → Type 0
 TurnsBy can None s old number host result new = Waits s old result new
@@ -102,7 +102,7 @@ abbrev pub Turns : Bool → Wire → ℕ → Host → Result Turn NoConnection �
 Turns can old number host result new =
     TurnsAt can (at_place old.streams number) old number host result new
 
--- The connection was closed, or no connection is open under the number.
+-- The connection was closed, or no connection with this number is open.
 abbrev pub ClosesAt : Option Stream → Wire → ℕ → Result (Unit {0}) NoConnection → Wire → Type 0
 ClosesAt None old number result new = Refuses old result new
 ClosesAt (Some s) old number result new = (result ≡ Ok tt) × (new ≡ with_stream old number None)

@@ -1,5 +1,5 @@
-//! A connection: it holds the bytes that it has taken and that were not yet executed, and gives one
-//! buffer of them after another.
+//! A connection: it stores the bytes received but not yet executed, and returns them buffer by
+//! buffer.
 
 ghost use Rattle.tpm_types.specs.Limits.{buffer_limit};
 ghost use Rattle.std.specs.Prelude.{◌≡◌, ◌+◌, ◌≤◌, drop, false, length, take};
@@ -12,8 +12,8 @@ use std::marker::Model;
 use tpm_bytes::append;
 use tpm_types::BUFFER_LIMIT;
 
-/// The bytes that a connection has taken and that were not yet executed, and whether no buffer
-/// comes any more.
+/// The bytes that a connection has received but not yet executed, and whether it has ended: no
+/// more buffers follow.
 #[derive(Drop)]
 pub struct Connection {
     taken: ArrayVec<u8, BUFFER_LIMIT>,
@@ -29,7 +29,7 @@ impl Model for Connection {
 }
 
 impl Connection {
-    /// A new connection, which has taken no bytes.
+    /// Returns a new connection, which has received no bytes.
     pub fn new() -> Connection
         ensures { result ≡ opened }
     {
@@ -39,21 +39,21 @@ impl Connection {
         }
     }
 
-    /// Whether no buffer comes any more.
+    /// Whether the connection has ended: no more buffers follow.
     pub fn has_ended(&self) -> bool
         ensures { result ≡ self.now.ended }
     {
         self.ended
     }
 
-    /// How many bytes more the connection can take.
+    /// Returns the number of bytes that the connection can still take.
     pub fn room(&self) -> usize
         ensures { result + length self.now.taken ≡ buffer_limit }
     {
         self.taken.remaining_capacity()
     }
 
-    /// Takes as many bytes of the piece as fit, and says how many.
+    /// Takes as many bytes of the piece as fit, and returns their number.
     pub fn feed(&mut self, piece: &[u8]) -> usize
         ensures count { result ≡ fitting self.old (length piece.now) }
         ensures after { self.new
@@ -64,7 +64,8 @@ impl Connection {
         count
     }
 
-    /// The front of the next buffer, if the buffer is whole.
+    /// Returns the size of the next buffer, and whether it is the last one, if the buffer is
+    /// complete.
     pub fn front(&self) -> Option<Front>
         ensures { IsFront self.now result }
     {
@@ -74,14 +75,14 @@ impl Connection {
         front_of(self.taken.as_slice())
     }
 
-    /// The bytes that were not yet executed.
+    /// The bytes that are not yet executed.
     pub fn bytes(&self) -> &[u8]
         ensures { result.now ≡ self.now.taken }
     {
         self.taken.as_slice()
     }
 
-    /// Drops the buffer in front, and moves the bytes after it up.
+    /// Removes the buffer at the front, and moves the later bytes to the front.
     pub fn pass(&mut self, front: Front)
         requires { front.size ≤ length self.old.taken }
         ensures { self.new ≡ (cut_at front.size front.last self.old.taken).after }
@@ -91,7 +92,7 @@ impl Connection {
     }
 }
 
-/// Removes a number of bytes at the front, and moves the others up.
+/// Removes `count` bytes from the front, and moves the remaining bytes to the front.
 fn remove_front(bytes: &mut ArrayVec<u8, BUFFER_LIMIT>, count: usize)
     requires { count ≤ array_vec_len bytes.old }
     ensures { bytes.new.items ≡ drop count bytes.old.items }

@@ -1,29 +1,29 @@
-//! Why a connection is not opened, is not there, or is not served to its end.
+//! Why a connection cannot be opened or found, or is not served to its end.
 
-/// The fault that eight connections are open, and there cannot be one more.
+/// Eight connections are open, which is the limit.
 #[derive(Clone, Copy, Debug, PartialEq, Eq)]
 pub struct Full;
 
-/// The fault that no connection is open under the number.
+/// No connection with this number is open.
 #[derive(Clone, Copy, Debug, PartialEq, Eq)]
 pub struct NoConnection;
 
-/// The fault that the host has no random bytes or no time to give.
+/// The host cannot supply random bytes or the time.
 #[derive(Clone, Copy, PartialEq, Eq)]
 pub struct HostFault;
 
-/// Why a connection was not served to its end.
+/// The reasons why a connection was not served to its end.
 #[derive(Clone, Copy, PartialEq, Eq)]
 pub enum ServeFault {
     /// Eight connections are open.
     Full,
-    /// The reader failed, or gave bytes in as many reads as one connection may have.
+    /// The reader failed, or the connection reached its limit on reads that return bytes.
     Read,
-    /// The writer failed; the command whose response was to be written has been executed.
+    /// The writer failed while writing a response; its command has been executed.
     Write,
-    /// The host answered a fault; the command that it was asked for has not been executed.
+    /// The host returned a fault for a command, which has not been executed.
     Host,
-    /// The witness that is told each command failed; the command has been executed, and nothing of
-    /// its response was written.
+    /// The witness, which is notified of each command, failed. The command has been executed, but
+    /// nothing of its response was written.
     Save,
 }

@@ -1,25 +1,26 @@
-//! Where the next command buffer of a connection ends, by the size that the command states.
+//! Finds the end of a connection's next command buffer from the commandSize of the command.
 
 ghost use Rattle.std.specs.Prelude.{◌≡◌, false};
 ghost use Rattle.tpm_wire.specs.Stream.{IsFront};
 
 use tpm_types::BUFFER_LIMIT;
 
-/// The fewest bytes of a command: those of its header.
+/// The smallest size of a command: the size of its header.
 const HEADER_SIZE: usize = 10;
 
-/// Where commandSize ends in the bytes of a command.
+/// The offset of the end of commandSize in a command.
 const SIZE_END: usize = 6;
 
-/// How many bytes in front of a connection are its next buffer, and whether no buffer comes after
-/// it.
+/// The size of a connection's next buffer, which is at the front of its bytes, and whether this
+/// buffer is the last one.
 #[derive(Clone, Copy)]
 pub struct Front {
     pub size: usize,
     pub last: bool,
 }
 
-/// The front of these bytes, if they hold a whole buffer.
+/// Returns the size of the buffer at the front of these bytes, and whether it is the last one, if
+/// the buffer is complete.
 #[tactic(auto, unfolding(crate::specs::Stream::command_size))]
 pub fn front_of(bytes: &[u8]) -> Option<Front>
     ensures { IsFront (record { taken = bytes.now; ended = false }) result }

@@ -1,9 +1,9 @@
-//! The values that the host gives for a command: its locality, the time that has passed, and random
+//! The values that the host supplies for a command: its locality, the elapsed time, and random
 //! bytes.
 
 use tpm_types::Locality;
 
-/// The values that the host gives for a command: where it comes from, the milliseconds since the
+/// The values that the host supplies for a command: its locality, the milliseconds since the
 /// command before it, and the random bytes that it may draw.
 #[derive(Clone, Copy)]
 pub struct Host {

@@ -1,17 +1,18 @@
 #![tactic(auto)]
 
-//! Connections to one machine: the bytes of each are cut into command buffers by the size that each
-//! command states, and a turn of a connection executes one.
+//! Connections to one machine: the bytes of each connection are cut into command buffers by the
+//! commandSize of each command, and each turn of a connection executes one buffer.
 //!
-//! [`mux::Mux`] is a machine and up to eight connections, which take turns as their caller wants;
-//! [`serving::serve`] serves one connection to its end over any reader and writer, and
-//! [`serving::serve_saving`] tells a witness each command before its response. [`connection`] has
-//! what a connection holds, and [`front`] where its next buffer ends.
+//! [`mux::Mux`] is a machine with up to eight connections, which take turns as the caller
+//! decides. [`serving::serve`] serves one connection to its end, over any reader and writer, and
+//! [`serving::serve_saving`] also notifies a witness of each command before its response is
+//! written. [`connection`] stores the bytes of a connection, and [`front`] finds the end of its
+//! next buffer.
 //!
-//! The crate uses the machine and its witnesses, and knows nothing of sockets, of images, or of
-//! where the host's time and random bytes come from. Its contracts say that a stream is cut as
-//! `specs/Stream` says, whatever the pieces in which it comes, and that each buffer is executed
-//! once and in its order, whatever the order of the calls ([`schedule`]).
+//! The crate uses the machine and its witnesses. It does not depend on sockets, on images, or on
+//! the source of the host's time and random bytes. Its contracts state that a stream is cut as
+//! `specs/Stream` defines, in whatever pieces it arrives. Each buffer is executed once and in
+//! order, whatever the order of the calls ([`schedule`]).
 
 pub mod connection;
 pub mod fault;

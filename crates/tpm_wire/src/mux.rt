@@ -1,4 +1,4 @@
-//! A machine with up to eight connections, which take turns as the caller wants.
+//! A machine with up to eight connections, which take turns as the caller decides.
 
 ghost use Rattle.std.specs.Prelude.{◌≡◌, ◌<◌, ◌≤◌, ◌∷◌, IfSome, None, OnErr, OnOk, if◌then◌else◌, length, take, true};
 ghost use Rattle.tpm_machine.specs.State.{state_of};
@@ -24,11 +24,11 @@ use tpm_machine::{Machine, SavesNothing, Unsaved, Witness};
 use tpm_record::Keep;
 use tpm_step::{Event, Outcome};
 
-/// How many connections can be open.
+/// The largest number of open connections.
 const CONNECTION_LIMIT: usize = 8;
 
-/// A machine, and up to eight connections to it. Only the connections' turns and power cycles
-/// happen to the machine.
+/// A machine with up to eight connections. Only the connections' turns and power cycles change
+/// the machine.
 #[derive(Drop)]
 pub struct Mux<K: Keep> {
     pub(crate) machine: Machine<K>,
@@ -36,7 +36,7 @@ pub struct Mux<K: Keep> {
 }
 
 impl<K: Keep> Mux<K> {
-    /// A machine without connections.
+    /// Creates a `Mux` of a machine, without connections.
     pub fn new(machine: Machine<K>) -> Mux<K>
         ensures { wire_of K.record_of result ≡ new_wire (state_of K.record_of machine) }
     {
@@ -46,21 +46,21 @@ impl<K: Keep> Mux<K> {
         }
     }
 
-    /// The machine alone; the connections are gone.
+    /// Returns the machine, and drops the connections.
     pub fn into_machine(self) -> Machine<K>
         ensures { state_of K.record_of result ≡ (wire_of K.record_of self).machine }
     {
         self.machine
     }
 
-    /// The machine, so that it can be saved as it is.
+    /// Returns the machine, so that the caller can save it.
     pub fn machine(&self) -> &Machine<K>
         ensures { state_of K.record_of result.now ≡ (wire_of K.record_of self.now).machine }
     {
         &self.machine
     }
 
-    /// Opens a connection under the lowest free number, which has taken no bytes.
+    /// Opens a new connection, which has received no bytes, with the lowest free number.
     pub fn open(&mut self) -> Result<ConnectionNumber, Full>
         ensures { Opens (wire_of K.record_of self.old) result (wire_of K.record_of self.new) }
     {
@@ -71,7 +71,7 @@ impl<K: Keep> Mux<K> {
         Ok(ConnectionNumber::of(place))
     }
 
-    /// Takes as many bytes of the piece as the connection has room for, and says how many.
+    /// Takes as many bytes of the piece as fit into the connection, and returns their number.
     pub fn feed(
         &mut self,
         connection: ConnectionNumber,
@@ -86,14 +86,14 @@ impl<K: Keep> Mux<K> {
         }
     }
 
-    /// Executes the connection's next buffer with what the host says, if the buffer is whole, and
-    /// no other.
+    /// Executes the connection's next buffer with the host's values, if the buffer is complete.
+    /// Executes no other buffer.
     pub fn turn(&mut self, connection: ConnectionNumber, host: Host) -> Result<Turn, NoConnection>
         ensures turns { Turns K.can_refuse (wire_of K.record_of self.old) (number_of connection)
             host result (wire_of K.record_of self.new) }
 
-        // Where the machine followed a history, it follows the history with that buffer, if one was
-        // executed and accepted.
+        // If the machine followed a history, it still follows that history, with the buffer added
+        // if one was executed and accepted.
         ensures history { (history : History)
             → Follows (wire_of K.record_of self.old).machine history
             → Follows (wire_of K.record_of self.new).machine (turn_history
@@ -102,7 +102,7 @@ impl<K: Keep> Mux<K> {
         self.take_turn(connection, host)
     }
 
-    /// Takes a turn as [`Mux::turn`] does; the contract says nothing of histories.
+    /// Takes a turn like [`Mux::turn`]. This contract does not mention histories.
     #[inline(always)]
     fn take_turn(&mut self, connection: ConnectionNumber, host: Host) -> Result<Turn, NoConnection>
         ensures { Turns K.can_refuse (wire_of K.record_of self.old) (number_of connection) host
@@ -134,12 +134,12 @@ impl<K: Keep> Mux<K> {
         }
     }
 
-    /// Cycles the machine's power; the connections keep their bytes.
+    /// Power-cycles the machine; the connections keep their bytes.
     pub fn power_cycle(&mut self)
         ensures cycled { wire_of K.record_of self.new ≡ record (wire_of K.record_of self.old)
             { machine = cycled (wire_of K.record_of self.old).machine } }
 
-        // Where the machine followed a history, it follows the history with one power cycle more.
+        // If the machine followed a history, it follows that history with one more power cycle.
         ensures history { (history : History)
             → Follows (wire_of K.record_of self.old).machine history
             → Follows (wire_of K.record_of self.new).machine (PowerCycled ∷ history) }
@@ -147,7 +147,7 @@ impl<K: Keep> Mux<K> {
         let _ = self.machine.execute(&Event::PowerCycle);
     }
 
-    /// Closes a connection; bytes that were not executed are lost.
+    /// Closes a connection; bytes that are not yet executed are lost.
     pub fn close(&mut self, connection: ConnectionNumber) -> Result<(), NoConnection>
         ensures { Closes (wire_of K.record_of self.old) (number_of connection)
             result (wire_of K.record_of self.new) }
@@ -161,7 +161,7 @@ impl<K: Keep> Mux<K> {
     }
 }
 
-/// The lowest place where no connection is open.
+/// The lowest number that no open connection uses.
 pub(crate) fn free_place(places: &[Option<Connection>]) -> Option<usize>
     ensures value { result ≡ lowest_free places.now }
     ensures within { IfSome result (λ place. place < length places.now) }
@@ -169,7 +169,7 @@ pub(crate) fn free_place(places: &[Option<Connection>]) -> Option<usize>
     places.iter().position(|place| place.is_none())
 }
 
-/// The turn that is given where no buffer is whole.
+/// Returns the result of a turn if there is no complete buffer.
 fn waiting(connection: &Connection) -> Turn
     ensures { result ≡ (if connection.now.ended then Ended else Wants) }
 {
@@ -180,7 +180,7 @@ fn waiting(connection: &Connection) -> Turn
     }
 }
 
-/// Executes the buffer in front of a connection in its place, tells a witness, and drops the
+/// Executes the buffer at the front of a connection in place, notifies a witness, and removes the
 /// buffer.
 pub(crate) fn execute_front<K: Keep, S: Witness>(
     machine: &mut Machine<K>,

@@ -2,8 +2,8 @@
 
 ghost use Rattle.std.specs.Prelude.{◌≡◌, ◌<◌};
 
-/// The number of a connection, 0 to 7. A number whose connection was closed names no connection
-/// until one is opened under it again.
+/// The number of a connection, 0 to 7. After a connection is closed, its number refers to no
+/// connection until another connection is opened with it.
 #[derive(Clone, Copy, PartialEq, Eq)]
 pub struct ConnectionNumber {
     number: usize,
@@ -13,7 +13,7 @@ pub struct ConnectionNumber {
 impl ConnectionNumber {
     ghost use Rattle.tpm_wire.specs.Number.{number_of};
 
-    /// The number of the connection in this place.
+    /// The number of the connection in this slot.
     pub(crate) fn of(place: usize) -> ConnectionNumber
         requires { place < 8 }
         ensures { number_of result ≡ place }
@@ -21,7 +21,7 @@ impl ConnectionNumber {
         ConnectionNumber { number: place }
     }
 
-    /// The place of the connection.
+    /// The slot of the connection.
     pub(crate) fn place(self) -> usize
         ensures value { result ≡ number_of self }
         ensures small { result < 8 }

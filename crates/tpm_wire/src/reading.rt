@@ -1,4 +1,4 @@
-//! One read of a reader into a connection, of at most as many bytes as there is room for.
+//! Reads once from a reader into a connection, at most as many bytes as fit.
 
 ghost use Rattle.std.specs.Prelude.{◌≡◌, length};
 ghost use Rattle.tpm_bytes.specs.Tap.{device_of, marks_of};
@@ -9,8 +9,8 @@ use std::io::Read;
 use tpm_bytes::{Failed, Tap};
 use tpm_types::BUFFER_LIMIT;
 
-/// Reads once, at most as many bytes as the connection has room for, and says how many bytes were
-/// read. They pass through `piece`, which a caller makes once for all reads.
+/// Reads once, at most as many bytes as fit into the connection, and returns the number of bytes
+/// read. The bytes pass through `piece`, which the caller creates once for all reads.
 pub fn fill<R: Read>(
     reader: &mut Tap<R>,
     connection: &mut Connection,

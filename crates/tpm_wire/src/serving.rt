@@ -1,5 +1,5 @@
-//! The serving of one connection to its end, over any reader and writer: buffers are read and
-//! executed, and their responses written.
+//! Serves one connection to its end, over any reader and writer: reads and executes buffers, and
+//! writes their responses.
 
 ghost use Rattle.tpm_types.specs.Limits.{buffer_limit};
 ghost use Rattle.std.specs.Prelude.{◌≡◌, ◌≢◌, ◌+◌, ◌≤◌, Err, IfOk, List, None, OnOk, length, take};
@@ -27,12 +27,13 @@ use tpm_record::Keep;
 use tpm_step::Outcome;
 use tpm_types::BUFFER_LIMIT;
 
-/// The most reads in which one connection may give bytes.
+/// The limit on a connection's reads that return bytes.
 const READS: u32 = 1_048_576;
 
-/// Serves one connection: executes the buffers that it reads, each with what the host says once it
-/// is whole, writes their responses, and says how many there were. While the connection is served
-/// it is one more than those of the mux, and it is closed however that ends.
+/// Serves one connection: reads buffers, executes each with the host's values once it is
+/// complete, writes the responses, and returns their number. During the call, the connection
+/// counts towards the limit in addition to those of the mux; it is closed at the end in every
+/// case.
 pub fn serve<K: Keep, R: Read, W: Write, H: FnMut() -> Result<Host, HostFault>>(
     mux: &mut Mux<K>,
     reader: &mut Tap<R>,
@@ -58,8 +59,8 @@ pub fn serve<K: Keep, R: Read, W: Write, H: FnMut() -> Result<Host, HostFault>>(
     serve_saving(mux, reader, writer, host, &mut SavesNothing)
 }
 
-/// Serves one connection as [`serve`] does, where a witness is told each command before its
-/// response is written. Where the witness fails, nothing of that response is written.
+/// Serves one connection like [`serve`], and notifies a witness of each command before its
+/// response is written. If the witness fails, nothing of that response is written.
 pub fn serve_saving<K: Keep, R: Read, W: Write, H: FnMut() -> Result<Host, HostFault>, S: Witness>(
     mux: &mut Mux<K>,
     reader: &mut Tap<R>,
@@ -137,8 +138,8 @@ fn serve_connection<K: Keep, R: Read, W: Write, H: FnMut() -> Result<Host, HostF
     Err(ServeFault::Read)
 }
 
-/// Executes all buffers that a connection holds whole, tells a witness each, writes their
-/// responses, and says how many there were. All of them use one outcome in turn.
+/// Executes all complete buffers of a connection, notifies a witness of each, writes their
+/// responses, and returns their number. All executions reuse one outcome.
 fn answer_whole<K: Keep, W: Write, H: FnMut() -> Result<Host, HostFault>, S: Witness>(
     machine: &mut Machine<K>,
     connection: &mut Connection,
@@ -176,7 +177,8 @@ fn answer_whole<K: Keep, W: Write, H: FnMut() -> Result<Host, HostFault>, S: Wit
     Ok(answered)
 }
 
-/// Executes the buffer in front of a connection, tells a witness, and then writes the response.
+/// Executes the buffer at the front of a connection, notifies a witness, and then writes the
+/// response.
 fn answer_front<K: Keep, W: Write, S: Witness>(
     machine: &mut Machine<K>,
     connection: &mut Connection,

@@ -1,4 +1,4 @@
-//! Why the program of lists failed, and its exit status.
+//! Why this program failed, and its exit status.
 
 use std::alloc::AllocError;
 use std::io;
@@ -11,14 +11,14 @@ use tpmsim_script::ScriptFault;
 /// Why the program failed.
 #[derive(Clone, Copy, PartialEq, Eq)]
 pub enum Fault {
-    /// The command line is not one of the program's.
+    /// The arguments are not a valid command line.
     Usage,
-    /// The script has a line that no script may have, or could not be read, or its responses could
-    /// not be written.
+    /// The script contains a bad line, or could not be read, or its responses could not be
+    /// written.
     Script,
-    /// The line in words spells no command.
+    /// The line in words is not a command.
     Line,
-    /// The file holds no image.
+    /// The file is not an image.
     Image,
     /// A file or standard output could not be opened, read or written.
     File,
@@ -26,7 +26,7 @@ pub enum Fault {
 }
 
 impl Fault {
-    /// The word for the fault on standard error.
+    /// The word that is printed for the fault on standard error.
     pub fn name(self) -> &'static str {
         match self {
             Fault::Usage => "usage",
@@ -38,7 +38,7 @@ impl Fault {
         }
     }
 
-    /// The exit status: 3 where memory was refused, and otherwise 1.
+    /// The exit status: 3 if an allocation failed, otherwise 1.
     pub fn status(self) -> u8 {
         match self {
             Fault::Memory => 3,

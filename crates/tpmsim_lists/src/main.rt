@@ -1,12 +1,12 @@
 #![tactic(auto)]
 
-//! A program that does what `tpmsim` does, with the device's state in lists that grow, and not in
-//! fixed places. It is there for the tests: `tools/scripts.sh` compares what the two programs print
-//! of scripts, and tests/lists_starved.sh refuses it memory.
+//! A program that does the same as `tpmsim`, but keeps the device's state in lists that grow, not
+//! in fixed slots. It exists for the tests: `tools/scripts.sh` compares what the two programs
+//! print for scripts, and tests/lists_starved.sh makes its allocations fail.
 //!
-//! Without arguments it runs the script on standard input. `open FILE` opens the device whose image
-//! is in a file, and prints its image; so it prints what is in the file. `line LINE` executes a
-//! command in words on a new device, and prints its trace.
+//! Without arguments it runs the script on standard input. `open FILE` opens the device whose
+//! image is in a file, and prints its image, which equals the contents of the file. `line LINE`
+//! executes a command in words on a new device, and prints its trace.
 
 mod fault;
 
@@ -33,14 +33,14 @@ fn main(rt: HostRuntime) -> ExitCode {
     }
 }
 
-/// Does what the command line says, with the state in lists.
+/// Executes the command line, with the state in lists.
 fn try_main(rt: &HostRuntime) -> Result<(), Fault> {
     let words: Vec<String> = env::args(rt)?.collect(rt.alloc())?;
     let words = words.as_slice();
     run_over_lists(CommandLine { rt, words })
 }
 
-/// The words of the command line, and what the host gives.
+/// The arguments of the command line, and the host's facilities.
 #[derive(Drop)]
 struct CommandLine<'a> {
     rt: &'a HostRuntime,
@@ -55,7 +55,7 @@ impl Task<Fault> for CommandLine<'_> {
     }
 }
 
-/// Does what the words of the command line say.
+/// Executes the action that the arguments name.
 fn perform<K: Keep>(rt: &HostRuntime, words: &[String]) -> Result<(), Fault> {
     match words {
         [_] => run::<K>(rt),
@@ -82,7 +82,7 @@ fn print_image<K: Keep>(rt: &HostRuntime, path: &str) -> Result<(), Fault> {
     output.flush().map_err(|_| Fault::File)
 }
 
-/// Executes the command that a line spells on a new device, and prints its trace.
+/// Executes the command that a line encodes on a new device, and prints its trace.
 fn print_trace<K: Keep>(rt: &HostRuntime, line: &str) -> Result<(), Fault> {
     let buffer = assemble(rt.alloc(), line)?;
     let mut machine: Machine<K> = Machine::manufacture(rt.alloc(), &[0; 256])?;

@@ -1,4 +1,4 @@
--- A line that says something has its effect, and a line that says nothing is bad.
+-- A line with a meaning has that meaning's effect, and a line without one is bad.
 use Rattle.std.proofs.Common.{◌≡◌, ℕ, ◌<◌, ◌≤◌, List, [], ◌++◌, Bool, true, false, cond, length, Option, Some, None, Result, Ok, Err, refl, sym, ap, ◌∙◌, append-nil, append_assoc}
 use Rattle.std.specs.Prelude.{nat_le, option_and_then}
 use Rattle.std.proofs.lemmas.Bool.{false≢true, le-leb, lt-leb}
@@ -36,7 +36,7 @@ pub lt_none : (p : Playing) (line : List ℕ) → 65536 < length line → perfor
 unfolding perform_line
 lt_none p line long = ap (λ b. cond b (option_and_then (perform p) (line_meaning line)) None) (lt-leb (length line) 65536 long)
 
--- a line had the effect of what it says
+-- a line had the effect of its meaning
 pub did_said : (p : Playing) (line : List ℕ) (said : Meaning) (old : Option (List ℕ)) (before : Playing) (result : Result (Unit {0}) LineFault) (new : Option (List ℕ)) (after : Playing)
     → length line ≤ 65536 → line_meaning line ≡ Some said → Did (perform p said) old before result new after → Did (perform_line p line) old before result new after
 did_said p line said old before (Ok done) new after short e did = (did.0, said_done p line said short e ∙ did.1, did.2, did.3)
@@ -68,8 +68,7 @@ appended_twice (Some old) None new first more h k = absurd h
 appended_twice (Some old) (Some mid) None first more h k = absurd k
 appended_twice (Some old) (Some mid) (Some new) first more h k = k ∙ ap (λ (l : List ℕ). l ++ more) h ∙ append_assoc old first more
 
--- a command that was executed, whose trace was printed where that is asked for, and then its
--- response
+-- a command was executed, its trace was printed if requested, and then its response
 pub executed : (p : Playing) (buffer : List ℕ) (s : Stepped) (old mid : Option (List ℕ)) (result : Result (Unit {0}) LineFault) (new : Option (List ℕ)) (after : Playing)
     → s ≡ step p.device (command_of p buffer) → Appends old mid (printed_trace p.traced (command_of p buffer) s) → OnOk result (Appends mid new (printed_response s.response)) → OnErr result (CutOff mid new)
     → after ≡ (answer p (command_of p buffer) s).next → OnErr result (result ≡ Err Write) → Did (Some (execute p buffer)) old p result new after
@@ -80,7 +79,7 @@ executed p buffer s old mid (Err Write) new after is traced printed cut next err
     (answer p (command_of p buffer) s, ap (λ s. Some (answer p (command_of p buffer) s)) (sym is), cut_after old mid new _ _ traced (cut_longer mid new _ cut), next)
 executed p buffer s old mid (Err Save) new after is traced printed cut next err = absurd (save_is_no_write err)
 
--- a command that was executed, whose trace or response could not be printed
+-- a command was executed, but its trace or response could not be printed
 pub untraced : (p : Playing) (buffer : List ℕ) (s : Stepped) (old : Option (List ℕ)) (result : Result (Unit {0}) LineFault) (new : Option (List ℕ)) (after : Playing)
     → s ≡ step p.device (command_of p buffer) → OnErr result (CutOff old new) → after ≡ (answer p (command_of p buffer) s).next → result ≡ Err Write → Did (Some (execute p buffer)) old p result new after
 untraced p buffer s old (Ok done) new after is cut next e = absurd (ok_is_no_write done e)
@@ -89,7 +88,7 @@ untraced p buffer s old (Err Write) new after is cut next e =
     (answer p (command_of p buffer) s, ap (λ s. Some (answer p (command_of p buffer) s)) (sym is), cut_longer old new _ cut, next)
 untraced p buffer s old (Err Save) new after is cut next e = absurd (save_is_no_write e)
 
--- a power cycle, whose trace was printed where that is asked for
+-- a power cycle, whose trace was printed if requested
 pub cycled : (p : Playing) (s : Stepped) (old : Option (List ℕ)) (result : Result (Unit {0}) LineFault) (new : Option (List ℕ)) (after : Playing)
     → s ≡ step p.device Cycled → OnOk result (Appends old new (printed_trace p.traced Cycled s)) → OnErr result (CutOff old new) → after ≡ (cycle_to p s).next → OnErr result (result ≡ Err Write)
     → Did (Some (cycle p)) old p result new after
@@ -98,9 +97,9 @@ cycled p s old (Err Bad) new after is printed cut next err = absurd (bad_is_no_w
 cycled p s old (Err Write) new after is printed cut next err = (cycle_to p s, ap (λ s. Some (cycle_to p s)) (sym is), cut_longer old new _ cut, next)
 cycled p s old (Err Save) new after is printed cut next err = absurd (save_is_no_write err)
 
--- ---- what the saver was told
+-- ---- the saver's notifications
 
--- what the saver was told, where only the writer can fail yet
+-- what the saver was notified of, when only the writer can still fail
 pub told_then : {S : Type 0} (tells : S → Type 0) (old : S) (result : Result (Unit {0}) LineFault) (new : S) → OnErr result (result ≡ Err Write) → tells new → Told tells old result new
 told_then tells old (Ok done) new err told = told
 told_then tells old (Err Bad) new err told = absurd (bad_is_no_write err)

@@ -1,4 +1,4 @@
--- A script that is played a line at a time keeps its device.
+-- A script that is played line by line keeps its device.
 use Rattle.std.proofs.Common.{◌≡◌, ℕ, ◌+◌, ◌<◌, List, [], ◌∷◌, ◌++◌, length, Bool, true, false, Option, Some, None, IfSome, refl, sym, ap, subst, ◌∙◌, append_assoc, append-nil, length-append, arith}
 use Rattle.std.proofs.lemmas.Bool.{false≢true}
 use Rattle.std.specs.Prelude.{Result, Ok, Err, OnOk, OnErr}
@@ -20,15 +20,15 @@ use Rattle.tpmsim_script.specs.declared.line_fault.LineFault.TheVariants as stop
 use Rattle.tpmsim_script.proofs.CutText.{cut_behind, cut_then_kept, cut_twice, cut_within, nothing_printed_yet, printed_on, printed_yet}
 use Rattle.tpmsim_script.proofs.Doing.{lt_none}
 
--- ---- one line more
+-- ---- one more line
 
--- A text lost these first lines.
+-- A text lost these lines at its beginning.
 abbrev pub LosesLines : Option (List ℕ) → List (List ℕ) → Option (List ℕ) → Type 0
 LosesLines None lines new = Unit {0}
 LosesLines (Some text) lines None = ⊥
 LosesLines (Some text) lines (Some rest) = lines_of text ≡ lines ++ lines_of rest
 
--- The lines of a run so far, up to the one of this number: what is left of the text, and what the
+-- The lines of a run so far, up to the one with this number: the rest of the text, and what the
 -- lines printed.
 pub record SoFar {S : Type 0} (saves saves_change : S → Record → S → Type 0) (text here first now : Option (List ℕ)) (number : ℕ) (start at : Kept S) : Type 0 where
   pub lines : List (List ℕ)
@@ -52,7 +52,7 @@ begun saves saves_change text first start = record {
   printed = nothing_printed_yet first;
 }
 
--- lines are played, and then one line more
+-- lines are played, and then one more
 plays_on : {S : Type 0} (saves saves_change : S → Record → S → Type 0) (old : Kept S) (lines : List (List ℕ)) (text : List ℕ) (mid : Kept S) (line more : List ℕ) (new : Kept S)
     → PlaysLines saves saves_change old lines text mid → PlaysLine saves saves_change mid line more new → PlaysLines saves saves_change old (lines ++ line ∷ []) (text ++ more) new
 plays_on saves saves_change old [] text mid line more new h one =
@@ -67,7 +67,7 @@ lost_line (Some text) (Some here) None lines line h k = absurd k
 lost_line (Some text) (Some here) (Some rest) lines line h k =
     h ∙ ap (λ (l : List (List ℕ)). lines ++ l) k ∙ sym (append_assoc lines (line ∷ []) (lines_of rest))
 
--- a line that had its effect, of which the saver was told
+-- a line that had its effect, and of which the saver was notified
 played_line : {S : Type 0} (saves saves_change : S → Record → S → Type 0) (at : Kept S) (line : List ℕ) (effect : Effect) (q : Playing) (t : S)
     → perform_line at.playing line ≡ Some effect → q ≡ effect.next → Tells saves saves_change (line_meaning line) q.device at.saver t → PlaysLine saves saves_change at line effect.text (kept q t)
 played_line saves saves_change at line effect q t did next told = record {
@@ -92,7 +92,7 @@ went_on saves saves_change text here rest first now held mid number start at q t
 
 -- ---- a run that ends at a line
 
--- the first line that is left of the text is this
+-- the first remaining line of the text is this one
 left_from : (text here rest : Option (List ℕ)) (lines : List (List ℕ)) (line : List ℕ) (P : List (List ℕ) → Type 0) → LosesLines text lines here → LosesFirstLine here line rest → ((others : List (List ℕ)) → P (line ∷ others))
     → IfSome text (λ text. (rest : List (List ℕ)) × (lines_of text ≡ lines ++ rest) × P rest)
 left_from None here rest lines line P h k p = tt
@@ -101,7 +101,7 @@ left_from (Some text) (Some here) None lines line P h k p = absurd k
 left_from (Some text) (Some here) (Some rest) lines line P h k p =
     (line ∷ lines_of rest, h ∙ ap (λ (l : List (List ℕ)). lines ++ l) k, p (lines_of rest))
 
--- these lines are left, whatever they are
+-- these lines remain, whatever they are
 left_any : (text here : Option (List ℕ)) (lines : List (List ℕ)) (P : List (List ℕ) → Type 0) → LosesLines text lines here → ((rest : List (List ℕ)) → P rest)
     → IfSome text (λ text. (rest : List (List ℕ)) × (lines_of text ≡ lines ++ rest) × P rest)
 left_any None here lines P h p = tt
@@ -146,9 +146,9 @@ stopped saves saves_change text left here rest first now held new writer number 
   last = tt;
 }
 
--- ---- a run that ends where there is no line
+-- ---- a run that ends without a next line
 
--- the first line that is left is too long
+-- the first remaining line is too long
 left_long : (text here left : Option (List ℕ)) (lines : List (List ℕ)) (p : Playing) (number : ℕ) → LosesLines text lines here → IfSome here BeginsTooLong
     → IfSome text (λ text. (rest : List (List ℕ)) × (lines_of text ≡ lines ++ rest) × Leaves (Err (fault.Line number)) left p rest)
 left_long None here left lines p number h k = tt
@@ -167,7 +167,7 @@ left_unread None here left lines p h k = tt
 left_unread (Some text) None left lines p h k = absurd h
 left_unread (Some text) (Some here) left lines p h k = (lines_of here, h, (k.0, k.1, left_start (Some here) left k.0 k.2))
 
--- there is no line left
+-- no line is left
 left_none : (text here left : Option (List ℕ)) (lines : List (List ℕ)) (p : Playing) → LosesLines text lines here → IfSome here (λ text. text ≡ [])
     → IfSome text (λ text. (rest : List (List ℕ)) × (lines_of text ≡ lines ++ rest) × Leaves (Ok tt) left p rest)
 left_none None here left lines p h k = tt
@@ -291,21 +291,21 @@ ended_at_limit saves saves_change text left here rest first now new writer numbe
 ended_at_limit saves saves_change text left here rest first now new writer number known start at q (Err fault.Save) line limit so found same lost cut e = absurd found
 ended_at_limit saves saves_change text left here rest first now new writer number known start at q (Err fault.NoMemory) line limit so found same lost cut e = absurd found
 
--- ---- what the saver was told of a line
+-- ---- the saver's notification of a line
 
 pub told_said : {S : Type 0} (saves saves_change : S → Record → S → Type 0) (line : List ℕ) (said : Meaning) (device : Record) (old : S) (result : Result (Unit {0}) LineFault) (new : S)
     → line_meaning line ≡ Some said → Told (Tells saves saves_change (Some said) device old) old result new → Told (Tells saves saves_change (line_meaning line) device old) old result new
 told_said saves saves_change line said device old result new e told = subst (λ m. Told (Tells saves saves_change m device old) old result new) (sym e) told
 
--- the saver was told of this line, at this point of the script
+-- the saver was notified of this line at this point of the script
 pub told_there : {S : Type 0} (saves saves_change : S → Record → S → Type 0) (line said : List ℕ) (device : Record) (old : S) (result : Result (Unit {0}) LineFault) (new : S)
     → said ≡ line → Told (Tells saves saves_change (line_meaning said) device old) old result new → Told (Tells saves saves_change (line_meaning line) device old) old result new
 told_there saves saves_change line said device old result new e told = subst (λ l. Told (Tells saves saves_change (line_meaning l) device old) old result new) e told
 
--- ---- a whole run: nothing was read or held at its start, and then the last lines are written and
--- the device is saved
+-- ---- a whole run: nothing was read or in memory at its start, and then the last lines are
+-- written and the device is saved
 
--- the text that was left at the start is this
+-- the text that remained at the start is this one
 pub begun_at : {S : Type 0} (saves saves_change : S → Record → S → Type 0) (before text left held old new : Option (List ℕ)) (writer : Marks) (q p : Playing) (saver : S) (result : Result (Unit {0}) ScriptFault) (Last : Kept S → Type 0)
     → before ≡ text → held ≡ old → q ≡ p → KeepsDevice saves saves_change before left held new writer (kept q saver) result Last → KeepsDevice saves saves_change text left old new writer (kept p saver) result Last
 begun_at saves saves_change before text left held old new writer q p saver result Last a b c h =
@@ -407,7 +407,7 @@ written_unsaved saves saves_change text left old mid new reader was writer unsav
     renewed saves saves_change text left old mid new start (Err fault.Save) (λ end. Unit {0}) (λ end. Unit {0}) all (printed_yet old mid new all.print all.written same) tt
 written_unsaved saves saves_change text left old mid new reader was writer unsaved start at (Err fault.NoMemory) Last h theirs memory same marks = absurd memory
 
--- a save failed, whether the last responses were written or not
+-- a save failed, whether or not the last responses were written
 pub ran_unsaved : {S : Type 0} (saves saves_change : S → Record → S → Type 0) (text left old mid new : Option (List ℕ)) (reader was writer : Marks) (unsaved : Bool) (start at : Kept S) (result flushed : Result (Unit {0}) ScriptFault) (Last : Kept S → Type 0)
     → KeepsDevice saves saves_change text left old mid was start result (λ end. end ≡ at) → AreTheirs result reader was unsaved → OnNoMemory result ⊥
     → OnOk flushed (Keeps mid new) → OnOk flushed (writer ≡ was) → OnErr flushed (writer.failed ≡ true)

@@ -1,4 +1,4 @@
--- How a text is cut into lines.
+-- How a text is split into lines.
 use Rattle.std.proofs.Common.{◌≡◌, ℕ, ◌+◌, ◌-◌, ◌<◌, ◌≤◌, ◌==◌, Bool, true, false, cond, List, [], ◌∷◌, ◌++◌, length, take, drop, get_or, Option, Some, None, IfSome, refl, sym, ap, ◌∙◌, subst, append_assoc, append-nil, drop-drop, length-append, arith}
 use Rattle.std.specs.List.{onto_first, position, slice_range}
 use Rattle.std.proofs.lemmas.Bool.{eqb-true}
@@ -22,7 +22,7 @@ IsWithin byte = is_break byte ≡ false
 onto_line : (byte : ℕ) (text : List ℕ) → is_break byte ≡ false → lines_of (byte ∷ text) ≡ onto_first byte (lines_of text)
 onto_line byte text e = ap (λ b. cond b ([] ∷ lines_of text) (onto_first byte (lines_of text))) e
 
--- the first line of a text that has a 0a
+-- the first line of a text that contains a 0a
 line_ended : (line rest : List ℕ) → IsUnbroken line → lines_of (line ++ 10 ∷ rest) ≡ line ∷ lines_of rest
 line_ended [] rest h = refl
 line_ended (byte ∷ line) rest h = onto_line byte (line ++ 10 ∷ rest) (All-head IsWithin byte line h) ∙ ap (onto_first byte) (line_ended line rest (All-tail IsWithin byte line h))
@@ -37,7 +37,7 @@ only_line : (line : List ℕ) → IsUnbroken line → 0 < length line → lines_
 only_line [] h some = absurd (omega arith)
 only_line (byte ∷ line) h some = last_line byte line h
 
--- A text's first line is at least as long as this.
+-- The first line of a text is at least this long.
 abbrev BeginsWith : List ℕ → ℕ → Type 0
 BeginsWith text size = (line : List ℕ) × (rest : List (List ℕ)) × (lines_of text ≡ line ∷ rest) × (size ≤ length line)
 
@@ -54,7 +54,7 @@ line_begun byte (next ∷ line) more h =
     let rest = line_begun next line more (All-tail IsWithin byte (next ∷ line) h) in
     (byte ∷ rest.0, rest.1, onto_line byte (next ∷ line ++ more) (All-head IsWithin byte (next ∷ line) h) ∙ ap (onto_first byte) rest.2, omega (arith, rest.3))
 
--- where the start of a line is over the limit, the line is too long
+-- if the start of a line exceeds the limit, the line is too long
 too_long : (line more : List ℕ) → IsUnbroken line → 65536 < length line → BeginsTooLong (line ++ more)
 too_long [] more h l = absurd (omega arith)
 too_long (byte ∷ line) more h l = let begun = line_begun byte line more h in (begun.0, begun.1, begun.2, omega (arith, begun.3))
@@ -74,8 +74,7 @@ at_break rest at e =
 no_break : (rest : List ℕ) → position is_break rest ≡ None → IsUnbroken rest
 no_break rest e = λ k d l. fails_before_first is_break rest k d (grind (arith, common_steps))
 
--- ---- what is found in the bytes that were read after the start of a line, whatever comes after
--- them
+-- ---- what is found in the bytes that were read after the start of a line, whatever follows them
 
 regrouped : (a b c d : List ℕ) → a ++ ((b ++ c) ++ d) ≡ (a ++ b) ++ (c ++ d)
 regrouped a b c d = simp append_assoc
@@ -99,11 +98,11 @@ found_too_long line rest more at h e long =
     ap (λ l. line ++ (l ++ more)) (sym (take-append-drop at rest)) ∙ regrouped line (take at rest) (drop at rest) more in
     subst BeginsTooLong (sym cut) (too_long (line ++ take at rest) (drop at rest ++ more) front (omega (arith, size)))
 
--- the line goes on after all bytes that were read
+-- the line continues after all bytes that were read
 pub found_more : (line rest : List ℕ) → IsUnbroken line → position is_break rest ≡ None → IsUnbroken (line ++ rest)
 found_more line rest h e = All-append IsWithin line rest h (no_break rest e)
 
--- no 0a ends a line that is too long
+-- a line is too long, although its 0a has not been read
 pub found_no_end : (line rest more : List ℕ) → IsUnbroken line → position is_break rest ≡ None → 65536 < length line + length rest → BeginsTooLong (line ++ (rest ++ more))
 found_no_end line rest more h e long =
     let whole = found_more line rest h e in
@@ -116,13 +115,13 @@ found_last line rest more h e none some =
     let cut : line ++ (rest ++ more) ≡ line ++ rest = ap (λ l. line ++ (rest ++ l)) none ∙ ap (λ l. line ++ l) (append-nil rest) in
     ap lines_of cut ∙ only_line (line ++ rest) (found_more line rest h e) some ∙ ap (λ l. (line ++ rest) ∷ lines_of l) (sym none)
 
--- a part of a slice without its first bytes
+-- a range of a slice without its first elements is a shorter range
 pub rest_behind : (bytes : List ℕ) (from count end : ℕ) → from + count ≤ end → slice_range bytes (from + count) end ≡ drop count (slice_range bytes from end)
 rest_behind bytes from count end h =
     let size : end - from ≡ count + (end - (from + count)) = omega arith in
     sym (ap (λ n. drop count (take n (drop from bytes))) size ∙ drop-take count (end - (from + count)) (drop from bytes) ∙ ap (λ l. take (end - (from + count)) l) (drop-drop count from bytes))
 
--- what is found where no 0a was read
+-- what is found if the bytes that were read contain no 0a
 pub stopped_finds : (old new : Lines) (ended : Bool) (line : List ℕ) → old.ended ≡ ended → line_of new ≡ line → line_of new ≡ line_of old ++ rest_of old → rest_of new ≡ []
     → IsUnbroken (line_of old) → position is_break (rest_of old) ≡ None → length (line_of new) ≤ 65536 → Finds old (next_at ended line) new
 stopped_finds old new false line e l whole behind h none short = (whole, behind, subst IsUnbroken (sym whole) (found_more (line_of old) (rest_of old) h none), e, short)
@@ -132,7 +131,7 @@ stopped_finds old new true (byte ∷ line) e l whole behind h none short = λ mo
     found_last (line_of old) (rest_of old) more h none (follows e) some
     ∙ ap (λ (x : List ℕ). x ∷ lines_of ([] ++ more)) (sym whole) ∙ ap (λ (rest : List ℕ). line_of new ∷ lines_of (rest ++ more)) (sym behind)
 
--- a text that is left begins with a line that is too long, where what was read of it does
+-- if the part that was read begins with a line that is too long, so does the remaining text
 pub too_long_left : (left remaining : Option (List ℕ)) (line rest : List ℕ) → Keeps left (prepend_known (line ++ rest) remaining) → ((more : List ℕ) → BeginsTooLong (line ++ (rest ++ more)))
     → IfSome left BeginsTooLong
 too_long_left None remaining line rest h long = tt

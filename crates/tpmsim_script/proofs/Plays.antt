@@ -1,4 +1,4 @@
--- A script is played a line at a time.
+-- A script is played line by line.
 use Rattle.std.proofs.Common.{◌≡◌, ℕ, zero, suc, ◌+◌, ◌*◌, ◌-◌, ◌<◌, ◌≤◌, ◌==◌, List, [], ◌∷◌, ◌++◌, length, Bool, true, false, cond, Option, Some, None, IfSome, refl, sym, ap, subst, ◌∙◌, append_assoc, append-nil, arith}
 use Rattle.std.proofs.lemmas.Bool.{false≢true}
 use Rattle.std.specs.Io.KnownBytes.{Appends, Keeps, append_known, prepend_known}
@@ -16,7 +16,7 @@ use Rattle.tpmsim_script.specs.declared.fault.ScriptFault.{ScriptFault}
 use Rattle.tpmsim_script.specs.declared.fault.ScriptFault.TheVariants.{Line, Read, TooManyLines, Write, Save, NoMemory}
 use Rattle.tpmsim_script.specs.Script.{IsOutput, Output, Playing, Plays, Effect, output_with, perform_line, play}
 
--- two texts were appended, the first of which may have been empty
+-- two texts were appended, and the first may have been empty
 appended : (a b c d : Option (List ℕ)) (first more : List ℕ) → Keeps a b → Appends b c first → Appends c d more → Appends a d (first ++ more)
 appended None b c d first more h k m = tt
 appended (Some a) None c d first more h k m = absurd h
@@ -83,7 +83,7 @@ pub stopped_by_length : (left old new : Option (List ℕ)) (p : Playing) (number
 stopped_by_length None old new p number t k = tt
 stopped_by_length (Some text) old new p number t k = stopped text t.0 t.1 old new p number t.2 (lt_none p t.0 t.3) k
 
--- a fault that came before there was a line ends the run
+-- a fault before a line was found ends the run
 pub ran_to_fault : (left old new rest : Option (List ℕ)) (p : Playing) (number : ℕ) (fault : ScriptFault) (line : List ℕ) (P : Option ℕ → Type 0)
     → NextFound number left (Err fault) line rest → UnlessFailed {X = Bool} (Err fault) (Keeps old new) → ((bad : Option ℕ) → Plays left old new p number bad → P bad) → Ran P (Err fault)
 ran_to_fault left old new rest p number (Line bad) line P found kept whole = whole (Some bad) (subst (λ n. Plays left old new p number (Some n)) (sym found.0) (stopped_by_length left old new p number found.1 kept))
@@ -112,7 +112,8 @@ pub reached_on : (left rest old held mid new : Option (List ℕ)) (p q : Playing
 reached_on left rest old held mid new p q number line done next behind t k did h =
     reached_next left rest old held mid new p number line did.0 next behind t k did.1 did.2 (subst (λ x. PlaysUpTo rest mid new x (number + 1) next behind) did.3 h)
 
--- The lines that are played from here up to a line are played from the start up to it, too.
+-- Playing the lines from here up to a line amounts to playing all lines from the start up to that
+-- line.
 abbrev pub Leads : Option (List ℕ) → Option (List ℕ) → Playing → ℕ → Option (List ℕ) → Option (List ℕ) → Playing → Option (List ℕ) → Type 0
 Leads here old p number start first q new = (next : ℕ) (behind : List (List ℕ)) → PlaysUpTo here old new p number next behind → PlaysUpTo start first new q 1 next behind
 
@@ -124,7 +125,7 @@ stopped_by_reader (Some rest) None old new (Some text) first p q number t k lead
 stopped_by_reader (Some rest) (Some left) old new (Some text) first p q number t k leads =
     (t.0, number, t.1, leads number (lines_of (t.0 ++ left)) ([], ap lines_of t.2, omega arith, (kept old new k, refl)))
 
--- where no line was found, no other fault comes than these
+-- if no line was found, no other faults than these are possible
 pub failed_read : (here left old new start first : Option (List ℕ)) (p q : Playing) (number : ℕ) (fault : ScriptFault) → OnUnread {X = Bool} (Err fault) (LosesStart here left) → UnlessFailed {X = Bool} (Err fault) (Keeps old new)
     → Leads here old p number start first q new → OnUnread {X = Unit {0}} (Err fault) (PlaysToFailure start left first new q)
 failed_read here left old new start first p q number (Line bad) t k leads = tt
@@ -150,7 +151,7 @@ failed_with_memory here rest number Write line found = tt
 failed_with_memory here rest number Save line found = tt
 failed_with_memory here rest number NoMemory line found = absurd found
 
--- the fault Read does not come at a line
+-- the fault Read does not occur at a line
 pub stopped_read : (number : ℕ) (fault : LineFault) (fact : Type 0) → OnUnread {X = Unit {0}} (Err (fault_at number fault)) fact
 stopped_read number stop.Bad fact = tt
 stopped_read number stop.Write fact = tt
@@ -228,7 +229,7 @@ ended_with_memory here rest known (Err Write) line found = tt
 ended_with_memory here rest known (Err Save) line found = tt
 ended_with_memory here rest known (Err NoMemory) line found = absurd found
 
--- ---- the start of a line, after which the reader failed
+-- ---- the start of a line at which the reader failed
 
 pub start_lost : (left before after : Option (List ℕ)) (line rest start : List ℕ) → Keeps left (prepend_known (line ++ rest) before) → Keeps before after → start ≡ line ++ rest → IsUnbroken start → LosesStart left after
 start_lost None before after line rest start h k e unbroken = (start, unbroken, tt)
@@ -237,14 +238,15 @@ start_lost (Some text) (Some more) None line rest start h k e unbroken = absurd 
 start_lost (Some text) (Some more) (Some last) line rest start h k e unbroken =
     (start, unbroken, sym h ∙ ap (λ (l : List ℕ). l ++ more) (sym e) ∙ ap (λ (l : List ℕ). start ++ l) (sym k))
 
--- a read gave some bytes, or was the last
+-- a read returned some bytes, or was the last one
 pub reads_on : (was now : Bool) (line rest longer more : ℕ) → was ≡ false → longer ≡ line + rest → longer ≤ 65536 → now ≡ (more == 0) → cond now 0 (1 + (2 * (65536 - longer) + (1 - more))) < cond was 0 (1 + (2 * (65536 - line) + (1 - rest)))
 reads_on true now line rest longer more w e limit n = absurd (false≢true (sym w))
 reads_on false true line rest longer more w e limit n = omega arith
 reads_on false false line rest longer zero w e limit n = absurd (false≢true n)
 reads_on false false line rest longer (suc more) w e limit n = omega arith
 
--- ---- a whole run: nothing was read or held at its start, and nothing is held at its end
+-- ---- a whole run: nothing was read or in memory at its start, and nothing is in memory at its
+-- end
 
 pub nothing_before : (known : Option (List ℕ)) (read : List ℕ) → read ≡ [] → prepend_known read known ≡ known
 nothing_before None read e = refl
@@ -292,7 +294,7 @@ ran_too_many start text before old mid written new q p (Err Write) a b c k d h =
 ran_too_many start text before old mid written new q p (Err Save) a b c k d h = tt
 ran_too_many start text before old mid written new q p (Err NoMemory) a b c k d h = tt
 
--- the device that a fault is of has failed, where the writer has no more marks
+-- the failure that a fault reports has still occurred, if the writer's marks are unchanged
 pub theirs_yet : (result : Result (Unit {0}) ScriptFault) (reader old new : Marks) (unsaved still : Bool) → new ≡ old → (unsaved ≡ true → still ≡ true) → AreTheirs result reader old unsaved → AreTheirs result reader new still
 theirs_yet (Ok done) reader old new unsaved still e stays h = tt
 theirs_yet (Err (Line bad)) reader old new unsaved still e stays h = tt

@@ -9,7 +9,7 @@ use Rattle.tpmsim_script.specs.Report.{report_text, script_faults, told}
 use Rattle.tpmsim_script.specs.Checking.{Fault, fault_at, faults_of, first_number, line_check, waited_behind}
 use Rattle.tpmsim_script.specs.Line.{lines_of}
 
--- the faults of the remaining lines, whose first has this number
+-- the faults of the remaining lines; `number` is the number of the first
 abbrev pub left : (waited number : ℕ) → (text : List ℕ) → List Fault
 left waited number text = faults_of waited number (take (1048577 - number) (lines_of text))
 
@@ -55,7 +55,7 @@ some_line : (byte : ℕ) (lines : List (List ℕ)) → 0 < length (onto_first by
 some_line byte [] = omega arith
 some_line byte (line ∷ lines) = omega arith
 
--- a text that is not empty has a line
+-- a non-empty text has a line
 pub some_lines : (text : List ℕ) → 0 < length text → 0 < length (lines_of text)
 some_lines [] some = some
 some_lines (byte ∷ text) some = by_break (byte == 10)
@@ -64,10 +64,10 @@ some_lines (byte ∷ text) some = by_break (byte == 10)
     by_break true = omega arith
     by_break false = some_line byte (lines_of text)
 
--- ---- what was found so far
+-- ---- the faults so far
 
--- The faults that were found, and those of the remaining lines, are those of the whole script: this
--- text, this first number, and this many lines.
+-- The faults so far, together with those of the remaining lines, are those of the whole script,
+-- with this text, first bad line and number of lines.
 pub record SoFar (text : List ℕ) (first : Option ℕ) (waited number : ℕ) (rest whole : List ℕ) (whole_first : Option ℕ) (lines : ℕ) : Type 0 where
   pub text_is : text ++ flat_map told (left waited number rest) ≡ whole
   pub first_is : option_or first (first_number (left waited number rest)) ≡ whole_first
@@ -101,7 +101,7 @@ turned old new first next waited after number rest line others whole whole_first
       count_is = count_more rest line others number lines cut sofar.count_is;
     }
 
--- where no fault remains, those that were found are all
+-- if no fault remains, the faults so far are all
 all_told : (text : List ℕ) (first : Option ℕ) (waited number : ℕ) (rest whole : List ℕ) (whole_first : Option ℕ) (lines : ℕ)
     → left waited number rest ≡ [] → SoFar text first waited number rest whole whole_first lines → (text ≡ whole) × (first ≡ whole_first)
 all_told text first waited number rest whole whole_first lines none sofar = (
@@ -122,14 +122,14 @@ no_lines : (text : List ℕ) → length text ≡ 0 → length (lines_of text) �
 no_lines [] e = refl
 no_lines (byte ∷ text) e = absurd cc
 
--- a script has no more lines than it may have, where no text remains
+-- if no text remains, a script does not exceed the limit on lines
 pub no_more : (text : List ℕ) (first : Option ℕ) (waited number : ℕ) (rest whole : List ℕ) (whole_first : Option ℕ) (lines : ℕ)
     → number ≤ 1048576 → length rest ≡ 0 → SoFar text first waited number rest whole whole_first lines → nat_lt 1048576 lines ≡ not (length rest == 0)
 no_more text first waited number rest whole whole_first lines small none sofar =
     let gone = no_lines rest none in
     le-ltb 1048576 lines (omega (arith, small, gone, sofar.count_is)) ∙ sym (ap not (eq-eqb (length rest) 0 none))
 
--- whether a script has more lines than it may have, where it has this many before the rest
+-- whether a script exceeds the limit on lines, given the number of lines before the rest
 more_by : (rest : List ℕ) (lines : ℕ) → length (lines_of rest) + 1048577 ≡ lines + 1 → nat_lt 1048576 lines ≡ not (length rest == 0)
 more_by [] lines count = le-ltb 1048576 lines (omega (arith, count))
 more_by (byte ∷ rest) lines count =

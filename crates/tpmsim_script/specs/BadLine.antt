@@ -1,5 +1,5 @@
--- Why a line is not one that a script may have. A column is counted in what follows the line's word
--- and its space.
+-- Why a line is not allowed in a script. Columns are counted in the text after the line's first
+-- word and the space.
 use Rattle.std.specs.Prelude.{List, ℕ, is_some, if◌then◌else◌}
 use Rattle.tpm_number.specs.Number.{numeral}
 use Rattle.tpm_text.specs.declared.fault.AsmFault.{AsmFault}
@@ -8,23 +8,23 @@ use Rattle.tpmsim_script.specs.declared.bad_line.BadLine.{BadLine}
 use Rattle.tpmsim_script.specs.declared.bad_line.Wanted.{Wanted}
 use Rattle.tpmsim_script.specs.declared.bad_line.Wanted.TheVariants as wanted
 
--- a line that begins with no word of a script
+-- a line whose first word is unknown
 abbrev pub unknown_word : BadLine
 unknown_word = record { fault = fault.BadName; wanted = wanted.Word }
 
--- a word that stands alone, after which this is wanted
+-- a line that ends after its first word, if an argument is expected there
 abbrev pub missing : Wanted → BadLine
 missing wanted = record { fault = fault.Missing; wanted = wanted }
 
--- an argument in whose place this is wanted
+-- a wrong argument, and what is expected instead
 abbrev pub misplaced : Wanted → BadLine
 misplaced wanted = record { fault = fault.BadField 1; wanted = wanted }
 
--- an argument that is too large a number
+-- an argument whose number is too large
 abbrev pub too_large : Wanted → BadLine
 too_large wanted = record { fault = fault.Range 1; wanted = wanted }
 
--- an argument that is not the number that is wanted: it is too large, or no number
+-- an argument that is not the expected number: it is too large, or not a number
 abbrev pub number_fault : List ℕ → Wanted → BadLine
 number_fault argument wanted =
     if is_some (numeral 10 argument) then too_large wanted else misplaced wanted

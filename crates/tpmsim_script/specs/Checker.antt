@@ -2,6 +2,6 @@
 use Rattle.std.specs.Prelude.{ℕ}
 use Rattle.tpmsim_script.specs.declared.checker.Checker.{Checker}
 
--- the milliseconds that a checker would tell the next command
+-- the elapsed milliseconds so far for the next command
 abbrev pub waited_of : Checker → ℕ
 waited_of checker = checker.script.waited

@@ -1,4 +1,4 @@
--- What is wrong with the lines of a script, which are read and not run.
+-- What is wrong with the lines of a script, found without running them.
 use Rattle.std.specs.Prelude.{◌≡◌, ℕ, ◌+◌, ◌^◌, ◌&&◌, nat_le, nat_lt, not, if◌then◌else◌}
 use Rattle.std.specs.Prelude.{List, [], ◌∷◌, ◌++◌, length, Option, Some, None, Result, Ok, Err, ok_or}
 use Rattle.tpm_bytes.specs.Reading.{◌>>=◌, refused_if}
@@ -10,25 +10,25 @@ use Rattle.tpmsim_script.specs.Line.{SetsEntropy, CyclesPower, DoesNothing, byte
 use Rattle.tpmsim_script.specs.declared.bad_line.BadLine.{BadLine}
 use Rattle.tpmsim_script.specs.declared.bad_line.Wanted.TheVariants as wanted
 
--- the milliseconds that the next command is told, where a line is a command in words
+-- the elapsed milliseconds for the command after a command in words, or why the line is bad
 abbrev pub assembly_check : Result (List ℕ) AsmFault → Result ℕ BadLine
 assembly_check (Ok buffer) = Ok 0
 assembly_check (Err fault) = Err (record { fault = fault; wanted = wanted.Command })
 
--- the milliseconds that the next command is told after a wait
+-- the elapsed milliseconds for the next command after a wait
 abbrev pub wait_check : (waited milliseconds : ℕ) → Result ℕ BadLine
 wait_check waited milliseconds =
     if nat_lt (waited + milliseconds) (2 ^ 32) then Ok (waited + milliseconds)
     else Err (too_large wanted.Milliseconds)
 
--- whether random bytes are as many as a line may set, 1 to 256
+-- whether a line may set these random bytes, which must be 1 to 256
 abbrev pub entropy_check : (waited : ℕ) → List ℕ → Result ℕ BadLine
 entropy_check waited entropy =
     if nat_lt 0 (length entropy) && nat_le (length entropy) 256 then Ok waited
     else Err (misplaced wanted.Entropy)
 
--- the milliseconds that the next command is told after what a line says, by those that it would be
--- told before (waited), or why the line is bad
+-- the elapsed milliseconds for the next command after a line, or why the line is bad; `waited` is
+-- the elapsed time before the line
 abbrev pub check : (waited : ℕ) → Meaning → Result ℕ BadLine
 check waited (Executes digits) = do
   buffer ← ok_or (bytes_of digits) (misplaced wanted.Hex)
@@ -42,37 +42,37 @@ check waited (SetsEntropy digits) = do
 check waited CyclesPower = Ok waited
 check waited DoesNothing = Ok waited
 
--- the milliseconds that the next command is told after a line, or why the line is bad, as every
--- line of over 65,536 bytes is
+-- the elapsed milliseconds for the next command after a line, or why the line is bad; every line
+-- of over 65,536 bytes is bad
 unfoldable pub line_check : (waited : ℕ) → List ℕ → Result ℕ BadLine
 line_check waited line = do
   short ← refused_if (not (nat_le (length line) 65536)) long_line
   said ← line_reading line
   check waited said
 
--- A line was checked: it is good, and sets this for the next command (new); or it is bad, and does
--- nothing.
+-- A line was checked. If it is good, it sets this time for the next command (`new`); if it is
+-- bad, it has no effect.
 abbrev pub Checks : Result ℕ BadLine → (old : ℕ) → Result (Unit {0}) BadLine → (new : ℕ) → Type 0
 Checks defined old (Ok done) new = defined ≡ Ok new
 Checks defined old (Err bad) new = (defined ≡ Err bad) × (new ≡ old)
 
--- a bad line: its number and its text, and what is wrong with it
+-- a bad line: its number, its text, and what is wrong with it
 pub record Fault : Type 0 where
   pub number : ℕ
   pub line : List ℕ
   pub bad : BadLine
 
--- the fault of a line that was checked, if it is bad
+-- the fault of a checked line, if it is bad
 abbrev pub fault_at : Result ℕ BadLine → (number : ℕ) → (line : List ℕ) → List Fault
 fault_at (Ok next) number line = []
 fault_at (Err bad) number line = record { number = number; line = line; bad = bad } ∷ []
 
--- the milliseconds that are told after a line that was checked; one that is bad adds none
+-- the elapsed milliseconds after a checked line; a bad line adds none
 abbrev pub waited_behind : Result ℕ BadLine → (waited : ℕ) → ℕ
 waited_behind (Ok next) waited = next
 waited_behind (Err bad) waited = waited
 
--- the faults of lines, of which the first has this number, in their order
+-- the faults of lines, in order; `number` is the number of the first line
 abbrev pub faults_of : (waited number : ℕ) → List (List ℕ) → List Fault
 faults_of waited number [] = []
 faults_of waited number (line ∷ lines) = fault_at (line_check waited line) number line

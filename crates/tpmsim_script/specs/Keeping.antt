@@ -1,5 +1,5 @@
--- How a script keeps its device: the saver was told the device line by line, and only of what the
--- saver was told the text was written.
+-- How a script keeps its device: the saver was notified of the device line by line, and only the
+-- output of these lines was written.
 use Rattle.std.specs.Prelude.{◌≡◌, ℕ, ◌+◌, Bool, true, false, List, [], ◌∷◌, ◌++◌, length}
 use Rattle.std.specs.Prelude.{Option, Some, None, IfSome, Result, Ok, Err}
 use Rattle.std.specs.Io.KnownBytes.{Appends, append_known}
@@ -21,9 +21,9 @@ pub record Kept (S : Type 0) : Type 0 where
 abbrev pub kept : {S : Type 0} → Playing → S → Kept S
 kept playing saver = record { playing = playing; saver = saver }
 
--- What the saver was told of the device that a line left: after a command, that the device may have
--- changed; after a power cycle, the device, its clock too. After another line the saver is as
--- before.
+-- How the saver was notified of the device after a line. After a command, it was notified that
+-- the device may have changed; after a power cycle, of the device with its clock. After any other
+-- line the saver is unchanged.
 abbrev pub Tells : {S : Type 0} → (saves saves_change : S → Record → S → Type 0)
     → Option Meaning → Record → S → S → Type 0
 Tells saves saves_change (Some (Executes digits)) device old new = saves_change old device new
@@ -31,13 +31,13 @@ Tells saves saves_change (Some (ExecutesWords words)) device old new = saves_cha
 Tells saves saves_change (Some CyclesPower) device old new = saves old device new
 Tells saves saves_change other device old new = new ≡ old
 
--- A line was played: it is not bad, it prints this text, and the saver was told of it.
+-- A line was played: it is not bad, it prints this text, and the saver was notified of it.
 pub record PlaysLine {S : Type 0} (saves saves_change : S → Record → S → Type 0)
     (old : Kept S) (line text : List ℕ) (new : Kept S) : Type 0 where
   pub performed : perform_line old.playing line ≡ Some (record { text = text; next = new.playing })
   pub told : Tells saves saves_change (line_meaning line) new.playing.device old.saver new.saver
 
--- Lines were played in order, and this text is all that they print.
+-- Lines were played in order, and together they print this text.
 abbrev pub PlaysLines : {S : Type 0} → (saves saves_change : S → Record → S → Type 0)
     → Kept S → List (List ℕ) → List ℕ → Kept S → Type 0
 PlaysLines saves saves_change old [] text new = (text ≡ []) × (new ≡ old)
@@ -46,15 +46,17 @@ PlaysLines {S = S} saves saves_change old (line ∷ lines) text new =
     × PlaysLine saves saves_change old line first mid
     × PlaysLines saves saves_change mid lines more new
 
--- How many lines were played: those before a bad line, or as many as a script may have.
+-- The number of lines that were played: those before a bad line, or the largest number that a
+-- script may have.
 abbrev pub Counts : Result (Unit {0}) ScriptFault → ℕ → Type 0
 Counts (Err (fault.Line number)) count = number ≡ count + 1
 Counts (Err fault.TooManyLines) count = count ≡ 1048576
 Counts other count = Unit {0}
 
--- Which lines were not played, from this state on: none where the run ended well; those from the
--- bad line on; those from the start of a line on that the reader gave before it failed (left is
--- what the reader has left); or some where there are too many.
+-- The lines from this state on that were not played. There are none if the run ended well. If it
+-- stopped at a bad line, they are that line and all later ones. If the reader failed, they are
+-- the line that it had begun to return and all later ones (`left` is what the reader still has).
+-- If there were too many lines, at least one was not played.
 abbrev pub Leaves : Result (Unit {0}) ScriptFault → (left : Option (List ℕ)) → Playing
     → List (List ℕ) → Type 0
 Leaves (Ok done) left p rest = rest ≡ []
@@ -67,14 +69,14 @@ Leaves (Err fault.TooManyLines) left p rest =
     (line : List ℕ) × (others : List (List ℕ)) × (rest ≡ line ∷ others)
 Leaves (Err other) left p rest = Unit {0}
 
--- This text was written: all of it, or where the writer failed a part from its front.
+-- This text was written, or only a prefix of it if the writer failed.
 abbrev pub Writes : Result (Unit {0}) ScriptFault
     → Option (List ℕ) → Option (List ℕ) → List ℕ → Type 0
 Writes (Err fault.Write) old new text = CutOff (append_known old text) new
 Writes other old new text = Appends old new text
 
--- Lines of a text were played from start to an end of which Last holds, and what they print was
--- written after what the writer held (old).
+-- Lines of a text were played from `start` to an end with the property `Last`. Their output was
+-- written after the old contents of the writer (`old`).
 pub record Played {S : Type 0} (saves saves_change : S → Record → S → Type 0)
     (text left old new : Option (List ℕ)) (start : Kept S)
     (result : Result (Unit {0}) ScriptFault) (Last : Kept S → Type 0) : Type 0 where
@@ -88,10 +90,10 @@ pub record Played {S : Type 0} (saves saves_change : S → Record → S → Type
   pub written : Writes result old new print
   pub last : Last end
 
--- A run kept its device: what was written is what the lines print that were played, and of which
--- the saver was told; of the end of these Last holds. Where a save failed, the line that the save
--- was for is not among them, and nothing that it prints was written; then nothing is said of Last,
--- and if the writer failed too, nothing of what was written.
+-- A run kept its device: the output is what the played lines print, and the saver was notified of
+-- each. The end of these lines has the property `Last`. If a save failed, the line of that save
+-- is not among them, and none of its output was written. In that case `Last` is not claimed, and
+-- if the writer failed too, the output is unspecified.
 abbrev pub KeepsDevice : {S : Type 0} → (saves saves_change : S → Record → S → Type 0)
     → (text left old new : Option (List ℕ)) → (writer : Marks) → Kept S
     → Result (Unit {0}) ScriptFault → (Last : Kept S → Type 0) → Type 0

@@ -1,4 +1,4 @@
--- The meaning of a script's line, and how a text is cut into lines.
+-- The meaning of a script's line, and how a text is split into lines.
 use Rattle.std.specs.Prelude.{◌≡◌, ℕ, ◌+◌, ◌==◌, if◌then◌else◌}
 use Rattle.std.specs.Prelude.{List, [], ◌∷◌, take, drop, codes, Result, Ok, Err, ok_or}
 use Rattle.std.specs.Prelude.{Option, Some, None, option_map, option_and_then}
@@ -13,14 +13,15 @@ use Rattle.tpmsim_script.specs.declared.bad_line.Wanted.TheVariants as wanted
 use Rattle.tpmsim_script.specs.declared.line.Line as declared
 use Rattle.tpmsim_script.specs.declared.line.Line.TheVariants as code
 
--- the lines of a text, without the 0a that ends each of them but the last, which need not end with
--- one; after a 0a at the end there is no line
+-- the lines of a text, without the 0a that ends each of them; it is optional for the last line,
+-- and a 0a at the end of the text starts no further line
 abbrev pub lines_of : List ℕ → List (List ℕ)
 lines_of [] = []
 lines_of (byte ∷ text) = if byte == 10 then [] ∷ lines_of text else onto_first byte (lines_of text)
 
--- What a line says: a command in hex, or in words, neither of which is read here; the locality of
--- later commands; the milliseconds before the next one; entropy, in hex; a power cycle; or nothing.
+-- The meaning of a line: a command in hex or in words, neither of which is decoded here; the
+-- locality of later commands; the milliseconds before the next one; entropy, in hex; a power
+-- cycle; or nothing.
 pub data Meaning : Type 0 where
   Executes : (digits : List ℕ) → Meaning
   ExecutesWords : (words : List ℕ) → Meaning
@@ -30,12 +31,12 @@ pub data Meaning : Type 0 where
   CyclesPower : Meaning
   DoesNothing : Meaning
 
--- the bytes that hex digits of either case write; None of an odd number of digits, and of other
--- characters
+-- the bytes that hex digits of either case encode; None if the number of digits is odd, or a
+-- character is not a hex digit
 abbrev pub bytes_of : List ℕ → Option (List ℕ)
 bytes_of digits = result_ok (decode_of digits)
 
--- what a line of one word says, or why it is bad
+-- the meaning of a line of one word, or why it is bad
 unfoldable pub reading_alone : List ℕ → Result Meaning BadLine
 reading_alone word =
     if is_word (codes "cmd") word then Ok (Executes [])
@@ -46,18 +47,18 @@ reading_alone word =
     else if is_word (codes "entropy") word then Err (missing wanted.Entropy)
     else Err unknown_word
 
--- what follows loc and a space
+-- the meaning of the argument of loc
 abbrev pub locality_reading : List ℕ → Result Meaning BadLine
 locality_reading argument =
     ok_or (option_map SetsLocality (option_and_then locality_of (decimal_of argument)))
     (number_fault argument wanted.Locality)
 
--- what follows wait and a space
+-- the meaning of the argument of wait
 abbrev pub wait_reading : List ℕ → Result Meaning BadLine
 wait_reading argument = ok_or (option_map Waits (decimal_of argument))
     (number_fault argument wanted.Milliseconds)
 
--- what a line says that is a word, a space and an argument, or why it is bad
+-- the meaning of a line of a word, a space and an argument, or why it is bad
 unfoldable pub reading_with : List ℕ → List ℕ → Result Meaning BadLine
 reading_with word argument =
     if is_word (codes "cmd") word then Ok (Executes argument)
@@ -68,24 +69,24 @@ reading_with word argument =
     else if is_word (codes "power") word then Err (misplaced wanted.End)
     else Err unknown_word
 
--- what a text says whose first space, if it has one, stands at this place and ends the first word
+-- the meaning of a text; its first space, if any, has this offset and ends the first word
 abbrev pub reading_by : Option ℕ → List ℕ → Result Meaning BadLine
 reading_by None text = reading_alone text
 reading_by (Some space) text = reading_with (take space text) (drop (space + 1) text)
 
--- what a line says, or why it is bad. An empty line, and one that begins with #, is good and does
--- nothing
+-- the meaning of a line, or why it is bad; a line that is empty or begins with # is good and has
+-- no effect
 unfoldable pub line_reading : List ℕ → Result Meaning BadLine
 line_reading [] = Ok DoesNothing
 line_reading (first ∷ text) =
     if first == 35 then Ok DoesNothing
     else reading_by (position (λ byte. byte == 32) (first ∷ text)) (first ∷ text)
 
--- what a line says; None where the line is bad
+-- the meaning of a line; None if the line is bad
 abbrev pub line_meaning : List ℕ → Option Meaning
 line_meaning line = result_ok (line_reading line)
 
--- what the code's reading of a line means
+-- the meaning of a line that the code has parsed
 abbrev pub meaning_of : declared.Line → Meaning
 meaning_of (code.Command digits) = Executes digits.now
 meaning_of (code.Words words) = ExecutesWords words.now
@@ -95,13 +96,13 @@ meaning_of (code.Entropy digits) = SetsEntropy digits.now
 meaning_of code.PowerCycle = CyclesPower
 meaning_of code.Nothing = DoesNothing
 
--- the hex digits that a line holds, not decoded; empty where the line is no command in hex
+-- the hex digits in a line, not decoded; empty if the line has no hex
 abbrev pub hex_of : Meaning → List ℕ
 hex_of (Executes digits) = digits
 hex_of (SetsEntropy digits) = digits
 hex_of other = []
 
--- A reading gave what a text says, or refused the text where it is bad.
+-- A parser returned the meaning of a text, or refused the text because it is bad.
 abbrev pub Tells : {X Y E : Type 0} → (X → Y) → Result X E → Option Y → Type 0
 Tells view (Ok x) says = says ≡ Some (view x)
 Tells view (Err e) says = says ≡ None

@@ -1,11 +1,11 @@
--- How a script ends where it is stopped at a line.
+-- How a script ends if it stops at a line.
 use Rattle.std.specs.Prelude.{ℕ}
 use Rattle.tpmsim_script.specs.declared.line_fault.LineFault.{LineFault}
 use Rattle.tpmsim_script.specs.declared.line_fault.LineFault.TheVariants as line
 use Rattle.tpmsim_script.specs.declared.fault.ScriptFault.{ScriptFault}
 use Rattle.tpmsim_script.specs.declared.fault.ScriptFault.TheVariants.{Line, Write, Save}
 
--- the fault of a script that was stopped at the line of this number
+-- the fault of a script that stopped at the line with this number
 abbrev pub fault_at : ℕ → LineFault → ScriptFault
 fault_at number line.Bad = Line number
 fault_at number line.Write = Write

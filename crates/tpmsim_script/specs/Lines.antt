@@ -1,4 +1,4 @@
--- What the buffer of a script's lines holds.
+-- The contents of the buffer of a script's lines.
 use Rattle.std.specs.Prelude.{◌≡◌, ℕ, ◌==◌, ◌<◌, ◌≤◌, Bool, true, false}
 use Rattle.std.specs.Prelude.{List, [], ◌∷◌, ◌++◌, length, Option, Some, None}
 use Rattle.std.specs.List.{All, slice_range}
@@ -8,37 +8,37 @@ use Rattle.tpmsim_script.specs.declared.lines.Lines.{Lines}
 use Rattle.tpmsim_script.specs.declared.lines.Next.{Next}
 use Rattle.tpmsim_script.specs.declared.lines.Next.TheVariants.{Line, TooLong, Incomplete, End}
 
--- the line that was found last, or what has come so far of the next one
+-- the line that was found last, or the part of the next line that has been read
 abbrev pub line_of : Lines → List ℕ
 line_of lines = lines.line.items
 
--- what was read and belongs to no line yet
+-- the bytes that were read and do not belong to a line yet
 abbrev pub rest_of : Lines → List ℕ
 rest_of lines = slice_range lines.bytes.items lines.next lines.filled
 
--- No byte of these ends a line.
+-- None of these bytes ends a line.
 abbrev pub IsUnbroken : List ℕ → Type 0
 IsUnbroken bytes = All (λ byte. (byte == 10) ≡ false) bytes
 
 -- what is found after the last byte that was read: more may come, or the reader has ended, at the
--- end of a line or not
+-- end of a line or within one
 abbrev pub next_at : Bool → List ℕ → Next
 next_at false line = Incomplete
 next_at true [] = End
 next_at true (byte ∷ line) = Line
 
--- The reader may give these bytes more: none where it has ended.
+-- The reader may return these further bytes: none if it has ended.
 abbrev pub MayFollow : Lines → List ℕ → Type 0
 MayFollow lines more = lines.ended ≡ true → more ≡ []
 
--- A text's first line has more than 65,536 bytes.
+-- The first line of a text is longer than 65,536 bytes.
 abbrev pub BeginsTooLong : List ℕ → Type 0
 BeginsTooLong text =
     (line : List ℕ) × (rest : List (List ℕ))
     × (lines_of text ≡ line ∷ rest) × (65536 < length line)
 
--- What was found: whatever the reader gives from now on, the next line is this, or is too long, or
--- is not whole yet, or there is no next line.
+-- What was found. Whatever the reader returns from now on, the next line is this one, or is too
+-- long, or is incomplete, or there is no next line.
 abbrev pub Finds : Lines → Next → Lines → Type 0
 Finds old Line new = (more : List ℕ) → MayFollow old more
     → lines_of (line_of old ++ (rest_of old ++ more))
@@ -49,21 +49,20 @@ Finds old Incomplete new =
     × IsUnbroken (line_of new) × (old.ended ≡ false) × (length (line_of new) ≤ 65536)
 Finds old End new = (line_of old ++ rest_of old ≡ []) × (rest_of new ≡ []) × (old.ended ≡ true)
 
--- Where the buffer of lines says that its reader has ended, the reader has.
+-- If the buffer of lines records that its reader has ended, the reader has ended.
 abbrev pub Agrees : Option (List ℕ) → Lines → Type 0
 Agrees remaining lines = lines.ended ≡ true → IsAtEnd remaining
 
--- what is left of a script after the line that was found last, where it is known what the reader
--- gives
+-- the rest of a script after the line that was found last, if it is known what the reader returns
 abbrev pub text_left : Option (List ℕ) → Lines → Option (List ℕ)
 text_left remaining lines = prepend_known (rest_of lines) remaining
 
--- A text lost its first line, which is this.
+-- A text lost its first line, which is this one.
 abbrev pub LosesFirstLine : Option (List ℕ) → List ℕ → Option (List ℕ) → Type 0
 LosesFirstLine None line new = Unit {0}
 LosesFirstLine (Some text) line None = ⊥
 LosesFirstLine (Some text) line (Some rest) = lines_of text ≡ line ∷ lines_of rest
 
--- A text lost bytes at its front of which none ends a line.
+-- A text lost bytes at its beginning, none of which ends a line.
 abbrev pub LosesStart : Option (List ℕ) → Option (List ℕ) → Type 0
 LosesStart old new = (start : List ℕ) × IsUnbroken start × Consumes old new start

@@ -1,4 +1,4 @@
--- The state of a player, and what a line did.
+-- The state of a player, and the effect of a line.
 use Rattle.std.specs.Prelude.{◌≡◌, ℕ, Bool, true, List, Option, Some, None, Result, Ok, Err}
 use Rattle.std.specs.Io.KnownBytes.{Appends, append_known}
 use Rattle.tpm_bytes.specs.Tap.{Marks}
@@ -10,14 +10,14 @@ use Rattle.tpmsim_script.specs.declared.line_fault.LineFault.{LineFault}
 use Rattle.tpmsim_script.specs.declared.line_fault.LineFault.TheVariants.{Bad, Write, Save}
 use Rattle.tpmsim_script.specs.declared.player.Player.{Player}
 
--- the script that a player is playing, by a function that gives the record of its device's state
+-- the script that a player plays; `record_of` returns the record of its device's state
 abbrev pub playing_of : {K S O P N : Type 0} → (K → Record) → Player K S O P N → Playing
 playing_of record_of player =
     playing player.traced player.script (state_of record_of player.machine)
 
--- A line had its effect and printed its text after known bytes; or the writer failed, and the text
--- was cut off; or the line is bad, and did and printed nothing. Where the saver failed, nothing was
--- printed.
+-- A line had its effect, and its text was printed after known contents; or the writer failed, and
+-- the text was truncated; or the line is bad, had no effect and printed nothing. If the saver
+-- failed, nothing was printed.
 abbrev pub Did : Option Effect
     → Option (List ℕ) → Playing
     → Result (Unit {0}) LineFault → Option (List ℕ) → Playing → Type 0
@@ -30,15 +30,15 @@ Did line old before (Err Write) new after =
     × CutOff (append_known old effect.text) new × (after ≡ effect.next)
 Did line old before (Err Save) new after = new ≡ old
 
--- The saver was told, where a line had its effect, and is as before where the line is bad. Of a
--- save that failed nothing is said.
+-- The saver was notified if a line had its effect, and is unchanged if the line is bad. If a save
+-- failed, the saver is unspecified.
 abbrev pub Told : {S : Type 0} → (S → Type 0) → S → Result (Unit {0}) LineFault → S → Type 0
 Told tells old (Ok done) new = tells new
 Told tells old (Err Bad) new = new ≡ old
 Told tells old (Err Write) new = tells new
 Told tells old (Err Save) new = Unit {0}
 
--- The fault Write is answered only where the writer failed, and Save only where the saver did.
+-- The fault Write means that the writer failed, and Save that the saver did.
 abbrev pub IsTheirs : Result (Unit {0}) LineFault → (writer : Marks) → (unsaved : Bool) → Type 0
 IsTheirs (Err Write) writer unsaved = writer.failed ≡ true
 IsTheirs (Err Save) writer unsaved = unsaved ≡ true

@@ -13,7 +13,7 @@ use Rattle.tpmsim_script.specs.declared.bad_line.Wanted.TheVariants as wanted
 use Rattle.tpmsim_script.specs.declared.fault.ScriptFault.{ScriptFault}
 use Rattle.tpmsim_script.specs.declared.fault.ScriptFault.TheVariants as script
 
--- the name of a line's fault, with the column of the token at fault
+-- the name of a line's fault, and the column of the faulty token
 abbrev pub fault_name : AsmFault → List ℕ
 fault_name fault.BadName = codes "BadName"
 fault_name (fault.BadField column) = codes "BadField " ++ decimal column
@@ -22,7 +22,8 @@ fault_name (fault.Range column) = codes "Range " ++ decimal column
 fault_name fault.TooLong = codes "TooLong"
 fault_name fault.NoMemory = codes "NoMemory"
 
--- what is wanted where a line is bad; a command's words follow do and a space
+-- what is expected at the position of a bad line's fault; the words of a command follow `do` and
+-- a space
 abbrev pub wanted_text : Wanted → (line : List ℕ) → AsmFault → List ℕ
 wanted_text wanted.Word line fault = codes "do, cmd, loc, wait, entropy or power"
 wanted_text wanted.Command line fault = word_at (drop 3 line) fault
@@ -33,7 +34,7 @@ wanted_text wanted.Entropy line fault = codes "1 to 256 bytes of hex"
 wanted_text wanted.End line fault = codes "end of line"
 wanted_text wanted.ShortLine line fault = codes "at most 65536 bytes"
 
--- the report of a bad line: its number, its fault, and what is wanted there
+-- the report of a bad line: its number, its fault, and what is expected there
 abbrev pub fault_text : (number : ℕ) → AsmFault → (wanted : List ℕ) → List ℕ
 fault_text number fault wanted =
     codes "line " ++ decimal number ++ codes ": " ++ fault_name fault ++ codes ": " ++ wanted
@@ -42,18 +43,18 @@ fault_text number fault wanted =
 abbrev pub told : Fault → List ℕ
 told f = fault_text f.number f.bad.fault (wanted_text f.bad.wanted f.line f.bad.fault) ++ 10 ∷ []
 
--- the bad lines of a script, among as many lines as a script may have
+-- the bad lines of a script, up to the number of lines that a script may have
 abbrev pub script_faults : List ℕ → List Fault
 script_faults text = faults_of 0 1 (take 1048576 (lines_of text))
 
--- how a script ends, by the number of its first bad line, if it has one, and by whether it has more
--- lines than a script may have
+-- how a script ends, given the number of its first bad line, if any, and whether it contains more
+-- lines than the limit
 abbrev pub end_of : (first : Option ℕ) → (more : Bool) → Result (Unit {0}) ScriptFault
 end_of (Some number) more = Err (script.Line number)
 end_of None true = Err script.TooManyLines
 end_of None false = Ok tt
 
--- the report of a script: the reports of its bad lines, in their order
+-- the report of a script: the reports of its bad lines, in order
 abbrev pub report_text : List ℕ → List ℕ
 report_text text = flat_map told (script_faults text)
 

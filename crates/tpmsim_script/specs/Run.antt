@@ -8,19 +8,19 @@ use Rattle.tpmsim_script.specs.Script.{IsOutput, Playing, play}
 use Rattle.tpmsim_script.specs.declared.fault.ScriptFault.{ScriptFault}
 use Rattle.tpmsim_script.specs.declared.fault.ScriptFault.TheVariants as fault
 
--- P holds of no bad line where a run ended well, and of the bad line's number where the run stopped
--- at one; of other faults nothing is said.
+-- P holds for None if a run ended well, and for the number of the bad line if the run stopped at
+-- one. After other faults P is not claimed.
 abbrev pub Ran : (Option ℕ → Type 0) → Result (Unit {0}) ScriptFault → Type 0
 Ran P (Ok done) = P None
 Ran P (Err (fault.Line number)) = P (Some number)
 Ran P (Err other) = Unit {0}
 
--- A property holds where the reader failed.
+-- A property holds if the reader failed.
 abbrev pub OnUnread : {X : Type 0} → Result X ScriptFault → Type 0 → Type 0
 OnUnread (Err fault.Read) fact = fact
 OnUnread other fact = Unit {0}
 
--- A property holds where the writer failed.
+-- A property holds if the writer failed.
 abbrev pub OnUnwritten : {X : Type 0} → Result X ScriptFault → Type 0 → Type 0
 OnUnwritten (Err fault.Write) fact = fact
 OnUnwritten other fact = Unit {0}
@@ -30,18 +30,18 @@ abbrev pub is_unsaved : Result (Unit {0}) ScriptFault → Bool
 is_unsaved (Err fault.Save) = true
 is_unsaved other = false
 
--- A property holds where there were too many lines.
+-- A property holds if there were too many lines.
 abbrev pub OnTooMany : {X : Type 0} → Result X ScriptFault → Type 0 → Type 0
 OnTooMany (Err fault.TooManyLines) fact = fact
 OnTooMany other fact = Unit {0}
 
--- A property holds where there was no memory.
+-- A property holds if there was not enough memory.
 abbrev pub OnNoMemory : {X : Type 0} → Result X ScriptFault → Type 0 → Type 0
 OnNoMemory (Err fault.NoMemory) fact = fact
 OnNoMemory other fact = Unit {0}
 
--- The fault Read is answered only where the reader failed, Write only where the writer did, and
--- Save only where the saver did.
+-- The fault Read means that the reader failed, Write that the writer did, and Save that the saver
+-- did.
 abbrev pub AreTheirs : {X : Type 0} → Result X ScriptFault → (reader writer : Marks)
     → (unsaved : Bool) → Type 0
 AreTheirs (Err fault.Read) reader writer unsaved = reader.failed ≡ true
@@ -49,9 +49,9 @@ AreTheirs (Err fault.Write) reader writer unsaved = writer.failed ≡ true
 AreTheirs (Err fault.Save) reader writer unsaved = unsaved ≡ true
 AreTheirs other reader writer unsaved = Unit {0}
 
--- The lines before the one of the number next were played from p on, the first of them under this
--- number; none is bad; what they print was written after what the writer held (old); the rest are
--- the other lines.
+-- The lines before the line `next` were played from `p` on, and `number` is the number of the
+-- first. None is bad; their output was written after the old contents of the writer (`old`).
+-- `rest` contains the remaining lines.
 abbrev pub PlaysUpTo : Option (List ℕ) → Option (List ℕ) → Option (List ℕ)
     → Playing → ℕ → ℕ → List (List ℕ) → Type 0
 PlaysUpTo None old new p number next rest = Unit {0}
@@ -59,7 +59,7 @@ PlaysUpTo (Some text) old new p number next rest =
     (played : List (List ℕ)) × (lines_of text ≡ played ++ rest)
     × (next ≡ number + length played) × IsOutput old new None (play p number played)
 
--- The reader failed before the bytes that it has left (left): it gave the lines that were played,
+-- The reader failed with `left` still to be returned. It had returned the lines that were played,
 -- none of them bad, and the start of one more.
 abbrev pub PlaysToFailure : Option (List ℕ) → Option (List ℕ)
     → Option (List ℕ) → Option (List ℕ) → Playing → Type 0
@@ -69,14 +69,14 @@ PlaysToFailure (Some text) (Some left) old new p =
     (start : List ℕ) × (next : ℕ) × IsUnbroken start
     × PlaysUpTo (Some text) old new p 1 next (lines_of (start ++ left))
 
--- The 1,048,576 lines that a script may have were played, none of them bad, and there is one more
--- line.
+-- The largest allowed number of lines, 1,048,576, was played. None of them is bad, and there is
+-- one more line.
 abbrev pub PlaysAllAllowed : Option (List ℕ) → Option (List ℕ) → Option (List ℕ) → Playing → Type 0
 PlaysAllAllowed text old new p =
     (line : List ℕ) × (rest : List (List ℕ)) × PlaysUpTo text old new p 1 1048577 (line ∷ rest)
 
--- The text's first line is this, or the text is empty, or its first line is too long and has this
--- number; or the reader or the writer failed, and there is no other fault.
+-- The text's first line is this one; or the text is empty; or its first line is too long and has
+-- this number; or the reader or the writer failed. There is no other fault.
 abbrev pub NextFound : ℕ → Option (List ℕ)
     → Result Bool ScriptFault → List ℕ → Option (List ℕ) → Type 0
 NextFound number old (Ok true) line new = LosesFirstLine old line new
@@ -86,14 +86,14 @@ NextFound number old (Err fault.Read) line new = Unit {0}
 NextFound number old (Err fault.Write) line new = Unit {0}
 NextFound number old (Err other) line new = ⊥
 
--- A property holds where a run ended well, at a bad line, or because the reader failed.
+-- A property holds if a run ended well, at a bad line, or because the reader failed.
 abbrev pub UnlessFailed : {X : Type 0} → Result X ScriptFault → Type 0 → Type 0
 UnlessFailed (Ok x) fact = fact
 UnlessFailed (Err (fault.Line number)) fact = fact
 UnlessFailed (Err fault.Read) fact = fact
 UnlessFailed (Err other) fact = Unit {0}
 
--- how a run ends after the last line that a script may have, by what was found there
+-- how a run ends after the last line that a script may have, depending on what was found there
 abbrev pub end_at_limit : Result Bool ScriptFault → Result (Unit {0}) ScriptFault
 end_at_limit (Ok true) = Err fault.TooManyLines
 end_at_limit (Ok false) = Ok tt

@@ -1,5 +1,5 @@
--- What a script prints: a device plays the script's lines in order, and the response to each
--- command is a line of hex, before which its trace may stand.
+-- What a script prints. A device plays the script's lines in order; the response to each command
+-- is a line of hex, preceded by a trace if requested.
 use Rattle.std.specs.Prelude.{◌≡◌, ℕ, ◌+◌, ◌%◌, ◌^◌, ◌&&◌, nat_le, nat_lt, Bool, if◌then◌else◌}
 use Rattle.std.specs.Prelude.{List, [], ◌∷◌, ◌++◌, length, map, replicate, slice_index}
 use Rattle.std.specs.Prelude.{Option, Some, None, option_map, option_and_then}
@@ -19,8 +19,8 @@ use Rattle.tpmsim_script.specs.Line.{bytes_of, line_meaning, lines_of}
 use Rattle.tpmsim_script.specs.declared.script.Script.{Script}
 
 -- A script that is being played: whether its events are traced, the locality of its commands, the
--- sum of the waits since the last command, across power cycles, the random bytes of each command,
--- and the device.
+-- total of the waits since the last command (across power cycles), the random bytes of each
+-- command, and the device.
 pub record Playing : Type 0 where
   pub traced : Bool
   pub locality : ℕ
@@ -28,7 +28,7 @@ pub record Playing : Type 0 where
   pub random : List ℕ
   pub device : Record
 
--- the script that the code plays, with whether it is traced and the record of its device
+-- the script that the code plays, with the trace option and the record of its device
 abbrev pub playing : Bool → Script → Record → Playing
 playing traced script device = record {
   traced = traced;
@@ -38,15 +38,15 @@ playing traced script device = record {
   device = device;
 }
 
--- the bytes 00 to ff, which a new device of a script is manufactured with
+-- the bytes 00 to ff, with which a new device for scripts is manufactured
 abbrev pub script_bytes : List ℕ
 script_bytes = range_with_len 0 256
 
--- the device of a script where no image is given
+-- the device of a script for which no image is given
 abbrev pub new_device : Record
 new_device = manufactured script_bytes
 
--- a script at its start: locality 0, no time waited, random bytes that are all 0, and this device
+-- the start of a script: locality 0, no time waited, random bytes that are all 0, and this device
 unfoldable pub at_first : (traced : Bool) → (device : Record) → Playing
 at_first traced device = record {
   traced = traced;
@@ -56,17 +56,17 @@ at_first traced device = record {
   device = device;
 }
 
--- the 256 random bytes of these bytes, repeated
+-- 256 random bytes that repeat these bytes
 unfoldable pub repeated : List ℕ → List ℕ
 repeated entropy =
     map (λ place. slice_index entropy (place % length entropy)) (range_with_len 0 256)
 
--- the effect of a line: what it prints, and how the script goes on
+-- the effect of a line: what it prints, and how the script continues
 pub record Effect : Type 0 where
   pub text : List ℕ
   pub next : Playing
 
--- a response in lower-case hex, with the end of its line
+-- a response in lower-case hex, and the end of its line
 abbrev pub printed_response : List ℕ → List ℕ
 printed_response response = encode_lower response ++ 10 ∷ []
 
@@ -74,7 +74,7 @@ printed_response response = encode_lower response ++ 10 ∷ []
 abbrev pub silence : Playing → Effect
 silence p = record { text = []; next = p }
 
--- the trace of an event with this outcome, with the end of its line; nothing where events are not
+-- the trace of an event with this outcome, and the end of its line; nothing if events are not
 -- traced
 unfoldable pub printed_trace : (traced : Bool) → PlainEvent → Stepped → List ℕ
 printed_trace traced event s =
@@ -110,13 +110,13 @@ wait p milliseconds =
     if nat_lt (p.waited + milliseconds) (2 ^ 32)
     then Some (silence (record p { waited = p.waited + milliseconds })) else None
 
--- the effect of setting the random bytes, from 1 to 256 bytes
+-- the effect of setting the random bytes, which repeat 1 to 256 bytes
 abbrev pub set_entropy : Playing → List ℕ → Option Effect
 set_entropy p entropy =
     if nat_lt 0 (length entropy) && nat_le (length entropy) 256
     then Some (silence (record p { random = repeated entropy })) else None
 
--- the effect of what a line says; None where it cannot be performed
+-- the effect of the meaning of a line; None if it cannot be performed
 abbrev pub perform : Playing → Meaning → Option Effect
 perform p (Executes digits) = option_map (execute p) (bytes_of digits)
 perform p (ExecutesWords words) = option_map (execute p) (result_ok (assembled words))
@@ -126,13 +126,13 @@ perform p (SetsEntropy digits) = option_and_then (set_entropy p) (bytes_of digit
 perform p CyclesPower = Some (cycle p)
 perform p DoesNothing = Some (silence p)
 
--- the effect of a line; None where the line is bad, as every line of over 65,536 bytes is
+-- the effect of a line; None if the line is bad, as every line of over 65,536 bytes is
 unfoldable pub perform_line : Playing → List ℕ → Option Effect
 perform_line p line =
     if nat_le (length line) 65536 then option_and_then (perform p) (line_meaning line) else None
 
--- what a script prints, and the number of its first bad line, if there is one, after which nothing
--- is done
+-- what a script prints, and the number of its first bad line, if any; the lines after that line
+-- have no effect
 pub record Output : Type 0 where
   pub text : List ℕ
   pub bad : Option ℕ
@@ -144,21 +144,21 @@ abbrev pub output_with : Option Effect → ℕ → (Playing → Output) → Outp
 output_with None number rest = record { text = []; bad = Some number }
 output_with (Some effect) number rest = output_before effect.text (rest effect.next)
 
--- what these lines print, of which the first has this number
+-- what these lines print; `number` is the number of the first line
 abbrev pub play : Playing → ℕ → List (List ℕ) → Output
 play p number [] = record { text = []; bad = None }
 play p number (line ∷ lines) =
     output_with (perform_line p line) number (λ next. play next (number + 1) lines)
 
--- This output was written after what the writer held (old), and this is the number of the first bad
--- line, if there is one.
+-- This output was written after the old contents of the writer (`old`), and `bad` is the number
+-- of the first bad line, if any.
 abbrev pub IsOutput : Option (List ℕ) → Option (List ℕ) → Option ℕ → Output → Type 0
 IsOutput old new bad output = Appends old new output.text × (output.bad ≡ bad)
 
--- A run wrote, after what the writer held (old), what the lines of the text print when they are
--- played from p on, the first of them under this number; and bad is the number of the first bad
--- line, if there is one. Nothing is said where it is not known what the reader gives, and nothing
--- of the writing where it is not known what the writer holds.
+-- A run wrote, after the old contents of the writer (`old`), what the lines of the text print
+-- when they are played from `p` on; `number` is the number of the first line. `bad` is the number
+-- of the first bad line, if any. Nothing is claimed if it is unknown what the reader returns.
+-- Nothing is claimed about the output if the writer's contents are unknown.
 abbrev pub Plays : Option (List ℕ) → Option (List ℕ) → Option (List ℕ)
     → Playing → ℕ → Option ℕ → Type 0
 Plays None old new p number bad = Unit {0}

@@ -1,5 +1,5 @@
-//! The lines that a script prints, responses in hex and traces, held in memory until they are
-//! written.
+//! The lines that a script prints: responses in hex, and traces. They stay in memory until they
+//! are written.
 
 ghost use Rattle.tpm_types.specs.Limits.{buffer_limit};
 ghost use Rattle.std.specs.Prelude.{◌≡◌, ◌+◌, ◌*◌, ◌≤◌, ◌++◌, ◌∷◌, [], length, vec_len};
@@ -10,10 +10,10 @@ use std::alloc::{AllocError, Global};
 use std::io::Write;
 use tpm_bytes::{Failed, Tap};
 
-/// How many bytes of text are held before they are written.
+/// The size of the buffer for lines that are not yet written.
 const CAPACITY: usize = 65_536;
 
-/// Lines of text, and responses that are written in lower-case hex, one on each line.
+/// Lines of text, and responses in lower-case hex, one on each line.
 #[derive(Drop)]
 pub struct Answers {
     text: Vec<u8>,
@@ -69,7 +69,8 @@ impl Answers {
         Ok(())
     }
 
-    /// Makes room for a line of this many bytes, including its end.
+    /// Frees space for a line of this size, including its end, by writing earlier lines if
+    /// needed.
     fn make_room<W: Write>(&mut self, writer: &mut Tap<W>, size: usize) -> Result<(), Failed>
         requires { size ≤ CAPACITY }
         ensures failed { OnErr result ((marks_of writer.new).failed ≡ true) }
@@ -105,7 +106,7 @@ impl Answers {
         self.used = end;
     }
 
-    /// Writes all lines so far. Lines that an error cut off are not written again.
+    /// Writes all buffered lines. Lines that an error truncated are not written again.
     pub fn flush<W: Write>(&mut self, writer: &mut Tap<W>) -> Result<(), Failed>
         ensures unmarked { OnOk result (marks_of writer.new ≡ marks_of writer.old) }
         ensures failed { OnErr result ((marks_of writer.new).failed ≡ true) }
@@ -142,7 +143,7 @@ impl Answers {
     }
 }
 
-/// Writes a response in lower-case hex, with the end of its line, to `line`.
+/// Writes a response in lower-case hex, and the end of its line, to `line`.
 fn print(response: &[u8], line: &mut [u8])
     requires { length line.old ≡ 2 * length response.now + 1 }
     ensures { line.new ≡ printed_response response.now }
@@ -152,7 +153,7 @@ fn print(response: &[u8], line: &mut [u8])
     end[0] = b'\n';
 }
 
-/// Writes a text, with the end of its line, to `line`.
+/// Writes a text, and the end of its line, to `line`.
 fn print_text(text: &[u8], line: &mut [u8])
     requires { length line.old ≡ length text.now + 1 }
     ensures { line.new ≡ text.now ++ 10 ∷ [] }

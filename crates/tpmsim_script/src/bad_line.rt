@@ -1,28 +1,29 @@
-//! Why a line is not one that a script may have, and what is wanted there.
+//! Why a line is not allowed in a script, and what is expected there.
 
 use tpm_text::AsmFault;
 
-/// Why a line is not one that a script may have. A column is counted in what follows the line's
-/// word and its space, from 1.
+/// The reason why a line is not allowed in a script. Columns are counted from 1, in the text
+/// after the line's first word and the space.
 #[derive(Clone, Copy, PartialEq, Eq)]
 pub struct BadLine {
     pub fault: AsmFault,
-    /// What is wanted where the fault is.
+    /// What is expected at the position of the fault.
     pub wanted: Wanted,
 }
 
-/// What a line wants where it is bad.
+/// What is expected instead of a bad part of a line.
 #[derive(Clone, Copy, PartialEq, Eq)]
 pub enum Wanted {
-    /// The word of a line: `do`, `cmd`, `loc`, `wait`, `entropy` or `power`.
+    /// The first word of a line: `do`, `cmd`, `loc`, `wait`, `entropy` or `power`.
     Word,
-    /// A command in words. The shape of the command tells what is wanted in the place of the fault.
+    /// A command in words. The shape of the command says what is expected at the position of the
+    /// fault.
     Command,
     /// A buffer in hex.
     Hex,
     /// The number of a locality.
     Locality,
-    /// Milliseconds, in all below 2^32 before a command.
+    /// Milliseconds; their total before a command must be below 2^32.
     Milliseconds,
     /// Random bytes in hex.
     Entropy,

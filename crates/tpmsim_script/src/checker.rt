@@ -1,4 +1,4 @@
-//! The check of a script's lines, which are read and not run.
+//! Checks a script's lines, without running them.
 
 ghost use Rattle.std.specs.Prelude.{◌≡◌, ◌≤◌, IfOk, length};
 ghost use Rattle.tpmsim_script.specs.Checking.{Checks, check, line_check};
@@ -12,8 +12,7 @@ use crate::script::Script;
 use std::alloc::{AllocError, Global};
 use tpm_text::AsmFault;
 
-/// A checker of lines, one after another, which knows what the earlier lines set for the next
-/// command.
+/// Checks lines, one after another. It remembers what the earlier lines set for the next command.
 #[derive(Drop)]
 pub struct Checker {
     script: Script,
@@ -32,7 +31,7 @@ impl Checker {
         })
     }
 
-    /// Checks the next line, given without its 0a. A bad line sets nothing for the next command.
+    /// Checks the next line, passed without its 0a. A bad line sets nothing for the next command.
     #[tactic(auto, unfolding(crate::specs::Checking::line_check))]
     pub fn check(&mut self, line: &[u8]) -> Result<(), BadLine>
         ensures { Checks (line_check (waited_of self.old) line.now) (waited_of self.old) result
@@ -45,7 +44,7 @@ impl Checker {
         self.check_said(said)
     }
 
-    /// Checks what a line says.
+    /// Checks the meaning of a line.
     fn check_said(&mut self, said: Line) -> Result<(), BadLine>
         requires { length (hex_of (meaning_of said)) ≤ 65536 }
         ensures { Checks (check (waited_of self.old) (meaning_of said.entry)) (waited_of self.old)

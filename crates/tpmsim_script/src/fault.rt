@@ -5,21 +5,21 @@ ghost use Rattle.std.specs.Prelude.{◌≡◌};
 use std::alloc::AllocError;
 use tpm_bytes::NoMemory;
 
-/// Why a script did not run to its end. The lines before the fault were run, and their responses
-/// written, but for those that a `Write` or a `Save` fault cut off.
+/// The reasons why a script did not run to its end. The lines before the fault were run, and
+/// their responses written. Only a `Write` or a `Save` fault can truncate the responses.
 #[derive(Clone, Copy, PartialEq, Eq)]
 pub enum ScriptFault {
-    /// The line of this number, from 1, is not one that a script may have.
+    /// The line with this number, counted from 1, is not allowed in a script.
     Line(u32),
-    /// The reader failed. The whole lines that it had given were run.
+    /// The reader failed. The whole lines that it had returned were run.
     Read,
-    /// There are more lines than a script may have. As many lines as a script may have were run.
+    /// The script contains more lines than the limit. The lines up to the limit were run.
     TooManyLines,
     /// The responses could not be written.
     Write,
     /// The device could not be saved. The response to the last command was not written.
     Save,
-    /// There is no memory for the device or the buffers. Nothing was read.
+    /// The device or the buffers could not be allocated. Nothing was read.
     NoMemory,
 }
 

@@ -1,4 +1,4 @@
-//! The bad lines that were found in a script so far.
+//! The bad lines found in a script so far.
 
 ghost use Rattle.std.specs.Prelude.{◌≡◌, ◌==◌, ◌++◌, ◌∷◌, ◌<◌, [], None, Some, length, nat_lt, not, IfOk, OnOk};
 ghost use Rattle.std.specs.List.{flat_map};
@@ -14,10 +14,10 @@ use crate::told_fault::ToldFault;
 use std::alloc::{AllocError, Global};
 use tpm_text::position_of;
 
-/// The bad lines that were found in a script.
+/// The bad lines found in a script.
 #[derive(Drop)]
 pub struct Findings {
-    /// The text of the report so far, a line for each bad line.
+    /// The text of the report so far, with one line for each bad line.
     pub text: String,
     /// The number of the first bad line.
     pub first: Option<u32>,
@@ -34,7 +34,7 @@ impl Findings {
         }
     }
 
-    /// Checks the lines of a text, as many as a script may have, and gives the text after them.
+    /// Checks the lines of a text, up to the limit on lines, and returns the text after them.
     pub fn check_lines<'t>(
         &mut self,
         text: &'t [u8],
@@ -60,7 +60,7 @@ impl Findings {
         Ok(rest)
     }
 
-    /// Checks the line of this number.
+    /// Checks the line with this number.
     fn check_line(
         &mut self,
         checker: &mut Checker,
@@ -82,7 +82,7 @@ impl Findings {
         }
     }
 
-    /// Adds a bad line's report.
+    /// Adds the report of a bad line.
     fn put(&mut self, fault: ToldFault) -> Result<(), AllocError>
         ensures text { OnOk result (self.new.text.bytes.items ≡ self.old.text.bytes.items
             ++ (fault_text fault.number fault.fault fault.wanted.now ++ 10 ∷ [])) }
@@ -94,7 +94,7 @@ impl Findings {
     }
 }
 
-/// The first line of a text that is not empty, without its 0a, and the text after it.
+/// The first line of a non-empty text, without its 0a, and the text after it.
 fn first_line(text: &[u8]) -> (&[u8], &[u8])
     ensures { 0 < length text.now → lines_of text.now ≡ result.0.now ∷ lines_of result.1.now }
 {

@@ -1,12 +1,12 @@
-//! The laws that the check of a script finds the bad line that a run of it finds.
+//! The laws of the check: it finds the same bad line of a script as a run does.
 
 ghost use Rattle.std.specs.Prelude.{◌≡◌, ℕ, List, option_map};
 ghost use Rattle.std.specs.Result.{result_ok};
 ghost use Rattle.tpmsim_script.specs.Checking.{faults_of, first_number, line_check};
 ghost use Rattle.tpmsim_script.specs.Script.{Playing, perform_line, play};
 
-/// A line is bad where it cannot be performed, and the first bad line of a script is the one that
-/// ends a run.
+/// A line is bad exactly if it cannot be performed, and a run ends at the first bad line of its
+/// script.
 #[inline(always)]
 pub fn check_laws()
     ensures line { (p : Playing) (line : List ℕ)

@@ -1,23 +1,23 @@
 #![tactic(auto)]
 
-//! Scripts of commands: [`run::run_device`] plays a script on a device and writes what the device
-//! answers, and [`run::run_script`] on a new device; [`checker::Checker`] reads the lines and runs
-//! none, and [`report::report_of`] reports what is wrong with them, a line of text for each bad
-//! line.
+//! Scripts of commands: [`run::run_device`] plays a script on a device and writes the device's
+//! responses, and [`run::run_script`] plays one on a new device. [`checker::Checker`] reads the
+//! lines without running them, and [`report::report_of`] reports what is wrong with them, one
+//! line of text for each bad line.
 //!
-//! A script is a text whose lines are read one after another ([`lines`], [`line`]), set what the
-//! next command is given ([`script`]) and are performed on the device ([`player`]), a command in
-//! [`room`] for its bytes; the responses, and traces where they are asked for, gather in a buffer
-//! ([`answers`]) that is written before more of the script is read ([`run`]). A saver is told the
-//! device on the way.
+//! A script is a text whose lines are read one after another ([`lines`], [`line`]). A line sets
+//! values for the next command ([`script`]), or is performed on the device ([`player`]), with a
+//! command's bytes in a [`room`]. The responses, and the traces if requested, collect in a buffer
+//! ([`answers`]) that is written before more of the script is read ([`run`]). A saver is notified
+//! of the device as the script runs.
 //!
-//! The crate uses `tpm_machine` for the device and its savers, `tpm_text` for commands in words and
-//! traces, `tpm_help` for what is wanted where a command in words is at fault, and `tpm_hex`. What
-//! is written is what `specs/` says that the script prints, to its end or to its first bad line,
-//! for a device that is never refused memory; whatever the fault, the lines before it were run, and
-//! the saver was told the device at each of them. Memory is taken only at the start, but for that
-//! of the device itself, and for a report's text. A report equals its definition in `specs/`, which
-//! maps the faults of the script's lines.
+//! The crate uses `tpm_machine` for the device and its savers, `tpm_text` for commands in words
+//! and traces, `tpm_help` for what is expected at a fault in words, and `tpm_hex`. If allocations
+//! for the device never fail, the output is what `specs/` says that the script prints, to its end
+//! or to its first bad line. Whatever the fault, the lines before it were run, and the saver was
+//! notified of the device at each of them. All memory is allocated at the start, except for the
+//! device's own and for a report's text. A report equals its definition in `specs/`, which maps
+//! the faults of the script's lines.
 
 pub mod answers;
 pub mod bad_line;

@@ -1,5 +1,5 @@
-//! The lines of a script and how they are told apart: commands, localities, waits, random bytes,
-//! power cycles and comments.
+//! The lines of a script, by kind: commands, localities, waits, random bytes, power cycles and
+//! comments.
 
 ghost use Rattle.std.specs.Prelude.{◌≡◌, ◌+◌, ◌*◌, ◌==◌, ◌≤◌, [], IfOk, is_some, length};
 ghost use Rattle.std.specs.List.{list_all, position};
@@ -22,11 +22,12 @@ pub enum Line<'a> {
     Command(&'a [u8]),
     /// `do LINE`: a command, in words.
     Words(&'a [u8]),
-    /// `loc N`: the locality of the commands that follow.
+    /// `loc N`: the locality of the following commands.
     Locality(Locality),
     /// `wait MS`: milliseconds that pass before the next command.
     Wait(u32),
-    /// `entropy HEX`: what the random bytes of the commands that follow repeat, in hex.
+    /// `entropy HEX`: bytes in hex, which are repeated to make the random bytes of the following
+    /// commands.
     Entropy(&'a [u8]),
     /// `power`: a power cycle.
     PowerCycle,
@@ -34,14 +35,14 @@ pub enum Line<'a> {
     Nothing,
 }
 
-/// The fault that a line cannot be performed: its hex is not valid, its words spell no command, or
-/// it has too many bytes or milliseconds.
+/// The fault of a line that cannot be performed: its hex is not valid, its words are not a
+/// command, or it contains too many bytes or milliseconds.
 #[derive(Clone, Copy, PartialEq, Eq)]
 pub struct Unfit;
 
 impl<'a> Line<'a> {
-    /// Reads a line, given without its 0a. The hex digits, or the words, of a command are not
-    /// looked at yet.
+    /// Parses a line, passed without its 0a. Does not yet decode the hex digits or the words of a
+    /// command.
     #[tactic(auto, unfolding(crate::specs::Line::line_reading), using(crate::proofs::SaidLemmas::read_by_words))]
     pub fn parse(text: &'a [u8]) -> Result<Line<'a>, BadLine>
         ensures reading { Gives meaning_of (line_reading text.now) result }
@@ -54,7 +55,7 @@ impl<'a> Line<'a> {
         Line::by_words(text)
     }
 
-    /// Reads a line that begins with a word, which the first space ends.
+    /// Parses a line whose first word ends at the first space.
     fn by_words(text: &'a [u8]) -> Result<Line<'a>, BadLine>
         ensures reading { Gives meaning_of
             (reading_by (position (λ byte. byte == 32) text.now) text.now) result }
@@ -66,7 +67,7 @@ impl<'a> Line<'a> {
         }
     }
 
-    /// Reads a line of one word.
+    /// Parses a line that consists of one word.
     #[tactic(auto, unfolding(crate::specs::Line::reading_alone))]
     fn alone(word: &'a [u8]) -> Result<Line<'a>, BadLine>
         ensures reading { Gives meaning_of (reading_alone word.now) result }
@@ -89,7 +90,7 @@ impl<'a> Line<'a> {
         }
     }
 
-    /// Reads a line of a word and an argument, which stands after the space.
+    /// Parses a line that consists of a word, a space and an argument.
     #[tactic(auto, unfolding(crate::specs::Line::reading_with))]
     fn with(word: &'a [u8], argument: &'a [u8]) -> Result<Line<'a>, BadLine>
         ensures reading { Gives meaning_of (reading_with word.now argument.now) result }
@@ -113,7 +114,7 @@ impl<'a> Line<'a> {
         }
     }
 
-    /// Reads what follows `loc `.
+    /// Parses the argument of `loc`.
     fn of_locality(argument: &[u8]) -> Result<Line<'a>, BadLine>
         ensures { Gives meaning_of (locality_reading argument.now) result }
     {
@@ -123,7 +124,7 @@ impl<'a> Line<'a> {
         }
     }
 
-    /// Reads what follows `wait `.
+    /// Parses the argument of `wait`.
     fn of_wait(argument: &[u8]) -> Result<Line<'a>, BadLine>
         ensures { Gives meaning_of (wait_reading argument.now) result }
     {
@@ -134,13 +135,13 @@ impl<'a> Line<'a> {
     }
 }
 
-/// The fault of a line that begins with no word of a script.
+/// The fault of a line whose first word is unknown.
 const UNKNOWN_WORD: BadLine = BadLine {
     fault: AsmFault::BadName,
     wanted: Wanted::Word,
 };
 
-/// The fault of a word that stands alone, after which this is wanted.
+/// The fault of a line that ends after its first word, if an argument is expected there.
 fn missing(wanted: Wanted) -> BadLine
     ensures { result ≡ missing wanted }
 {
@@ -150,7 +151,7 @@ fn missing(wanted: Wanted) -> BadLine
     }
 }
 
-/// The fault of an argument in whose place this is wanted.
+/// The fault of a wrong argument, and what is expected instead.
 pub fn misplaced(wanted: Wanted) -> BadLine
     ensures { result ≡ misplaced wanted }
 {
@@ -160,7 +161,7 @@ pub fn misplaced(wanted: Wanted) -> BadLine
     }
 }
 
-/// The fault of an argument that is too large a number.
+/// The fault of an argument whose number is too large.
 pub fn too_large(wanted: Wanted) -> BadLine
     ensures { result ≡ too_large wanted }
 {
@@ -170,7 +171,7 @@ pub fn too_large(wanted: Wanted) -> BadLine
     }
 }
 
-/// The fault of an argument that is not the number that is wanted: it is too large, or no number.
+/// The fault of an argument that is not the expected number: it is too large, or not a number.
 fn number_fault(argument: &[u8], wanted: Wanted) -> BadLine
     ensures { result ≡ number_fault argument.now wanted }
 {
@@ -181,7 +182,7 @@ fn number_fault(argument: &[u8], wanted: Wanted) -> BadLine
     }
 }
 
-/// Whether a text is a decimal number, however large.
+/// Whether a text is a decimal number of any size.
 #[tactic(auto, using(crate::proofs::Decimals::decimals))]
 fn is_decimal(text: &[u8]) -> bool
     ensures { result ≡ is_some (numeral 10 text.now) }
@@ -201,8 +202,8 @@ fn is_digit(byte: u8) -> bool
     char::from(byte).is_digit(10)
 }
 
-/// Writes the bytes that hex digits of either case spell to a room that is large enough. Other
-/// digits, and an odd number of them, are refused.
+/// Decodes hex digits of either case to a buffer that is large enough. Fails if a character is
+/// not a hex digit, or the number of digits is odd.
 pub fn decode<'a>(digits: &[u8], room: &'a mut [u8]) -> Result<&'a [u8], Unfit>
     requires { length digits.now ≤ 2 * length room.old + 1 }
     ensures { Tells (λ bytes. bytes.now) result (bytes_of digits.now) }

@@ -1,4 +1,4 @@
-//! Why a script stops at a line, before it is known which line that is.
+//! Why a script stops at a line, before the line's number is known.
 
 ghost use Rattle.std.specs.Prelude.{◌≡◌};
 
@@ -7,10 +7,10 @@ use crate::fault::ScriptFault;
 use crate::line::Unfit;
 use tpm_text::AsmFault;
 
-/// The reason why a script is stopped at a line.
+/// The reasons why a script stops at a line.
 #[derive(Clone, Copy, PartialEq, Eq)]
 pub enum LineFault {
-    /// The line is not one that a script may have.
+    /// The line is not allowed in a script.
     Bad,
     /// The line's response, or one before it, could not be written.
     Write,
@@ -21,7 +21,7 @@ pub enum LineFault {
 impl LineFault {
     ghost use Rattle.tpmsim_script.specs.LineFault.{fault_at};
 
-    /// The fault of a script that is stopped at the line of this number.
+    /// The fault of a script that stops at the line with this number.
     pub fn at(self, number: u32) -> ScriptFault
         ensures { result ≡ fault_at number self }
     {

@@ -1,4 +1,4 @@
-//! The lines of a text, cut in memory that does not depend on the text.
+//! Splits a text into lines, in memory whose size does not depend on the text.
 
 ghost use Rattle.std.specs.Prelude.{◌≡◌, ◌≤◌, vec_len};
 ghost use Rattle.tpmsim_script.specs.declared.lines.TheConstants.{CAPACITY, LINE_LIMIT};
@@ -10,16 +10,16 @@ use std::io::Read;
 use tpm_bytes::{Failed, Tap};
 use tpm_text::position_of;
 
-/// How many bytes a line may have, without the 0a at its end.
+/// The largest size of a line, without the 0a at its end.
 pub const LINE_LIMIT: usize = 65_536;
 
-/// How many bytes are read at once.
+/// The largest number of bytes for one read.
 const CAPACITY: usize = 65_536;
 
 /// What comes next in the bytes that were read.
 #[derive(Clone, Copy, PartialEq, Eq)]
 pub enum Next {
-    /// A whole line, which [`Lines::line`] gives.
+    /// A whole line, which [`Lines::line`] returns.
     Line,
     /// A line of more than [`LINE_LIMIT`] bytes, or the start of one.
     TooLong,
@@ -33,17 +33,17 @@ pub enum Next {
 #[derive(Clone, Copy, PartialEq, Eq)]
 struct TooLong;
 
-/// The lines of a text, each of which ends with 0a, but for the last, which need not. The memory of
-/// this type does not depend on the text.
+/// The lines of a text. Each ends with 0a, which is optional for the last one. The size of this
+/// type does not depend on the text.
 #[derive(Drop)]
 pub struct Lines {
-    /// The line that was found last, or what has come so far of the next one.
+    /// The line that was found last, or the part of the next line that has been read.
     line: ArrayVec<u8, 65536>,
     bytes: Vec<u8>,
-    /// Which of the bytes were read and belong to no line yet.
+    /// The offset range of the bytes that were read and do not belong to a line yet.
     next: usize,
     filled: usize,
-    /// Whether the last read gave nothing.
+    /// Whether the last read returned nothing.
     ended: bool,
     ghost capacity: { vec_len bytes ≡ CAPACITY },
     ghost in_order: { next ≤ filled },
@@ -89,7 +89,7 @@ impl Lines {
         self.line.clear();
     }
 
-    /// Adds the bytes that were read to the line, up to the end of the line if that was read.
+    /// Adds bytes that were read to the line, up to the end of the line or of these bytes.
     pub fn find(&mut self) -> Next
         requires { IsUnbroken (line_of self.old) }
         ensures found { Finds self.old result self.new }
@@ -107,7 +107,7 @@ impl Lines {
         }
     }
 
-    /// Adds the next `count` bytes to the line, and goes past `past` bytes.
+    /// Adds the next `count` bytes to the line, and consumes `past` bytes in total.
     fn take(&mut self, count: usize, past: usize) -> Result<(), TooLong>
         requires count { count ≤ past }
         requires past { past ≤ length (rest_of self.old) }
@@ -124,7 +124,7 @@ impl Lines {
         Ok(())
     }
 
-    /// Adds all of the bytes that were read to the line.
+    /// Adds all remaining bytes that were read to the line.
     fn take_rest(&mut self) -> Result<(), TooLong>
         ensures line { OnOk result (line_of self.new ≡ line_of self.old ++ rest_of self.old) }
         ensures rest { OnOk result (rest_of self.new ≡ []) }
@@ -137,7 +137,7 @@ impl Lines {
         self.take(count, count)
     }
 
-    /// What comes next where all bytes that were read belong to the line.
+    /// What comes next if all bytes that were read belong to the line.
     fn stopped(&self) -> Next
         ensures { result ≡ next_at self.now.ended (line_of self.now) }
     {
@@ -150,8 +150,8 @@ impl Lines {
         }
     }
 
-    /// Reads more bytes, by one read of the reader. Nothing is read while a line of output waits: who
-    /// writes a script may need that line before the next one.
+    /// Reads more bytes, with one read of the reader. No line of output may be waiting at that
+    /// time: the author of a script may need it before writing the next line.
     pub fn fill<R: Read>(&mut self, reader: &mut Tap<R>, _answers: &Answers) -> Result<(), Failed>
         requires rest { rest_of self.old ≡ [] }
         requires written { backlog _answers.now ≡ [] }

@@ -1,5 +1,5 @@
-//! A device and the script that it plays: each line is performed, the device is saved where it
-//! changed, and the response is printed, after its trace where that is asked for.
+//! A device and the script that it plays. For each line, it performs the line, saves the device
+//! if it changed, and prints the response, after its trace if requested.
 
 ghost use Rattle.std.specs.Prelude.{◌≡◌, ◌≤◌, [], false, true, length, IfOk, OnOk, OnErr};
 ghost use Rattle.std.specs.Io.KnownBytes.{Appends, Keeps};
@@ -29,15 +29,15 @@ use tpm_record::Keep;
 use tpm_step::{Event, Outcome};
 use tpm_text::{trace_text, traceable_laws};
 
-/// A device, generic in the type that keeps its state, and what the lines of a script so far say of
-/// its next command.
+/// A device, generic in the type that keeps its state, and the values that the script's lines
+/// have set for its next command.
 #[derive(Drop)]
 pub struct Player<K: Keep> {
     /// Whether the trace of each event is printed.
     traced: bool,
     script: Script,
     machine: Machine<K>,
-    /// The outcome of the event before, which the next is written over.
+    /// The outcome of the last event, which the next outcome overwrites.
     outcome: Outcome,
     pub answers: Answers,
 }
@@ -66,9 +66,9 @@ impl<K: Keep> Player<K> {
         &self.machine
     }
 
-    /// Does what a line says, and prints the response to a command, and traces where they are asked
-    /// for. What is written in hex or in words goes to `room`. Where memory can be refused, the
-    /// contract does not say the effect.
+    /// Performs a line, and prints the response to a command, and traces if requested. Decodes
+    /// the line's hex or words into `room`. If an allocation can fail, the contract leaves the
+    /// effect unspecified.
     #[tactic(auto, using(crate::proofs::Doing::unsaid_done))]
     pub fn line<W: Write, S: Saver>(
         &mut self,
@@ -92,7 +92,7 @@ impl<K: Keep> Player<K> {
         self.perform(said, room, writer, saver)
     }
 
-    /// Writes all lines so far.
+    /// Writes all buffered lines.
     pub fn flush<W: Write>(&mut self, writer: &mut Tap<W>) -> Result<(), ScriptFault>
         ensures fault { OnErr result (result ≡ Err ScriptFault.Write) }
         ensures unmarked { OnOk result (marks_of writer.new ≡ marks_of writer.old) }
@@ -112,7 +112,7 @@ impl<K: Keep> Player<K> {
         }
     }
 
-    /// Does what a line says.
+    /// Performs a line.
     #[tactic(auto, using(crate::proofs::Doing::nothing_printed))]
     fn perform<W: Write, S: Saver>(
         &mut self,
@@ -144,8 +144,8 @@ impl<K: Keep> Player<K> {
         Ok(())
     }
 
-    /// Executes a command, has the device saved where it changed, and then prints the response,
-    /// after its trace where that is asked for.
+    /// Executes a command, saves the device if it changed, and then prints the response, after
+    /// its trace if requested.
     fn execute<W: Write, S: Saver>(
         &mut self,
         buffer: &[u8],
@@ -176,8 +176,7 @@ impl<K: Keep> Player<K> {
             .map_err(|_| LineFault::Write)
     }
 
-    /// Cycles the device's power, has the device saved, and prints the trace of the cycle where
-    /// that is asked for.
+    /// Power-cycles the device, saves it, and prints the trace of the cycle if requested.
     fn cycle_power<W: Write, S: Saver>(
         &mut self,
         writer: &mut Tap<W>,
@@ -202,7 +201,7 @@ impl<K: Keep> Player<K> {
         self.trace(&event, writer)
     }
 
-    /// Prints the trace of an event with the outcome that was written last, where it is asked for.
+    /// Prints the trace of an event with the latest outcome, if traces are requested.
     #[tactic(auto, unfolding(crate::specs::Script::printed_trace), using(crate::proofs::Doing::nothing_printed))]
     fn trace<W: Write>(&mut self, event: &Event, writer: &mut Tap<W>) -> Result<(), LineFault>
         requires { IsTraceable (plain_event event.now)

@@ -11,10 +11,10 @@ use std::alloc::{AllocError, Global};
 /// What is wrong with the lines of a script.
 #[derive(Drop)]
 pub struct Report {
-    /// A line of text for each bad line.
+    /// One line of text for each bad line.
     pub text: String,
-    /// How the script would end: well, at its first bad line, or because it has more lines than a
-    /// script may have.
+    /// How a run of the script would end: at its end, at its first bad line, or because it
+    /// contains more lines than the limit.
     pub end: Result<(), ScriptFault>,
 }
 
@@ -33,8 +33,8 @@ pub fn report_of(alloc: Global, text: &[u8]) -> Result<Report, AllocError>
     })
 }
 
-/// How a script ends whose first bad line, if it has one, has this number; `more` says whether it
-/// has more lines than a script may have.
+/// How a script ends, if `first` is the number of its first bad line, if any. `more` says whether
+/// it contains more lines than the limit.
 fn end_of(first: Option<u32>, more: bool) -> Result<(), ScriptFault>
     ensures { result ≡ end_of first more }
 {

@@ -1,5 +1,5 @@
-//! The memory to which a line's hex is decoded, or the command of its words is assembled, taken
-//! once for all lines.
+//! The memory for decoding a line's hex, or for assembling the command of its words. It is
+//! allocated once for all lines.
 
 ghost use Rattle.std.specs.Prelude.{◌≡◌, ◌≤◌, length, vec_len};
 ghost use Rattle.std.specs.Result.{result_ok};
@@ -12,10 +12,10 @@ use crate::line::{Unfit, decode};
 use std::alloc::{AllocError, Global};
 use tpm_text::{AsmFault, Draft, assemble_in};
 
-/// How many bytes the hex of a line can write.
+/// The largest number of bytes that the hex of a line can encode.
 const DECODED_LIMIT: usize = 32_768;
 
-/// Room for the bytes that a line writes, in hex or in words.
+/// A buffer for the bytes that a line encodes in hex or in words.
 #[derive(Drop)]
 pub struct Room {
     decoded: Vec<u8>,
@@ -32,8 +32,8 @@ impl Room {
         })
     }
 
-    /// The bytes that hex digits of either case write. Other digits, and an odd number of them, are
-    /// refused.
+    /// Decodes hex digits of either case. Fails if a character is not a hex digit, or the number
+    /// of digits is odd.
     pub fn decode(&mut self, digits: &[u8]) -> Result<&[u8], Unfit>
         requires { length digits.now ≤ 65536 }
         ensures { Tells (λ bytes. bytes.now) result (bytes_of digits.now) }
@@ -41,7 +41,7 @@ impl Room {
         decode(digits, &mut self.decoded)
     }
 
-    /// The command that words spell, or their first fault from the left.
+    /// Returns the command that the words encode, or their first fault from the left.
     pub fn assemble(&mut self, words: &[u8]) -> Result<&[u8], AsmFault>
         ensures value { Gives (λ bytes. bytes.now) (assembled words.now) result }
         ensures told { Tells (λ bytes. bytes.now) result (result_ok (assembled words.now)) }

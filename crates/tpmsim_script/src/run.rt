@@ -1,5 +1,5 @@
-//! The run of a whole script on a device, from a reader to a writer, with the device saved on the
-//! way; whatever the fault, the lines before it are played and their responses written.
+//! Runs a whole script on a device, from a reader to a writer, and saves the device as the script
+//! runs. Whatever the fault, the lines before it are played and their responses written.
 
 ghost use Rattle.std.specs.Prelude.{◌≡◌, [], false, IfOk, OnErr, OnOk, true};
 ghost use Rattle.std.specs.Io.KnownBytes.{Keeps};
@@ -25,11 +25,11 @@ use tpm_bytes::{NoMemory, Tap};
 use tpm_machine::{Machine, Saver, SavesNothing};
 use tpm_record::Keep;
 
-/// How many lines a script may have.
+/// The largest number of lines in a script.
 pub const SCRIPT_LINES: u32 = 1_048_576;
 
-/// Runs the script that `reader` gives on a new device, which was manufactured with the bytes 00 to
-/// ff and which nobody saves: [`run_device`].
+/// Runs the script from `reader` on a new device, as [`run_device`] does. The device is
+/// manufactured with the bytes 00 to ff, and is not saved.
 pub fn run_script<K: Keep, R: Read, W: Write>(
     alloc: Global,
     reader: &mut Tap<R>,
@@ -55,7 +55,7 @@ pub fn run_script<K: Keep, R: Read, W: Write>(
     run_device(alloc, machine, &mut SavesNothing, reader, writer, trace)
 }
 
-/// A new device of scripts, which is manufactured with the bytes 00 to ff.
+/// A new device for scripts, manufactured with the bytes 00 to ff.
 pub fn new_machine<K: Keep>(alloc: Global) -> Result<Machine<K>, NoMemory>
     ensures refused { OnErr result (K.empty_can_refuse ≡ true) }
     ensures state { IfOk result (λ machine. state_of K.record_of machine ≡ new_device) }
@@ -63,21 +63,21 @@ pub fn new_machine<K: Keep>(alloc: Global) -> Result<Machine<K>, NoMemory>
     Machine::manufacture(alloc, &first_bytes())
 }
 
-/// The bytes 00 to ff, with which a new device of scripts is manufactured.
+/// The bytes 00 to ff, with which a new device for scripts is manufactured.
 pub fn first_bytes() -> [u8; 256]
     ensures { result ≡ script_bytes }
 {
     array::from_fn(|place| place as u8)
 }
 
-/// Runs the script that `reader` gives on a device, whose state is a `K`, and writes the response
-/// to each command to `writer`; with `trace` the trace of each command before its response, and
-/// that of each power cycle. The device is saved before a response goes out, where something
-/// changed that has to be saved; at each power cycle; and at the end, whatever the end was. Memory
-/// is taken only at the start, but for that of the device's state. Whatever the fault, the lines
-/// before it were run, and their responses written, but for those that a `Write` or a `Save` fault
-/// cut off; where there are both, the fault is `Save`. Of a script of more than [`SCRIPT_LINES`]
-/// lines the first [`SCRIPT_LINES`] are run.
+/// Runs the script from `reader` on a device whose state is a `K`, and writes the response to
+/// each command to `writer`. With `trace` it also writes the trace of each command before its
+/// response, and the trace of each power cycle. The device is saved before a response is written,
+/// if a change has to be saved; at each power cycle; and at the end, however the run ends. Memory
+/// is allocated only at the start, except for the device's state. Whatever the fault, the lines
+/// before it were run, and their responses written. Only a `Write` or a `Save` fault can truncate
+/// the responses. If both occur, the fault is `Save`. If a script contains more than
+/// [`SCRIPT_LINES`] lines, the first [`SCRIPT_LINES`] are run.
 pub fn run_device<K: Keep, S: Saver, R: Read, W: Write>(
     alloc: Global,
     machine: Machine<K>,
@@ -86,28 +86,28 @@ pub fn run_device<K: Keep, S: Saver, R: Read, W: Write>(
     writer: &mut Tap<W>,
     trace: bool,
 ) -> Result<(), ScriptFault>
-    // What is written is what the script prints, to its end or up to its first bad line, where
-    // memory can never be refused.
+    // If allocations never fail, the output is what the script prints, to its end or up to its
+    // first bad line.
     ensures played { K.can_refuse ≡ false → Ran (Plays (R.remaining (device_of reader.old))
         (W.contents (device_of writer.old)) (W.contents (device_of writer.new))
         (at_first trace (state_of K.record_of machine)) 1) result }
 
-    // Where the reader failed, the whole lines that it had given were played and written, and only
-    // the start of one more was not.
+    // If the reader failed, the whole lines that it had returned were played and written, and
+    // only the start of one more line was not.
     ensures read { K.can_refuse ≡ false → OnUnread result (PlaysToFailure
         (R.remaining (device_of reader.old)) (R.remaining (device_of reader.new))
         (W.contents (device_of writer.old)) (W.contents (device_of writer.new))
         (at_first trace (state_of K.record_of machine))) }
 
-    // The fault of too many lines is answered only where as many as a script may have were played
-    // and written, and one more is there.
+    // The fault TooManyLines means that the largest allowed number of lines was played and
+    // written, and that there is one more line.
     ensures too_many { K.can_refuse ≡ false → OnTooMany result (PlaysAllAllowed
         (R.remaining (device_of reader.old))
         (W.contents (device_of writer.old)) (W.contents (device_of writer.new))
         (at_first trace (state_of K.record_of machine))) }
 
-    // The saver was told the device at each line that was played, and at last where the lines
-    // ended; what was written is what these lines print, up to the first whose save failed.
+    // The saver was notified of the device at each line that was played, and once more after the
+    // last. The output is what these lines print, up to the first line at which a save failed.
     ensures kept { K.can_refuse ≡ false → KeepsDevice S.saves S.saves_change
         (R.remaining (device_of reader.old)) (R.remaining (device_of reader.new))
         (W.contents (device_of writer.old)) (W.contents (device_of writer.new))
@@ -115,12 +115,12 @@ pub fn run_device<K: Keep, S: Saver, R: Read, W: Write>(
         (kept (at_first trace (state_of K.record_of machine)) saver.old) result
         (λ end. S.saves end.saver end.playing.device saver.new) }
 
-    // The fault Read is answered only where the reader failed, Write only where the writer did, and
-    // Save only where the saver did.
+    // The fault Read means that the reader failed, Write that the writer did, and Save that the
+    // saver did.
     ensures failed { AreTheirs result (marks_of reader.new) (marks_of writer.new)
         (S.has_failed saver.new) }
 
-    // Where there is no memory, nothing was read, written or saved.
+    // If there was not enough memory, nothing was read, written or saved.
     ensures no_memory { OnNoMemory result
         ((reader.new ≡ reader.old) × (writer.new ≡ writer.old) × (saver.new ≡ saver.old)) }
 {
@@ -138,14 +138,14 @@ pub fn run_device<K: Keep, S: Saver, R: Read, W: Write>(
     outcome
 }
 
-/// Whether a run ended since a save failed.
+/// Whether a run ended because a save failed.
 fn is_unsaved(outcome: Result<(), ScriptFault>) -> bool
     ensures { result ≡ is_unsaved outcome }
 {
     matches!(outcome, Err(ScriptFault::Save))
 }
 
-/// A script, and its player.
+/// A script and its player.
 #[derive(Drop)]
 struct Run<K: Keep> {
     lines: Lines,
@@ -166,8 +166,8 @@ impl<K: Keep> Run<K> {
         })
     }
 
-    /// Runs the lines, to the end of the script or to a fault. What they write in hex or in words
-    /// goes to `room`.
+    /// Runs the lines, to the end of the script or to a fault. Decodes their hex or words into
+    /// `room`.
     fn lines<R: Read, W: Write, S: Saver>(
         &mut self,
         reader: &mut Tap<R>,
@@ -218,8 +218,8 @@ impl<K: Keep> Run<K> {
         end_at_limit(next)
     }
 
-    /// Goes to the next line, of this number, and tells whether there is one. The responses are
-    /// written before more of the script is read.
+    /// Advances to the next line, which has this number, and returns whether there is one. Writes
+    /// the responses before reading more of the script.
     fn next_line<R: Read, W: Write>(
         &mut self,
         reader: &mut Tap<R>,
@@ -262,7 +262,7 @@ impl<K: Keep> Run<K> {
     }
 }
 
-/// How a run ends after the last line that a script may have, by what was found there.
+/// How a run ends after the last line that a script may have, depending on what was found there.
 fn end_at_limit(next: Result<bool, ScriptFault>) -> Result<(), ScriptFault>
     ensures { result ≡ end_at_limit next }
 {

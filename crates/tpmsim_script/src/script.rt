@@ -1,5 +1,5 @@
-//! What the lines of a script so far set for its next command: locality, time that passes, and
-//! random bytes.
+//! The values that the lines of a script so far set for its next command: the locality, the
+//! elapsed time, and the random bytes.
 
 ghost use Rattle.std.specs.Prelude.{◌≡◌, ◌+◌, ◌≤◌, ◌<◌, ◌^◌, ◌↔◌, length, replicate};
 ghost use Rattle.std.specs.Prelude.{IsOk, OnOk, OnErr};
@@ -11,10 +11,10 @@ use std::mem;
 use tpm_step::Event;
 use tpm_types::Locality;
 
-/// How many random bytes each command gets.
+/// The number of random bytes for each command.
 pub const RANDOM_BYTES: usize = 256;
 
-/// What the lines of a script so far say of its next command.
+/// The values that the lines of a script so far set for its next command.
 #[derive(Drop)]
 pub struct Script {
     locality: Locality,
@@ -43,7 +43,7 @@ impl Script {
         self.locality = locality;
     }
 
-    /// Lets time pass, in all up to 2^32 - 1 milliseconds between two commands.
+    /// Adds elapsed time, up to 2^32 - 1 milliseconds in total between two commands.
     pub fn wait(&mut self, milliseconds: u32) -> Result<(), Unfit>
         ensures fits { IsOk result ↔ (self.old.waited + milliseconds < 2 ^ 32) }
         ensures ok { OnOk result
@@ -54,7 +54,7 @@ impl Script {
         Ok(())
     }
 
-    /// Sets the bytes, 1 to 256 of them, that the random bytes repeat.
+    /// Sets the bytes, 1 to 256, that are repeated to make the random bytes.
     pub fn set_entropy(&mut self, entropy: &[u8]) -> Result<(), Unfit>
         ensures fits { IsOk result
             ↔ ((0 < length entropy.now) × (length entropy.now ≤ RANDOM_BYTES)) }
@@ -68,7 +68,7 @@ impl Script {
         Ok(())
     }
 
-    /// The event of this command, with what the script has set, at this point of the script.
+    /// The event of this command, with the values that the script has set at this point.
     pub fn command<'a>(&mut self, buffer: &'a [u8]) -> Event<'a>
         ensures event { result
             ≡ Event.Command buffer.entry self.old.locality self.old.waited self.old.random }
@@ -79,7 +79,7 @@ impl Script {
     }
 }
 
-/// The 256 random bytes that the given ones make, repeated.
+/// 256 random bytes that repeat the given bytes.
 pub fn repeated(entropy: &[u8]) -> [u8; 256]
     requires { 0 < length entropy.now }
     ensures { result ≡ repeated entropy.now }

@@ -8,7 +8,7 @@ use std::fmt;
 use tpm_help::word_at;
 use tpm_text::AsmFault;
 
-/// A bad line: its number, what is wrong with it, and what is wanted there.
+/// A bad line: its number, what is wrong with it, and what is expected there.
 #[derive(Clone, Copy)]
 pub struct ToldFault {
     pub number: u32,
@@ -17,7 +17,7 @@ pub struct ToldFault {
 }
 
 impl ToldFault {
-    /// The report of the bad line of this number.
+    /// The report of the bad line with this number.
     pub fn new(number: u32, line: &[u8], bad: BadLine) -> ToldFault
         ensures number { result.number ≡ number }
         ensures fault { result.fault ≡ bad.fault }
@@ -45,7 +45,7 @@ impl fmt::Display for ToldFault {
     }
 }
 
-/// The name of a line's fault, with the column of the token at fault.
+/// The name of a line's fault, and the column of the faulty token.
 #[derive(Clone, Copy)]
 struct FaultName {
     fault: AsmFault,
@@ -69,7 +69,7 @@ impl fmt::Display for FaultName {
     }
 }
 
-/// What is wanted where a line is bad.
+/// What is expected at the position of a bad line's fault.
 fn wanted_text(bad: BadLine, line: &[u8]) -> &'static str
     ensures { result.now ≡ wanted_text bad.wanted line.now bad.fault }
 {

@@ -1,6 +1,6 @@
--- The box of a device, the pointer to it, and the calls between the two. `Words` has what stands
--- for each in the machine, `Calls` what each call requires and gives, and `Held` what a holder
--- owns.
+-- The box of a device, the pointer to it, and the calls that convert between the two. `Words`
+-- defines the machine words of each, `Calls` what each call requires and returns, and `Held` what
+-- a holder owns.
 use Rattle.std.proofs.BoxSteps.Form.{Bx}
 use Rattle.tpmsim_web.specs.contracts.lent.LentAllocator.TheImpl.{dict, ghosts}
 use Rattle.tpmsim_web.proofs.Boxes.Calls.{plain_drop}
@@ -9,6 +9,6 @@ pub mod Words
 pub mod Calls
 pub mod Held
 
--- the box in the form that std's own steps over boxes take
+-- the box in the form that the proof steps of std over boxes expect
 abbrev pub boxes : Bx
 boxes = record { row = Content; laws = content_laws; al = record { row = Source; laws = source_laws; g = ghosts; d = dict; drops = plain_drop Source } }

@@ -1,4 +1,4 @@
--- Lent memory may be compared with null, which is all that its token says.
+-- An address in the page's memory may be compared with null; the token grants nothing else.
 use mir.Syntax.{Ty}
 use seplogic.Ra.Ura.{Ura}
 use base.Logic.{ent, id⊢}

@@ -1,9 +1,10 @@
--- The place that a response code tells of, as one number.
+-- The handle, parameter or session that a response code names, as one number.
 use Rattle.std.specs.Prelude.{ℕ, ◌+◌}
 use Rattle.tpm_types.specs.declared.rc.Place.{Place}
 use Rattle.tpm_types.specs.declared.rc.Place.TheVariants as place
 
--- no place; a handle, a parameter or a session, by its number
+-- the number of what a response code names: nothing; or a handle, a parameter or a session, by
+-- its number
 abbrev pub place_number : Place → ℕ
 place_number place.Nowhere = 0
 place_number (place.Handle number) = 0x100 + number

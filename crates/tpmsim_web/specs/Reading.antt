@@ -1,4 +1,4 @@
--- What a caller is told of a line of a script, and of a command in words.
+-- What a call returns about a line of a script, or about a command in words.
 use Rattle.std.specs.Prelude.{◌≡◌, ℕ, List, take, Some, Result, Ok, Err}
 use Rattle.tpm_image_text.specs.Saving.{PutsFront}
 use Rattle.tpm_text.specs.Line.{assembled}
@@ -11,7 +11,7 @@ use Rattle.tpmsim_script.specs.Report.{wanted_text}
 use Rattle.tpmsim_script.specs.declared.bad_line.BadLine.{BadLine}
 use Rattle.tpmsim_web.specs.declared.read_line.ReadLine.{ReadLine}
 
--- the number of a fault of words, and the column of the token at fault, 0 for none
+-- the number of an error in words; and the column of the wrong token, 0 if there is none
 abbrev pub fault_kind : AsmFault → ℕ
 fault_kind fault.BadName = 1
 fault_kind (fault.BadField column) = 2
@@ -28,8 +28,8 @@ fault_column (fault.Range column) = column
 fault_column fault.TooLong = 0
 fault_column fault.NoMemory = 0
 
--- A caller is told what a line says, with the bytes of its command or its entropy, and before a
--- command the milliseconds since the last one (waited).
+-- The call returned the meaning of a line, with the bytes of its command or its entropy, and for
+-- a command the milliseconds since the previous one (waited).
 abbrev pub Says : Meaning → (waited : ℕ) → ReadLine → (bytes : List ℕ) → Type 0
 Says (Executes digits) waited read bytes =
     (read.kind ≡ 1) × (read.number ≡ waited) × (bytes_of digits ≡ Some bytes)
@@ -42,8 +42,8 @@ Says (SetsEntropy digits) waited read bytes =
 Says CyclesPower waited read bytes = read.kind ≡ 6
 Says DoesNothing waited read bytes = read.kind ≡ 0
 
--- A line whose meaning was read is good, and sets this for the next command (next); or it is bad,
--- and sets nothing.
+-- If the meaning of a line passes the checks, the line is good, and `next` is the time for the
+-- next command. Otherwise the line is bad, and `next` is unchanged.
 abbrev pub ReadsMeaning : Meaning → (waited : ℕ) → Result ReadLine BadLine → (written : List ℕ)
     → (next : ℕ) → Type 0
 ReadsMeaning meaning waited (Ok read) written next =
@@ -52,13 +52,13 @@ ReadsMeaning meaning waited (Ok read) written next =
 ReadsMeaning meaning waited (Err bad) written next =
     (check waited meaning ≡ Err bad) × (next ≡ waited)
 
--- A line is good, and a caller is told what it says.
+-- A line is good, and the call returned its meaning.
 abbrev pub IsGood : List ℕ → (waited : ℕ) → ReadLine → (written : List ℕ) → (next : ℕ) → Type 0
 IsGood line waited read written next =
     (meaning : Meaning) × (line_meaning line ≡ Some meaning) × (line_check waited line ≡ Ok next)
     × Says meaning waited read (take read.size written)
 
--- A line was read: it is good, or bad for this reason, and sets nothing then.
+-- A line was parsed: either it is good; or it is bad for this reason, and `next` is unchanged.
 abbrev pub ReadsLine : List ℕ → (waited : ℕ) → Result ReadLine BadLine → (written : List ℕ)
     → (next : ℕ) → Type 0
 ReadsLine line waited (Ok read) written next =
@@ -66,7 +66,7 @@ ReadsLine line waited (Ok read) written next =
 ReadsLine line waited (Err bad) written next =
     (line_check waited line ≡ Err bad) × (next ≡ waited)
 
--- A caller is told a fault, and what is wanted there.
+-- The call reported an error, and what was expected there.
 pub record TellsFault (found : AsmFault) (word : List ℕ) (read : ReadLine) (old new : List ℕ) : Type 0
   where
     pub kind : read.kind ≡ 0
@@ -74,6 +74,6 @@ pub record TellsFault (found : AsmFault) (word : List ℕ) (read : ReadLine) (ol
     pub column : read.column ≡ fault_column found
     pub wanted : PutsFront word old read.wanted new
 
--- A caller is told why a line is bad.
+-- The call reported why a line is bad.
 abbrev pub TellsBad : List ℕ → BadLine → ReadLine → (old new : List ℕ) → Type 0
 TellsBad line bad read old new = TellsFault bad.fault (wanted_text bad.wanted line bad.fault) read old new

@@ -1,5 +1,5 @@
-//! The exports on a device: what it executes, and its image. A call takes the device out of its
-//! holder, uses it, and puts it back, which moves only a pointer.
+//! The exports on a device: its execution of events, and its image. A call takes the device out
+//! of its holder, uses it, and puts it back, which moves only a pointer.
 
 ghost use Rattle.std.specs.Prelude.{◌≡◌, ◌≢◌, ◌<◌, ◌∷◌, [], drop, false, take};
 ghost use Rattle.std.specs.Option.{MatchOption};
@@ -43,14 +43,14 @@ pub extern "C" fn device_version() -> u32
     0x00_01_00
 }
 
-/// How many bytes a place for a device has.
+/// The size of a place, the memory for one device, in bytes.
 #[unsafe(no_mangle)]
 pub extern "C" fn device_size() -> usize {
     mem::size_of::<Device>()
 }
 
-/// Makes a new device, whose secrets are these random bytes, in the place, instead of the holder's
-/// own.
+/// Creates a new device in the place; these random bytes become its secrets. It replaces any
+/// device of the holder.
 #[unsafe(no_mangle)]
 pub extern "C" fn device_manufacture(
     alloc: Global,
@@ -65,9 +65,9 @@ pub extern "C" fn device_manufacture(
     *holder = Holder::new(place, Device::manufacture(alloc, random));
 }
 
-/// Executes a command, and writes its response and its trace to the fronts of their buffers.
-/// NO_LOCALITY: the locality is not 0 to 4. NO_DEVICE: the holder has no device. Nothing is written
-/// in both cases.
+/// Executes a command, and writes its response and its trace to the start of their buffers.
+/// Returns NO_LOCALITY if the locality is not 0 to 4, and NO_DEVICE if the holder is empty. In
+/// both cases nothing is written.
 #[unsafe(no_mangle)]
 pub extern "C" fn device_execute(
     holder: &mut Holder,
@@ -113,7 +113,7 @@ pub extern "C" fn device_execute(
     DONE
 }
 
-/// Takes power away and gives it back. NO_DEVICE: the holder has no device.
+/// Power-cycles the device. Returns NO_DEVICE if the holder is empty.
 #[unsafe(no_mangle)]
 pub extern "C" fn device_cycle_power(holder: &mut Holder) -> u8
     ensures executes { MatchOption holder.old.device (holder.new.device ≡ None) (λ before.
@@ -131,8 +131,8 @@ pub extern "C" fn device_cycle_power(holder: &mut Holder) -> u8
     DONE
 }
 
-/// Writes the image of the device to the front of a buffer, if it fits. Returns how many bytes the
-/// image has, written or not; 0 without a device.
+/// Writes the image of the device to the start of a buffer, if it fits. Returns the size of the
+/// image, whether it was written or not; 0 if the holder is empty.
 #[unsafe(no_mangle)]
 pub extern "C" fn device_save(holder: &mut Holder, buffer: &mut [u8]) -> usize
     ensures saved { MatchOption holder.old.device ((result ≡ 0) × (buffer.new ≡ buffer.old))
@@ -148,8 +148,8 @@ pub extern "C" fn device_save(holder: &mut Holder, buffer: &mut [u8]) -> usize
     size
 }
 
-/// Writes what the device keeps without power, but for its clock, to the front of a buffer, if it
-/// fits. Returns how many bytes it has, written or not; 0 without a device.
+/// Writes what the device keeps without power, except its clock, to the start of a buffer, if it
+/// fits. Returns the size, whether it was written or not; 0 if the holder is empty.
 #[unsafe(no_mangle)]
 pub extern "C" fn device_kept(holder: &mut Holder, buffer: &mut [u8]) -> usize
     ensures told { MatchOption holder.old.device ((result ≡ 0) × (buffer.new ≡ buffer.old))
@@ -164,8 +164,8 @@ pub extern "C" fn device_kept(holder: &mut Holder, buffer: &mut [u8]) -> usize
     size
 }
 
-/// Replaces the holder's device by that of an image, as after a power cycle. Otherwise the number
-/// is that of the first fault, or NO_DEVICE, and the holder is as it was.
+/// Replaces the holder's device by the device of an image, as after a power cycle. On failure,
+/// returns the number of the first error, or NO_DEVICE, and leaves the holder unchanged.
 #[unsafe(no_mangle)]
 pub extern "C" fn device_open(alloc: Global, holder: &mut Holder, image: &[u8]) -> u8
     ensures opens { MatchOption holder.old.device
@@ -190,7 +190,7 @@ pub extern "C" fn device_open(alloc: Global, holder: &mut Holder, image: &[u8]) 
     }
 }
 
-/// Forgets the device, if there is one, and leaves the holder with none.
+/// Discards the device, if there is one, and leaves the holder empty.
 #[unsafe(no_mangle)]
 pub extern "C" fn device_release(holder: &mut Holder)
     ensures { holder.new.device ≡ None }

@@ -1,4 +1,4 @@
-//! The export that executes a command below the completing layer.
+//! The export that executes a command through the completing layer.
 
 ghost use Rattle.std.specs.Prelude.{◌≡◌, ◌≢◌, ◌<◌, drop, false, true};
 ghost use Rattle.std.specs.declared.option.Option.TheVariants.{None, Some};
@@ -15,8 +15,8 @@ use crate::told::{DONE, NO_DEVICE, NO_LOCALITY};
 use tpm_step::Event;
 use tpm_types::Locality;
 
-/// Executes a command as device_execute does, with the completing layer above the device. There is
-/// no trace of it.
+/// Executes a command as device_execute does, with the completing layer above the device. No
+/// trace is written.
 #[unsafe(no_mangle)]
 pub extern "C" fn device_complete(
     holder: &mut Holder,

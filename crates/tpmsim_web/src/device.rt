@@ -37,8 +37,8 @@ use tpm_snapshot::{RestoreFault, completion_of, layer_of, restore_new, snapshot_
 use tpm_step::{Event, Outcome};
 use tpm_text::{trace_text, traceable_laws};
 
-/// A device, the outcome of its latest event, over which the next outcome is written, and the state
-/// of its journal, which has the completing layer's.
+/// A device; the outcome of its last event, which the next event overwrites; and the state of its
+/// journal, which includes that of the completing layer.
 #[derive(Drop)]
 pub struct Device {
     pub(crate) machine: Machine<SlotKeep>,
@@ -46,23 +46,23 @@ pub struct Device {
     pub(crate) journal: Journal,
 }
 
-/// What the caller of a command is told beside its response.
+/// What a call returns about a command in addition to its response.
 #[repr(C)]
 #[derive(Clone, Copy, PartialEq, Eq)]
 pub struct Answered {
-    /// How many bytes the response has.
+    /// The size of the response.
     pub size: usize,
-    /// How many of the random bytes were drawn, from their front.
+    /// The number of random bytes used, counted from the first.
     pub drawn: usize,
-    /// How many bytes the trace has; 0 if none is written.
+    /// The size of the trace; 0 if no trace is written.
     pub traced: usize,
-    /// The command's code, 0 if none was found.
+    /// The command code; 0 if none was found.
     pub code: u32,
-    /// The number of the check that refused the command, 0 if none did.
+    /// The number of the check that refused the command; 0 if the command was accepted.
     pub check: u8,
 }
 
-/// A new machine, whose secrets are these random bytes.
+/// A new machine; these random bytes become its secrets.
 pub(crate) fn new_machine(alloc: Global, random: &[u8; 256]) -> Machine<SlotKeep>
     ensures state { slot_record result.keep ≡ manufactured random.now }
     ensures history { Follows (slot_record result.keep) [] }
@@ -74,7 +74,7 @@ pub(crate) fn new_machine(alloc: Global, random: &[u8; 256]) -> Machine<SlotKeep
 }
 
 impl Device {
-    /// A new device, whose secrets are these random bytes.
+    /// A new device; these random bytes become its secrets.
     pub fn manufacture(alloc: Global, random: &[u8; 256]) -> Device
         ensures state { record_of result ≡ manufactured random.now }
         ensures history { Follows (record_of result) [] }
@@ -87,8 +87,8 @@ impl Device {
         }
     }
 
-    /// Executes a command, and writes its response to the front of a buffer, whose rest stays, and
-    /// its trace to the front of another.
+    /// Executes a command. Writes its response to the start of one buffer, whose remaining bytes
+    /// are unchanged, and its trace to the start of another.
     pub fn execute(
         &mut self,
         event: &Event,
@@ -113,8 +113,8 @@ impl Device {
         tell(&self.outcome, drawn, traced, response)
     }
 
-    /// Executes a command with the completing layer above the device, and writes its response to
-    /// the front of a buffer, whose rest stays.
+    /// Executes a command with the completing layer above the device. Writes its response to the
+    /// start of a buffer, whose remaining bytes are unchanged.
     pub fn complete(&mut self, event: &Event, response: &mut [u8; 4096]) -> Answered
         ensures completes { CompletesIf false true self.old.journal.layer (record_of self.old)
             (plain_event event.now) (seen_in response.new result self.new) }
@@ -129,7 +129,7 @@ impl Device {
         tell(&self.outcome, drawn, 0, response)
     }
 
-    /// Takes power away and gives it back.
+    /// Power-cycles the device.
     pub fn cycle_power(&mut self)
         ensures executes { Executes false (record_of self.old) Cycled (cycle_seen self.new) }
         ensures history { After Follows (record_of self.old) Cycled (cycle_seen self.new) }
@@ -139,7 +139,7 @@ impl Device {
             .execute_into(&Event::PowerCycle, &mut self.outcome);
     }
 
-    /// Writes the image to the front of a buffer, if it fits. Returns how many bytes it has.
+    /// Writes the image to the start of a buffer, if it fits. Returns the image's size.
     pub fn save_into(&self, buffer: &mut [u8]) -> usize
         ensures { PutsFront (image_text Two (kept_of (record_of self.now))) buffer.old result
             buffer.new }
@@ -147,15 +147,15 @@ impl Device {
         save_into(&self.machine, buffer)
     }
 
-    /// Writes what the device keeps without power, but for its clock, to the front of a buffer, if
-    /// it fits. Returns how many bytes it has.
+    /// Writes what the device keeps without power, except its clock, to the start of a buffer, if
+    /// it fits. Returns its size.
     pub fn kept_into(&self, buffer: &mut [u8]) -> usize
         ensures { PutsFront (kept_text (record_of self.now)) buffer.old result buffer.new }
     {
         kept_into(&self.machine, buffer)
     }
 
-    /// Becomes the device of an image, as after a power cycle. A fault leaves the device as it was.
+    /// Becomes the device of an image, as after a power cycle. On error the device is unchanged.
     pub fn open(&mut self, alloc: Global, image: &[u8]) -> Result<(), ImageFault>
         ensures exact { Opens (λ done. record_of self.new) false image.now result }
         ensures kept { OnErr result (self.new ≡ self.old) }
@@ -171,7 +171,7 @@ impl Device {
         Ok(())
     }
 
-    /// Writes the state text to the front of a buffer, if it fits. Returns how many bytes it has.
+    /// Writes the state text to the start of a buffer, if it fits. Returns the text's size.
     pub fn snapshot_into(&self, buffer: &mut [u8]) -> usize
         ensures put { PutsFront (state_text (whole_state self.now)) buffer.old result buffer.new }
         ensures small { result ≤ state_text_size }
@@ -181,7 +181,7 @@ impl Device {
         snapshot_into(&self.machine, Some(&layer), buffer)
     }
 
-    /// Becomes the device of a state text. A fault leaves the device as it was.
+    /// Becomes the device of a state text. On error the device is unchanged.
     pub fn restore(&mut self, alloc: Global, text: &[u8]) -> Result<(), RestoreFault>
         ensures restores { RestoresDevice self.new text.now result }
         ensures kept { OnErr result (self.new ≡ self.old) }
@@ -198,7 +198,7 @@ impl Device {
     }
 }
 
-/// Writes a response to the front of a buffer, and returns what its caller is told beside it.
+/// Writes a response to the start of a buffer, and returns the other data for its caller.
 pub(crate) fn tell(
     outcome: &Outcome,
     drawn: usize,
@@ -224,7 +224,7 @@ pub(crate) fn tell(
     }
 }
 
-/// Writes the trace of an event to the front of a buffer. Returns how many bytes it has.
+/// Writes the trace of an event to the start of a buffer. Returns the trace's size.
 fn put_trace(event: &Event, outcome: &Outcome, buffer: &mut [u8; 64]) -> usize
     requires row { IsRow outcome.now.row }
     requires response { IsAnswered (plain_event event.now) outcome.now.response.items }

@@ -1,9 +1,9 @@
-//! Texts at the front of a buffer.
+//! Texts at the start of a buffer.
 
 ghost use Rattle.std.specs.Prelude.{◌≡◌};
 ghost use Rattle.tpm_image_text.specs.Saving.{PutsFront};
 
-/// Writes a text to the front of a buffer, if it fits. Returns how many bytes it has.
+/// Writes a text to the start of a buffer, if it fits. Returns the text's size.
 pub fn put_front(text: &[u8], buffer: &mut [u8]) -> usize
     ensures { PutsFront text.now buffer.old result buffer.new }
 {

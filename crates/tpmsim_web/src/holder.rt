@@ -1,4 +1,4 @@
-//! The one pointer by which a page holds a device.
+//! The pointer through which a page holds a device.
 
 ghost use Rattle.std.specs.Prelude.{◌≡◌};
 ghost use Rattle.std.specs.Option.{MatchOption};
@@ -13,8 +13,9 @@ use crate::lent::Lent;
 use std::marker::Model;
 use std::mem;
 
-/// The pointer by which a page holds a device: it leads to the device's place, which the holder
-/// owns, or is null without a device. The page sees one pointer, since the allocator has no bytes.
+/// The pointer through which a page holds a device. It points to the device's place, which the
+/// holder owns, or is null if there is no device. The page sees only a pointer, because the
+/// allocator occupies no bytes.
 #[repr(C)]
 #[derive(Drop)]
 pub struct Holder {
@@ -27,7 +28,8 @@ impl Model for Holder {
     ghost also_owns = { λ h. held device_row h.alloc h.at h.device };
 }
 
-/// A place for a device, which the page lends: free memory, which may be compared with null.
+/// The place for a device, provided by the page: free memory whose address may be compared with
+/// null.
 #[repr(C)]
 #[derive(Drop)]
 pub struct Place {
@@ -39,7 +41,7 @@ impl Model for Place {
 }
 
 impl Holder {
-    /// A holder with this device, which is written to the place.
+    /// A holder of this device, which is written to the place.
     pub fn new(place: Place, device: Device) -> Holder
         ensures { result.device ≡ Some device }
     {
@@ -51,7 +53,7 @@ impl Holder {
         }
     }
 
-    /// A holder with no device.
+    /// An empty holder.
     pub fn empty(alloc: Lent) -> Holder
         ensures { result.device ≡ None }
     {
@@ -61,7 +63,7 @@ impl Holder {
         }
     }
 
-    /// A holder with this device, which stays in its place.
+    /// A holder of this device, which stays in its place.
     pub fn of(device: Box<Device, Lent>) -> Holder
         ensures { result.device ≡ Some device.value }
     {
@@ -83,7 +85,7 @@ impl Holder {
         Some(unsafe { Box::from_raw(alloc, at as *mut Device) })
     }
 
-    /// Takes the device out, if there is one, and leaves the holder with none.
+    /// Takes the device out, if there is one, and leaves the holder empty.
     pub fn take(&mut self) -> Option<Box<Device, Lent>>
         ensures taken { MatchOption result (self.old.device ≡ None)
             (λ b. self.old.device ≡ Some b.value) }

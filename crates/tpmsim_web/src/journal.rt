@@ -22,9 +22,9 @@ use crate::told::{DONE, NO_DEVICE, NO_LOCALITY, follow_number, open_number};
 use std::alloc::Global;
 use tpm_types::Locality;
 
-/// Cycles the power of the device, and writes the head of its new journal to the front of a buffer.
-/// Returns how many bytes the head has, or 0 without a device. Nothing is done if the buffer is
-/// smaller.
+/// Power-cycles the device, and writes the head of its new journal to the start of a buffer.
+/// Returns the size of the head, or 0 if the holder is empty. If the buffer is too small, the
+/// call has no effect.
 #[unsafe(no_mangle)]
 pub extern "C" fn journal_begin(holder: &mut Holder, now_ms: u64, buffer: &mut [u8]) -> usize
     ensures head { MatchOption holder.old.device ((result ≡ 0) × (buffer.new ≡ buffer.old))
@@ -42,10 +42,10 @@ pub extern "C" fn journal_begin(holder: &mut Holder, now_ms: u64, buffer: &mut [
     size
 }
 
-/// Begins the journal of the device anew with a checkpoint, and writes its head to the front of a
-/// buffer. Returns how many bytes the head has, or 0 without a device. Nothing is done if the buffer
-/// is smaller. The head has the journal's time as its clock, or `now_ms` if no journal has begun
-/// yet.
+/// Restarts the device's journal with a checkpoint, and writes its head to the start of a buffer.
+/// Returns the size of the head, or 0 if the holder is empty. If the buffer is too small, the
+/// call has no effect. The clock in the head is the journal's time, or `now_ms` if no journal has
+/// been started yet.
 #[unsafe(no_mangle)]
 pub extern "C" fn journal_checkpoint(holder: &mut Holder, now_ms: u64, buffer: &mut [u8]) -> usize
     ensures head { MatchOption holder.old.device ((result ≡ 0) × (buffer.new ≡ buffer.old))
@@ -62,9 +62,9 @@ pub extern "C" fn journal_checkpoint(holder: &mut Holder, now_ms: u64, buffer: &
     size
 }
 
-/// Replaces the holder's device by that of a journal, and says how many bytes of the text are the
-/// head and entries. Otherwise the number is that of the first fault, or NO_DEVICE, and the holder
-/// is as it was.
+/// Replaces the holder's device by the device of a journal, and reports the size of the head and
+/// the entries in the text. On failure, returns the number of the first error, or NO_DEVICE, and
+/// leaves the holder unchanged.
 #[unsafe(no_mangle)]
 pub extern "C" fn journal_open(
     alloc: Global,
@@ -93,8 +93,8 @@ pub extern "C" fn journal_open(
     }
 }
 
-/// Executes the entries of a text that follows what the device executed, and says how many bytes of
-/// the text they are. NO_DEVICE: the holder has no device, and nothing is done.
+/// Executes the entries of a text that continues the device's journal, and reports their size in
+/// the text. Returns NO_DEVICE, without any effect, if the holder is empty.
 #[unsafe(no_mangle)]
 pub extern "C" fn journal_follow(holder: &mut Holder, text: &[u8], taken: &mut usize) -> u8
     ensures follows { MatchOption holder.old.device
@@ -113,10 +113,10 @@ pub extern "C" fn journal_follow(holder: &mut Holder, text: &[u8], taken: &mut u
     follow_number(followed.fault)
 }
 
-/// Executes a command by the host's clock, writes its response to the front of the buffer for it,
-/// and its entry to the front of another. Where `completes` is not 0, the completing layer completes
-/// what the device does. NO_LOCALITY: the locality is not 0 to 4. NO_DEVICE: the holder has no
-/// device. Nothing is written in both cases.
+/// Executes a command at the time `now_ms` of the host's clock. Writes its response to the start
+/// of one buffer, and its entry to the start of another. If `completes` is not 0, the completing
+/// layer is used. Returns NO_LOCALITY if the locality is not 0 to 4, and NO_DEVICE if the holder
+/// is empty. In both cases nothing is written.
 #[unsafe(no_mangle)]
 pub extern "C" fn journal_execute(
     holder: &mut Holder,

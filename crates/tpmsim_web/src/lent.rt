@@ -1,4 +1,4 @@
-//! The memory that a page lends, in the form of an allocator.
+//! The memory that a page provides, as an allocator.
 
 ghost use Prim.Native.Nat.{◌^◌};
 ghost use base.Fml.{flt};
@@ -6,8 +6,8 @@ ghost use denote.RawPtr.{count_of};
 
 use std::alloc::{AllocError, Allocator};
 
-/// The allocator of lent memory: it has no block of its own, and there is nothing to free. A place
-/// in lent memory may be compared with null.
+/// The allocator for the page's memory. It allocates nothing, and there is nothing to free. An
+/// address in this memory may be compared with null.
 #[repr(C)]
 #[derive(Clone, Copy)]
 pub struct Lent;

@@ -1,13 +1,14 @@
 #![tactic(auto)]
 
-//! The device in a web page: the module that the page calls. Nothing here reaches a heap, and the
-//! module imports nothing: the memory of each device is a place that the page lends ([`lent`]).
+//! The device in a web page: the module that the page calls. Nothing here uses a heap, and the
+//! module imports nothing: the page provides the memory for each device ([`lent`]).
 //!
-//! A [`Holder`](holder::Holder) is one pointer, which is null without a device, so that memory of
-//! zeros is a holder. The exports on a device stand in [`calls`], [`completing`], [`snapshots`] and
-//! [`journal`], and promise what those of tpmsim_library do, by the same words. [`script`] reads the
-//! lines of scripts, [`report`] reports on them, and [`words`] has commands and codes in words. `web/EXPORTS.md` lists the
-//! exports for JavaScript, and says what a caller owes.
+//! A [`Holder`](holder::Holder) is one pointer, null if there is no device, so zeroed memory is a
+//! valid holder. [`calls`], [`completing`], [`snapshots`] and [`journal`] contain the exports on
+//! a device; their contracts say the same as those of tpmsim_library, in the same words.
+//! [`script`] parses the lines of scripts, [`report`] reports errors in them, and [`words`]
+//! converts commands and codes to and from words. `web/EXPORTS.md` documents the exports for
+//! JavaScript, and what a caller must ensure.
 
 mod calls;
 mod completing;

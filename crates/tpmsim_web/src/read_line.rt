@@ -1,4 +1,4 @@
-//! What a caller is told of a line of a script, and of a command in words.
+//! What a call returns about a line of a script, or about a command in words.
 
 ghost use Rattle.std.specs.Prelude.{◌≡◌};
 ghost use Rattle.tpmsim_web.specs.Reading.{TellsFault, fault_column, fault_kind};
@@ -6,26 +6,26 @@ ghost use Rattle.tpmsim_web.specs.Reading.{TellsFault, fault_column, fault_kind}
 use crate::front::put_front;
 use tpm_text::AsmFault;
 
-/// What a caller is told of a line.
+/// What a call returns about a line.
 #[repr(C)]
 #[derive(Clone, Copy, PartialEq, Eq)]
 pub struct ReadLine {
-    /// How many bytes its command or its entropy has.
+    /// The size of the line's command or entropy.
     pub size: usize,
-    /// The column of the token at fault, from 1; 0 for none.
+    /// The column of the wrong token, counted from 1; 0 if there is none.
     pub column: usize,
-    /// How many bytes the text has that says what is wanted at the fault.
+    /// The size of the text that says what was expected there.
     pub wanted: usize,
-    /// The number of a locality, the milliseconds of a wait, and before a command those since the
-    /// last one.
+    /// The number of a locality, the milliseconds of a wait, or, for a command, the milliseconds
+    /// since the previous one.
     pub number: u32,
     /// The kind of the line.
     pub kind: u8,
-    /// The number of the fault; 0 for none.
+    /// The number of the error; 0 if there is none.
     pub fault: u8,
 }
 
-/// The kinds of lines. A bad line is nothing.
+/// The kinds of lines. The kind of a bad line is NOTHING.
 pub const NOTHING: u8 = 0;
 
 pub const HEX: u8 = 1;
@@ -41,7 +41,7 @@ pub const ENTROPY: u8 = 5;
 pub const POWER: u8 = 6;
 
 impl ReadLine {
-    /// A good line of this kind, with a number, and with this many bytes.
+    /// A good line of this kind, with a number and a size.
     pub fn good(kind: u8, number: u32, size: usize) -> ReadLine
         ensures { result ≡ record {
           size = size;
@@ -62,8 +62,7 @@ impl ReadLine {
         }
     }
 
-    /// A bad line, with what is wanted at its fault, which goes to the front of a buffer, if it
-    /// fits.
+    /// A bad line. Writes what was expected to the start of a buffer, if it fits.
     pub fn bad(fault: AsmFault, word: &str, wanted: &mut [u8; 64]) -> ReadLine
         ensures { TellsFault fault word.now result wanted.old wanted.new }
     {
@@ -78,7 +77,7 @@ impl ReadLine {
     }
 }
 
-/// The number of a fault.
+/// The number of an error.
 fn number_of(fault: AsmFault) -> u8
     ensures { result ≡ fault_kind fault }
 {
@@ -92,7 +91,7 @@ fn number_of(fault: AsmFault) -> u8
     }
 }
 
-/// The column of the token at fault, 0 for none.
+/// The column of the wrong token; 0 if there is none.
 fn column_of(fault: AsmFault) -> usize
     ensures { result ≡ fault_column fault }
 {

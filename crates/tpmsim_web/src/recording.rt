@@ -1,4 +1,4 @@
-//! What a device does with its journal.
+//! How a device uses its journal.
 
 ghost use Rattle.std.specs.Prelude.{◌≡◌, ◌≤◌, OnErr, OnOk, IfErr, IfOk, drop, false, length, take};
 ghost use Rattle.tpm_image_text.specs.Saving.{PutsFront};
@@ -19,8 +19,8 @@ use tpm_step::Outcome;
 use tpm_types::Locality;
 
 impl Device {
-    /// Cycles the device's power, and writes the head of its new journal to the front of a buffer.
-    /// Returns how many bytes the head has; if the buffer is smaller, nothing is done.
+    /// Power-cycles the device, and writes the head of its new journal to the start of a buffer.
+    /// Returns the size of the head. If the buffer is too small, the call has no effect.
     pub fn begin_journal(&mut self, now_ms: u64, buffer: &mut [u8]) -> usize
         ensures head { PutsFront (head_text Image now_ms (image_at_power self.old)) buffer.old
             result buffer.new }
@@ -30,8 +30,8 @@ impl Device {
             .begin(&mut self.machine, now_ms, &mut self.outcome, buffer)
     }
 
-    /// The clock of a checkpoint at this time: that of the journal, or the host's if no journal has
-    /// begun yet.
+    /// The clock of a checkpoint at this time: the journal's clock, or the host's if no journal
+    /// has been started yet.
     fn checkpoint_clock(&self, now_ms: u64) -> u64
         ensures { result ≡ checkpoint_clock self.now now_ms }
     {
@@ -42,8 +42,8 @@ impl Device {
         }
     }
 
-    /// Begins the device's journal anew with a checkpoint, and writes its head to the front of a
-    /// buffer. Returns how many bytes the head has; if the buffer is smaller, nothing is done.
+    /// Restarts the device's journal with a checkpoint, and writes its head to the start of a
+    /// buffer. Returns the size of the head. If the buffer is too small, the call has no effect.
     pub fn checkpoint(&mut self, now_ms: u64, buffer: &mut [u8]) -> usize
         ensures head { PutsFront (checkpoint_head self.old now_ms) buffer.old result buffer.new }
         ensures checkpoints { CheckpointsIfFits self.old now_ms (length buffer.old) result
@@ -53,8 +53,8 @@ impl Device {
         self.journal.checkpoint(&self.machine, clock_ms, buffer)
     }
 
-    /// Becomes the device of a journal, and returns how many bytes of the text are its head and
-    /// entries. A fault leaves the device as it was.
+    /// Becomes the device of a journal; returns the size of the head and the entries in the text.
+    /// On error the device is unchanged.
     pub fn open_journal(&mut self, alloc: Global, text: &[u8]) -> Result<usize, OpenFault>
         ensures opens { IfOk result (λ taken. IsOfJournal text.now taken self.new) }
         ensures fault { IfErr result (λ fault. HasFault text.now fault) }
@@ -68,7 +68,7 @@ impl Device {
         Ok(opened.taken)
     }
 
-    /// Executes the entries of a text that follows the device's journal.
+    /// Executes the entries of a text that continues the device's journal.
     pub fn follow(&mut self, text: &[u8]) -> Followed
         ensures { Replays false self.old.journal (record_of self.old) text.now result
             self.new.journal (record_of self.new) }
@@ -77,9 +77,9 @@ impl Device {
             .follow(&mut self.machine, text, &mut self.outcome)
     }
 
-    /// Executes a command by the host's clock, with the completing layer or without it, writes its
-    /// response to the front of a buffer, whose rest stays, and its entry to the front of another.
-    /// Returns how many bytes the entry has.
+    /// Executes a command at the time `now_ms` of the host's clock, with or without the
+    /// completing layer. Writes its response to the start of one buffer, whose remaining bytes
+    /// are unchanged, and its entry to the start of another. Returns the size of the entry.
     pub fn execute_recorded(
         &mut self,
         buffer: &[u8],

@@ -1,4 +1,4 @@
-//! The export that writes the report of a script, a line at a time.
+//! The export that writes the report on a script, one line at a time.
 
 ghost use Rattle.std.specs.Prelude.{◌≡◌, ◌≤◌, ◌++◌, ◌∷◌, [], OnOk, take};
 ghost use Rattle.std.specs.List.{flat_map};
@@ -14,15 +14,16 @@ use std::fmt::Write;
 use tpm_text::AsmFault;
 use tpmsim_script::BadLine;
 
-/// The most bytes that a line of a report may have.
+/// The maximum size of a line in a report.
 const REPORT_LIMIT: usize = 256;
 
-/// What is returned for a line that is longer.
+/// The result if a line is longer.
 const TOO_LONG: usize = REPORT_LIMIT + 1;
 
-/// Writes what the report of a script says of its line of this number, given without its 0a: nothing
-/// if the line is good. `waited` has the milliseconds since the last command. Returns the size of the
-/// text; 257 if the buffer cannot hold it, and the contract does not say when.
+/// Writes what the report on a script says about the line with this number, passed without its
+/// 0a: nothing if the line is good. `waited` is the number of milliseconds since the last
+/// command. Returns the size of the text. It is 257 if the buffer cannot hold the text; the
+/// contract does not specify when.
 #[unsafe(no_mangle)]
 pub extern "C" fn script_report(
     number: u32,
@@ -41,7 +42,7 @@ pub extern "C" fn script_report(
     }
 }
 
-/// Writes the report of the bad line of this number to the front of a buffer.
+/// Writes the report on the bad line with this number to the start of a buffer.
 fn put_fault(number: u32, line: &[u8], bad: BadLine, report: &mut [u8; 256]) -> usize
     ensures { result ≤ 256 → take result report.new
         ≡ told (record { number = number; line = line.now; bad = bad }) }
@@ -58,7 +59,7 @@ fn put_fault(number: u32, line: &[u8], bad: BadLine, report: &mut [u8; 256]) -> 
     }
 }
 
-/// Appends the line of a report.
+/// Appends the text of a report line.
 fn write_fault(text: &mut ArrayString<REPORT_LIMIT>, line: FaultLine) -> fmt::Result
     ensures { OnOk result (text.new.bytes ≡ text.old.bytes
         ++ (fault_text line.number line.fault line.wanted.now ++ 10 ∷ [])) }
@@ -66,7 +67,7 @@ fn write_fault(text: &mut ArrayString<REPORT_LIMIT>, line: FaultLine) -> fmt::Re
     writeln!(text, "{line}")
 }
 
-/// The line of a report about a bad line: its number, its fault, and what is expected there.
+/// A report line about a bad line: its number, its error, and what was expected there.
 #[derive(Clone, Copy)]
 struct FaultLine {
     number: u32,
@@ -88,7 +89,7 @@ impl fmt::Display for FaultLine {
     }
 }
 
-/// The name of a line's fault, with the column of the token at fault.
+/// The name of a line's error, with the column of the wrong token.
 #[derive(Clone, Copy)]
 struct FaultName {
     fault: AsmFault,

@@ -1,4 +1,4 @@
-//! The export that reads a line of a script, and runs nothing.
+//! The export that parses a line of a script, without executing it.
 
 ghost use Rattle.std.specs.Prelude.{◌≡◌, ◌≢◌, ◌≤◌, ◌&&◌, Err, IfErr, IfOk, None, Ok, OnOk, Some};
 ghost use Rattle.std.specs.Prelude.{false, length, nat_le, nat_lt, take, true};
@@ -18,9 +18,9 @@ use tpmsim_script::lines::LINE_LIMIT;
 use tpmsim_script::script::RANDOM_BYTES;
 use tpmsim_script::{BadLine, Line, Wanted};
 
-/// Reads a line of a script, given without its 0a: what it says, with the bytes of its command or its
-/// entropy; or its fault, and what is wanted there. `waited` has the milliseconds since the last
-/// command. Returns the number of the fault, 0 for a good line.
+/// Parses a line of a script, passed without its 0a. Returns 0 for a good line, and stores its
+/// meaning and the bytes of its command or entropy. Otherwise returns the number of the error,
+/// and stores what was expected. `waited` is the number of milliseconds since the last command.
 #[unsafe(no_mangle)]
 pub extern "C" fn script_line(
     line: &[u8],
@@ -41,14 +41,14 @@ pub extern "C" fn script_line(
     read.fault
 }
 
-/// Tells why a line is bad.
+/// Reports why a line is bad.
 fn tell_bad(line: &[u8], bad: BadLine, wanted: &mut [u8; 64]) -> ReadLine
     ensures { TellsBad line.now bad result wanted.old wanted.new }
 {
     ReadLine::bad(bad.fault, wanted_text(bad, line), wanted)
 }
 
-/// Reads a line.
+/// Parses a line.
 #[tactic(auto, unfolding(tpmsim_script::specs::Checking::line_check))]
 pub(crate) fn read_line(
     line: &[u8],
@@ -64,7 +64,7 @@ pub(crate) fn read_line(
     read_said(said, waited, written)
 }
 
-/// Reads what a line says.
+/// Decodes the meaning of a line.
 fn read_said(said: Line, waited: &mut u32, written: &mut [u8; 32768]) -> Result<ReadLine, BadLine>
     requires { length (hex_of (meaning_of said)) ≤ 65536 }
     ensures { ReadsMeaning (meaning_of said.entry) waited.old result written.new waited.new }
@@ -93,8 +93,8 @@ fn read_said(said: Line, waited: &mut u32, written: &mut [u8; 32768]) -> Result<
     }
 }
 
-/// Writes the bytes that hex digits of either case spell to the front of a buffer. Returns how many
-/// they are.
+/// Decodes hex digits of either case, and writes the bytes to the start of a buffer. Returns the
+/// number of bytes.
 fn decode(digits: &[u8], wanted: Wanted, written: &mut [u8; 32768]) -> Result<usize, BadLine>
     requires { length digits.now ≤ 65536 }
     ensures good { IfOk result (λ size. bytes_of digits.now ≡ Some (take size written.new)) }
@@ -109,7 +109,7 @@ fn decode(digits: &[u8], wanted: Wanted, written: &mut [u8; 32768]) -> Result<us
     }
 }
 
-/// Writes the command that words spell to the front of a buffer. Returns how many bytes it has.
+/// Encodes a command in words, and writes it to the start of a buffer. Returns its size.
 fn assemble(words: &[u8], written: &mut [u8; 32768]) -> Result<usize, BadLine>
     ensures good { IfOk result (λ size. assembled words.now ≡ Ok (take size written.new)) }
     ensures bad { IfErr result (λ bad. (assembled words.now ≡ Err bad.fault)
@@ -139,7 +139,7 @@ fn wait(waited: u32, milliseconds: u32) -> Result<u32, BadLine>
     }
 }
 
-/// Checks that random bytes are as many as a line may set.
+/// Checks that a line may set this number of random bytes.
 fn check_entropy(size: usize) -> Result<(), BadLine>
     ensures good { OnOk result ((nat_lt 0 size && nat_le size 256) ≡ true) }
     ensures bad { IfErr result (λ bad. ((nat_lt 0 size && nat_le size 256) ≡ false)
@@ -151,7 +151,7 @@ fn check_entropy(size: usize) -> Result<(), BadLine>
     Ok(())
 }
 
-/// The fault of a line of more than [`LINE_LIMIT`] bytes.
+/// The error for a line longer than [`LINE_LIMIT`] bytes.
 const LONG_LINE: BadLine = BadLine {
     fault: AsmFault::TooLong,
     wanted: Wanted::ShortLine,

@@ -20,8 +20,8 @@ use crate::holder::Holder;
 use crate::told::{DONE, NO_DEVICE, restore_number};
 use std::alloc::Global;
 
-/// Writes the state text of the device to the front of a buffer, if it fits. Returns how many bytes
-/// the text has, written or not; 0 without a device.
+/// Writes the state text of the device to the start of a buffer, if it fits. Returns the size of
+/// the text, whether it was written or not; 0 if the holder is empty.
 #[unsafe(no_mangle)]
 pub extern "C" fn device_snapshot(holder: &mut Holder, buffer: &mut [u8]) -> usize
     ensures written { MatchOption holder.old.device
@@ -39,8 +39,8 @@ pub extern "C" fn device_snapshot(holder: &mut Holder, buffer: &mut [u8]) -> usi
     size
 }
 
-/// Replaces the holder's device by that of a state text. Otherwise the number is that of the first
-/// fault, or NO_DEVICE, and the holder is as it was.
+/// Replaces the holder's device by the device of a state text. On failure, returns the number of
+/// the first error, or NO_DEVICE, and leaves the holder unchanged.
 #[unsafe(no_mangle)]
 pub extern "C" fn device_restore(alloc: Global, holder: &mut Holder, text: &[u8]) -> u8
     ensures restores { result ≡ done → (device : Device) × (holder.new.device ≡ Some device)
@@ -50,7 +50,8 @@ pub extern "C" fn device_restore(alloc: Global, holder: &mut Holder, text: &[u8]
         → (fault : StateFault) × (result ≡ state_number fault)
         × (state_of_text text.now ≡ Err fault)) }
 
-    // The text of a device restores just that device, with its layer and its history.
+    // The state text of a device restores exactly that device, including its layer and its
+    // history.
     ensures taken { (state : WholeState) → IsWholeState state → text.now ≡ state_text state
         → IfSome holder.old.device (λ before. result ≡ done) }
     ensures again { (before : Device) → IsWholeState (whole_state before)

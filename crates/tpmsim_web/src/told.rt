@@ -1,4 +1,4 @@
-//! The numbers that calls answer, which are those of the library for C.
+//! The numbers that calls return, the same as in the C library.
 
 ghost use Rattle.std.specs.Prelude.{◌≡◌};
 ghost use Rattle.tpmsim_web.specs.Told.{fault_number, follow_number, open_number};
@@ -8,19 +8,19 @@ use tpm_image::ImageFault;
 use tpm_journal::{FollowFault, OpenFault};
 use tpm_snapshot::{RestoreFault, StateFault};
 
-/// The call is done.
+/// The call succeeded.
 pub const DONE: u8 = 0;
 
-/// The holder has no device.
+/// The holder is empty.
 pub const NO_DEVICE: u8 = 1;
 
 /// The locality is not 0 to 4.
 pub const NO_LOCALITY: u8 = 2;
 
-/// Memory was refused, which never is.
+/// An allocation failed, which never happens.
 const NO_MEMORY: u8 = 3;
 
-/// The number of the fault for which an image is not opened.
+/// The number of the error if an image cannot be opened.
 pub fn fault_number(fault: ImageFault) -> u8
     ensures { result ≡ fault_number fault }
 {
@@ -35,7 +35,7 @@ pub fn fault_number(fault: ImageFault) -> u8
     }
 }
 
-/// The number of the fault for which bytes are no state text.
+/// The number of the error if bytes are not a state text.
 pub fn state_number(fault: StateFault) -> u8
     ensures { result ≡ state_number fault }
 {
@@ -49,7 +49,7 @@ pub fn state_number(fault: StateFault) -> u8
     }
 }
 
-/// The number of the fault for which a device is not restored.
+/// The number of the error if a device cannot be restored.
 pub fn restore_number(fault: RestoreFault) -> u8
     ensures { result ≡ restore_number fault }
 {
@@ -59,7 +59,7 @@ pub fn restore_number(fault: RestoreFault) -> u8
     }
 }
 
-/// The number of how far a text was followed: to its end, or to this fault.
+/// The number that reports how far a text was followed: to its end, or to this error.
 pub fn follow_number(fault: Option<FollowFault>) -> u8
     ensures { result ≡ follow_number fault }
 {
@@ -70,7 +70,7 @@ pub fn follow_number(fault: Option<FollowFault>) -> u8
     }
 }
 
-/// The number of the fault for which a text is not opened as a journal.
+/// The number of the error if a text cannot be opened as a journal.
 pub fn open_number(fault: OpenFault) -> u8
     ensures { result ≡ open_number fault }
 {

@@ -1,4 +1,4 @@
-//! What is wanted where a line of a script is bad.
+//! What was expected at the error in a bad line of a script.
 
 ghost use Rattle.std.specs.Prelude.{◌≡◌, drop};
 ghost use Rattle.tpmsim_script.specs.Report.{wanted_text};
@@ -6,7 +6,7 @@ ghost use Rattle.tpmsim_script.specs.Report.{wanted_text};
 use tpm_help::word_at;
 use tpmsim_script::{BadLine, Wanted};
 
-/// The words for what is wanted where a line is bad.
+/// Words that say what was expected at the error in a bad line.
 pub fn wanted_text(bad: BadLine, line: &[u8]) -> &'static str
     ensures { result.now ≡ wanted_text bad.wanted line.now bad.fault }
 {

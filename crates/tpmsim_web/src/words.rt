@@ -1,4 +1,5 @@
-//! The exports on commands and response codes in words. None of them needs a device.
+//! The exports that convert commands and response codes to and from words. None of them needs a
+//! device.
 
 ghost use Rattle.std.specs.Prelude.{◌≡◌, ◌≢◌, ℕ, Err, List, Ok, take};
 ghost use Rattle.std.specs.Option.{MatchOption, option_or};
@@ -22,8 +23,8 @@ use tpm_line::{LINE_LIMIT, write_line};
 use tpm_text::{Draft, assemble_in};
 use tpm_types::rc::Place;
 
-/// Writes the command that words spell to the front of a buffer; or tells their first fault, and
-/// what is wanted there. Returns the number of the fault, 0 for none.
+/// Encodes a command in words, and writes it to the start of a buffer. Returns 0; or returns the
+/// number of the first error, and also writes what was expected.
 #[unsafe(no_mangle)]
 pub extern "C" fn line_assemble(
     words: &[u8],
@@ -50,8 +51,9 @@ pub extern "C" fn line_assemble(
     read.fault
 }
 
-/// Writes a line in words that spells a command to the front of a buffer, if it fits. Returns how
-/// many bytes the line has, written or not; 0 if none is found, and the contract does not say when.
+/// Writes a line in words that encodes a command to the start of a buffer, if it fits. Returns
+/// the size of the line, whether it was written or not; 0 if no line is found, and the contract
+/// does not specify when.
 #[unsafe(no_mangle)]
 pub extern "C" fn line_spell(command: &[u8], buffer: &mut [u8]) -> usize
     ensures spells { result ≢ 0 → (line : List ℕ) × (assembled line ≡ Ok command.now)
@@ -65,7 +67,7 @@ pub extern "C" fn line_spell(command: &[u8], buffer: &mut [u8]) -> usize
     }
 }
 
-/// The number of the command of this name; 0 for none.
+/// The code of the command with this name; 0 if there is none.
 #[unsafe(no_mangle)]
 pub extern "C" fn command_number(name: &[u8]) -> u32
     ensures { result ≡ unwrap_or (option_map code_number (code_called name.now)) 0 }
@@ -76,8 +78,8 @@ pub extern "C" fn command_number(name: &[u8]) -> u32
     }
 }
 
-/// Writes how the command of this number is said in words to the front of a buffer, if it fits.
-/// Returns how many bytes that has, written or not; 0 if there is no such command.
+/// Writes the form in words of the command with this code to the start of a buffer, if it fits.
+/// Returns its size, whether it was written or not; 0 if there is no such command.
 #[unsafe(no_mangle)]
 pub extern "C" fn command_form(number: u32, form: &mut [u8; 256]) -> usize
     ensures { MatchOption (code_named number) ((result ≡ 0) × (form.new ≡ form.old))
@@ -89,8 +91,9 @@ pub extern "C" fn command_form(number: u32, form: &mut [u8; 256]) -> usize
     }
 }
 
-/// Writes an example of what follows the name of the command of this number to the front of a
-/// buffer, if it fits. Returns how many bytes it has, written or not; 0 if there is no such command.
+/// Writes an example of the words that follow the name of the command with this code to the start
+/// of a buffer, if it fits. Returns its size, whether it was written or not; 0 if there is no
+/// such command.
 #[unsafe(no_mangle)]
 pub extern "C" fn command_example(number: u32, example: &mut [u8; 256]) -> usize
     ensures { MatchOption (code_named number)
@@ -103,9 +106,9 @@ pub extern "C" fn command_example(number: u32, example: &mut [u8; 256]) -> usize
     }
 }
 
-/// Writes the name of a response code to the front of a buffer, if it fits, and the place that it
-/// tells of. Returns how many bytes the name has, written or not; 0 if there is no such code, and
-/// then nothing is written.
+/// Writes the name of a response code to the start of a buffer, if it fits, and reports the
+/// handle, parameter or session that the code names. Returns the size of the name, whether it was
+/// written or not; 0 if there is no such code, and then nothing is written.
 #[unsafe(no_mangle)]
 pub extern "C" fn code_meaning(code: u32, name: &mut [u8; 64], place: &mut u32) -> usize
     ensures { MatchOption (told_of code)
@@ -122,7 +125,7 @@ pub extern "C" fn code_meaning(code: u32, name: &mut [u8; 64], place: &mut u32) 
     }
 }
 
-/// A place as one number.
+/// The handle, parameter or session that a response code names, as one number.
 fn place_number(place: Place) -> u32
     ensures { result ≡ place_number place }
 {

@@ -1,4 +1,4 @@
-// Package commands has commands as bytes, as the examples need them. A program has a TPM library for this.
+// Package commands makes the bytes of the commands that the examples need. A program would use a TPM library.
 package commands
 
 import (
@@ -41,36 +41,36 @@ func (by *By) entry() []byte {
 	return Join(Number(by.Session), Sized(by.Nonce), []byte{by.Attributes}, Sized(by.Value))
 }
 
-// An Answer is what a command answers. Entry is the entry of its authorization area.
+// An Answer is the response to a command. Entry is the entry of its authorization area.
 type Answer struct {
 	Handle            uint32
 	Parameters, Entry []byte
 }
 
-// Buffer takes the sized buffer at the front.
+// Buffer removes and returns the sized buffer at the front.
 func (it *Answer) Buffer() (buffer []byte) {
 	buffer, it.Parameters = Front(it.Parameters)
 	return buffer
 }
 
-// Front is the sized buffer at the front of bytes, and what follows it.
+// Front returns the sized buffer at the front of bytes, and the bytes after it.
 func Front(rest []byte) (buffer, after []byte) {
 	size := 2 + binary.BigEndian.Uint16(rest)
 	return rest[2:size], rest[size:]
 }
 
-// Join puts texts after each other.
+// Join concatenates texts.
 func Join(texts ...[]byte) []byte { return bytes.Join(texts, nil) }
 
-// Number is one of four bytes.
+// Number encodes a number in four bytes.
 func Number(value uint32) []byte { return binary.BigEndian.AppendUint32(nil, value) }
 
-// Sized is a buffer with its size before it.
+// Sized returns a buffer preceded by its size.
 func Sized(buffer []byte) []byte {
 	return append(binary.BigEndian.AppendUint16(nil, uint16(len(buffer))), buffer...)
 }
 
-// Selection is PCRs of the SHA-256 bank.
+// Selection returns a selection of PCRs in the SHA-256 bank.
 func Selection(pcrs ...int) []byte {
 	bits := make([]byte, 3)
 	for _, pcr := range pcrs {
@@ -79,7 +79,7 @@ func Selection(pcrs ...int) []byte {
 	return append([]byte{0, 0, 0, 1, 0, 0x0b, 3}, bits...)
 }
 
-// Command is the bytes of a command, whose first handle is authorized so.
+// Command returns the bytes of a command, with this authorization of the first handle.
 func Command(code uint32, handles []uint32, by *By, parameters ...[]byte) []byte {
 	var body []byte
 	for _, handle := range handles {
@@ -94,7 +94,7 @@ func Command(code uint32, handles []uint32, by *By, parameters ...[]byte) []byte
 	return Join(tag, Number(uint32(10+len(body))), Number(code), body)
 }
 
-// Send sends a command, whose first handle is authorized so.
+// Send sends a command, with this authorization of the first handle.
 func Send(tpm *tpmsim.TPM, code uint32, handles []uint32, by *By, parameters ...[]byte) (*Answer, error) {
 	rest, err := tpm.Execute(Command(code, handles, by, parameters...))
 	if err != nil {
@@ -103,11 +103,11 @@ func Send(tpm *tpmsim.TPM, code uint32, handles []uint32, by *By, parameters ...
 	return AnswerOf(code, by != nil, rest), nil
 }
 
-// AnswerOf reads what follows the header of a response, with entries or without.
+// AnswerOf parses the bytes after the header of a response, with or without entries.
 func AnswerOf(code uint32, hasEntries bool, rest []byte) *Answer {
 	answer := new(Answer)
 	switch code {
-	case 0x131, 0x157, 0x176: // CreatePrimary, Load and StartAuthSession answer a handle
+	case 0x131, 0x157, 0x176: // CreatePrimary, Load and StartAuthSession return a handle
 		answer.Handle, rest = binary.BigEndian.Uint32(rest), rest[4:]
 	}
 	answer.Parameters = rest
@@ -118,7 +118,7 @@ func AnswerOf(code uint32, hasEntries bool, rest []byte) *Answer {
 	return answer
 }
 
-// Must sends a command that is accepted, or ends the program.
+// Must sends a command, and ends the program if it is refused.
 func Must(tpm *tpmsim.TPM, code uint32, handles []uint32, by *By, parameters ...[]byte) *Answer {
 	answer, err := Send(tpm, code, handles, by, parameters...)
 	if err != nil {
@@ -127,7 +127,7 @@ func Must(tpm *tpmsim.TPM, code uint32, handles []uint32, by *By, parameters ...
 	return answer
 }
 
-// StartSession starts a session by SHA-256, neither bound nor salted.
+// StartSession starts a SHA-256 session, neither bound nor salted.
 func StartSession(tpm *tpmsim.TPM, kind byte) uint32 {
 	parameters := Join(Sized(make([]byte, 16)), []byte{0, 0, kind, 0, 0x10, 0, 0x0b})
 	return Must(tpm, 0x176, []uint32{Null, Null}, nil, parameters).Handle
@@ -140,7 +140,7 @@ func Flush(tpm *tpmsim.TPM, handles ...uint32) {
 	}
 }
 
-// DigestOf is the digest of a trial session with these assertions, which ends.
+// DigestOf returns the digest of a trial session with these assertions, and ends the session.
 func DigestOf(tpm *tpmsim.TPM, tell func(session uint32) error) []byte {
 	trial := StartSession(tpm, Trial)
 	if err := tell(trial); err != nil {
@@ -151,14 +151,14 @@ func DigestOf(tpm *tpmsim.TPM, tell func(session uint32) error) []byte {
 	return digest
 }
 
-// StorageKey is one of the owner's: an AES key, which the same template makes again.
+// StorageKey returns an AES storage key in the owner hierarchy; the same template always recreates it.
 func StorageKey(tpm *tpmsim.TPM, owner string) uint32 {
 	template := []byte{0, 0x25, 0, 0x0b, 0, 3, 4, 0x72, 0, 0, 0, 6, 0, 0x80, 0, 0x43, 0, 0}
 	parameters := Join(Sized(make([]byte, 4)), Sized(template), make([]byte, 6))
 	return Must(tpm, 0x131, []uint32{Owner}, Password(owner), parameters).Handle
 }
 
-// Sealed seals data below a storage key, with a value and a policy, and loads them.
+// Sealed seals data under a storage key, with an authorization value and a policy, and loads the object.
 func Sealed(tpm *tpmsim.TPM, parent uint32, value string, policy []byte, data string) uint32 {
 	sensitive := Join(Sized([]byte(value)), Sized([]byte(data)))
 	public := Join([]byte{0, 8, 0, 0x0b, 0, 0, 0, 0x12}, Sized(policy), []byte{0, 0x10, 0, 0})
@@ -168,7 +168,7 @@ func Sealed(tpm *tpmsim.TPM, parent uint32, value string, policy []byte, data st
 	return Must(tpm, 0x157, []uint32{parent}, Password(""), areas).Handle
 }
 
-// Unseal is what an object seals.
+// Unseal returns the data that an object seals.
 func Unseal(tpm *tpmsim.TPM, handle uint32, by *By) (string, error) {
 	answer, err := Send(tpm, 0x15e, []uint32{handle}, by)
 	if err != nil {
@@ -177,7 +177,7 @@ func Unseal(tpm *tpmsim.TPM, handle uint32, by *By) (string, error) {
 	return string(answer.Buffer()), nil
 }
 
-// Define defines the index of the examples, with these attributes.
+// Define defines the NV index of the examples, with these attributes.
 func Define(tpm *tpmsim.TPM, attributes uint32, value string) {
 	area := Join(Number(Index), []byte{0, 0x0b}, Number(attributes), []byte{0, 0, 0, 8})
 	Must(tpm, 0x12a, []uint32{Owner}, Password(""), Sized([]byte(value)), Sized(area))
@@ -192,10 +192,10 @@ func Read(tpm *tpmsim.TPM, value string) ([]byte, error) {
 	return answer.Buffer(), nil
 }
 
-// Measure measures data into a PCR, and returns the digest of the SHA-256 bank.
+// Measure measures data into a PCR, and returns the digest for the SHA-256 bank.
 func Measure(tpm *tpmsim.TPM, pcr uint32, data string) []byte {
 	answer := Must(tpm, 0x13c, []uint32{pcr}, Password(""), Sized([]byte(data)))
-	// Their number, and that of SHA-1 with its algorithm, come before it.
+	// The number of digests and the SHA-1 digest with its algorithm come before it.
 	return answer.Parameters[4+2+20+2:][:32]
 }
 
@@ -207,7 +207,7 @@ func Tell(what, came string, err error) {
 	fmt.Printf("%s: %s\n", what, came)
 }
 
-// Open makes a TPM, or ends the program.
+// Open makes a TPM, and ends the program if that fails.
 func Open() *tpmsim.TPM {
 	tpm, err := tpmsim.Open()
 	if err != nil {

@@ -1,5 +1,5 @@
-// A disk's key is sealed to PCRs 7 and 11 and a PIN. It is refused after PCR 11 moved on, and recovered by a
-// second branch of its policy, which asks for the owner's passphrase.
+// A disk's key is sealed to PCRs 7 and 11 and a PIN. It is refused after PCR 11 has changed, and recovered with
+// a second branch of its policy, which requires the owner's passphrase.
 package main
 
 import (
@@ -13,7 +13,7 @@ const (
 	passphrase = "kept in a drawer"
 )
 
-// byPIN is the first branch: the PCRs as they are now, and the PIN.
+// byPIN is the first branch: the current values of the PCRs, and the PIN.
 func byPIN(tpm *tpmsim.TPM, session uint32) error {
 	_, err := Send(tpm, 0x17f, []uint32{session}, nil, []byte{0, 0}, Selection(7, 11))
 	if err == nil {
@@ -35,7 +35,7 @@ func either(tpm *tpmsim.TPM, session uint32, branches [2][]byte) error {
 	return err
 }
 
-// opened is the disk's key by the first branch that holds, or why there is none.
+// opened returns the disk's key, with the first branch that holds, or the reason for the refusal.
 func opened(tpm *tpmsim.TPM, disk uint32, branches [2][]byte, pin, passphrase string) (string, error) {
 	session := StartSession(tpm, Policy)
 	defer Flush(tpm, session)

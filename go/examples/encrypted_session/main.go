@@ -1,5 +1,5 @@
-// A secret crosses the way to the TPM encrypted, by a session that is bound to the owner, whose value is not
-// sent either. Who listens learns neither, and cannot send again what was heard.
+// A secret is sent to the TPM encrypted, in a session that is bound to the owner, whose authorization value is
+// not sent either. An eavesdropper learns neither of them, and cannot replay the commands.
 package main
 
 import (
@@ -21,7 +21,7 @@ const (
 	written = 0x2000_0000
 )
 
-// heard is all that crossed the way to the TPM, and last the last command.
+// heard is everything that was sent to and from the TPM, and last the last command.
 var heard, last []byte
 
 func wasHeard(what string) string {
@@ -36,12 +36,12 @@ func area(more uint32) []byte {
 	return Join(Number(Index), []byte{0, 0x0b}, Number(byOwner|more), []byte{0, 0, 0, byte(len(secret))})
 }
 
-// names is what cpHash has of the owner and of the index.
+// names is what cpHash contains for the owner and for the index.
 func names(more uint32) []byte {
 	return Join(Number(Owner), []byte{0, 0x0b}, SHA256(area(more)))
 }
 
-// send sends a command that the owner authorizes, and listens.
+// send sends a command that the owner authorizes, and records the traffic.
 func send(tpm *tpmsim.TPM, session *Session, code uint32, handles []uint32, names, parameters []byte,
 	attributes byte) ([]byte, error) {
 	by, parameters := session.Entry(code, names, parameters, attributes)
@@ -54,7 +54,7 @@ func send(tpm *tpmsim.TPM, session *Session, code uint32, handles []uint32, name
 	return session.Answered(code, by, AnswerOf(code, true, rest))
 }
 
-// read reads the secret, which the response has encrypted.
+// read reads the secret, which is encrypted in the response.
 func read(tpm *tpmsim.TPM, session *Session) (string, error) {
 	sizes := []byte{0, byte(len(secret)), 0, 0}
 	data, err := send(tpm, session, 0x14e, []uint32{Owner, Index}, names(written), sizes, Encrypt)

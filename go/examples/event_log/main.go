@@ -1,5 +1,5 @@
-// A measured boot: each piece of software is measured into a PCR before it runs, and its digest goes to a log.
-// Who has the log and the PCRs replays the log, and believes it if the same values come of it.
+// A measured boot: each piece of software is measured into a PCR before it runs, and its digest is logged. A
+// verifier with the log and the PCRs replays the log, and trusts it if this leads to the same values.
 package main
 
 import (
@@ -50,7 +50,7 @@ func valuesOf(tpm *tpmsim.TPM) map[int][]byte {
 	return values
 }
 
-// replayed are the values that the PCRs have after the measurements of a log.
+// replayed returns the values of the PCRs after the measurements in a log.
 func replayed(log []measurement) map[int][]byte {
 	values := map[int][]byte{}
 	for _, pcr := range pcrs {
@@ -63,7 +63,7 @@ func replayed(log []measurement) map[int][]byte {
 	return values
 }
 
-// verdict is what who replays a log says of it.
+// verdict returns a verifier's judgement of a log.
 func verdict(log []measurement, values map[int][]byte) string {
 	var wrong []string
 	for _, pcr := range pcrs {

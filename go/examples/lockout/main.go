@@ -1,5 +1,5 @@
-// Wrong PINs are counted. After three of them the TPM looks at none any more, until an hour of device time has
-// passed; or at once by the lockout's own value.
+// Wrong PINs are counted. After three of them the TPM checks no more PINs until an hour of device time has
+// passed, or until the lockout is reset with lockoutAuth.
 package main
 
 import (
@@ -10,7 +10,7 @@ import (
 	. "tpmsim/examples/commands"
 )
 
-// An index that its value writes and reads.
+// An index that is written and read with its own authorization value.
 const byValue = 0x00040004
 
 const (

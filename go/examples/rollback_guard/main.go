@@ -1,5 +1,5 @@
-// A counter holds the lowest version that may be started. A key that is sealed for a version is given out while
-// the counter is not above it; and the counter never goes back, whatever becomes of its index.
+// A counter contains the lowest version that may be started. A key that is sealed for a version is released
+// while the counter is not above that version. The counter never decreases, whatever happens to its index.
 package main
 
 import (
@@ -11,7 +11,7 @@ import (
 	. "tpmsim/examples/commands"
 )
 
-// A counter that its value and the owner write and read.
+// A counter that is written and read with its own authorization value or with the owner's.
 const counter = 0x00060016
 
 const key = "the key of this version."
@@ -34,7 +34,7 @@ func atMost(tpm *tpmsim.TPM, session uint32, version uint64) error {
 	return err
 }
 
-// keyOf is the key of a version, or why there is none.
+// keyOf returns the key of a version, or the reason for the refusal.
 func keyOf(tpm *tpmsim.TPM, version uint64) (string, error) {
 	policy := DigestOf(tpm, func(trial uint32) error { return atMost(tpm, trial, version) })
 	parent := StorageKey(tpm, "")

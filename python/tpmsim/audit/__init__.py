@@ -1,1 +1,1 @@
-"""Logs of devices, judged event by event."""
+"""Audits logs of devices, event by event."""

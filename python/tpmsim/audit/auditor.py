@@ -1,4 +1,4 @@
-"""A log, judged event by event: by the device in Python, and by what the history alone tells."""
+"""Audits a log event by event, both with the device in Python and with the history only."""
 
 from dataclasses import dataclass
 from typing import Iterator, Sequence
@@ -37,7 +37,7 @@ class Counts:
 
 
 class Auditor:
-    """A log that is judged, with what is told of it; `last` is the line of its latest event."""
+    """A log being audited, and what is known so far; `last` is the line of its latest event."""
 
     def __init__(self, start: Start, log: Log, policy_files: Sequence[PolicyFile] = ()) -> None:
         device, history = start.device, start.history
@@ -59,7 +59,7 @@ class Auditor:
         self.uses = Uses(self.grounds, self.entities, *noting)
 
     def read(self, script: bytes) -> None:
-        """Judges all lines of a script; the first Disagreement ends it."""
+        """Audits the lines of a script, up to the first line that raises Disagreement."""
         is_begun = False
         for step in records.steps_of(script):
             self.watch.seen, self.watch.line = None, step.line
@@ -80,8 +80,8 @@ class Auditor:
         self.log.end()
 
     def begin(self, step: records.Begin, is_begun: bool) -> None:
-        """A head, which is the start's, or another one of the same device. An image has it after a power
-        cycle, and a state text may.
+        """Reads a head, which is that of the start or a later one of the same device. A head with
+        an image is taken after a power cycle; a head with a state text may be.
         """
         if step.damage:
             raise Disagreement(f"script line {step.line}: {step.damage}")
@@ -129,7 +129,7 @@ class Auditor:
             raise Disagreement(f"{where}: {fault}") from None
 
     def compare(self, seen: Seen, printed: list[str], step: records.Command | None) -> None:
-        """With the output, and with what the script says of the answer itself."""
+        """Compares an event with the output, and with the answer that the script itself records."""
         try:
             has_answer = step is None or step.mark is not None or bool(step.said)
             self.log.check(printed, has_answer)
@@ -166,7 +166,9 @@ class Auditor:
         self.note(seen)
 
     def note(self, seen: Seen) -> None:
-        """First its entries, by the history before it; then what the history tells with it."""
+        """Judges an event's entries by the history before it, then adds to the history what the
+        event shows.
+        """
         if seen.is_power_cycle:
             self.watch.past.power(seen.line)
         else:

@@ -1,5 +1,5 @@
-"""How a policy session came to the digest of a policy that it does not meet: the hash is broken
-(Meaning and BreaksHash of tpm_policy_meaning), or a wrong TPM2_PolicyOR was taken.
+"""How a policy session got the digest of a policy that it does not meet: by a hash collision
+(Meaning and BreaksHash of tpm_policy_meaning), or because a wrong TPM2_PolicyOR was accepted.
 """
 
 from typing import Iterator, Sequence
@@ -28,7 +28,7 @@ def wrong_or(algorithm: int, policy: Policy, told: Told) -> str | None:
 
 
 def session_texts(algorithm: int, told: Told) -> Iterator[tuple[bytes, int]]:
-    """The texts that a session hashed, each with the line of its assertion."""
+    """Yields the texts that a session hashed, each with the line of its assertion."""
     for it in told:
         for text in texts_after(algorithm, it.before, it.said.update(algorithm)):
             yield text, it.line
@@ -55,7 +55,7 @@ def hash_of_zeros(algorithm: int, policy: Policy, told: Told) -> str | None:
 
 
 def branch_lists(algorithm: int, policy: Policy) -> Iterator[tuple[int, list[bytes]]]:
-    """The digests of the branches of each PolicyOR, with the line of its `either`."""
+    """Yields the digests of the branches of each PolicyOR, with the line of its `either`."""
     if policy.branches:
         yield policy.line, [policy_digest(algorithm, it) for it in policy.branches]
     for branch in policy.branches:
@@ -63,7 +63,9 @@ def branch_lists(algorithm: int, policy: Policy) -> Iterator[tuple[int, list[byt
 
 
 def astride(algorithm: int, policy: Policy, told: Told) -> str | None:
-    """A digest that is none of the branches', but the end of one and the beginning of the next."""
+    """Returns a digest that is not a branch's: it consists of the end of one branch's digest and
+    the beginning of the next branch's.
+    """
     had = [(zeros(algorithm), "the start"), *((it.digest, f"line {it.line}") for it in told)]
     for line, digests in branch_lists(algorithm, policy):
         pairs = list(enumerate(zip(digests, digests[1:]), 1))

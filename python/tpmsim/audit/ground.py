@@ -1,4 +1,4 @@
-"""On what ground an entry was let in, by the history alone: the device's answer is not asked."""
+"""The ground on which an entry was accepted, found from the history without the device's answer."""
 
 from __future__ import annotations
 
@@ -18,7 +18,7 @@ from tpmsim.standard.lines import handle_word
 
 @dataclass(frozen=True)
 class Use:
-    """An entry of a command, what it authorizes, if anything, and its session by the history."""
+    """An entry of a command, what it authorizes, if anything, and its session from the history."""
 
     seen: Seen
     place: int
@@ -66,7 +66,7 @@ class Use:
 
     @property
     def takes_value(self) -> bool:
-        """Whether the value of what it authorizes is the password, or in the key of the hmac."""
+        """Whether the authorized entity's value is the password, or is in the key of the hmac."""
         if self.handle is None:
             return False
         if self.live is None or self.is_policy:
@@ -123,7 +123,7 @@ class Grounds:
         return [Finding(False, none), shown]
 
     def pcr_words(self, use: Use) -> list[str]:
-        """The values at a use of the PCRs that its session's policy is of."""
+        """Returns the values of the PCRs in the session's policy, at the time of a use."""
         begun = self.sessions.live.get(use.entry.handle)
         return [self.pcrs.words(*it) for it in begun.pcrs] if begun else []
 
@@ -148,7 +148,7 @@ class Grounds:
         return Finding(holds, f"its hmac {'holds' if holds else 'does not hold'}, under {told}")
 
     def plain_parameters(self, command: Command) -> bytes:
-        """The parameters, the first one decrypted where a session does so."""
+        """Returns the parameters, with the first one decrypted if a session encrypts it."""
         found = command.with_attribute(DECRYPT)
         if not found:
             return command.parameters
@@ -159,12 +159,12 @@ class Grounds:
         return sessions.first_decrypted(*given, command.parameters)
 
 
-# The conditions on which a policy session authorizes, each held against the history.
+# The conditions on which a policy session authorizes, each checked against the history.
 
 
 @dataclass(frozen=True)
 class Finding:
-    """A condition, in words as it was found: whether it holds."""
+    """A condition: whether it holds, and what was found, as text."""
 
     holds: bool
     words: str
@@ -177,7 +177,7 @@ def either(holds: bool, words: str, other: str) -> Finding:
 def conditions(
     use: Use, history: History, session_lines: SessionLines, pcr_lines: PcrLines
 ) -> Iterator[Finding]:
-    """Those that are always asked for, and those that the session was told to ask for."""
+    """Yields the conditions that always apply, and those that the session's assertions require."""
     told, view = use.session.policy, use.view
     is_policy = use.session.kind == SE_POLICY
     of_trial = "it is a trial session, which authorizes nothing"

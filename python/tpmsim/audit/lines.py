@@ -1,4 +1,6 @@
-"""Which line wrote each PCR, set each value and counted each counter, and sent a command again."""
+"""Which line wrote each PCR, set each authorization value and incremented each counter, and which
+line sent a command again.
+"""
 
 from __future__ import annotations
 
@@ -26,8 +28,9 @@ BANKS = SHA1, SHA256
 
 
 class PcrLines:
-    """The line that wrote each value last, and the last that wrote one or was a TPM2_Clear. What no line
-    wrote is of the text that the log begins with, if it begins with one.
+    """For each PCR value the line that wrote it last, and the last line that wrote any PCR or was a
+    TPM2_Clear. A value that no line wrote is from the text at the start of the log, if there is
+    one.
     """
 
     def __init__(self, history: History, text: str) -> None:
@@ -38,13 +41,13 @@ class PcrLines:
 
     @property
     def change(self) -> str:
-        """What wrote a PCR last."""
+        """Returns what wrote a PCR last."""
         if not self.last_change:
             return "something before the log wrote a PCR"
         return f"line {self.last_change} {self.last_words}"
 
     def note(self, seen: Seen) -> None:
-        """An event, once the history has it."""
+        """Notes an event that is already in the history."""
         if self.pcrs.updates > self.updates:
             is_clear = seen.accepted.code == CC.Clear
             self.last_change = seen.line
@@ -63,7 +66,7 @@ class PcrLines:
                     self.written[at] = f"{was}, and taken up by line {seen.line}"
 
     def values(self, selected: Selection) -> str:
-        """Those of now, as a policy in words has them."""
+        """Returns the current values, written as in a policy in words."""
         banks = [
             (bank, tuple((it, self.pcrs.values[bank][it]) for it in numbers))
             for bank, numbers in selected
@@ -99,7 +102,7 @@ def written_by(event: Accepted) -> list[tuple[int, int]]:
 
 
 class ValueLines:
-    """The line that set the value of each handle; what no line set is the start's."""
+    """For each handle the line that set its value; a value that no line set is from the start."""
 
     def __init__(self, text: str) -> None:
         self.at_first = f"that {text} has" if text else "of a new device"
@@ -132,7 +135,7 @@ def handles_set(event: Accepted) -> list[int]:
 
 @dataclass
 class Counted:
-    """A counter: its first and its last value, each with its line, and how it ended, if it did."""
+    """A counter: its first and last values, each with its line, and how it ended, if it did."""
 
     handle: int
     since: str
@@ -141,7 +144,7 @@ class Counted:
     ended: str = ""
 
     def count(self, value: int, line: str) -> None:
-        """A value is one more than that before it."""
+        """Notes a value, which is one more than the previous value."""
         self.values = (*self.values[:1], value)
         self.lines = (*self.lines[:1], line)
 
@@ -173,7 +176,7 @@ class CounterLines:
         return counted
 
     def note(self, seen: Seen) -> None:
-        """An event, once the history has it."""
+        """Notes an event that is already in the history."""
         if seen.is_power_cycle:
             return
         event, line = seen.accepted, f"line {seen.line}"
@@ -192,13 +195,13 @@ class CounterLines:
 
 
 class Repeats:
-    """Commands that were accepted again by an HMAC session, byte for byte, while it lived."""
+    """Commands that one live HMAC session accepted again, byte for byte."""
 
     def __init__(self, sessions: SessionLines) -> None:
         self.sessions, self.told = sessions, list[str]()
 
     def note(self, use: Use) -> None:
-        """An entry with a ground, before the history has its command."""
+        """Notes an entry with a ground, before its command is added to the history."""
         if use.live is None or use.live.kind != SE_HMAC or not use.entry.hmac:
             return
         handle, nonce = use.entry.handle, use.live.nonce_tpm

@@ -1,4 +1,4 @@
-"""What was printed of a script, line by line, held against what is to come."""
+"""The printed output of a script, compared line by line with the expected output."""
 
 from typing import Iterable, Iterator
 
@@ -6,11 +6,11 @@ SHOWN, BEFORE = 96, 24
 
 
 class Disagreement(Exception):
-    """Where a log is not what it ought to be, in words."""
+    """How a log differs from the expected one, as text."""
 
 
 def shown(text: str, first: int) -> str:
-    """A text in quotation marks; of a long one, what stands around a place."""
+    """Returns a text in quotation marks; if it is long, only the part around an offset."""
     plain = "".join(it if it.isprintable() else "?" for it in text)
     begin = max(0, first - BEFORE) if len(plain) > SHOWN else 0
     cut = plain[begin : begin + SHOWN]
@@ -25,14 +25,16 @@ def both(given: str, wanted: str) -> str:
 
 
 def section(title: str, told: Iterable[str], none: str) -> Iterator[str]:
-    """A part of a report, or that there is nothing to tell."""
+    """Yields a part of a report: a title, and the lines, or the line `none` if there are no
+    lines.
+    """
     rows = list(told)
     yield title if rows else none
     yield from rows
 
 
 class Log:
-    """The lines of an output, each ended by a newline but the last one, which may be cut."""
+    """The lines of an output; each ends with a newline, except a last line that was cut."""
 
     def __init__(self, text: bytes) -> None:
         self.lines = text.decode("latin-1").split("\n")
@@ -46,7 +48,7 @@ class Log:
         return len(self.lines) - self.at
 
     def check(self, printed: list[str], has_answer: bool) -> None:
-        """Compares the next lines with those that are due; Disagreement where they differ."""
+        """Compares the next lines with the expected ones; raises Disagreement if they differ."""
         for wanted in printed:
             if not self.left:
                 raise Disagreement("the log is cut: what is printed of this line is not there")
@@ -58,14 +60,14 @@ class Log:
                 raise Disagreement(both(given, wanted))
 
     def end(self) -> None:
-        """Nothing may be left once the script has ended."""
+        """Raises Disagreement if any line is left after the end of the script."""
         if self.left:
             lines = "a line" if self.left == 1 else f"{self.left} lines"
             raise Disagreement(f"the log has {lines} more than is printed of the script")
 
 
 class NoLog(Log):
-    """No output: each command has its answer in the script, as those of a journal."""
+    """No output: the script itself records the answer to each command, as a journal does."""
 
     def __init__(self) -> None:
         super().__init__(b"")

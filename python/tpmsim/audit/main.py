@@ -1,22 +1,23 @@
-"""Judges a script by what was printed of it, for who reviews the log of a device:
+"""Judges a script by what was printed of it, for reviewers of a device's log:
 
     tpmsim-audit SCRIPT [OUTPUT] [--image START] [--policy FILE]..
     tpmsim-audit --digest --policy FILE..
 
-OUTPUT is what `tpmsim run --trace SCRIPT` printed; `-` is standard input. A journal has its own answers,
-by their sums, and may have no OUTPUT. With --image, or the image that a journal begins with, the
-device was no new one, but the one of that image, behind a power cycle; or that of a state text, as it
-was then. Each --policy gives a policy
-in words, as docs/USING.md has it. With --digest nothing is judged: it prints the digests of policies.
+OUTPUT is what `tpmsim run --trace SCRIPT` printed; `-` is standard input. A journal has the sums of
+its own answers, and needs no OUTPUT. The device was a new one, unless --image or the start of a
+journal has another: then it was the device of that image, after a power cycle, or the device of that
+state text, as it was. Each --policy is a policy in words, as docs/USING.md describes it. With
+--digest nothing is judged, and the digests of the policies are printed.
 
-It prints what the log tells: the PCRs, the policies, each use of an entity with the ground on which
-it was let in, why commands were refused for none of their entries, the counters, and the failed
-guesses; and of each policy in words which entities have it, and how each use of them met it.
+It prints what the log shows: the PCRs, the policies, each use of an entity with the ground on which
+it was accepted, why commands were refused for another reason than an entry, the counters, and the
+failed guesses. Of each policy in words it prints which entities have it, and how each use of them
+met it.
 
-The status is 0 where all agrees. It is 1, with a line on standard error, where the log is cut, or no
-device with this start answers so, or the script has a bad line; and where no entity has a policy that
-is given, or a use does not meet it. It is 2 where these words, a file, a policy or the image is not
-what it should be. It needs python3, and no program.
+The status is 0 if everything agrees. It is 1, with a line on standard error, if the log is cut, if no
+device with this start answers so, if the script has a bad line, if no entity has a given policy, or
+if a use does not meet its policy. It is 2 if the arguments, a file, a policy or the image is wrong.
+It needs python3, and no program.
 """
 
 import os
@@ -45,7 +46,7 @@ AGREES = (
 
 @dataclass
 class Asked:
-    """The names of the script and of its output, if it has one, of an image and of policies."""
+    """The file names of the script, of its output, if any, of an image and of policies."""
 
     names: list[str] = field(default_factory=list)
     images: list[str] = field(default_factory=list)
@@ -99,7 +100,7 @@ def auditor_of(asked: Asked, script: bytes, log: Log) -> Auditor:
 
 
 def tell(rows: Iterable[str]) -> None:
-    """Prints them; who reads it may close it before it ends."""
+    """Prints rows. The reader may close the output before the last one."""
     try:
         print(*rows, sep="\n", flush=True)
     except BrokenPipeError:
@@ -126,7 +127,7 @@ def main(*words: str) -> int:
 
 
 def judged(auditor: Auditor, script: bytes) -> int:
-    """The report of a script, and its status."""
+    """Prints the report of a script, and returns its status."""
     fault = None
     try:
         auditor.read(script)

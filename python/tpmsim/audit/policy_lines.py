@@ -1,6 +1,6 @@
-"""Policies that a reviewer has in words: which entities have them, and whether each use met that of
-its entity. Its session has to have asserted what is written, one after another and along one branch
-at each PolicyOR, as tpm_policy_meaning has it (Meaning); and that has to hold at the use.
+"""A reviewer's policies in words: which entities have them, and whether each use met its entity's
+policy. A session meets a policy if it made the written assertions, in this order and along one
+branch at each PolicyOR, as tpm_policy_meaning defines it (Meaning), and if they hold at the use.
 """
 
 from dataclasses import dataclass, replace
@@ -23,14 +23,14 @@ from tpmsim.standard.lines import handle_word
 
 @dataclass(frozen=True)
 class Told:
-    """What a session asserted in the log, and the digest that it had before that, if it had one."""
+    """What a session asserted in the log, and the digest that it had before the log, if any."""
 
     asserted: Sequence[Asserted]
     before: bytes = b""
 
 
 class NotMet(Exception):
-    """What of a policy a session did not assert, in words."""
+    """The part of a policy that a session did not assert, as text."""
 
 
 @dataclass(frozen=True)
@@ -41,7 +41,9 @@ class Step:
 
 @dataclass(frozen=True)
 class Before:
-    """`either` of a line was met before the log, by a branch that it does not tell."""
+    """The `either` of a line that was met before the log, by a branch that the log does not
+    show.
+    """
 
     line: int
 
@@ -52,7 +54,9 @@ class Before:
 
 @dataclass(frozen=True)
 class Choice:
-    """The branch that was met at `either` of a line, from 1, of how many, and the TPM2_PolicyOR."""
+    """The branch that met the `either` of a line, counted from 1, the number of branches, and the
+    TPM2_PolicyOR.
+    """
 
     line: int
     place: int
@@ -70,7 +74,7 @@ Taken = Step | Before | Choice
 
 
 def steps_of(algorithm: int, of: Policy, told: Told) -> list[Taken]:
-    """The steps by which assertions meet a policy, in their order; NotMet where they do not."""
+    """Returns the steps by which assertions meet a policy, in order; raises NotMet if none do."""
     steps, left = list[Taken](), of.assertions
     while left:
         rest = replace(of, assertions=left)
@@ -84,12 +88,14 @@ def steps_of(algorithm: int, of: Policy, told: Told) -> list[Taken]:
 
 
 def is_before(algorithm: int, of: Policy, told: Told) -> bool:
-    """Whether a session had the digest of a policy before the log, and nothing was told since."""
+    """Whether a session already had the policy's digest before the log, and asserted nothing
+    since.
+    """
     return not told.asserted and bool(told.before) and policy_digest(algorithm, of) == told.before
 
 
 def steps_before(of: Policy) -> Iterator[Taken]:
-    """Those that the log does not have."""
+    """Yields the steps of a policy that are not in the log."""
     if of.branches:
         yield Before(of.line)
     for written in of.assertions:
@@ -98,7 +104,9 @@ def steps_before(of: Policy) -> Iterator[Taken]:
 
 
 def step_at(algorithm: int, written: Written, told: Told) -> tuple[Told, Asserted]:
-    """What asserts a policy's last assertion, with all that was told before it."""
+    """Returns the session's last assertion, and what the session asserted before it. Raises NotMet
+    unless this is the last assertion of the policy.
+    """
     head = f"policy line {written.line}, {written.said.words}"
     if not told.asserted:
         raise NotMet(f"{head}: it was not asserted")
@@ -109,7 +117,7 @@ def step_at(algorithm: int, written: Written, told: Told) -> tuple[Told, Asserte
 
 
 def steps_at_or(algorithm: int, of: Policy, told: Told) -> list[Taken]:
-    """Those of the branch whose digest TPM2_PolicyOR found."""
+    """Returns the steps of the branch whose digest TPM2_PolicyOR found."""
     head = f"policy line {of.line}, either"
     if is_before(algorithm, replace(of, assertions=()), told):
         return [Before(of.line)]
@@ -174,7 +182,7 @@ def of_pcrs(selection: bytes, digest: bytes, line: int, use: Use, grounds: Groun
 
 
 def of_pcr_values(wanted: PcrValues, grounds: Grounds) -> Finding:
-    """The PCRs have the digest of the values that are wanted."""
+    """Compares the PCRs with the expected values, which have the asserted digest."""
     values = grounds.pcrs.values(Parameters(wanted.selection).next().selection())
     if values != wanted.word:
         words = f"two texts have one hash: the PCRs have {values} in place of {wanted.word}"
@@ -200,12 +208,14 @@ def of_written(wanted: bool, use: Use) -> Finding:
     return Finding(is_written == wanted, words)
 
 
-# What a use lacks of its policy, if anything, and all that is told of it.
+# The part of the policy that a use does not meet, if any, and everything that was found.
 Judgement = tuple[str | None, list[str]]
 
 
 class Judged:
-    """A policy's file, with the uses of the entities that have it, and those that miss it."""
+    """A policy's file, the uses of the entities with that policy, and the uses that do not meet
+    it.
+    """
 
     def __init__(self, file: PolicyFile) -> None:
         self.file, self.unmet = file, list[str]()
@@ -256,7 +266,7 @@ class Judged:
 
 
 def held(steps: list[Taken], use: Use, grounds: Grounds) -> Judgement:
-    """The first condition that does not hold at a use is what it lacks."""
+    """Judges the steps at a use; the first condition that does not hold is what the use lacks."""
     found = [
         finding(it, use, grounds) if isinstance(it, Step) else Finding(True, it.words)
         for it in steps
@@ -271,7 +281,7 @@ class Policies:
         self.entities, self.grounds = entities, grounds
 
     def note(self, use: Use) -> None:
-        """A use of an entity that is accepted, before the history has it."""
+        """Notes an accepted use of an entity, before it is added to the history."""
         for judged in self.all:
             if use.view.public and judged.file.is_of(use.view.public):
                 judged.note(use, self.entities.of(use.authorized), self.grounds)
@@ -290,7 +300,7 @@ class Policies:
         return [words for judged in self.all for words in judged.unmet]
 
     def faults(self) -> list[str]:
-        """What of a whole log is not as a reviewer who gives these policies takes it to be."""
+        """Returns how a whole log differs from what a reviewer with these policies expects."""
         missing = [it for it in self.all if not any(map(it.is_of, self.entities.all))]
         words = [f"{it.file.name}: no entity of the log has this policy" for it in missing]
         return words + self.unmet()

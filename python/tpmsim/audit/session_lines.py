@@ -1,4 +1,4 @@
-"""What each session was told, as tpm_policy_meaning has it (Asserted), and for what it was used."""
+"""The assertions of each session, in the terms of tpm_policy_meaning (Asserted), and its uses."""
 
 from dataclasses import dataclass, field
 from typing import Iterator
@@ -17,7 +17,7 @@ from tpmsim.standard.lines import handle_word
 
 @dataclass(frozen=True)
 class Asserted:
-    """An accepted assertion; `of` is the entity or the index that it is about, in words."""
+    """An accepted assertion; `of` is the text for the entity or index that it is about."""
 
     line: int
     said: Said
@@ -26,7 +26,9 @@ class Asserted:
     digest: bytes
 
     def says(self, said: Said) -> bool:
-        """PolicyAuthValue and PolicyPassword have one digest, and stand for each other."""
+        """Whether this is the given assertion. PolicyAuthValue and PolicyPassword count as the
+        same.
+        """
         ask_value = self.said.code in ASK_VALUE and said.code in ASK_VALUE
         return ask_value or self.said == said
 
@@ -35,7 +37,9 @@ ASK_VALUE = CC.PolicyAuthValue, CC.PolicyPassword
 
 
 def asserted_by(seen: Seen, before: LiveSession, after: LiveSession, pcrs: Pcrs) -> Asserted:
-    """Of a policy session TPM2_PolicyPCR asserts the values of now."""
+    """Returns the assertion that a command made. In a policy session, TPM2_PolicyPCR asserts the
+    current values.
+    """
     event, of = seen.accepted, ""
     if event.code in (CC.PolicySecret, CC.PolicyNV):
         of = handle_words(event.handles[0 if event.code == CC.PolicySecret else 1])
@@ -49,9 +53,9 @@ def asserted_by(seen: Seen, before: LiveSession, after: LiveSession, pcrs: Pcrs)
 @dataclass
 class Begun:
     """A session: the line that started it, how its bind entity is protected, the line of its first
-    TPM2_PolicyPCR and what was asserted since its policy began, what happened to it, a text a line,
-    and which commands were accepted with an hmac of it. One that a state text has was begun in no line;
-    `before` is the digest that its policy had there. `bound` is its bind entity in words.
+    TPM2_PolicyPCR, its assertions since its policy began, its events as text, one per line, and the
+    commands accepted with an hmac of it. A session of a state text has no starting line, and
+    `before` is the digest that its policy had there. `bound` is the text for its bind entity.
     """
 
     line: int
@@ -69,7 +73,7 @@ class Begun:
 
     @property
     def pcrs(self) -> list[tuple[int, int]]:
-        """Those that its policy is of, each with its bank."""
+        """Returns the PCRs in its policy, each with its bank."""
         those = (it.said.values[0] for it in self.asserted if it.said.code == CC.PolicyPCR)
         banks = (bank for text in those for bank in Parameters(text).next().selection())
         return sorted({(bank, pcr) for bank, numbers in banks for pcr in numbers})
@@ -79,7 +83,7 @@ class Begun:
 
 
 class SessionLines:
-    """Those that live by their handles, and all that have a policy."""
+    """The live sessions by handle, and all sessions that have a policy."""
 
     def __init__(self, told: History, text: str) -> None:
         self.history, self.text = told, text
@@ -100,7 +104,7 @@ class SessionLines:
         return self.live[handle].protection if handle in self.live else None
 
     def assert_on(self, seen: Seen) -> None:
-        """An assertion, before the history has it."""
+        """Notes an assertion, before it is added to the history."""
         event = seen.accepted
         if event.code not in history.ASSERTIONS:
             return
@@ -114,13 +118,13 @@ class SessionLines:
         begun.tell(seen.line, f"{said}: {made.policy.digest.hex()}")
 
     def use_for(self, line: int, session: int, code: CC, handle: int) -> None:
-        """A policy session that authorizes, before the history has that."""
+        """Notes that a policy session authorizes a use, before it is added to the history."""
         digest = self.history.sessions.live[session].policy.digest.hex()
         words = f"authorizes {command_words(code)} of {handle_word(handle)} by {digest}"
         self.live[session].tell(line, words)
 
     def note(self, seen: Seen) -> None:
-        """An event, once the history has it."""
+        """Notes an event that is already in the history."""
         if seen.is_power_cycle:
             for handle in list(self.live):
                 self.end(seen.line, handle, "the power cycle ends it")

@@ -1,5 +1,5 @@
-"""With what a log begins: a device, and what the history before tells of it. Of a new device that
-is nothing; of one that is opened from an image or a state text it is what that text holds.
+"""The start of a log: a device, and what is known about its history. For a new device nothing is
+known; for a device from an image or a state text it is the content of that text.
 """
 
 import hashlib
@@ -16,7 +16,7 @@ from tpmsim.standard import HIERARCHIES, nv
 
 @dataclass
 class Start:
-    """`text` is what holds it, as "the image", if anything does."""
+    """`text` names what the device was read from, such as "the image"; empty for a new device."""
 
     device: Model
     history: History
@@ -30,7 +30,7 @@ def new() -> Start:
 
 
 def of_text(text: bytes) -> Start:
-    """The device of an image or of a state text; of what is neither, Fault."""
+    """Opens the device of an image or of a state text; raises Fault for other bytes."""
     begun = records.opened(text)
     history = history_of(begun.device)
     held = "state text" if begun.is_state else "image"
@@ -43,7 +43,7 @@ def of_text(text: bytes) -> Start:
 
 
 def history_of(device: Model) -> History:
-    """What a device has without power."""
+    """Returns the history that follows from what a device keeps without power."""
     history = History()
     for handle in (*HIERARCHIES, *device.objects, *device.indices):
         history.auth_values.values[handle] = device.auth_value(handle)
@@ -58,7 +58,7 @@ def history_of(device: Model) -> History:
 
 
 def add_state(history: History, device: Model) -> None:
-    """The PCRs and the sessions, which a power cycle would take."""
+    """Adds the PCRs and the sessions, which a power cycle would end."""
     history.pcrs.values = {bank: list(values) for bank, values in device.banks.items()}
     history.pcrs.updates = device.update_counter
     for handle, it in device.sessions.items():
@@ -69,8 +69,8 @@ def add_state(history: History, device: Model) -> None:
 
 
 def of_log(script: bytes, given: bytes | None) -> Start:
-    """The device of the text that is given, of the one that the log begins with, or a new one. Fault
-    where that is none, or where the two are of different devices.
+    """Returns the device of the given text, or of the text at the start of the log, or a new one.
+    Raises Fault if a text is invalid, or if the two texts are of different devices.
     """
     begun = first_of(script)
     if begun is None:
@@ -83,7 +83,7 @@ def of_log(script: bytes, given: bytes | None) -> Start:
 
 
 def first_of(script: bytes) -> records.Begin | None:
-    """The head of a log, before which only comments stand."""
+    """Returns the head of a log, if there is one; only comments come before it."""
     for step in records.steps_of(script):
         if isinstance(step, records.Begin):
             return step
@@ -93,8 +93,8 @@ def first_of(script: bytes) -> records.Begin | None:
 
 
 def has_answers(script: bytes) -> bool:
-    """Whether a log says what its first command was answered, as a journal does. One with a head and no
-    command has no answer to say.
+    """Whether a log records the answer to its first command, as a journal does. This also holds for
+    a log with a head and no command.
     """
     commands = (it for it in records.steps_of(script) if isinstance(it, records.Command))
     first = next(commands, None)

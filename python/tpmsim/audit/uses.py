@@ -1,4 +1,6 @@
-"""What each use of an entity was, by the history before it; failed guesses; and other refusals."""
+"""Judges each use of an entity by the history before it; reports failed guesses and other
+refusals.
+"""
 
 from dataclasses import dataclass, field
 from typing import Iterator
@@ -18,13 +20,16 @@ from tpmsim.standard import CC
 
 RESETS = (CC.DictionaryAttackLockReset, CC.DictionaryAttackParameters, CC.Clear)
 
-# How a wrong entry is answered that is a guess at what is protected, and any other.
+# The response codes for a wrong entry that guesses a protected value, and for any other wrong
+# entry.
 COUNTED, NOT_COUNTED = "AUTH_FAIL", "BAD_AUTH"
 
 
 @dataclass
 class Stretch:
-    """Events without a reset, their milliseconds, and the lines of those that fail a guess."""
+    """Events without a reset, their duration in milliseconds, and the lines of the failed
+    guesses.
+    """
 
     first: int
     most: int
@@ -34,7 +39,9 @@ class Stretch:
 
     @property
     def bound(self) -> int | None:
-        """How many may fail; where recoveryTime is 0, there is no protection, and no bound."""
+        """Returns the largest possible number of failed guesses; None if recoveryTime is 0, since
+        nothing is then protected.
+        """
         period = MILLISECONDS * self.recovery
         return self.most + self.elapsed // period if period else None
 
@@ -55,7 +62,9 @@ class Guesses:
         self.stretch = Stretch(1, lockout.max_tries, lockout.recovery_time)
 
     def refuse(self, seen: Seen, grounds: Grounds) -> None:
-        """A refused command; Disagreement where it is one guess too many, or answered as none."""
+        """Notes a refused command. Raises Disagreement if it is one guess too many, or if its code
+        does not match whether it is a guess.
+        """
         self.stretch.elapsed += seen.elapsed
         name, _, place = (seen.outcome.refused or "").partition("/s")
         if name not in (COUNTED, NOT_COUNTED) or not place:
@@ -73,7 +82,9 @@ class Guesses:
                 raise Disagreement(words)
 
     def touched(self, use: Use) -> str | None:
-        """What a try is at: its key's or password's value, or that of its binding."""
+        """Returns what a try guesses: the value in its key or password, or in its session's
+        binding.
+        """
         own = use.view.protection if use.takes_value else None
         return own or self.sessions.protection(use.entry.handle)
 
@@ -98,12 +109,12 @@ class Guesses:
         return section(title, self.told, "Failed guesses: none.")
 
 
-# How a guess is answered that is not looked at.
+# The response code for a guess that the device does not check.
 LOCKED = "LOCKOUT"
 
 
 class Uses:
-    """How many uses had a ground, how many were refused, and how many entries authorize nothing."""
+    """The numbers of uses with a ground, refused uses, and entries that authorize nothing."""
 
     def __init__(
         self,
@@ -119,7 +130,9 @@ class Uses:
         self.allowed = self.refused = self.others = 0
 
     def accept(self, seen: Seen) -> None:
-        """Each entry of an accepted command has a ground; Disagreement where one has none."""
+        """Checks that each entry of an accepted command has a ground; raises Disagreement
+        otherwise.
+        """
         if self.grounds.plain_parameters(seen.command) != seen.accepted.parameters:
             raise Disagreement("its parameters are others once they are decrypted")
         for use in self.grounds.uses(seen):
@@ -138,7 +151,9 @@ class Uses:
                 self.policies.note(use)
 
     def tell(self, use: Use, findings: list[Finding]) -> None:
-        """A use with its ground: of a policy session each condition, of all else what was shown."""
+        """Reports a use with its ground: each condition of a policy session; for other entries,
+        what was shown.
+        """
         used, told = self.entities.of(use.authorized).used, self.words(use)
         if use.live and use.is_policy:
             self.grounds.sessions.use_for(use.seen.line, use.entry.handle, use.code, use.authorized)
@@ -153,7 +168,9 @@ class Uses:
         return f"    line {use.seen.line}: {command_words(use.code)} {title}"
 
     def refuse(self, seen: Seen) -> None:
-        """An entry that is refused lacks a ground; Disagreement where none does."""
+        """Checks that a refused entry lacks a ground; raises Disagreement if every entry has
+        one.
+        """
         if not seen.is_refused_entry:
             return
         lacking = self.lacking(seen)
@@ -169,7 +186,7 @@ class Uses:
         return [f"        {it}" for it in self.grounds.pcr_words(use)]
 
     def lacking(self, seen: Seen) -> tuple[Use, str] | None:
-        """The first entry that has no ground, with what it lacks; None where there is none."""
+        """Returns the first entry without a ground, and what it lacks; None if all have one."""
         for use in self.grounds.uses(seen):
             if seen.outcome.refused == LOCKED and self.guesses.touched(use):
                 return use, "what it would be a guess at is locked"
@@ -179,7 +196,7 @@ class Uses:
         return None
 
     def reason(self, seen: Seen) -> str:
-        """Why the device refuses; it follows what a log says of it."""
+        """Returns why the device refuses, as the second part of a sentence about the log."""
         if seen.is_refused_entry:
             lacking = self.lacking(seen)
             return f": of entry {lacking[0].place}, {lacking[1]}" if lacking else ""
@@ -197,7 +214,7 @@ class Uses:
 
 
 class Refusals:
-    """Those that are for none of a command's entries, as tpmsim.explain says them."""
+    """Refusals that are not for an entry, in the words of tpmsim.explain."""
 
     def __init__(self) -> None:
         self.told: list[str] = []

@@ -1,4 +1,4 @@
-"""What is seen of a device's events, one after another, and what each handle named."""
+"""The observed events of a device in order, and what each handle named."""
 
 from dataclasses import dataclass, field
 from functools import cached_property
@@ -17,12 +17,12 @@ from tpmsim.standard.objects import Attribute
 
 Public = nv.Public | objects.Public
 
-# What else the check of the entries that authorize nothing refuses.
+# The other refusal that the check of entries that authorize nothing can give.
 OF_PARAMETERS = "INSUFFICIENT/p1"
 
 
 class View:
-    """What everybody may read of what a handle names: the public area, where it has one."""
+    """What anyone may read about the entity of a handle: its public area, if it has one."""
 
     def __init__(self, handle: int, public: Public | None = None) -> None:
         self.handle, self.public = handle, public
@@ -59,8 +59,8 @@ def view_of(device: Model, handle: int) -> View:
 
 @dataclass
 class Seen:
-    """An event. `known` is the command where it passed the general checks, with a view of each
-    handle before it; `event` is what is told of it, where it was accepted.
+    """An event. `known` is the command, if it passed the general checks, with a view of each handle
+    before the command; `event` is what is known about it, if it was accepted.
     """
 
     buffer: bytes = b""
@@ -109,10 +109,10 @@ def is_of_entry(check: str, refused: str | None) -> bool:
 
 
 class Watch(Watched):
-    """Stands between a device and who calls it; `seen` is the event that was seen last, if any."""
+    """Observes a device between it and its caller; `seen` is the latest observed event, if any."""
 
     def __init__(self, device: Model) -> None:
-        # A refusal for an entry is judged by the history.
+        # The history judges a refusal for an entry.
         super().__init__(device, lambda scene: not is_of_entry(scene.check, scene.refused))
         self.seen: Seen | None = None
         self.others = list[Seen]()
@@ -126,7 +126,9 @@ class Watch(Watched):
     def executed(
         self, buffer: bytes, locality: int, random: bytes, elapsed: int, completes: bool = False
     ) -> Outcome:
-        """An event; `others` has those that the completing layer made of the device for it."""
+        """Executes an event; appends to `others` the commands that the completing layer sent to the
+        device for it.
+        """
         self.seen, self.others = Seen(buffer, locality, elapsed), []
         self.seen.explained = self.command(buffer, locality, random, elapsed, completes)
         return self.seen.outcome
@@ -176,7 +178,9 @@ def means_words(public: Public) -> str:
 
 
 def is_again(public: Public, had: Public) -> bool:
-    """Whether the Name was there before; that of an index changes when it is first written."""
+    """Whether a Name is the earlier one, ignoring that an index's Name changes at its first
+    write.
+    """
     if isinstance(public, nv.Public) and isinstance(had, nv.Public):
         had = had.but(cleared=nv.Attribute.WRITTEN)
         public = public.but(cleared=nv.Attribute.WRITTEN)
@@ -185,7 +189,7 @@ def is_again(public: Public, had: Public) -> bool:
 
 @dataclass
 class Entity:
-    """What a handle names while it stays the same, with its uses, a text a line."""
+    """The entity that a handle names, while it stays the same, with its uses, one per line."""
 
     handle: int
     title: str
@@ -221,7 +225,7 @@ class Entities:
         return self.now.get(handle) or self.keep(Entity(handle, handle_words(handle)))
 
     def note(self, seen: Seen) -> None:
-        """An event, once the device has done it."""
+        """Notes an event that the device has executed."""
         if seen.is_power_cycle:
             return
         event, handle, by = seen.accepted, seen.accepted.answered, ""

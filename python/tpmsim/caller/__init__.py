@@ -1,4 +1,4 @@
-"""What a caller of a TPM computes, and a caller that sends it to a device."""
+"""The computations of a TPM's caller, and a caller that sends commands to a device."""
 
 from tpmsim.caller.caller import Caller
 from tpmsim.caller.entries import flipped, Made, Means, Prepared, Refused, Response, Session, Use

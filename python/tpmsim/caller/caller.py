@@ -1,4 +1,4 @@
-"""A caller of a device: it sends commands, and each response makes it know more."""
+"""A caller of a device, which sends commands and learns from each response."""
 
 import secrets
 from typing import Any, Callable, Protocol, Sequence
@@ -13,7 +13,7 @@ from tpmsim.standard.values import Cipher
 
 
 class Answered(Protocol):
-    """A response's bytes, and the check of the trace where the device tells it."""
+    """A response's bytes, and the check in its trace, if the device reports it."""
 
     @property
     def response(self) -> bytes:
@@ -25,14 +25,14 @@ class Answered(Protocol):
 
 
 class Executes(Protocol):
-    """A device, as far as a caller needs one."""
+    """The part of a device that a caller needs."""
 
     def execute(self, buffer: bytes) -> Answered:
         ...
 
 
 class Caller(PreparedCommands):
-    """Sends commands to a device. `nonce` gives as many bytes as it is asked for."""
+    """Sends commands to a device. `nonce` returns the requested number of bytes."""
 
     def __init__(
         self, device: Executes, nonce: Callable[[int], bytes] = secrets.token_bytes
@@ -41,8 +41,8 @@ class Caller(PreparedCommands):
         self.device = device
 
     def send(self, prepared: Prepared) -> Response:
-        """The response; Refused where the device refuses, and WrongResponse where no device that
-        has the session's key answers so.
+        """Sends a command and returns the response. Raises Refused if the device refuses, and
+        WrongResponse if no device with the session's key would send this response.
         """
         answered = self.device.execute(prepared.buffer())
         code = int.from_bytes(answered.response[6:10], "big")
@@ -53,7 +53,7 @@ class Caller(PreparedCommands):
     def call(
         self, name: str | CC, *those: int | Session, uses: Sequence[Means] = (), **arguments: Any
     ) -> Response:
-        """Sends any command, as `call("NV_Read", index, index, size=8, offset=0)`."""
+        """Sends any command, such as `call("NV_Read", index, index, size=8, offset=0)`."""
         return self.send(self.command(name, *those, uses=uses, **arguments))
 
     def start_up(self, kind: int = CLEAR) -> None:
@@ -68,7 +68,9 @@ class Caller(PreparedCommands):
         cipher: int = ALG_NULL,
         size: int = NONCE_BYTES,
     ) -> Session:
-        """`cipher` is AES or XOR where it is to encrypt; `size` is that of its nonces in bytes."""
+        """Starts a session. `cipher` is AES or XOR if the session is to encrypt; `size` is the size
+        of its nonces, in bytes.
+        """
         nonce, mask = self.nonce(size), algorithm if cipher == XOR else None
         given = nonce, b"", kind, Cipher(cipher, mask), algorithm
         response = self.send(self.asked(CC.StartAuthSession, [RH_NULL, bind], uses, *given))
@@ -79,9 +81,9 @@ class Caller(PreparedCommands):
         return self.session(kind=SE_TRIAL, algorithm=algorithm)
 
     def policy(self, words: str, algorithm: int = SHA256, **choices: Any) -> Use:
-        """Starts a policy session that is told a policy in words (docs/USING.md), and gives the use
-        of it. Of an `either` the branches are tried in turn, and the first that the device does not
-        refuse is taken; Refused where it refuses all of them.
+        """Starts a policy session, executes a policy in words (docs/USING.md) in it, and returns
+        the session, ready for use in a command. Tries the branches of an `either` in order until
+        the device accepts one. Raises Refused if it refuses them all.
         """
         session = self.session(kind=SE_POLICY, algorithm=algorithm, **choices)
         return self.tell(session, words)
@@ -97,7 +99,7 @@ class Caller(PreparedCommands):
         if step.branches:
             self.tell_branch(use, step)
         elif step.code in (CC.PolicySecret, CC.PolicyNV):
-            # A Name that is not known is a handle itself.
+            # A Name that was not learned is a handle, which is its own Name.
             known = [handle for handle, name in self.names.items() if name == step.name]
             those = [*(known or [int.from_bytes(step.name, "big")])[:1], session.handle]
             if step.code == CC.PolicyNV:
@@ -125,7 +127,9 @@ class Caller(PreparedCommands):
     def create_primary(
         self, public: objects.Public, *uses: Means, hierarchy: int = RH_OWNER, **more: Any
     ) -> int:
-        """The handle; `user_auth`, `data`, `outside_info` and `pcrs` may be given."""
+        """Creates a primary object and returns its handle. Optional arguments: `user_auth`, `data`,
+        `outside_info` and `pcrs`.
+        """
         handle = self.send(self.primary(hierarchy, public, *uses, **more)).handle
         assert handle is not None
         return handle

@@ -1,4 +1,4 @@
-"""A command that is ready to be sent, the sessions of its entries, and what it came to."""
+"""A command that is ready to be sent, the sessions of its entries, and its outcome."""
 
 from __future__ import annotations
 
@@ -14,7 +14,7 @@ from tpmsim.standard.values import read_all
 
 @dataclass
 class Session:
-    """A session as its caller knows it; `bind` is a Name."""
+    """A session as its caller knows it; `bind` is the Name of its bind entity."""
 
     handle: int
     algorithm: int
@@ -27,19 +27,21 @@ class Session:
 
     @property
     def decrypting(self) -> Use:
-        """A use that encrypts the first parameter of the command, which the device decrypts."""
+        """The use of the session to encrypt the command's first parameter, which the device
+        decrypts.
+        """
         return Use(self, CONTINUE_SESSION | DECRYPT)
 
     @property
     def encrypting(self) -> Use:
-        """A use in which the device encrypts the first parameter of the response."""
+        """The use of the session to have the device encrypt the response's first parameter."""
         return Use(self, CONTINUE_SESSION | ENCRYPT)
 
 
 @dataclass
 class Use:
-    """How a session is used in an entry. With `shows_empty_key` the hmac of an empty key is sent,
-    which may be left out. `demand` is what its policy was told to ask for.
+    """The use of a session in an entry. With `shows_empty_key` the hmac is sent although its key is
+    empty, when it may be left out. `demand` is what the session's policy demands.
     """
 
     session: Session
@@ -51,20 +53,20 @@ class Use:
 
 @dataclass(frozen=True)
 class Made:
-    """What TPM2_Create answered, for TPM2_Load, and the authorization value that was asked for."""
+    """What TPM2_Create returned, for TPM2_Load, and the authorization value that was requested."""
 
     private: bytes
     public: Public
     auth_value: bytes
 
 
-# What authorizes a handle: a password's bytes, a session, or a use of one.
+# What authorizes a handle: the bytes of a password, a session, or a use of a session.
 Means = Union[bytes, Session, Use]
 
 
 @dataclass
 class Prepared:
-    """A command, ready to be sent; its entries stand beside the sessions of them."""
+    """A command, ready to be sent; each entry is at the same position as its use."""
 
     code: CC
     handles: list[int]
@@ -76,11 +78,11 @@ class Prepared:
         return frames.buffer_of(self.code, self.handles, self.entries, self.parameters)
 
     def authorized(self, place: int) -> int | None:
-        """The handle that the entry of a place, from 1, authorizes, if any."""
+        """Returns the handle that an entry authorizes, if any; entries are counted from 1."""
         return self.handles[place - 1] if place <= self.code.authorized else None
 
     def but(self, **changes: Any) -> Prepared:
-        """The same with other parameters or handles; no hmac changes."""
+        """Returns the command with other parameters or handles but the same hmacs."""
         return replace(self, **changes)
 
     def but_entry(self, place: int, **changes: Any) -> Prepared:
@@ -90,22 +92,25 @@ class Prepared:
 
 
 def flipped(data: bytes, at: int = -1) -> bytes:
-    """With one bit changed, in the last byte where no other is named."""
+    """Returns the data with one bit flipped, by default in the last byte."""
     changed = bytearray(data)
     changed[at] ^= 0x01
     return bytes(changed)
 
 
 def wrong(prepared: Prepared, place: int = 1) -> Prepared:
-    """With one bit of an entry's hmac or password changed, or with a byte where it has none."""
+    """Returns the command with a bit of an entry's hmac or password flipped, or a byte if it is
+    empty.
+    """
     hmac = prepared.entries[place - 1].hmac
     return prepared.but_entry(place, hmac=flipped(hmac) if hmac else b"\1")
 
 
 @dataclass(frozen=True)
 class Response:
-    """A success, its parameters in plain. They stand by their names in Part 3, as
-    `response["randomBytes"]`; docs/table says of each what it is. KeyError names the others.
+    """A success with its parameters, decrypted, by their names in Part 3, as in
+    `response["randomBytes"]`; docs/table describes each one. A wrong name raises KeyError, which
+    lists the right names.
     """
 
     code: CC
@@ -123,9 +128,9 @@ class Response:
 
 
 class Refused(Exception):
-    """A command that the device refuses: the number of the response code, the code's name (empty
-    where it is not known here), its place, as p1, h2 or s1, or nothing; and where a trace tells it,
-    the check that refuses, as G9 or A1.
+    """A command that the device refuses: the number of the response code, its name (empty if it is
+    unknown here), its place, such as p1, h2 or s1, or empty, and the check that refuses, such as G9
+    or A1, if a trace reports it.
     """
 
     def __init__(self, prepared: Prepared, number: int, check: str | None = None) -> None:
@@ -135,7 +140,7 @@ class Refused(Exception):
 
     @property
     def code(self) -> str:
-        """The name with its place, as VALUE/p1."""
+        """The name with its place, such as VALUE/p1."""
         return f"{self.name}/{self.place}" if self.place else self.name
 
     def __str__(self) -> str:

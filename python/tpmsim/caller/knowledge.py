@@ -1,9 +1,9 @@
 """What a caller of a device knows, and what it computes from that: commands that sessions
-authorize, and what their responses tell.
+authorize, and the contents of their responses.
 
-It learns nonces from responses alone, knows the authorization values because it set them and the
-Names of objects because it was answered their public areas, and stops where a response's hmac is
-not the one that it computes itself.
+It learns nonces only from responses. It knows the authorization values that it set, and the Names
+of objects from the public areas in responses. It stops if a response's hmac differs from the hmac
+that it computes itself.
 """
 
 import contextlib
@@ -20,7 +20,7 @@ NONCE_BYTES = 16
 # The parameter of TPM2_Startup and TPM2_Shutdown.
 CLEAR, STATE = 0, 1
 
-# What each command leaves in the attributes of the index that it is used on.
+# The attribute that each command sets in the index that it uses.
 MARKS = {
     CC.NV_Write: nv.Attribute.WRITTEN,
     CC.NV_Increment: nv.Attribute.WRITTEN,
@@ -32,7 +32,7 @@ MARKS = {
 
 
 class WrongResponse(Exception):
-    """A response that no device gives which has the keys of the sessions, in words."""
+    """A response that no device with the keys of the sessions would send; the message says why."""
 
 
 def expect(holds: bool, words: str) -> None:
@@ -41,8 +41,8 @@ def expect(holds: bool, words: str) -> None:
 
 
 class Knowledge:
-    """The authorization values, the Names and the public areas of indices, each by its handle.
-    `nonce` gives as many bytes as it is asked for, by default random ones.
+    """The authorization values, the Names and the public areas of indices that a caller knows, by
+    handle. `nonce` returns the requested number of bytes, which are random by default.
     """
 
     def __init__(self, nonce: Callable[[int], bytes] = secrets.token_bytes) -> None:
@@ -52,7 +52,7 @@ class Knowledge:
         self.publics: dict[int, nv.Public] = {}
 
     def auth_value(self, handle: int | None) -> bytes:
-        """That of what has none is empty."""
+        """Returns the known authorization value of a handle; empty if none is known."""
         return b"" if handle is None else self.auth_values.get(handle, b"")
 
     def name(self, handle: int) -> bytes:
@@ -72,7 +72,9 @@ class Knowledge:
 
     @contextlib.contextmanager
     def breaking(self, **rules: Any) -> Iterator[None]:
-        """What is prepared within keeps to these in place of the rules of this class."""
+        """Within this context, commands are prepared by these rules instead of those of the
+        class.
+        """
         vars(self).update(rules)
         try:
             yield
@@ -83,7 +85,9 @@ class Knowledge:
     def prepare(
         self, code: CC, handles: Sequence[int], parameters: bytes = b"", *means: Means
     ) -> Prepared:
-        """A command with an entry for each means: a password's bytes, a session, or a `Use`."""
+        """Prepares a command with an entry for each means: a password's bytes, a session, or a
+        `Use`.
+        """
         uses = [Use(it) if isinstance(it, Session) else it for it in means]
         for use in uses:
             if isinstance(use, Use) and use.nonce is None:
@@ -97,9 +101,9 @@ class Knowledge:
         return prepared
 
     def key(self, use: Use, handle: int | None) -> bytes:
-        """The key of an hmac. In an HMAC session the authorization value is in it, but where the
-        session is bound to the entity and that has the value that it had at the start; in a policy
-        session where the policy asks for it.
+        """Returns the key of an hmac. In an HMAC session it includes the authorization value,
+        unless the session is bound to the entity and the value has not changed since its start. In
+        a policy session it includes the value if the policy demands it.
         """
         session = use.session
         if handle is None:
@@ -119,7 +123,7 @@ class Knowledge:
     def decrypted(
         self, use: Use, handle: int | None, parameters: bytes, is_answer: bool = False
     ) -> bytes:
-        """The other way round, of a command's parameters or of those that answer it."""
+        """Decrypts the parameters of a command or, with `is_answer`, of its response."""
         session, key = use.session, use.session.key + self.auth_value(handle)
         nonces = use.nonce or b"", session.nonce_tpm
         given = session.cipher, session.algorithm, key, *(nonces[::-1] if is_answer else nonces)
@@ -142,13 +146,15 @@ class Knowledge:
         return Entry(session.handle, nonce, use.attributes, hmac)
 
     def cp_hash(self, prepared: Prepared, algorithm: int = frames.SHA256) -> bytes:
-        """That of a command, by the Names of its handles as they are known."""
+        """Returns the cpHash of a command, computed with the known Names of its handles."""
         names = [self.name(it) for it in prepared.handles]
         return sessions.command_hash(algorithm, prepared.code, names, prepared.parameters)
 
     @staticmethod
     def nonces_of_others(prepared: Prepared, place: int, handle: int | None) -> list[bytes]:
-        """In the first entry, where it authorizes: of others that decrypt, then encrypt."""
+        """Returns, for the first entry if it authorizes a handle: the nonces of the other sessions
+        that decrypt, followed by those of the sessions that encrypt.
+        """
         if place != 1 or handle is None:
             return []
         others = [it for it in prepared.uses[1:] if isinstance(it, Use)]
@@ -165,7 +171,9 @@ class Knowledge:
         kind: int,
         cipher: int = frames.ALG_NULL,
     ) -> Session:
-        """The session of what TPM2_StartAuthSession answered: its handle and its parameters."""
+        """Returns the session that TPM2_StartAuthSession started, from the handle and the
+        parameters.
+        """
         handle, parameters = answer
         nonce_tpm, bind_auth = Fields(parameters).sized(), self.auth_value(bind)
         key = b""
@@ -177,8 +185,8 @@ class Knowledge:
     # Responses of commands that were accepted.
 
     def received(self, prepared: Prepared, response: bytes) -> tuple[int | None, bytes]:
-        """The handle and the parameters that a response answers, in plain. What the command changed
-        is known from then on. WrongResponse where it is not the response to this command.
+        """Checks a response, learns what the command changed, and returns the returned handle and
+        the decrypted parameters. Raises WrongResponse if it is not the response to this command.
         """
         fields = Fields(response)
         tag, size, code = fields.number(2), fields.number(4), fields.number(4)
@@ -200,14 +208,16 @@ class Knowledge:
         return handle, parameters
 
     def plain_request(self, prepared: Prepared) -> bytes:
-        """The parameters of a command, before they were encrypted."""
+        """Returns the parameters of a command, before they were encrypted."""
         for place, use in enumerate(prepared.uses, 1):
             if isinstance(use, Use) and use.attributes & DECRYPT:
                 return self.decrypted(use, prepared.authorized(place), prepared.parameters)
         return prepared.parameters
 
     def note_effect(self, prepared: Prepared, request: bytes) -> None:
-        """What an accepted command, with its parameters in plain, changes before it is answered."""
+        """Learns what an accepted command changes before its response is made. The parameters are
+        decrypted.
+        """
         code, handles = prepared.code, prepared.handles
         if code in MARKS and handles[1] in self.publics:
             self.note_public(self.publics[handles[1]].but(added=MARKS[code]))
@@ -222,7 +232,7 @@ class Knowledge:
     def note_answer(
         self, prepared: Prepared, request: bytes, handle: int | None, parameters: bytes
     ) -> None:
-        """What else it tells, with its answer in plain."""
+        """Learns the rest from the command and its response, both decrypted."""
         code, fields = prepared.code, Fields(request)
         if code == CC.NV_ReadPublic:
             self.note_public(nv.Public.read(Fields(parameters).sized()))
@@ -244,14 +254,15 @@ class Knowledge:
             self.auth_values[public.index] = trimmed(auth_value)
         elif handle is not None and code in (CC.CreatePrimary, CC.Load):
             name = values.read_all(code.answered_parameters, parameters)["name"]
-            # The value of a loaded object is in its private area, and whoever made that knows it.
+            # A loaded object's value is in its private area; whoever made that area knows the
+            # value.
             user_auth = Fields(fields.sized()).sized() if code == CC.CreatePrimary else b""
             self.note(handle, name, trimmed(user_auth))
 
     def check_answer(
         self, prepared: Prepared, place: int, parameters: bytes, fields: Fields
     ) -> None:
-        """Takes the answer to an entry from the fields, and checks it."""
+        """Reads the response's part for one entry from the fields, and checks it."""
         use, entry = prepared.uses[place - 1], prepared.entries[place - 1]
         nonce_tpm, attributes, hmac = fields.sized(), fields.number(1), fields.sized()
         if isinstance(use, bytes):

@@ -1,4 +1,6 @@
-"""Each command in words. Where nobody is named, the first handle's known value is its password."""
+"""A method for each command. Without a use, it sends the first handle's known value as a
+password.
+"""
 
 from typing import Any, Sequence
 
@@ -8,12 +10,12 @@ from tpmsim.standard import CC, frames, nv, objects, RH_ENDORSEMENT, RH_LOCKOUT,
 from tpmsim.standard import SHA256, sized
 from tpmsim.standard.values import write_all, write_in_order
 
-# A selection: for each bank its hash algorithm and the numbers of its PCRs.
+# A selection: for each bank its hash algorithm and the numbers of the selected PCRs.
 Selection = Sequence[tuple[int, Sequence[int]]]
 
 
 class PreparedCommands(Knowledge):
-    """The commands, as they are prepared. The sizes of buffers are in bytes."""
+    """The commands, prepared to be sent. Sizes of buffers are in bytes."""
 
     def by(self, uses: Sequence[Means], handle: int) -> Sequence[Means]:
         return uses or [self.auth_value(handle)]
@@ -21,7 +23,9 @@ class PreparedCommands(Knowledge):
     def asked(
         self, code: CC, those: Sequence[int], uses: Sequence[Means], *values: Any
     ) -> Prepared:
-        """A command with a value for each parameter; with no uses, by the first handle's value."""
+        """Prepares a command with a value for each parameter. Without uses, a password authorizes
+        it.
+        """
         if code.authorized:
             uses = self.by(uses, those[0])
         return self.prepare(code, those, write_in_order(code, *values), *uses)
@@ -29,8 +33,8 @@ class PreparedCommands(Knowledge):
     def command(
         self, name: str | CC, *those: int | Session, uses: Sequence[Means] = (), **arguments: Any
     ) -> Prepared:
-        """Any command, by its name and those of its parameters in Part 3; TypeError where a handle
-        or a parameter is missing, and KeyError where there is no such command.
+        """Prepares any command, named as in Part 3, with parameters by their names there. Raises
+        TypeError if a handle or a parameter is missing, and KeyError if there is no such command.
         """
         if not isinstance(name, CC) and name not in CC.__members__:
             raise KeyError(f"{name} is not a command that the device serves")
@@ -61,10 +65,10 @@ class PreparedCommands(Knowledge):
         return self.asked(CC.FlushContext, [], (), handle)
 
     def read_pcr(self, pcr: int, *uses: Means) -> Prepared:
-        """In both banks."""
+        """Prepares a read of a PCR in both banks."""
         return self.asked(CC.PCR_Read, [], uses, [(SHA1, [pcr]), (SHA256, [pcr])])
 
-    # Policies. Each is told to a session.
+    # Policy commands, each in a session.
 
     def told(self, code: CC, session: Session, parameters: bytes = b"", *uses: Means) -> Prepared:
         return self.prepare(code, [session.handle], parameters, *uses)
@@ -82,7 +86,7 @@ class PreparedCommands(Knowledge):
         return self.told(CC.PolicyPassword, session, b"", *uses)
 
     def locality(self, session: Session, localities: int, *uses: Means) -> Prepared:
-        """`localities` has bit n for locality n."""
+        """TPM2_PolicyLocality; bit n of `localities` stands for locality n."""
         return self.asked(CC.PolicyLocality, [session.handle], uses, localities)
 
     def command_code(self, session: Session, code: int, *uses: Means) -> Prepared:
@@ -95,7 +99,7 @@ class PreparedCommands(Knowledge):
         return self.asked(CC.PolicyNvWritten, [session.handle], uses, is_written)
 
     def branches(self, session: Session, *digests: bytes, count: int | None = None) -> Prepared:
-        """TPM2_PolicyOR; its count is right where no other is given."""
+        """TPM2_PolicyOR; its count is the number of digests unless another count is given."""
         return self.told(CC.PolicyOR, session, frames.sized_list(*digests, count=count))
 
     def pcrs(
@@ -106,7 +110,7 @@ class PreparedCommands(Knowledge):
     def secret(
         self, session: Session, *uses: Means, of: int = RH_ENDORSEMENT, **parameters: Any
     ) -> Prepared:
-        """With nothing given, by the empty password."""
+        """TPM2_PolicySecret, with the empty password if there are no uses."""
         asked = [of, session.handle], frames.policy_secret(**parameters)
         return self.prepare(CC.PolicySecret, *asked, *(uses or [b""]))
 
@@ -122,7 +126,7 @@ class PreparedCommands(Knowledge):
         data: bytes = b"",
         **more: Any,
     ) -> Prepared:
-        """TPM2_CreatePrimary or TPM2_Create; `outside_info` and `pcrs` may be given too."""
+        """TPM2_CreatePrimary or TPM2_Create. Further arguments: `outside_info` and `pcrs`."""
         sensitive = frames.sensitive_create(user_auth, data)
         parameters = frames.creation(sensitive, sized(public.text), **more)
         return self.prepare(code, [handle], parameters, *self.by(uses, handle))
@@ -150,7 +154,7 @@ class PreparedCommands(Knowledge):
     def evicting(self, asker: int, handle: int, wanted: int, *uses: Means) -> Prepared:
         return self.asked(CC.EvictControl, [asker, handle], uses, wanted)
 
-    # NV indices. Where nobody else is named an index asks for itself.
+    # NV indices. An index authorizes its own use unless `by` names another handle.
 
     def on_index(
         self, code: CC, index: int, uses: Sequence[Means], by: int | None, *values: Any
@@ -206,11 +210,11 @@ class PreparedCommands(Knowledge):
         operation: int = 0,
         by: int | None = None,
     ) -> Prepared:
-        """TPM2_PolicyNV; operation 0 is that both are equal."""
+        """TPM2_PolicyNV; operation 0 tests for equality."""
         those = [index if by is None else by, index, session.handle]
         return self.asked(CC.PolicyNV, those, uses, operand, offset, operation)
 
-    # What the device keeps.
+    # The device's own settings and state.
 
     def lock_reset(self, *uses: Means) -> Prepared:
         return self.asked(CC.DictionaryAttackLockReset, [RH_LOCKOUT], uses)
@@ -218,7 +222,7 @@ class PreparedCommands(Knowledge):
     def attack_parameters(
         self, max_tries: int, recovery_time: int, lockout_recovery: int, *uses: Means
     ) -> Prepared:
-        """The times are in seconds."""
+        """TPM2_DictionaryAttackParameters; the times are in seconds."""
         numbers = max_tries, recovery_time, lockout_recovery
         return self.asked(CC.DictionaryAttackParameters, [RH_LOCKOUT], uses, *numbers)
 

@@ -1,4 +1,4 @@
-"""Templates of objects, and public areas of NV indices, that most tests use."""
+"""Templates of objects and public areas of NV indices, for most tests."""
 
 from typing import Any
 
@@ -6,13 +6,13 @@ from tpmsim.standard import digest_bytes, KEYEDHASH, nv, SHA256, SYMCIPHER
 from tpmsim.standard.nv import Type
 from tpmsim.standard.objects import Attribute, Public
 
-# What most objects are: bound to this device and to their parent, usable by their value, and not
-# protected from guessing.
+# Attributes of most objects: bound to this device and to their parent, usable with their
+# authorization value, and not protected against guessing.
 HERE = Attribute.FIXED_TPM | Attribute.FIXED_PARENT
 OPEN = Attribute.USER_WITH_AUTH | Attribute.NO_DA
 STORES = Attribute.RESTRICTED | Attribute.DECRYPT
 
-# Who may write and read an index, and the first index.
+# Attributes that say who may write and read an index, and the first index.
 BY_OWNER = nv.Attribute.OWNERWRITE | nv.Attribute.OWNERREAD
 BY_PLATFORM = nv.Attribute.PPWRITE | nv.Attribute.PPREAD
 BY_VALUE = nv.Attribute.AUTHWRITE | nv.Attribute.AUTHREAD
@@ -23,20 +23,20 @@ FIRST = 0x0100_0001
 def storage_key(
     algorithm: int = SHA256, attributes: int = HERE | OPEN | STORES, **more: Any
 ) -> Public:
-    """The template of a storage parent, whose key is generated."""
+    """Returns the template of a storage parent, whose key the TPM generates."""
     origin = Attribute.SENSITIVE_DATA_ORIGIN
     return Public(SYMCIPHER, algorithm, attributes | origin, **more)
 
 
 def sealed(algorithm: int = SHA256, attributes: int = HERE | OPEN, **more: Any) -> Public:
-    """The template of sealed data, which are given with it."""
+    """Returns the template of sealed data; the data are passed along with it."""
     return Public(KEYEDHASH, algorithm, attributes, **more)
 
 
 def hmac_key(
     algorithm: int = SHA256, attributes: int = HERE | OPEN, scheme: int = SHA256, **more: Any
 ) -> Public:
-    """The template of an HMAC key, which is given with it."""
+    """Returns the template of an HMAC key; the key is passed along with it."""
     attributes |= Attribute.SIGN
     return Public(KEYEDHASH, algorithm, attributes, scheme=scheme, **more)
 
@@ -49,7 +49,9 @@ def area(
     algorithm: int = SHA256,
     auth_policy: bytes = b"",
 ) -> nv.Public:
-    """The public area of an index. One of no other size has eight bytes, or those of a digest."""
+    """Returns the public area of an index. By default the index is eight bytes long, or as long as
+    a digest if it is an extend index.
+    """
     if size is None:
         size = digest_bytes(algorithm) if kind == Type.EXTEND else nv.NUMBER_BYTES
     return nv.Public(index, algorithm, attributes | nv.of_type(kind), auth_policy, size)

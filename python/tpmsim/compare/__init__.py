@@ -1,1 +1,1 @@
-"""A script on tpmsim and on another TPM, side by side: where they differ."""
+"""Runs a script on tpmsim and on another TPM, and shows where they differ."""

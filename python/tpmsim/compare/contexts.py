@@ -1,4 +1,6 @@
-"""Contexts of objects and sessions, which the completing layer gives here, and another TPM gives there."""
+"""Contexts of objects and sessions: for this device the completing layer makes them; the other TPM
+makes its own.
+"""
 
 from __future__ import annotations
 
@@ -15,7 +17,7 @@ if TYPE_CHECKING:
 
 @dataclass(frozen=True)
 class Kept:
-    """A context of the other TPM, and what is known of the object or the session that it is of."""
+    """A context of the other TPM, and what is known about its object or session."""
 
     text: bytes
     name: bytes | None
@@ -23,14 +25,14 @@ class Kept:
 
 
 class Contexts:
-    """Those of the other TPM, by the ones that they are here."""
+    """The contexts of the other TPM, by the corresponding contexts of this device."""
 
     def __init__(self, translation: Translation) -> None:
         self.translation, self.kept = translation, dict[bytes, Kept]()
 
     def command(self, buffer: bytes) -> bytes:
-        """The command for the other TPM; what is no command on contexts stays as it is. Unsupported of a
-        context of elsewhere, which the two cannot have alike.
+        """Returns the command for the other TPM; a command without contexts is returned unchanged.
+        Raises Unsupported for a context from elsewhere, which the two TPMs cannot both have.
         """
         asked = asked_of(buffer)
         if asked is None:
@@ -45,7 +47,7 @@ class Contexts:
         return command(CONTEXT_LOAD, self.kept[asked.parameters].text)
 
     def note(self, buffer: bytes, here: bytes, there: bytes) -> None:
-        """Both have done a command, with these answers."""
+        """Notes a command that both TPMs have executed, with its two responses."""
         asked = asked_of(buffer)
         if asked is None:
             return
@@ -59,7 +61,9 @@ class Contexts:
             self.loaded(int.from_bytes(here[10:14], "big"), there, self.kept.get(asked.parameters))
 
     def loaded(self, handle: int, there: bytes, kept: Kept | None) -> None:
-        """It has another handle there than it had."""
+        """Notes that a reloaded object or session has a different handle on the other TPM than
+        before.
+        """
         other = int.from_bytes(there[10:14], "big")
         self.translation.handles[handle] = other
         self.translation.lost.pop(handle, None)
@@ -68,6 +72,6 @@ class Contexts:
 
 
 def handle_of(asked: Asked) -> int | None:
-    """What TPM2_ContextSave saves."""
+    """Returns the handle that TPM2_ContextSave saves."""
     numbers = numbers_of(asked.parameters, 1) if asked.code == CONTEXT_SAVE else None
     return numbers[0] if numbers else None

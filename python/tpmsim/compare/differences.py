@@ -1,4 +1,4 @@
-"""What differs between two answers, what is chance in them, and the known causes of differences."""
+"""The differences between two responses, which fields are random, and the known causes."""
 
 import json
 import pathlib
@@ -10,13 +10,13 @@ from tpmsim.standard import frames, Short
 from tpmsim.standard.objects import Public
 from tpmsim.standard.values import Digest, Ticket, Time
 
-# Fields that come of random bytes or of a TPM's own secrets: their sizes are compared.
+# Fields made from random bytes or from a TPM's own secrets: only their sizes are compared.
 BY_CHANCE = {
     *("nonceTPM", "randomBytes", "outPrivate", "name", "qualifiedName", "creationHash"),
     "creationData",
 }
 
-# Codes that only other TPMs answer.
+# Codes that only other TPMs return.
 OTHER_CODES = {
     0x124: "AUTH_TYPE",
     0x081: "ASYMMETRIC",
@@ -28,7 +28,7 @@ OTHER_CODES = {
 
 @dataclass(frozen=True)
 class Difference:
-    """In a line of the script: what differs, and the earlier line that it follows from, if any."""
+    """The differences at a line of the script, and the earlier line that caused them, if any."""
 
     line: int
     command: str
@@ -44,7 +44,7 @@ class Difference:
 
 
 def code_word(code: int) -> str:
-    """A response code by its name and place, or its number."""
+    """Returns a response code as its name and place, or as its number."""
     if not code:
         return "success"
     name, place = frames.spelled_code(code)
@@ -77,7 +77,9 @@ def shown(value: Any) -> str:
 
 
 def between(here: dict[str, Any], there: dict[str, Any]) -> Iterator[tuple[str, str, str]]:
-    """The fields that differ, with both values; of two lists the first elements that differ."""
+    """Yields the fields that differ, with both values; for lists, the first elements that
+    differ.
+    """
     for name, value in here.items():
         own, other = comparable(name, value), comparable(name, there.get(name))
         if own == other:
@@ -92,7 +94,7 @@ def between(here: dict[str, Any], there: dict[str, Any]) -> Iterator[tuple[str, 
 
 @dataclass(frozen=True)
 class Cause:
-    """The form of differences by a cause, the section of rev. 01.38, and our decision."""
+    """A cause: the pattern of its differences, the section of rev. 01.38, and our decision."""
 
     words: str
     form: str
@@ -103,7 +105,7 @@ class Cause:
         return bool(re.search(self.form, f"{it.command} {it.what} {it.here} {it.there}"))
 
 
-# The first that a difference shows is its cause.
+# The cause of a difference is the first one whose pattern it matches.
 FILE = pathlib.Path(__file__).with_name("causes.json")
 CAUSES = tuple(Cause(**it) for it in json.loads(FILE.read_text("utf-8")))
 

@@ -2,14 +2,14 @@
 
 TPM is one of
     swtpm                                   the program, a new one for each script
-    swtpm:path=SOCKET                       one that runs, with its control channel at SOCKET.ctrl
-    swtpm:host=HOST,port=N                  one that runs, with its control channel at N + 1
-    mssim:host=HOST,port=N                  one behind Microsoft's protocol, the platform at N + 1
-    device:FILE                             such as /dev/tpmrm0, whose power nobody switches
+    swtpm:path=SOCKET                       a running one, with its control channel at SOCKET.ctrl
+    swtpm:host=HOST,port=N                  a running one, with its control channel at N + 1
+    mssim:host=HOST,port=N                  one with Microsoft's protocol, the platform at N + 1
+    device:FILE                             such as /dev/tpmrm0, which is not power-cycled
 
-What a TPM that runs has in it is its own: clear it before. A journal or log is a script too, if its
-device was a new one; a command that the completing layer saw is played with that layer. The status
-is 0 where nothing differs, 1 where something does, and 2 where it cannot be compared.
+A running TPM keeps what it has: clear it before. A journal or log is a script too, if its device was
+a new one; a command that the completing layer saw is played with that layer. The status is 0 if
+nothing differs, 1 if something differs, and 2 if they cannot be compared.
 """
 
 import argparse
@@ -23,7 +23,7 @@ from tpmsim.model.player import BadLine
 
 
 def other_tpm(words: str) -> Transport:
-    """The TPM of some words; ValueError of others."""
+    """Returns the TPM that the words describe; raises ValueError for other words."""
     kind, _, rest = words.partition(":")
     if kind == "device" and rest:
         return FileDevice(rest)

@@ -1,4 +1,4 @@
-"""Plays a script on both TPMs, and tells where they differ."""
+"""Plays a script on both TPMs, and reports where they differ."""
 
 from dataclasses import dataclass, field, replace
 
@@ -18,7 +18,7 @@ from tpmsim.standard import SHA256, TRANSIENT
 from tpmsim.standard.command_names import command_name
 from tpmsim.standard.values import read_all
 
-# What a command changes beside its handles, so that a later difference follows from it.
+# What a command changes in addition to its handles, so that a later difference may follow from it.
 GUESSES = "guesses"
 ALL = "all"
 CHANGES = {
@@ -33,14 +33,14 @@ CHANGES = {
 OF_GUESSES = {"AUTH_FAIL", "LOCKOUT", "BAD_AUTH"}
 LEAST_WAIT = 1000
 
-# What commands do to PCRs shows in their values, and in a policy of PCRs; and what is looked up by a
-# handle: NV indices, policy sessions, and objects.
+# Changes of PCRs are visible in their values and in a PCR policy. NV indices, policy sessions and
+# objects are identified by their handles.
 COUNTER, PCR_COMMANDS = "pcrUpdateCounter", (CC.PolicyPCR,)
 OWN_KINDS = NV, POLICY_SESSION, TRANSIENT, PERSISTENT
 
-# What is read of the state at the end: the PCRs, four at a time as an answer has eight digests at
-# most, the handles of NV indices, sessions, and transient and persistent objects, and the properties
-# of the protection from guessing.
+# The state read at the end: the PCRs, four at a time since a response has at most eight digests;
+# the handles of NV indices, sessions, and transient and persistent objects; and the dictionary
+# attack properties.
 READS = [
     *(
         frames.command(CC.PCR_Read, frames.selection((SHA1, four), (SHA256, four)))
@@ -56,7 +56,7 @@ READS = [
 
 @dataclass
 class Report:
-    """How many commands a script has, what differs, and what cannot be compared, by line."""
+    """The number of commands in a script, the differences, and what cannot be compared, by line."""
 
     commands: int = 0
     differences: list[Difference] = field(default_factory=list)
@@ -64,7 +64,7 @@ class Report:
 
 
 class Comparison:
-    """A script on the device here, and on another TPM, which awaits TPM2_Startup as it begins."""
+    """A script on this device and on another TPM, which first expects TPM2_Startup."""
 
     def __init__(self, other: Transport) -> None:
         self.other, self.here, self.report = other, Reference(), Report()
@@ -74,7 +74,9 @@ class Comparison:
         self.line, self.locality, self.waited = 0, 0, 0
 
     def play(self, script: bytes) -> Report:
-        """BadLine where a line is none; ValueError of a log that begins with what a new TPM has not."""
+        """Plays a script. Raises BadLine for a bad line, and ValueError if a log begins with state
+        that a new TPM does not have.
+        """
         is_begun = False
         for step in records.steps_of(script):
             self.line = step.line
@@ -92,7 +94,9 @@ class Comparison:
         return self.report
 
     def begin(self, step: records.Begin, is_begun: bool) -> None:
-        """A head: of the same device again, which a state text finds as it is; or of a new one."""
+        """Reads a head, which is of a new device, or of the same device again; a state text then
+        changes nothing.
+        """
         if is_begun and self.here.is_device_of(step):
             if not records.is_state_text(step.content):
                 self.power()
@@ -103,7 +107,9 @@ class Comparison:
             raise ValueError(f"line {self.line} begins with a device that no other TPM can be made")
 
     def send(self, buffer: bytes) -> bytes:
-        """Where the other TPM has the host's time, guesses are forgotten here alone."""
+        """Sends a command. If the other TPM runs on the host's time, only this device forgives
+        tries.
+        """
         waited, self.waited = min(self.waited, MOST_MILLISECONDS), 0
         try:
             if waited:
@@ -151,7 +157,9 @@ class Comparison:
         self.lose(asked, event, line)
 
     def can_be_sent(self, buffer: bytes) -> bool:
-        """A stream has no end of a command but its size; Microsoft's protocol and a file have."""
+        """Whether a buffer can be sent. In a stream only the size field says where a command ends;
+        Microsoft's protocol and a file have another way.
+        """
         if isinstance(self.other, (FileDevice, SimulatorDevice)):
             return True
         return HEADER_BYTES <= len(buffer) == int.from_bytes(buffer[2:6], "big") <= COMMAND_BYTES
@@ -186,7 +194,7 @@ class Comparison:
         elif not codes[0]:
             self.lose(asked, event, self.line)
         elif there:
-            # What is there and not here is taken away again, where one command does that.
+            # Removes what exists only on the other TPM, if one command can do that.
             self.flush(there.handle)
             if asked.code == CC.NV_DefineSpace:
                 self.other.execute(self.translation.undefining(there))
@@ -206,7 +214,9 @@ class Comparison:
                 self.causes.setdefault(it, self.line)
 
     def touched(self, asked: Command | None, what: str) -> list[object]:
-        """What a command reads or changes, by which a difference follows from an earlier one."""
+        """Returns what a command reads or changes, so that a difference can follow from an earlier
+        one.
+        """
         if asked is None:
             return []
         if what == COUNTER:
@@ -220,7 +230,9 @@ class Comparison:
         return [*touched, ALL]
 
     def lose(self, asked: Command | None, event: Executed, line: int) -> None:
-        """What is here and not there: what a command answered or made, and what it ended."""
+        """Notes what only this device has now, since a command returned or made it, and what it
+        ended.
+        """
         if asked is None or any(event.response[6:10]):
             return
         lost = self.translation.lost
@@ -238,7 +250,9 @@ class Comparison:
                 self.keep_step(entry, handle)
 
     def keep_step(self, entry: Entry, handle: int | None) -> None:
-        """A session that was used here alone ends there too, or has its starting state there too."""
+        """After a use of a session on this device only: ends the session on the other TPM too, or
+        restarts its policy there.
+        """
         handles = self.translation.handles
         if not entry.attributes & CONTINUE_SESSION:
             self.flush(handles.pop(entry.handle, None))

@@ -1,4 +1,4 @@
-"""The script as it stands, on the device here, and what its caller knew at each of its commands."""
+"""The unchanged script on this device, and what its caller knew at each of its commands."""
 
 from dataclasses import dataclass, field
 from typing import Any
@@ -23,7 +23,7 @@ from tpmsim.standard.values import read_all
 
 
 def parsed(buffer: bytes) -> Command | None:
-    """A command by its form alone, or None where it has none."""
+    """Parses a buffer as a command, by its form only; returns None if it is not one."""
     fields = Fields(buffer)
     try:
         tag, size, code = fields.number(2), fields.number(4), NUMBERED.get(fields.number(4))
@@ -40,7 +40,9 @@ def parsed(buffer: bytes) -> Command | None:
 
 @dataclass(frozen=True)
 class Shown:
-    """How an entry was right; `key` says whether the value is in the key of a right hmac."""
+    """In which way an entry was correct; `key` says whether the authorization value is in the key
+    of the correct hmac.
+    """
 
     is_password: bool = False
     key: bool | None = None
@@ -48,7 +50,7 @@ class Shown:
 
 @dataclass
 class Received:
-    """What a TPM answered to a request in plain, and what is wrong with its hmacs."""
+    """A TPM's response to a decrypted request, and what is wrong with its hmacs."""
 
     request: bytes = b""
     handle: int | None = None
@@ -57,8 +59,8 @@ class Received:
 
 
 class Reference:
-    """The device here, twice: one that answers, and one in Python that can be looked into. Above both stands
-    the completing layer.
+    """This device, twice: one instance that responds, and one in Python whose state can be read.
+    The completing layer is above both.
     """
 
     event: Executed
@@ -70,7 +72,7 @@ class Reference:
         self.device, self.layer = own, Completion()
 
     def execute(self, step: records.Command) -> Executed:
-        """A command as the records say it, with the completing layer where that was there."""
+        """Executes a recorded command, with the completing layer if the record says so."""
         told = step.buffer, step.locality, step.random, step.elapsed
         if not step.completes:
             self.outcome(*told)
@@ -93,8 +95,8 @@ class Reference:
         return True
 
     def open_empty(self, step: records.Begin) -> bool:
-        """Becomes the device of a head, if that is one whose power just came on, and has nothing that a new
-        one has not.
+        """Becomes the device of a head, if it was just powered on and holds nothing that a new
+        device lacks. Returns whether it did.
         """
         begun = opened(step.content, step.start)
         found = begun.device
@@ -114,7 +116,9 @@ class Reference:
         self.layer.forget(self.model)
 
     def shown(self, command: Command, place: int, entry: Entry, handle: int | None) -> Shown:
-        """How the entry of a session that is there is right, before the command is executed."""
+        """Returns how the entry of an existing session is correct, before the command is
+        executed.
+        """
         session, value = self.model.sessions[entry.handle], self.model.auth_value(handle)
         if handle is not None and session.policy.demand == "password":
             return Shown(is_password=sessions.trimmed(entry.hmac) == value)
@@ -132,7 +136,7 @@ class Reference:
         return Shown()
 
     def plain(self, command: Command) -> bytes:
-        """The parameters, decrypted where a session of the command asks for it and can."""
+        """Returns the parameters, decrypted if a session of the command can and should do so."""
         found = command.with_attribute(DECRYPT)
         session = self.model.sessions.get(found[1].handle) if found else None
         is_encrypted = session and session.cipher != ALG_NULL and command.code.takes_sized
@@ -143,7 +147,7 @@ class Reference:
         return sessions.first_decrypted(*given, command.parameters)
 
     def encrypting(self, command: Command) -> Session | None:
-        """The session that will encrypt the answer, which may end with it."""
+        """Returns the session that will encrypt the response; the command may end the session."""
         found = command.with_attribute(ENCRYPT)
         return self.model.sessions.get(found[1].handle) if found else None
 

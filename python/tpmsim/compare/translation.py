@@ -1,4 +1,6 @@
-"""A command of the script, made anew for another TPM: by its handles, its nonces and its keys."""
+"""Rebuilds a command of the script for another TPM, with the handles, nonces and keys of that
+TPM.
+"""
 
 from tpmsim.caller.entries import flipped, Prepared, Session, Use
 from tpmsim.caller.knowledge import Knowledge, WrongResponse
@@ -9,14 +11,14 @@ from tpmsim.standard import ALG_NULL, CC, CONTINUE_SESSION, DECRYPT, Entry, Fiel
 from tpmsim.standard import frames, is_policy, is_session, Kind, nv, RS_PW, sessions, Short
 from tpmsim.standard.values import read_all, VALUES
 
-# A value that is shorter could stand in a command by chance.
+# A shorter value could occur in a command by chance.
 LEAST_VALUE = 8
 
 TIED = "a Name of an object is in its policy"
 
 
 class NotComparable(Exception):
-    """Why a command cannot be made anew, in words, and the line of the script that it comes of."""
+    """Why a command cannot be rebuilt, as text, and the line of the script that causes this."""
 
     def __init__(self, words: str, line: int) -> None:
         super().__init__(words, line)
@@ -24,7 +26,7 @@ class NotComparable(Exception):
 
 
 class Translation:
-    """What is known of the other TPM: each thing by what it is called in the script."""
+    """What is known about the other TPM, each thing by its name in the script."""
 
     def __init__(self, here: Reference) -> None:
         self.here, self.known = here, Knowledge()
@@ -49,7 +51,9 @@ class Translation:
         return self.handles.get(number, number)
 
     def command(self, buffer: bytes) -> Prepared | bytes:
-        """The command for the other TPM; bytes that are no command are sent as they are."""
+        """Returns the command for the other TPM; bytes that are not a command are returned
+        unchanged.
+        """
         asked = parsed(buffer)
         if asked is None:
             return self.contexts.command(buffer)
@@ -70,7 +74,9 @@ class Translation:
         return prepared
 
     def check_hashed(self, asked: Command, handles: list[int], parameters: bytes) -> None:
-        """A cpHash names this command alone, and another one where Names or parameters differ."""
+        """Raises NotComparable if a cpHash names this command, but Names or parameters differ on
+        the other TPM.
+        """
         names = [self.known.name(it) for it in handles]
         if (names, parameters) == (self.here.model.names(asked), asked.parameters):
             return
@@ -79,7 +85,9 @@ class Translation:
                 raise NotComparable(TIED, self.hashed[entry.handle])
 
     def is_made_elsewhere(self, asked: Command) -> bool:
-        """Whether a command loads what no answer was: the script has it of the device's own seeds."""
+        """Whether a command loads an area that no response contained: the script has the area from
+        the device's own seeds.
+        """
         if asked.code != CC.Load:
             return False
         try:
@@ -130,12 +138,14 @@ class Translation:
         return sessions.entry_hmac(*given, use.attributes)
 
     def password(self, given: bytes, handle: int | None, there: int | None) -> bytes:
-        """A right password stays right where the values of both differ."""
+        """Returns the password for the other TPM: a correct password is replaced by the value
+        there, if the two values differ.
+        """
         value, other = self.here.model.auth_value(handle), self.known.auth_value(there)
         return other if sessions.trimmed(given) == value != other else given
 
     def parameters(self, asked: Command, plain: bytes) -> bytes:
-        """With handles, nonces and what was answered before in the other TPM's own."""
+        """Returns the parameters with the other TPM's handles, nonces and earlier results."""
         fields, text = Fields(plain), b""
         for it in asked.code.parameters:
             before = fields.data
@@ -160,7 +170,7 @@ class Translation:
         return self.values.get(value, value)
 
     def received(self, prepared: Prepared, response: bytes) -> Received:
-        """What a success of the other TPM tells; the sessions have their new nonces then."""
+        """Reads a success of the other TPM; the sessions then have their new nonces."""
         fields = Fields(response[10:])
         handle = fields.number(4) if prepared.code.answers_handle else None
         request = self.known.plain_request(prepared)
@@ -176,7 +186,7 @@ class Translation:
         try:
             self.known.note_answer(prepared, request, handle, parameters)
         except KeyError:
-            pass  # a Name by a hash algorithm that there is only there
+            pass  # the Name's hash algorithm exists only there
         answer.fields = read_all(prepared.code.answered_parameters, parameters)
         answer.wrong = "; ".join(wrong) or None
         return answer
@@ -215,7 +225,7 @@ class Translation:
         self.sessions[session.handle] = session
 
     def tie(self, asked: Command, prepared: Prepared, there: Received, line: int) -> None:
-        """A policy in which a Name stands that the other TPM's things do not have, or a cpHash."""
+        """Notes a policy that contains a cpHash, or a Name that the other TPM does not have."""
         session = asked.handles[-1]
         if asked.code == CC.PolicyRestart:
             self.untie(session)
@@ -230,7 +240,7 @@ class Translation:
         self.hashed.pop(session, None)
 
     def undefining(self, there: Received) -> bytes:
-        """The command that takes away what TPM2_NV_DefineSpace defined there."""
+        """Returns the command that removes what TPM2_NV_DefineSpace defined on the other TPM."""
         fields = Fields(there.request)
         fields.sized()
         index = int.from_bytes(fields.sized()[:4], "big")

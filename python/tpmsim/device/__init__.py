@@ -1,4 +1,4 @@
-"""Where commands go: each device is spoken to by the same words, those of `Transport`."""
+"""Devices that execute commands, all with the same methods, those of `Transport`."""
 
 from tpmsim.device import library
 from tpmsim.device.base import Answered, BadImage, BadState, DeviceEnded, Snapshot

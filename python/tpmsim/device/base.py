@@ -1,4 +1,4 @@
-"""A device, as whoever uses one speaks of it, wherever it is."""
+"""The interface of every device, wherever the device is."""
 
 from abc import ABC, abstractmethod
 from dataclasses import dataclass
@@ -9,24 +9,30 @@ from tpmsim.standard import lines, NUMBERED
 
 
 class Unsupported(Exception):
-    """What this way to a device cannot do, in words."""
+    """An action that this device or its connection does not support; the message says which."""
 
 
 class DeviceEnded(Exception):
-    """The device is no more; the words are those that it ended with."""
+    """The device has ended; the message says how."""
 
 
 class BadImage(Exception):
-    """Bytes that are no image, with their first fault, as docs/table/image.md names it."""
+    """Bytes that are not an image; the message is their first fault, named as in
+    docs/table/image.md.
+    """
 
 
 class BadState(Exception):
-    """Bytes that are no state text, with their first fault, as docs/table/state_text.md names it."""
+    """Bytes that are not a state text; the message is their first fault, named as in
+    docs/table/state_text.md.
+    """
 
 
 @dataclass(frozen=True)
 class Answered:
-    """A response, and the check of the trace where there is one: `ok`, or the one that refused."""
+    """A response, and the check in its trace, if the device reports it: `ok`, or the check that
+    refused the command.
+    """
 
     response: bytes
     check: str | None = None
@@ -34,7 +40,7 @@ class Answered:
 
 @dataclass(frozen=True, slots=True)
 class Executed:
-    """A command and its response; the random bytes, the locality and all else if it was told."""
+    """A command and its response. The other fields are None if they are not known."""
 
     buffer: bytes
     response: bytes
@@ -46,7 +52,7 @@ class Executed:
 
     @property
     def traced(self) -> str:
-        """What a trace says of it; of a device that tells no check, the response code alone."""
+        """The text of its trace, or only the response code if the device reports no check."""
         code = self.response[6:10].hex()
         if self.check is None:
             return code
@@ -55,12 +61,14 @@ class Executed:
 
 
 def line_in_bytes(buffer: bytes) -> str:
-    """The script's line that executes a buffer; that of the empty buffer is `cmd` alone."""
+    """Returns the script line that executes a buffer, in hex; for the empty buffer, only `cmd`."""
     return f"cmd {buffer.hex()}".rstrip()
 
 
 def line(buffer: bytes) -> str:
-    """The same in words, where some say just these bytes; that of the empty buffer ends in a space."""
+    """Returns the script line that executes a buffer, in words if a line encodes exactly these
+    bytes. For the empty buffer the line ends in a space.
+    """
     words = lines.line_of(buffer)
     return f"cmd {buffer.hex()}" if words is None else f"do {words}"
 
@@ -73,10 +81,11 @@ def lines_told(event: str | Executed) -> list[str]:
 
 
 class Snapshot(bytes):
-    """A device's state text (docs/table/state_text.md). It may be kept, compared and restored anywhere.
-    With it goes what the text has not: the locality of the next commands, the milliseconds that pass
-    before them, and what was told until then. `begun` is the image or the state text of the device that
-    was told the events, none of a script's device, and None where that is not known.
+    """A device's state text (docs/table/state_text.md), which may be stored, compared and restored
+    anywhere. It also carries what the text does not contain: the locality of the next commands, the
+    milliseconds that pass before the next one, and the events so far. `begun` is the image or the
+    state text of the device that received the events. It is empty for a script's device, and None
+    if it is not known.
     """
 
     locality: int
@@ -99,8 +108,8 @@ class Snapshot(bytes):
 
     @classmethod
     def of(cls, given: object) -> Self:
-        """A snapshot as it was taken, or one of a text alone, with which the events begin; TypeError of
-        anything else.
+        """Returns a snapshot unchanged, or makes one from a state text; the events then start from
+        that state. Raises TypeError for anything else.
         """
         if isinstance(given, cls):
             return given
@@ -110,14 +119,14 @@ class Snapshot(bytes):
 
 
 class Transport(ABC):
-    """A device, or a way to one. What a way cannot do is Unsupported."""
+    """A device, or a connection to one. Raises Unsupported in a method that it does not support."""
 
     def __init__(self) -> None:
         self.events: list[str | Executed] = []
 
     @property
     def trace(self) -> list[str]:
-        """The lines of a script that does the same, with each trace behind as a comment.
+        """The lines of a script that does the same, with each trace as a comment after its command.
 
         >>> with ModelDevice() as device:
         ...     Caller(device).start_up()
@@ -128,15 +137,15 @@ class Transport(ABC):
 
     @abstractmethod
     def execute(self, buffer: bytes) -> Answered:
-        """What a command is answered; DeviceEnded where there is no answer."""
+        """Returns the response to a command; raises DeviceEnded if there is none."""
 
     def wait(self, milliseconds: int) -> None:
-        """They pass before the next command; at most 4,294,967,295 of them."""
+        """Lets milliseconds pass before the next command, at most 4,294,967,295."""
         raise Unsupported("time passes as it does on the host")
 
     @property
     def locality(self) -> int:
-        """That of the next commands, 0 to 4; ValueError of another."""
+        """The locality of the next commands, 0 to 4; another number raises ValueError."""
         raise Unsupported("the locality is not told here")
 
     @locality.setter
@@ -144,11 +153,11 @@ class Transport(ABC):
         raise Unsupported("the locality is not told here")
 
     def power_cycle(self) -> None:
-        """Takes the power away and gives it back; the device awaits TPM2_Startup."""
+        """Power-cycles the device, which then expects TPM2_Startup."""
         raise Unsupported("the power is not switched here")
 
     def save(self) -> bytes:
-        """The image of what the device keeps without power.
+        """Returns the image, which is what the device keeps without power.
 
         >>> with Device() as device:
         ...     device.save()[:4]
@@ -157,18 +166,20 @@ class Transport(ABC):
         raise Unsupported("there is no image")
 
     def snapshot(self) -> object:
-        """All that the device is, sessions and objects too, for `restore`: a Snapshot, where its state
-        text can be had.
+        """Returns the whole state of the device, with sessions and objects, for `restore`. It is a
+        Snapshot if the device's state text is available.
         """
         raise Unsupported("there are no snapshots")
 
     def restore(self, snapshot: object) -> None:
-        """Makes the device what it was at a snapshot, however often."""
+        """Returns the device to the state of a snapshot, which may be restored any number of
+        times.
+        """
         raise Unsupported("there are no snapshots")
 
     def close(self) -> None:
-        """Ends the device, or the connection to it; a file of its image has the clock then. `with`
-        does it too.
+        """Ends the device, or the connection to it; `with` does so too. If there is a file of its
+        image, that then has the clock.
 
         >>> device = Device()
         >>> device.close()

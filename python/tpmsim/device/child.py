@@ -1,4 +1,4 @@
-"""A device that a child process of `tpmsim run` has, where there is no library."""
+"""A device in a child process, `tpmsim run`, which is used if the library is missing."""
 
 import os
 import pathlib
@@ -15,13 +15,14 @@ from tpmsim.device.shipped import shipped
 from tpmsim.device.told import Device, Path
 from tpmsim.standard import CC
 
-# How the program names the fault of a file that is no state text.
+# The start of the program's message about a file that is not a state text.
 NO_STATE_TEXT = "tpmsim: snapshot "
 
 
 def program_found() -> str:
-    """The program: the one that $TPMSIM names, the one of this repository, one on the path, or the one
-    beside the interpreter, where a wheel puts it.
+    """Returns the path of the program: the one that $TPMSIM names, the one of this repository, one
+    on the path, or the one next to the interpreter, where a wheel installs it. Raises
+    FileNotFoundError if there is none.
     """
     found = os.environ.get("TPMSIM")
     if not found and os.access(shipped("tpmsim"), os.X_OK):
@@ -34,15 +35,15 @@ def program_found() -> str:
 
 
 def remove(folder: str, process: int) -> None:
-    """A forked child does not remove the folder of its parent."""
+    """Removes the folder, but only in the process that made it, not in a forked child."""
     if os.getpid() == process:
         shutil.rmtree(folder)
 
 
 class ChildDevice(InStep, Device):
-    """A device that a child process has. Without an image it is manufactured with the bytes 00 to
-    ff, and its state is in a folder of its own until it is closed. With an image it is the device of
-    that file, or a new one with random seeds, and what it changes is in the file before it is answered.
+    """A device in a child process. Without an image it is manufactured with the bytes 00 to ff, and
+    its state is in a folder of its own until it is closed. With an image it is the device of that
+    file, or a new one with random seeds. Each change is in the file before the command is answered.
 
     >>> with ChildDevice() as device:
     ...     device.execute(b"").check
@@ -70,11 +71,11 @@ class ChildDevice(InStep, Device):
         return subprocess.Popen([*words, "-"], stdin=pipes, stdout=pipes, stderr=pipes)
 
     def within(self, name: str) -> str:
-        """A path in the device's own folder."""
+        """Returns a path in the device's own folder."""
         return os.path.join(self.folder, name)
 
     def begin(self, image: bytes) -> None:
-        """BadImage is told by the first command, as DeviceEnded."""
+        """Starts the device of an image. Other bytes make the first command raise DeviceEnded."""
         self.image = pathlib.Path(self.within("image"))
         self.image.write_bytes(image)
         self.start_anew()
@@ -126,13 +127,13 @@ class ChildDevice(InStep, Device):
         self.heard()
 
     def save(self) -> bytes:
-        """What the file of the image holds: all but the clock since the last change."""
+        """Returns the bytes of the image file, whose clock is that of the last change."""
         if self.image is None:
             raise Unsupported("a device is saved that was given an image")
         return self.image.read_bytes()
 
     def check_folder(self) -> None:
-        """A device with an image draws seeds that nobody is told."""
+        """Raises Unsupported for a device with an image, since it draws seeds that nobody knows."""
         if self.image is not None:
             raise Unsupported("a child's device with an image has no snapshots")
 
@@ -144,14 +145,14 @@ class ChildDevice(InStep, Device):
         return self.asked("snapshot", self.within("state"))
 
     def await_journal(self) -> None:
-        """The process begins it before it reads a command."""
+        """Waits for the journal, which the process starts before it reads a command."""
         while not os.path.exists(self.within("state/journal")):
             if self.process.poll() is not None:
                 raise self.ended()
             time.sleep(0.001)
 
     def resume(self, text: bytes) -> None:
-        """A process that goes on where the text is takes the place of this one."""
+        """Replaces the process by one that continues from the state text."""
         self.check_folder()
         if not self.removal.alive:
             raise DeviceEnded(CLOSED)
@@ -161,7 +162,9 @@ class ChildDevice(InStep, Device):
         self.start_anew()
 
     def asked(self, *words: str) -> bytes:
-        """What the program prints at these words."""
+        """Runs the program with these arguments, and returns what it prints; raises BadState or
+        DeviceEnded if it fails.
+        """
         done = subprocess.run([self.program, *words], capture_output=True, check=False)
         if not done.returncode:
             return done.stdout
@@ -180,12 +183,12 @@ class ChildDevice(InStep, Device):
         self.process.wait()
 
     def hang_up(self) -> None:
-        """Ends the process at once, which may be within a command; its image is whole all the same."""
+        """Kills the process at once, even during a command; its image file stays complete."""
         self.process.kill()
         self.end()
 
     def close(self) -> None:
-        """Ends the process, and waits for it; its image is then whole, with the clock."""
+        """Ends the process and waits for it; its image is then complete, with the clock."""
         self.why_closed = self.why_closed or CLOSED
         self.end()
         self.removal()

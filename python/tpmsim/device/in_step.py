@@ -1,4 +1,4 @@
-"""A way to a device on which each answer comes after its command."""
+"""A connection to a device on which each response follows its command."""
 
 from typing import Callable, TypeVar
 
@@ -11,11 +11,13 @@ Done = TypeVar("Done")
 
 
 class InStep(Transport):
-    """If an exchange does not end, for whatever reason, its answer would be taken for that of the next
-    command. So the way is closed then, and each later call raises DeviceEnded, which says why.
+    """A connection that is closed if an exchange does not complete, for whatever reason: its
+    response would be taken for that of the next command. Each later call raises DeviceEnded, which
+    says why.
     """
 
-    # Why the way is closed; empty while it is open. An exchange sets it first, and clears it last.
+    # Why the connection is closed; empty while it is open. An exchange sets it first, and clears it
+    # last.
     why_closed = ""
 
     def whole(self, exchange: Callable[[], Done]) -> Done:
@@ -32,7 +34,7 @@ class InStep(Transport):
                 self.hang_up()
 
     def hang_up(self) -> None:
-        """Closes the way, if it is open, and sends nothing on it."""
+        """Closes the connection, if it is open, without sending anything."""
         raise NotImplementedError
 
     def close(self) -> None:

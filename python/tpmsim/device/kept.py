@@ -1,6 +1,7 @@
-"""A device that is kept in a folder (docs/ATTACHED.md), by the C host in libtpmsim-kept.so.0.
+"""A device that is kept in a folder (docs/ATTACHED.md), through the C host in libtpmsim-kept.so.0.
 
-Python runs a signal handler when a call of the host has returned, so an interrupt leaves no call half done.
+Python runs a signal handler only after a call of the host has returned, so an interrupt never
+leaves a call half done.
 """
 
 import ctypes
@@ -24,7 +25,7 @@ FORCE_NEVER, FORCE_POWER = 0, 1
 
 
 class Options(ctypes.Structure):
-    """tpmsim_kept_options of hosts/kept/tpmsim_kept.h."""
+    """The struct tpmsim_kept_options of hosts/kept/tpmsim_kept.h."""
 
     _fields_ = [
         *((name, ctypes.c_char_p) for name in ("folder", "image", "random")),
@@ -35,7 +36,7 @@ class Options(ctypes.Structure):
 
 @functools.cache
 def host() -> ctypes.CDLL:
-    """The C host, once; OSError if it is not beside the library."""
+    """Loads the C host, once; raises OSError if it is not next to the library."""
     library()
     found, byte, size = ctypes.CDLL(beside(NAME)), ctypes.c_uint8, ctypes.c_size_t
     text, address = ctypes.c_char_p, ctypes.c_void_p
@@ -54,7 +55,7 @@ def host() -> ctypes.CDLL:
 
 
 def check(told: int, reason: str) -> None:
-    """Raises why a call was not done."""
+    """Raises an exception that says why, unless the call was done."""
     if told == NO_MEMORY:
         raise MemoryError(reason)
     if told in IMAGE_FAULTS:
@@ -66,15 +67,16 @@ def check(told: int, reason: str) -> None:
 
 
 class KeptDevice(LocatedDevice):
-    """The device of a folder. If the folder has none, a new one begins there. Several processes may hold
-    it at once: each executes what the others added, and then its own command. With `forces` the name
-    of a new journal is forced to the disk, and that of one that is opened. With `completes` the
-    completing layer of the library is above the device. The last `keep` journals that new ones replaced,
-    0 to 99, stay in the folder. A forked child may use its parent's device, and threads take turns.
+    """The device in a folder. If the folder has none, a new one begins there. Several processes may
+    hold it at once: each executes what the others added, and then its own command. With `forces`,
+    the name of each journal that is new or opened is forced to the disk. With `completes`, the
+    completing layer of the library is above the device. The last `keep` journals that new ones
+    replaced, 0 to 99, stay in the folder. A forked child may use its parent's device, and threads
+    take turns.
 
-    DeviceEnded says in a sentence of docs/ATTACHED.md why a call was not done; BadImage or BadState says
-    so if the journal begins with what is none. If the end of a journal was cut off, a RuntimeWarning
-    says what.
+    DeviceEnded says in a sentence of docs/ATTACHED.md why a call was not done. If the journal
+    begins with bytes that are not an image or a state text, BadImage or BadState says so. If the
+    end of a journal was cut off, a RuntimeWarning says what is missing.
 
     >>> import tempfile
     >>> with tempfile.TemporaryDirectory() as folder:
@@ -103,7 +105,7 @@ class KeptDevice(LocatedDevice):
         check(*self.told(self.host.tpmsim_kept_open, ctypes.byref(options)))
 
     def told(self, call: Callable[..., int], *given: object) -> tuple[int, str]:
-        """What a call of the host returns, and its sentence."""
+        """Calls the host, and returns its result and its message."""
         with self.turn:
             told = call(self.handle, *given, self.reason)
             self.host.tpmsim_kept_notice(self.handle, self.notice)
@@ -128,7 +130,7 @@ class KeptDevice(LocatedDevice):
         return Answered(told, CHECKS[answered.check])
 
     def power_cycle(self) -> None:
-        """For every process that holds the device."""
+        """Power-cycles the device for every process that holds it."""
         self.ask(self.host.tpmsim_kept_power)
         self.events.append("power")
 
@@ -138,7 +140,7 @@ class KeptDevice(LocatedDevice):
             return device.save()
 
     def snapshot(self) -> Snapshot:
-        """The state text of the device, with its completing layer.
+        """Returns the state text of the device, with its completing layer.
 
         >>> import tempfile
         >>> with tempfile.TemporaryDirectory() as folder, KeptDevice(folder) as device:
@@ -156,7 +158,9 @@ class KeptDevice(LocatedDevice):
         return ctypes.string_at(text, size.value)
 
     def restore(self, snapshot: object) -> None:
-        """For every process that holds the device: the journal begins anew, with the state text."""
+        """Restores a snapshot for every process that holds the device; the journal restarts with
+        it.
+        """
         text = Snapshot.of(snapshot)
         if not self.holder:
             raise ValueError("the device is closed")
@@ -166,7 +170,7 @@ class KeptDevice(LocatedDevice):
         self.at = text.locality
 
     def journal(self) -> bytes:
-        """What is in the journal; OSError if it cannot be read."""
+        """Returns the bytes of the journal; raises OSError if it cannot be read."""
         return pathlib.Path(self.path, "journal").read_bytes()
 
     def close(self) -> None:
@@ -183,7 +187,7 @@ FORKS, stopped = threading.RLock(), list[list[KeptDevice]]()
 
 
 def stop_calls() -> None:
-    """Waits for the calls of other threads, which a forked child would have left halfway."""
+    """Waits for the calls of other threads, which a fork would leave half done in the child."""
     FORKS.acquire()
     stopped.append(sorted(HELD, key=id))
     for device in stopped[-1]:

@@ -1,4 +1,4 @@
-"""A device in this process, by the library libtpmsim (docs/LIBRARY.md)."""
+"""A device in this process, through the library libtpmsim (docs/LIBRARY.md)."""
 
 import ctypes
 import fcntl
@@ -16,16 +16,17 @@ from tpmsim.device.shipped import shipped
 from tpmsim.device.told import Device, NothingReplaced, Path, RANDOM_BYTES
 from tpmsim.model.image import BODY_AT, DIGEST_AT_END, HIERARCHIES
 
-# The seed and the proof of a hierarchy; what is between its authorization values and the clock: one
-# byte, and those of the protection from guessing; and the clock itself.
+# Sizes in an image: the seed and the proof of a hierarchy; the fields between the last
+# authorization value and the clock, which are one byte and the dictionary attack protection; and
+# the clock.
 SECRETS_BYTES, BEFORE_CLOCK, CLOCK_BYTES = 64, 18, 8
 
 OWNER_ALONE = 0o600
 
 
 def opened(path: str, flags: int) -> io.FileIO:
-    """A file that is closed with its object. `map` makes both calls, in C. No signal handler runs between
-    them, so no descriptor is left without an object.
+    """Opens a file that is closed together with its object. `map` makes both calls in C, with no
+    signal handler between them, so every descriptor has an object.
     """
     call = functools.partial(os.open, mode=OWNER_ALONE)
     return next(map(io.FileIO, map(call, [path], [flags]), ["r+"]))
@@ -40,9 +41,9 @@ def but_clock(image: bytes) -> bytes:
 
 
 class ImageFile:
-    """Takes the lock that `tpmsim` takes, and holds it until `close`. FileExistsError where another
-    has it; OSError where the folder may not be written to. It is the file of the process that opened
-    it, and of no child that this forks.
+    """The file of an image, with the lock that `tpmsim` takes, held until `close`. Raises
+    FileExistsError if another holds the lock, and OSError if the folder is not writable. The file
+    belongs to the process that opened it, and not to a forked child.
     """
 
     is_left = False
@@ -65,24 +66,24 @@ class ImageFile:
         return not self.is_left and self.process == os.getpid()
 
     def read(self) -> bytes:
-        """The image, or no bytes where there is no file."""
+        """Returns the image, or no bytes if there is no file."""
         try:
             return self.path.read_bytes()
         except FileNotFoundError:
             return b""
 
     def keep(self, image: bytes) -> None:
-        """Writes an image, where more than the clock is another one than was written last."""
+        """Writes an image, if it differs in more than the clock from the one written last."""
         if not self.kept or but_clock(image) != but_clock(self.kept):
             self.write(image)
 
     def write(self, image: bytes) -> None:
-        """Beside the file first, and forced to the disk before it takes the file's place."""
+        """Writes a file next to the image, syncs it to the disk, and replaces the image by it."""
         beside = pathlib.Path(f"{self.path}.new")
         beside.unlink(missing_ok=True)
         flags = os.O_WRONLY | os.O_CREAT | os.O_EXCL | os.O_CLOEXEC
         with open(os.open(beside, flags, OWNER_ALONE), "wb") as file:
-            os.fchmod(file.fileno(), OWNER_ALONE)  # the umask may have taken what its owner needs
+            os.fchmod(file.fileno(), OWNER_ALONE)  # the umask may have cleared the owner's bits
             file.write(image)
             file.flush()
             os.fsync(file.fileno())
@@ -95,7 +96,7 @@ class ImageFile:
         self.kept = image
 
     def close(self, image: bytes) -> None:
-        """Writes the image with its clock, and gives the lock back."""
+        """Writes the image with its clock, and releases the lock."""
         try:
             if self.is_here:
                 self.write(image)
@@ -103,14 +104,14 @@ class ImageFile:
             self.leave()
 
     def leave(self) -> None:
-        """Releases the lock, which a child may share, and leaves the file as it is."""
+        """Releases the lock, which a child may share, and does not write the file."""
         is_here, self.is_left = self.is_here, True
         if is_here:
             fcntl.flock(self.lock, fcntl.LOCK_UN)
         self.lock.close()
 
     def give_up(self) -> None:
-        """Leaves file and lock to the parent."""
+        """Leaves the file and its lock to the parent."""
         self.is_left = True
         self.lock.close()
 
@@ -119,9 +120,10 @@ HELD: weakref.WeakSet[ImageFile] = weakref.WeakSet()
 
 
 def give_up_all() -> None:
-    """A forked child shares the locks, and would hold them after its parent. In another namespace it may
-    also have the process number of its parent. Python calls this when it forks itself. After a fork by
-    a library in C, only another process number tells.
+    """Leaves all files and locks to the parent of a forked child, which shares the locks and would
+    hold them after its parent ends. Python calls this in the child when it forks itself. After a
+    fork by a library in C, only a different process number identifies the child, and in another
+    namespace the number may be the same.
     """
     for file in list(HELD):
         file.give_up()
@@ -133,11 +135,11 @@ os.register_at_fork(after_in_child=give_up_all)
 NAME = "libtpmsim.so.0"
 RESPONSE_BYTES = 4096
 
-# Enough for each image and each state text.
+# Large enough for any image and any state text.
 TEXT_BYTES = 36_323
 
-# What a call tells (library/tpmsim.h): these, and from 4 on the faults of an image, and further on
-# those of a state text.
+# The results of a call (library/tpmsim.h): NO_MEMORY, the faults of an image from 4 on, and those
+# of a state text from 13 on.
 NO_MEMORY, FAULTS = 3, ("Short", "Magic", "Version", "Length", "Digest", "Body")
 IMAGE_FAULTS = dict(enumerate(FAULTS, 4))
 STATE_FAULTS = dict(enumerate(FAULTS, 13))
@@ -156,7 +158,9 @@ class AnsweredInC(ctypes.Structure):
 
 
 def places() -> list[str]:
-    """$TPMSIM_LIBRARY alone, or beside the package, in dist/ here, and where the loader looks."""
+    """Returns the paths at which the library may be: only $TPMSIM_LIBRARY if that is set, otherwise
+    next to the package, in dist/ of this clone, and where the loader looks.
+    """
     named = os.environ.get("TPMSIM_LIBRARY")
     if named:
         return [named]
@@ -165,13 +169,13 @@ def places() -> list[str]:
 
 
 def beside(name: str) -> str:
-    """The place of another shared object, which is beside the library."""
+    """Returns the path of another shared object, which is next to the library."""
     return os.path.join(os.path.dirname(places()[0]), name)
 
 
 @functools.cache
 def library() -> ctypes.CDLL:
-    """The library, once; OSError where there is none, or where it is of another version."""
+    """Loads the library, once; raises OSError if it is missing or has another version."""
     found = ctypes.CDLL(places()[0])
     number = found.tpmsim_version()
     version = f"{number >> 16}.{number >> 8 & 0xFF}.{number & 0xFF}"
@@ -212,8 +216,8 @@ Write = Callable[[int, ctypes.Array[ctypes.c_char], int], int]
 
 
 def written(call: Write, handle: int) -> bytes:
-    """The text that a call writes of a device, if its buffer has room for all of it; no bytes of no
-    device.
+    """Returns the text that a call writes about a device, with a buffer large enough for all of it;
+    no bytes if there is no device.
     """
     size = TEXT_BYTES
     while True:
@@ -225,9 +229,9 @@ def written(call: Write, handle: int) -> bytes:
 
 
 class LibraryDevice(Device):
-    """A device in this process. It is manufactured with 256 bytes, which are fresh ones where none
-    are given. One that has an image is kept there: the file is written anew before a response that
-    comes of a change, and at the end; FileExistsError where another device has the image.
+    """A device in this process, manufactured with 256 bytes, which are fresh unless they are given.
+    If it has an image, it is kept there: the file is written again before the response to a change,
+    and at the end. Raises FileExistsError if another device has the image.
 
     >>> with LibraryDevice(manufactured=bytes(256)) as device:
     ...     len(device.save())
@@ -270,7 +274,7 @@ class LibraryDevice(Device):
         self.keep()
 
     def look(self) -> None:
-        """DeviceEnded where the image is another process's."""
+        """Raises DeviceEnded if the image belongs to another process."""
         if self.file and not self.file.is_here:
             raise DeviceEnded("the image is the one of the process that forked this one")
 
@@ -284,7 +288,7 @@ class LibraryDevice(Device):
         self.keep()
 
     def look_open(self) -> None:
-        """ValueError after `close`, too."""
+        """Checks like `look`; also raises ValueError after `close`."""
         self.look()
         if not self.holder:
             raise ValueError("the device is closed")
@@ -320,13 +324,13 @@ class LibraryDevice(Device):
         self.keep()
 
     def keep(self) -> None:
-        """Writes the image where more than the clock has changed; DeviceEnded where it cannot."""
+        """Writes the image if more than the clock has changed; raises DeviceEnded if that fails."""
         if self.file:
             try:
                 self.file.keep(self.save())
             except OSError as fault:
                 if fault.errno is None:
-                    raise  # by a signal handler, as a test's TimeoutError, and no system call
+                    raise  # by a signal handler, such as a test's TimeoutError, not by a system call
                 raise DeviceEnded(f"the image is not written: {fault}") from None
 
     def cycle(self) -> None:

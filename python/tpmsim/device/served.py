@@ -1,4 +1,4 @@
-"""Devices at the other end of a socket or a file, where time and random bytes are the host's."""
+"""Devices at the other end of a socket or a file, which use the host's time and random bytes."""
 
 import io
 import os
@@ -16,7 +16,7 @@ RECEIVED_AT_ONCE = 65_536
 
 
 class Connection:
-    """A connection that answers within so many seconds; else it is a TimeoutError."""
+    """A connection that raises TimeoutError if a response takes longer than `seconds`."""
 
     def __init__(self, address: Address, seconds: float) -> None:
         if isinstance(address, str):
@@ -32,7 +32,7 @@ class Connection:
             self.socket.setsockopt(socket.IPPROTO_TCP, socket.TCP_NODELAY, 1)
 
     def send(self, data: bytes) -> Self:
-        """DeviceEnded where the other end is gone."""
+        """Sends bytes; raises DeviceEnded if the other end is gone."""
         try:
             self.socket.sendall(data)
         except (BrokenPipeError, ConnectionResetError):
@@ -40,7 +40,7 @@ class Connection:
         return self
 
     def receive(self, size: int) -> bytes:
-        """As many bytes; DeviceEnded where the connection ends before."""
+        """Receives exactly `size` bytes; raises DeviceEnded if the connection ends before that."""
         text = b""
         while len(text) < size:
             try:
@@ -67,13 +67,13 @@ RESPONSE_BYTES, RETRY, MOST_TIMES = 4096, number(0x922, 4), 5
 
 
 class OtherDevice(Transport):
-    """A device that is only told commands, by some way of its own."""
+    """A device that only accepts commands; each subclass sends them in its own way."""
 
     at: int | None = None
 
     def execute(self, buffer: bytes) -> Answered:
-        """TimeoutError where there is no answer in time. A command that the device asks for once
-        more (TPM_RC_RETRY) is sent once more, as every driver does.
+        """Sends a command and returns the response; raises TimeoutError if none comes in time. If
+        the device asks for the command again (TPM_RC_RETRY), sends it again, as every driver does.
         """
         for _ in range(MOST_TIMES):
             response = self.exchange(buffer)
@@ -87,7 +87,7 @@ class OtherDevice(Transport):
 
 
 class LocatedDevice(OtherDevice):
-    """One that is told the locality of commands, which is 0 at first."""
+    """A device that receives the locality of its commands, which is 0 at first."""
 
     at = 0
 
@@ -102,9 +102,9 @@ class LocatedDevice(OtherDevice):
 
 
 class ServedDevice(InStep, OtherDevice):
-    """A connection to `tpmsim serve` on a Unix socket, or to another that takes commands alone. The
-    locality is that of the run. A response has to come within so many seconds; else it is a
-    TimeoutError, and the connection is closed.
+    """A connection to `tpmsim serve` on a Unix socket, or to another server that takes commands
+    alone. The locality is that of the server's run. If a response takes longer than `seconds`,
+    TimeoutError is raised and the connection is closed.
 
     >>> ServedDevice("/nowhere")
     Traceback (most recent call last):
@@ -124,8 +124,8 @@ class ServedDevice(InStep, OtherDevice):
 
 
 class FileDevice(InStep, OtherDevice):
-    """A file that takes a command and gives the response, as /dev/tpmrm0 and /dev/tpm0 do. What is
-    done to a TPM of this computer is done.
+    """A file that takes a command and returns the response, as /dev/tpmrm0 and /dev/tpm0 do.
+    Commands to a TPM of this computer have their real effect.
 
     >>> import tempfile
     >>> with tempfile.NamedTemporaryFile() as file, FileDevice(file.name) as device:
@@ -148,13 +148,13 @@ class FileDevice(InStep, OtherDevice):
         self.file.close()
 
 
-# Microsoft's protocol (the simulator of the TPM 2.0 Library): requests of its two ports.
+# Requests of Microsoft's protocol (the simulator of the TPM 2.0 Library), at its two ports.
 POWER_ON, POWER_OFF, SEND_COMMAND, NV_ON, SESSION_END = 1, 2, 8, 11, 20
 
 
 class SimulatorDevice(InStep, LocatedDevice):
-    """A device behind Microsoft's protocol: commands at a port, and the platform at the next one.
-    Its power is switched on, and off again where `power_cycle` asks for it.
+    """A device that speaks Microsoft's protocol: commands at a port, and the platform at the next
+    one. Its power is switched on at first; `power_cycle` switches it off and on.
 
     >>> SimulatorDevice("127.0.0.1", 1)
     Traceback (most recent call last):
@@ -202,5 +202,5 @@ class SimulatorDevice(InStep, LocatedDevice):
                 try:
                     connection.send(number(SESSION_END, 4))
                 except (DeviceEnded, OSError):
-                    pass  # the other end was quicker
+                    pass  # the other end closed first
         super().close()

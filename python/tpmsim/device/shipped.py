@@ -1,4 +1,4 @@
-"""What the repository ships for this machine, where the package is in a clone of it."""
+"""The files that the repository ships for this machine, if the package is in a clone of it."""
 
 import pathlib
 import platform
@@ -7,6 +7,6 @@ DIST = pathlib.Path(__file__).resolve().parents[3] / "dist"
 
 
 def shipped(name: str) -> pathlib.Path:
-    """The path of a file in dist/, which may not be there."""
+    """Returns the path of a file in dist/, which may be missing."""
     folder = DIST / "aarch64" if platform.machine() == "aarch64" else DIST
     return folder / name

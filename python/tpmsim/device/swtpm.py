@@ -1,4 +1,6 @@
-"""A device behind swtpm's protocol: commands on a data channel, all else on a control channel."""
+"""A device that speaks swtpm's protocol: a data channel for commands, a control channel for the
+rest.
+"""
 
 import shutil
 import subprocess
@@ -14,18 +16,18 @@ from tpmsim.standard import CC, frames, handle_kinds, number, RH_PLATFORM, SHA1,
 # Requests of the control channel (swtpm's tpm_ioctl.h).
 INIT, SET_LOCALITY, GET_BLOB, SET_BLOB, STOP = 2, 5, 12, 13, 14
 
-# The parts of the state: what is permanent, what is volatile, and what a shutdown saved.
+# The parts of the state: permanent, volatile, and the state that a shutdown saved.
 BLOBS = PERMANENT, VOLATILE, SAVED = 1, 2, 3
 NO_BLOB = 0x800
 
-# What the device here has not: the command that chooses the banks of PCRs, and two of them.
+# The command that selects the PCR banks, and two of these banks, which tpmsim does not have.
 PCR_ALLOCATE, SHA384, SHA512 = 0x12B, 0x000C, 0x000D
 STARTUP, SHUTDOWN = (frames.command(it, number(0, 2)) for it in (CC.Startup, CC.Shutdown))
 
 
 class SwtpmDevice(InStep, LocatedDevice):
-    """A device behind swtpm's protocol, at the addresses of both channels. The power is as it was.
-    An answer has to come within so many seconds.
+    """A device that speaks swtpm's protocol, at the addresses of its two channels. The power stays
+    as it is. An answer has to come within `seconds`.
 
     >>> SwtpmDevice("/nowhere", "/nowhere.ctrl")
     Traceback (most recent call last):
@@ -65,7 +67,7 @@ class SwtpmDevice(InStep, LocatedDevice):
         self.events.append("power")
 
     def begin_again(self, blobs: Iterable[tuple[int, bytes]]) -> None:
-        """Takes the power away, and gives it back where the state has these parts."""
+        """Power-cycles the device and sets its state to these parts."""
         self.tell(STOP)
         for kind, blob in blobs:
             if blob:
@@ -74,7 +76,7 @@ class SwtpmDevice(InStep, LocatedDevice):
         self.tell(INIT, number(0, 4))
 
     def save(self) -> bytes:
-        """swtpm's blob of what it keeps without power."""
+        """Returns swtpm's blob of the state that it keeps without power."""
         return self.whole(lambda: self.blob(PERMANENT))
 
     def blob(self, kind: int) -> bytes:
@@ -106,7 +108,9 @@ class SwtpmDevice(InStep, LocatedDevice):
 
 
 class StartedSwtpm(SwtpmDevice):
-    """The program swtpm with a new device, until `close`; FileNotFoundError where there is none."""
+    """Starts the program swtpm with a new device, which runs until `close`; raises
+    FileNotFoundError if there is no such program.
+    """
 
     def __init__(self, program: str = "swtpm", seconds: float = 60) -> None:
         if not shutil.which(program):
@@ -141,7 +145,9 @@ class StartedSwtpm(SwtpmDevice):
         return True
 
     def allocate(self) -> None:
-        """Leaves it the banks that a device here has, of SHA-1 and SHA-256, and no starts so far."""
+        """Selects the banks of tpmsim's device, SHA-1 and SHA-256, and clears the count of
+        starts.
+        """
         banks = *((it, handle_kinds.PCRS) for it in (SHA1, SHA256)), (SHA384, ()), (SHA512, ())
         allocating = frames.on_handle(PCR_ALLOCATE, RH_PLATFORM, frames.selection(*banks))
         clearing = frames.on_handle(CC.Clear, RH_PLATFORM)

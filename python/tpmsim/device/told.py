@@ -1,4 +1,4 @@
-"""Devices of which everything is told: their locality, their time and their random bytes."""
+"""Devices whose locality, time and random bytes are set by the caller."""
 
 from __future__ import annotations
 
@@ -22,13 +22,13 @@ Done = TypeVar("Done")
 
 
 class NothingReplaced(MemoryError):
-    """There is no memory for the device of a state text, and the one before is as it was."""
+    """Memory for the device of a state text is missing; the previous device is unchanged."""
 
 
 class Device(Transport):
-    """A fresh device whose power is just on, or that of an image, which is kept in its file: in this
-    process where the library is found, and else in a child process. Its seeds and its random bytes
-    are fresh ones; with a seed of your own they are the same in each run.
+    """A fresh device that was just powered on, or the device of an image, which is kept in its
+    file. It is in this process if the library is found, and otherwise in a child process. Its seeds
+    and its random bytes are fresh; with a seed of your own they are the same in each run.
 
     >>> from tpmsim.caller import Caller
     >>> with Device(seed=b"mine") as device:
@@ -38,13 +38,13 @@ class Device(Transport):
     4
     """
 
-    # What `Device` itself makes; the package sets it.
+    # The class that `Device(..)` instantiates; the package sets it.
     preferred: ClassVar[type[Device]]
 
-    # The image or the state text that the events begin with, if not with a script's device.
+    # The image or the state text from which the events start; empty for a script's device.
     begun = b""
 
-    # False while a call has changed a part of the device, and after it if it did not end.
+    # False while a call changes the device, and afterwards if the call did not complete.
     is_whole = True
 
     def __new__(cls, *given: object, **named: object) -> Self:
@@ -57,7 +57,7 @@ class Device(Transport):
 
     @classmethod
     def open(cls, image: bytes, seed: bytes | None = None) -> Self:
-        """The device of an image, as after a power cycle; BadImage of other bytes.
+        """Opens the device of an image, as after a power cycle; raises BadImage for other bytes.
 
         >>> with Device() as device, Device.open(device.save()) as other:
         ...     other.save() == device.save()
@@ -74,8 +74,8 @@ class Device(Transport):
 
     @property
     def trace(self) -> list[str]:
-        """As ever, and first a comment with the image or the state text of the start, if that is no
-        script's device.
+        """The lines of a script that does the same. Unless the device started as a script's device,
+        the first line is a comment with its first image or state text.
         """
         word = "state" if self.begun.startswith(state_text.MAGIC) else "image"
         begun = [f"# {word} {self.begun.hex()}"] if self.begun else []
@@ -86,23 +86,23 @@ class Device(Transport):
             raise DeviceEnded("a call did not end, and left the device halfway; `restore` mends it")
 
     def to_its_end(self, act: Callable[[], Done]) -> Done:
-        """Does what leaves the device halfway if it does not end."""
+        """Runs an action; if the action does not complete, the device is left halfway."""
         was_whole, self.is_whole = self.is_whole, False
         done = act()
         self.is_whole = was_whole
         return done
 
     def begin(self, image: bytes) -> None:
-        """Puts the device of an image in place of this one."""
+        """Replaces this device by the device of an image."""
         raise NotImplementedError
 
     def state(self) -> bytes:
-        """The state text of the device."""
+        """Returns the state text of the device."""
         raise NotImplementedError
 
     def resume(self, text: bytes) -> None:
-        """Puts the device of a state text in place of this one. BadState of another text, Unsupported
-        and NothingReplaced leave the device as it was.
+        """Replaces this device by the device of a state text. Raises BadState for other bytes. If
+        it raises BadState, Unsupported or NothingReplaced, the device is unchanged.
         """
         raise NotImplementedError
 
@@ -119,7 +119,8 @@ class Device(Transport):
         return hashlib.shake_256(self.seed + b"%d" % self.drawings).digest(RANDOM_BYTES)
 
     def wait(self, milliseconds: int) -> None:
-        """So many milliseconds pass before the next command; ValueError of more than 4,294,967,295.
+        """Lets milliseconds pass before the next command; raises ValueError for more than
+        4,294,967,295.
 
         >>> with Device() as device:
         ...     tpm = Caller(device)
@@ -135,7 +136,7 @@ class Device(Transport):
 
     @property
     def locality(self) -> int:
-        """That of the next commands, 0 to 4, at first 0; ValueError of another.
+        """The locality of the next commands, 0 to 4, at first 0; another number raises ValueError.
 
         >>> with Device() as device:
         ...     device.locality = 3
@@ -150,7 +151,7 @@ class Device(Transport):
         self.events.append(f"loc {number}")
 
     def execute(self, buffer: bytes) -> Answered:
-        """The response to any bytes, and the check that refused them.
+        """Returns the response to any bytes, and the check that refused them, or `ok`.
 
         >>> with Device() as device:
         ...     device.execute(bytes.fromhex("80010000000c000001440000"))
@@ -163,7 +164,7 @@ class Device(Transport):
         return Answered(event.response, event.check)
 
     def power_cycle(self) -> None:
-        """Takes the power away and gives it back; the device awaits TPM2_Startup.
+        """Power-cycles the device, which then expects TPM2_Startup.
 
         >>> with Device() as device:
         ...     tpm = Caller(device)
@@ -178,8 +179,8 @@ class Device(Transport):
         self.events.append("power")
 
     def snapshot(self) -> Snapshot:
-        """All that the device is, sessions and objects too, as its state text: bytes, which may be kept
-        in a file, and restored by another process.
+        """Returns all that the device is, with sessions and objects, as its state text. The bytes
+        may be kept in a file, and restored by another process.
 
         >>> with Device() as device, Device() as other:
         ...     tpm = Caller(device)
@@ -195,9 +196,9 @@ class Device(Transport):
         return Snapshot(self.state(), self.at, self.elapsed, self.begun, self.events)
 
     def restore(self, snapshot: object) -> None:
-        """Makes the device what it was at a snapshot of any device, or what a state text says. Then the
-        events are those of the snapshot, and none of a text alone or of a kept device. BadState of other
-        bytes, which change nothing, and TypeError of anything else.
+        """Makes the device what it was at a snapshot of any device, or what a state text says. The
+        events are then those of the snapshot; a text alone and a kept device's snapshot leave none.
+        Raises BadState for other bytes, which change nothing, and TypeError for anything else.
 
         >>> with Device() as device:
         ...     before = device.snapshot()
@@ -223,7 +224,7 @@ class Device(Transport):
         self.is_whole = True
 
     def write(self, path: Path) -> None:
-        """Writes the trace as a script; OSError where it cannot be written.
+        """Writes the trace as a script; raises OSError if it cannot be written.
 
         >>> import tempfile
         >>> with Device() as device, tempfile.TemporaryDirectory() as folder:
@@ -237,8 +238,8 @@ class Device(Transport):
 
 
 class ModelDevice(Device):
-    """The device in plain Python, in this process, manufactured with the bytes 00 to ff; or a model
-    whose power is just on. What is written of it is a script that no program has played.
+    """The device in plain Python, in this process, manufactured with the bytes 00 to ff; or a given
+    model that was just powered on. Its trace is a script that no program has played.
 
     >>> with ModelDevice() as device:
     ...     device.execute(b"").check

@@ -1,1 +1,1 @@
-"""Why was this refused? A script is played on the device in Python, and each refusal is explained."""
+"""Why was this refused? Plays a script on the device in Python, and explains each refusal."""

@@ -1,4 +1,4 @@
-"""Slips that a device accepts, and what comes of them."""
+"""Mistakes ("slips") that a device accepts, and their consequences."""
 
 from typing import Iterator
 
@@ -7,7 +7,7 @@ from tpmsim.explain.reason import Reason, Scene
 from tpmsim.explain.words import bytes_words, handle_words, plural, printable
 from tpmsim.standard import CC, Fields, nv, RS_PW, trimmed
 
-# A text of at least so many characters is taken for one that was meant.
+# A text of at least this many characters is assumed to be intended.
 LEAST_TEXT = 8
 
 DRAWS = CC.StartAuthSession, CC.GetRandom, CC.Create
@@ -18,7 +18,7 @@ def note(rule: str, slip: str, words: str) -> Reason:
 
 
 def before(scene: Scene) -> list[Reason]:
-    """Those of a command whose entries were let in, before its effect."""
+    """Returns notes on a command whose entries were accepted, before its effect."""
     return [
         *(*garbage(scene), *zeros(scene), *nonces(scene), *unwritten(scene)),
         *offline_guesses(scene),
@@ -26,7 +26,9 @@ def before(scene: Scene) -> list[Reason]:
 
 
 def garbage(scene: Scene) -> Iterator[Reason]:
-    """A parameter that decrypts to no text, and to one had it been encrypted in another way."""
+    """Notes a parameter that does not decrypt to a text, but would if it had been encrypted in
+    another way.
+    """
     if ingredients.decrypting_use(scene) is None or scene.plain is None:
         return
     plain = Fields(scene.plain).sized()
@@ -74,7 +76,7 @@ def nonces(scene: Scene) -> Iterator[Reason]:
 
 
 def unwritten(scene: Scene) -> Iterator[Reason]:
-    """An index that is not written, whose Name goes into a policy."""
+    """Notes an unwritten index whose Name goes into a policy."""
     if scene.code not in (CC.PolicyNV, CC.PolicySecret):
         return
     handle = scene.command.handles[1 if scene.code == CC.PolicyNV else 0]
@@ -88,7 +90,7 @@ def unwritten(scene: Scene) -> Iterator[Reason]:
 
 
 def offline_guesses(scene: Scene) -> Iterator[Reason]:
-    """Encryption by a value of which the entry needed no knowledge."""
+    """Notes encryption with a value that the entry did not have to know."""
     for place, entry, _ in scene.command.places:
         use = ingredients.use_of(scene, place)
         if use is None or not unshown.encrypts(entry.attributes):
@@ -103,7 +105,9 @@ def offline_guesses(scene: Scene) -> Iterator[Reason]:
 
 
 def after(scene: Scene) -> Iterator[Reason]:
-    """Behind the effect: random bytes that are zeros, told once, and a nonceTPM come again."""
+    """Returns notes after the effect: on random bytes that are zeros, once, and on a nonceTPM that
+    repeats.
+    """
     if scene.code in DRAWS and not any(scene.random) and "random" not in scene.past.told_once:
         scene.past.told_once.add("random")
         words = "The random bytes are zeros, as no entropy line has told others. It is told once."

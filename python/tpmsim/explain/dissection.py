@@ -1,4 +1,6 @@
-"""Commands and responses, field by field. Whatever the bytes are, all of them have a field."""
+"""Splits commands and responses into fields. Every byte belongs to a field, whatever the bytes
+are.
+"""
 
 import contextlib
 from contextlib import contextmanager
@@ -11,7 +13,7 @@ from tpmsim.explain.words import kind_words, OPERATIONS, size_words
 from tpmsim.standard import CC, digest_bytes, frames, HASHES, Kind, NUMBERED, nv, objects, Parameter
 from tpmsim.standard import RS_PW
 
-# What a field belongs to.
+# The part of the buffer that a field belongs to.
 HEADER, HANDLE, ENTRY, PARAMETER, REST = "header", "handle", "entry", "parameter", "rest"
 
 
@@ -21,8 +23,8 @@ class Cut(Exception):
 
 @dataclass
 class Field:
-    """A field, of which `front` bytes are a size, and which stands within `depth` structures. A
-    structure is a group, whose fields follow it.
+    """A field. Its first `front` bytes are a size, and it is inside `depth` structures. A structure
+    is a group; its fields follow it.
     """
 
     name: str
@@ -36,7 +38,9 @@ class Field:
 
 
 class Walk:
-    """Takes fields from the front of bytes. What cannot be read is a field of its own."""
+    """Takes fields from the front of bytes. Bytes that cannot be parsed are a field of their
+    own.
+    """
 
     def __init__(self, data: bytes) -> None:
         self.data, self.at, self.depth, self.sort = data, 0, 0, HEADER
@@ -44,7 +48,9 @@ class Walk:
         self.end = len(data)
 
     def take(self, size: int, name: str, meaning: Callable[[bytes], str], front: int = 0) -> bytes:
-        """The next bytes, of which the first `front` are a size. Cut where there are fewer."""
+        """Takes the next bytes, the first `front` of which are a size; raises Cut if there are too
+        few.
+        """
         left = self.end - self.at
         found = self.data[self.at : self.at + min(size, left)]
         said = meaning(found[front:]) if size <= left else f"cut: {left} of {size} bytes"
@@ -60,14 +66,14 @@ class Walk:
         return int.from_bytes(data, "big")
 
     def peek(self) -> int:
-        """The size in front of a buffer, at most 65,535."""
+        """Returns the size in front of a buffer, at most 65,535."""
         return int.from_bytes(self.data[self.at : min(self.at + 2, self.end)], "big")
 
     def buffer(self, name: str, meaning: Callable[[bytes], str] | None = None) -> bytes:
         return self.take(2 + self.peek(), name, meaning or said_bytes, 2)
 
     def elements(self, name: str, word: str) -> Iterator[int]:
-        """The numbers, from 1, of a list's elements, which stand within it."""
+        """Yields the numbers of a list's elements, from 1, within a group for the list."""
         for at in range(self.number(4, name, lambda it: words.plural(it, word))):
             self.depth += 1
             yield at + 1
@@ -75,7 +81,9 @@ class Walk:
 
     @contextmanager
     def group(self, name: str, size: int | None = None, front: int = 0) -> Iterator[None]:
-        """A structure, of a size that is known or of what is read within. Cut where its size is."""
+        """Opens a structure, of a known size or as large as the fields read in it; raises Cut if
+        the bytes end before its size.
+        """
         if self.end - self.at < front:
             self.take(front, name, lambda it: "")
         field = Field(name, self.at, 0, front, "", self.sort, self.depth, True)
@@ -115,7 +123,7 @@ def said_bytes(data: bytes) -> str:
 STARTS = {0: "CLEAR", 1: "STATE"}
 TICKETS = {frames.ST_CREATION: "of a creation", frames.ST_AUTH_SECRET: "of an assertion"}
 
-# Takes a parameter of a name.
+# Takes a parameter with a name.
 Reader = Callable[[Walk, str], object]
 
 
@@ -124,7 +132,7 @@ def number(size: int, meaning: Callable[[int], str] = str) -> Reader:
 
 
 def named(size: int, names: dict[int, str], other: str) -> Reader:
-    """A number that has a name, or none."""
+    """Returns a reader of a number with its name, or with `other` if it has none."""
     return number(size, lambda it: names.get(it, other))
 
 
@@ -258,7 +266,7 @@ OF_KIND: dict[Kind, Reader] = {
     Kind.CAPABILITY: capability,
 }
 
-# Parameters of which more is known than their kind says.
+# Parameters about which more is known than their kind.
 NAMED: dict[str, Reader] = {
     "startupType": named(2, STARTS, "no type of a start"),
     "shutdownType": named(2, STARTS, "no type of a shutdown"),
@@ -287,7 +295,7 @@ def fields_of_command(buffer: bytes, plain: bytes | None = None) -> list[Field]:
 
 
 def fields_of_response(number: int, response: bytes, plain: bytes | None = None) -> list[Field]:
-    """Those of the response to a command, by that one's number."""
+    """Returns the fields of the response to the command with this number."""
     return fields_of(response, lambda walk: answer(walk, NUMBERED.get(number), plain))
 
 
@@ -337,7 +345,7 @@ def entries(walk: Walk, end: int, is_command: bool) -> None:
 
 
 def parameters(walk: Walk, those: tuple[Parameter, ...], plain: bytes | None) -> None:
-    """`plain` has the parameters as they are once the first one is decrypted."""
+    """Takes the parameters; `plain` holds them with the first one decrypted."""
     walk.sort, at = PARAMETER, walk.at
     if plain is not None:
         walk.data = walk.data[:at] + plain + walk.data[at + len(plain) :]

@@ -1,4 +1,6 @@
-"""Why an entry is refused: by what it was to authorize, by a lockout, or as it is wrong (G9, G10)."""
+"""Why an entry is refused: because of the entity that it was to authorize, because of a lockout, or
+because the entry is wrong (G9, G10).
+"""
 
 from typing import Iterator
 
@@ -32,7 +34,7 @@ def reason(scene: Scene) -> Reason:
 
 
 def refused_place(scene: Scene) -> Place:
-    """The entry that is refused: the one of the code, or else the first that a check refuses."""
+    """Returns the refused entry: the one that the code names, or the first that a check refuses."""
     places, model = scene.command.places, scene.model
     if scene.place:
         return places[scene.place - 1]
@@ -66,7 +68,7 @@ def locked(scene: Scene, place: int, entry: Entry, handle: int | None) -> Reason
 
 
 def wrong(scene: Scene, place: int, entry: Entry, handle: int | None) -> Reason:
-    # The HMAC or the password begins behind its size.
+    # The HMAC or the password begins after its size.
     at = scene.entry_at(place) + 4 + 2 + len(entry.nonce) + 1 + 2
     found = Reason(f"{scene.check}/{scene.name}", "", at=at)
     use = ingredients.use_of(scene, place)
@@ -105,7 +107,9 @@ def wrong_password(scene: Scene, found: Reason, entry: Entry, handle: int) -> No
 
 
 def name_password(scene: Scene, found: Reason, entry: Entry, handle: int) -> None:
-    """The slip that makes the given password, or how many were tried, if none is named yet."""
+    """Names the slip that makes the given password, or the number of those tried, unless a slip is
+    already named.
+    """
     tried = 0
     for told, password in passwords(scene, handle) if not found.slips else ():
         tried += 1
@@ -119,7 +123,9 @@ def name_password(scene: Scene, found: Reason, entry: Entry, handle: int) -> Non
 
 
 def passwords(scene: Scene, handle: int) -> Iterator[tuple[tuple[Told, ...], bytes]]:
-    """What may have been given instead of a password, and the slips that it would be."""
+    """Yields what may have been given instead of a password, with the slips that explain each
+    one.
+    """
     value, said = scene.model.auth_value(handle), handle_words(handle)
     if value:
         left_out = "password left out", f"the password is empty, and {said} has a value"

@@ -1,5 +1,5 @@
-"""The forms in which a caller has a value instead of the value itself: a table, each form with its
-name, its words, and how a value is turned into it. An empty value is no form.
+"""Other forms of a value that a caller may have used instead of the value: a table of each form's
+name, its words, and how a value is converted to it. An empty value is not a form.
 """
 
 import base64
@@ -37,7 +37,7 @@ def of_sized(value: bytes) -> bytes:
     return value[2:] if value == sized(value[2:]) else b""
 
 
-# Forms of which two may be one in the other.
+# Forms that may be combined, one applied to the result of another.
 NESTED = (
     Form("with a line break", "with a line break after it", lambda it: it + b"\n"),
     Form("as SHA-256", "as its SHA-256 digest", lambda it: hashlib.sha256(it).digest()),
@@ -63,7 +63,7 @@ CUTS = (
     Form("cut to 20 bytes", "cut to 20 bytes", lambda it: it[:20]),
 )
 
-# The others, which are alone.
+# The other forms, which are not combined.
 ALONE = (
     Form("in the other order", "with its bytes in the other order", lambda it: it[::-1]),
     Form("without its last byte", "without its last byte", lambda it: it[:-1]),
@@ -75,7 +75,7 @@ ALONE = (
 
 @dataclass(frozen=True)
 class Formed:
-    """A value in one form, or in one that is made of another one."""
+    """A value in one form, or in one form applied to another."""
 
     forms: tuple[Form, ...]
     value: bytes
@@ -86,7 +86,7 @@ class Formed:
 
 
 def forms_of(value: bytes) -> Iterator[Formed]:
-    """Each other value that a form makes, and then those that two make, the inner one first."""
+    """Yields the values that one form makes, then those that two make, the inner form first."""
     seen = {value, b""}
 
     def fresh(before: tuple[Form, ...], form: Form, turned: bytes) -> Iterator[Formed]:
@@ -103,13 +103,13 @@ def forms_of(value: bytes) -> Iterator[Formed]:
             yield from fresh(it.forms, form, form.turn(it.value))
 
 
-# A text of at most so many characters may be mistyped.
+# A text of at most this many characters may have a typing error.
 MOST_TYPED = 24
 CHARACTERS = [bytes([it]) for it in range(0x20, 0x7F)]
 
 
 def mistypings(value: bytes) -> Iterator[bytes]:
-    """Other texts: with one character too few, too many, or another one, or with two of them swapped."""
+    """Yields texts with one character missing, added or wrong, or with two characters swapped."""
     yield from (it for it in dict.fromkeys(typed(value)) if it != value)
 
 

@@ -65,12 +65,12 @@ def handles(scene: Scene) -> Reason:
     return with_others(scene, handle, Reason(rule, words, at=at))
 
 
-# Of how many others of its kind it is said that they are there.
+# The largest number of existing entities of the same kind that are listed.
 MOST_OTHERS = 8
 
 
 def with_others(scene: Scene, handle: int, found: Reason) -> Reason:
-    """With those of the kind of what is not there that are."""
+    """Adds the existing entities of the same kind as the missing one."""
     model, past = scene.model, scene.past
     held = sorted({*model.sessions, *model.objects, *model.indices})
     kind = [it for it in held if first_byte(it) == first_byte(handle)]

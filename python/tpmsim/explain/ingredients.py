@@ -1,4 +1,4 @@
-"""What goes into the HMAC of an entry, and into the encryption of a first parameter."""
+"""The ingredients of an entry's HMAC, and of the encryption of a first parameter."""
 
 from dataclasses import dataclass
 from typing import Callable, Iterator, NamedTuple
@@ -17,9 +17,9 @@ def joined(*parts: bytes) -> bytes:
 
 
 class Ingredients(NamedTuple):
-    """`code` stands before the Names in cpHash; `auth_value` is empty if not in the key. The last
-    ones are how the parts are put together: the key, the text of cpHash, cpHash, the HMAC's text and
-    the HMAC.
+    """`code` comes before the Names in cpHash; `auth_value` is empty if it is not in the key. The
+    last fields say how the parts are combined: into the key, the text of cpHash, cpHash, the HMAC's
+    text and the HMAC.
     """
 
     algorithm: int
@@ -60,7 +60,9 @@ class Ingredients(NamedTuple):
 
 @dataclass
 class Use:
-    """An entry of a session in its command: its place from 1, and what it authorizes, if anything."""
+    """A session's entry in its command: its position, from 1, and what it authorizes, if
+    anything.
+    """
 
     scene: Scene
     place: int
@@ -92,7 +94,7 @@ class Use:
 
     @property
     def past_values(self) -> list[Since]:
-        """Those that what it authorizes had before."""
+        """Returns the earlier authorization values of the entity that the entry authorizes."""
         return [] if self.handle is None else self.scene.past.values.get(self.handle, [])[:-1]
 
     @property
@@ -101,7 +103,9 @@ class Use:
 
     @property
     def was_bound(self) -> bool:
-        """Whether its session was started bound to what it authorizes, whatever has changed."""
+        """Whether the session was started bound to the entity that the entry authorizes, even if
+        the binding has ended since.
+        """
         if self.begun is None or self.is_policy or self.handle is None:
             return False
         names = [it.value for it in self.scene.past.names.get(self.handle, [])]
@@ -109,20 +113,22 @@ class Use:
 
     @property
     def is_bound_now(self) -> bool:
-        """Whether its session is bound to what it authorizes, with the value of now."""
+        """Whether the session is bound to the authorized entity with the entity's current value."""
         return self.handle is not None and self.scene.model.is_bound(self.session, self.handle)
 
     @property
     def has_unshown_binding(self) -> bool:
-        """Whether a bound value is in the session's key, and the entry has a password in place of an
-        HMAC by that key.
+        """Whether a bound value is in the session's key, and the entry carries a password instead
+        of an HMAC with that key.
         """
         is_told = self.is_policy and self.entry.demand == policy.PASSWORD
         return is_told and bool(self.session.bind_auth) and not self.is_bound_now
 
     @property
     def has_unshown_value(self) -> bool:
-        """Whether what it authorizes has a value, and a policy asks for no knowledge of it."""
+        """Whether the authorized entity has a value, and a policy does not require the caller to
+        know it.
+        """
         is_asked = self.takes_value or self.is_bound_now
         return self.handle is not None and bool(self.auth_value) and not is_asked
 
@@ -162,7 +168,7 @@ class Use:
 
 
 def use_of(scene: Scene, place: int) -> Use | None:
-    """That of an entry's place; None where it is a password's."""
+    """Returns the session use in the entry at a position; None for a password."""
     for at, entry, handle in scene.command.places:
         if at == place and entry.handle in scene.model.sessions:
             session = scene.model.sessions[entry.handle]
@@ -199,7 +205,7 @@ def key_words(use: Use) -> str:
 
 @dataclass(frozen=True)
 class Otherwise:
-    """A mistake of a caller that encrypts, and the parameters that it would have meant."""
+    """A mistake in a caller's encryption, and the parameters that the caller would have meant."""
 
     name: str
     words: str
@@ -207,7 +213,7 @@ class Otherwise:
 
 
 def decrypting_use(scene: Scene) -> Use | None:
-    """The entry whose session decrypts, of a command whose first parameter is whole."""
+    """Returns the entry whose session decrypts, if the command's first parameter is complete."""
     found = scene.known.with_attribute(DECRYPT) if scene.known else None
     if found is None:
         return None

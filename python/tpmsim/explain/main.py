@@ -2,17 +2,17 @@
 
     tpmsim-explain LOG [ANSWERS] [--image START] [--at LINE] [--try VALUE].. [--json | --html]
 
-LOG is a script, as docs/SCRIPTS.md has it: of `cmd`, `do`, `wait`, `loc`, `entropy` and `power`
-lines; or the journal of a device in a folder, a log of `tpmsim serve`, what `tpmsim script` prints,
-the report of a failed test, or several of these one after another. It may have its answers in
-comments, as a trace, a response code or a response; ANSWERS may be what `tpmsim run` or `tpmsim run
---trace` printed of it. `-` is standard input. The device is that of the image in the log, or as the
-state text in the log has it; else with --image that of START; else a new one.
+LOG is a script, as docs/SCRIPTS.md describes it, with lines that begin with `cmd`, `do`, `wait`,
+`loc`, `entropy` or `power`. It may also be the journal of a device in a folder, a log of `tpmsim
+serve`, the output of `tpmsim script`, the report of a failed test, or several of these in sequence.
+It may have its answers in comments, as a trace, a response code or a response; or ANSWERS may be what
+`tpmsim run` or `tpmsim run --trace` printed for it. `-` is standard input. The device is the one of
+the image or of the state text in the log; without these, that of START with --image; else a new one.
 
-It plays the log on the device in Python, and tells where the log's answers are not the model's; of each
-refusal which check refused it, in words and numbers; of a wrong HMAC what goes into it, and which
-usual slip makes the one that was given; of what was accepted what is worth a look; and how much the
-completing layer answered.
+It plays the log on the device in Python, and reports where the log's answers are not the model's. For
+each refusal it says which check refused, in words and numbers; for a wrong HMAC, what goes into it,
+and which usual slip makes the given one; for accepted commands, what is worth a look. It also says
+how much the completing layer answered.
 
     --at LINE    tells all of the command in one line of the log, accepted or refused
     --try VALUE  tries a text, or bytes as hex:00ff, in each place of a wrong HMAC or password, or of a
@@ -20,9 +20,9 @@ completing layer answered.
     --json       the same as JSON
     --html       one page to look at, with nothing fetched from elsewhere
 
-The status is 0; it is 1 where an answer of the log is not the model's, and 2 where these words, a
-file or the image is not what it should be, or a line is none of a script's: what came before it is
-told. It needs python3, and no program.
+The status is 0. It is 1 if an answer of the log is not the model's. It is 2 if the arguments, a file
+or the image is wrong, or if a line is not one of a script; what came before that line is reported. It
+needs python3, and no program.
 """
 
 import json
@@ -38,7 +38,9 @@ from tpmsim.records import is_state_text
 
 
 def called(installed: str, here: str) -> str:
-    """The name by which a program was called: the installed one, or its path in the repository."""
+    """Returns the name by which a program was called: the installed one, or its path in the
+    clone.
+    """
     return installed if pathlib.Path(sys.argv[0]).name == installed else here
 
 
@@ -48,7 +50,7 @@ HELP = (__doc__ or "").strip().replace("tpmsim-explain", NAME)
 
 
 class Usage(Exception):
-    """Why nothing can be explained."""
+    """Nothing can be explained; the message says why."""
 
 
 @dataclass
@@ -62,7 +64,7 @@ class Asked:
 
 
 def tried_of(word: str) -> bytes:
-    """A value that is to be tried: a text, or bytes in hex."""
+    """Returns a value to try, from a text or from bytes in hex; raises Usage for other words."""
     if not word.startswith("hex:"):
         return word.encode()
     try:
@@ -135,7 +137,7 @@ def said_of(asked: Asked, told: list[Event], play: Play, counts: text.Counts) ->
 
 
 def tell(words: str) -> None:
-    """Prints it; who reads it may close it before it ends."""
+    """Prints words. The reader may close the output before the end."""
     try:
         sys.stdout.buffer.write(words.encode("utf-8") + b"\n")
         sys.stdout.buffer.flush()

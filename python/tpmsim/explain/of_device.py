@@ -1,4 +1,4 @@
-"""Why a device in Python refused a command: what it was told, as a log that has all of its answers."""
+"""Why a device in Python refused a command, from the commands and responses so far, as a log."""
 
 from tpmsim.device import KeptDevice, Transport
 from tpmsim.device.base import Executed, line
@@ -7,7 +7,9 @@ from tpmsim.explain.play import Event, Play
 
 
 def log_of(device: Transport) -> bytes:
-    """That of a kept device is its journal: all since its power came on, by whomever."""
+    """Returns the log of a device. For a kept device it is the journal: all events since power-on,
+    from any holder.
+    """
     if isinstance(device, KeptDevice):
         return device.journal()
     begun = [it for it in device.trace[:1] if it.startswith(("# image ", "# state "))]
@@ -26,8 +28,8 @@ def lines_of(device: Transport) -> list[str]:
 
 
 def why_refused(log: bytes) -> str:
-    """Why the last command of a log was refused that was; nothing where none was. Where an answer is not
-    the model's, that is told alone, as nothing is known from there on.
+    """Returns why the last refused command of a log was refused; empty if none was. If a response
+    is not the model's, reports only that, since nothing is known from there on.
     """
     refused: Event | None = None
     for event in Play().events(log):

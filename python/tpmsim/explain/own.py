@@ -1,4 +1,4 @@
-"""Why the own checks of a command refuse it (A1 to A7), and where there is no memory for it (M)."""
+"""Why a command's own checks refuse it (A1 to A7), and why there is no memory for it (M)."""
 
 from tpmsim.explain import own_nv, own_objects
 from tpmsim.explain.past import values_digest

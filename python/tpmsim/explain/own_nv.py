@@ -1,4 +1,4 @@
-"""The numbers of the own checks of commands on NV indices."""
+"""The reasons, with numbers, for refusals by the own checks of commands on NV indices."""
 
 from tpmsim.explain.reason import Check, Look, said
 from tpmsim.explain.words import bytes_words, flag_words, plural
@@ -9,7 +9,7 @@ from tpmsim.standard.nv import Attribute, NUMBER_BYTES, READS, Type, WRITES
 
 TYPES = {int(it): it.name.lower() for it in Type}
 
-# What each command that writes an index writes, and who reads one.
+# The index type that each command writes, and the commands that read an index.
 WRITTEN_TYPES = {
     CC.NV_Write: Type.ORDINARY,
     CC.NV_Increment: Type.COUNTER,

@@ -1,8 +1,9 @@
-"""A log as a page to look at: the page of the device itself (docs/WEB.md), with the log in it and what
-is told of it. The page plays the log, so it has the log's text, and no state and no field.
+"""A log as a page to look at: the page of the device itself (docs/WEB.md), with the log and what is
+reported about it. The page plays the log, so it contains the log's text, but no state and no
+fields.
 
-Whatever stands in a log is data of the page, which its script shows as text alone. So no log can end
-the element that it stands in, or be read as markup.
+A log is data of the page, which its script shows only as text. So no log can close the element that
+contains it, or be parsed as markup.
 """
 
 import html
@@ -18,12 +19,12 @@ from tpmsim.explain.text import Counts, ends_words, layer_words
 
 Value = dict[str, Any]
 
-# The page, as it is installed, and the element that its log stands in.
+# The page as installed, and the element that contains its log.
 FILE = pathlib.Path(__file__).with_name("tpmsim.html")
 NO_LOG = '<script type="application/json" id="log">null</script>'
 TITLE = re.compile("<title>[^<]*</title>")
 
-# What may not stand in an element of data, by how JSON writes it too.
+# Characters that may not occur in an element of data, with their escapes in JSON.
 ESCAPES = {"<": "\\u003c", ">": "\\u003e", "&": "\\u0026"}
 
 
@@ -50,7 +51,7 @@ def of_log(name: str, play: Play, log: bytes, counts: Counts) -> str:
 
 
 def value_of(event: Event, tells_random: bool) -> Value:
-    """What the page does not come to by itself; nothing of most that is accepted."""
+    """Returns what the page cannot find out itself, which is nothing for most accepted events."""
     told: Value = {}
     if event.is_power:
         return told
@@ -86,7 +87,7 @@ def facts_value(facts: list[Fact]) -> list[list[str]]:
 
 
 def plain() -> str:
-    """The page without a log: as it is installed, or as the repository ships it."""
+    """Returns the page without a log, as installed, or as the repository ships it."""
     return (FILE if FILE.is_file() else DIST / FILE.name).read_text("utf-8")
 
 

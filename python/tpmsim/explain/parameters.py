@@ -1,4 +1,4 @@
-"""At which byte the parameters of a command went wrong, and what was wanted there (G11)."""
+"""At which byte the parameters of a command are wrong, and what was expected there (G11)."""
 
 from typing import Callable, Iterable, TypeVar
 
@@ -15,7 +15,9 @@ T = TypeVar("T")
 
 
 class Trace:
-    """Where reading stopped, what was wanted and had there, and whether a structure ended there."""
+    """Where parsing stopped, what was expected and found there, and whether a structure ended
+    there.
+    """
 
     def __init__(self) -> None:
         self.at, self.wanted, self.had, self.ends_structure = 0, "", "", False
@@ -29,11 +31,13 @@ class Trace:
 
 
 class Whole(Exception):
-    """All parameters were read, and none is at fault."""
+    """All parameters were parsed, and none is wrong."""
 
 
 class Traced(Parameters):
-    """They tell where their reading stops, before any effect; `base` is where they begin."""
+    """Parameters that record where their parsing stops, before any effect; `base` is the offset at
+    which they start.
+    """
 
     def __init__(
         self, data: bytes, base: int, trace: Trace, place: int = 0, short: str = "INSUFFICIENT"
@@ -115,7 +119,7 @@ def one_of_words(allowed: list[int], size: int) -> str:
 
 
 def read_again(scene: Scene, plain: bytes) -> tuple[Trace, str]:
-    """Where the reading of these parameters stops, and the code; none where they are whole."""
+    """Returns where parsing these parameters stops, and the code, which is empty on success."""
     trace, command = Trace(), scene.command
     parameters = Traced(plain, scene.parameters_at, trace)
     request = Request(command.handles, parameters, scene.locality, scene.random)
@@ -146,7 +150,7 @@ def reason(scene: Scene) -> Reason:
 
 
 def field_at(scene: Scene, at: int) -> Field | None:
-    """The field that a byte belongs to, the innermost one."""
+    """Returns the innermost field that contains a byte."""
     fields = dissection.fields_of_command(scene.buffer, scene.plain)
     those = [it for it in fields if not it.is_group and it.at <= at <= it.at + it.size]
     exact = [it for it in those if it.at == at and it.size]
@@ -165,7 +169,7 @@ def place_words(scene: Scene, field: Field | None) -> str:
 
 
 def wanted_by_code(scene: Scene, field: Field | None) -> str:
-    """What a reader of its own wanted, by the code with which it refused."""
+    """Returns what the parser of a field expected, judged by the code with which it refused."""
     if scene.name == "RESERVED_BITS":
         named = nv.NAMED if scene.code == CC.NV_DefineSpace else objects.NAMED
         return f"no bit but those of {named:08x}"
@@ -195,7 +199,7 @@ IN_PARAMETERS = {
 
 
 def misread(scene: Scene, found: Reason) -> None:
-    """Names how the caller encrypted, where its parameters are well formed in that way alone."""
+    """Names how the caller encrypted, if the parameters are well formed only for that way."""
     use = ingredients.decrypting_use(scene)
     if use is None:
         return

@@ -1,5 +1,4 @@
-"""What came before a command: since when its values are what they are, and what policies were told.
-"""
+"""What happened before a command: since when values are what they are, and what policies assert."""
 
 from __future__ import annotations
 
@@ -24,7 +23,7 @@ Banks = dict[int, list[bytes]]
 
 @dataclass(frozen=True)
 class Step:
-    """An assertion, with the PCRs that it selects, or what has the Name that it says."""
+    """An assertion, with the PCRs that it selects, or the entity whose Name it contains."""
 
     line: int
     said: Said
@@ -38,7 +37,7 @@ class Step:
 
     @property
     def place(self) -> int:
-        """Where among its values the digest of the PCRs stands, or the Name."""
+        """The position, among the assertion's values, of the PCRs' digest or of the Name."""
         return 0 if self.selected is None else 1
 
     @property
@@ -47,7 +46,7 @@ class Step:
         return bytes(self.said.values[self.place]) if has_given else b""
 
     def but(self, given: bytes) -> Step:
-        """The same of another Name, or of PCRs with another digest."""
+        """Returns the assertion with another Name, or with another digest of the PCRs."""
         values = *self.said.values[: self.place], given, *self.said.values[self.place + 1 :]
         return replace(self, said=Said(self.code, values))
 
@@ -77,7 +76,7 @@ def step_of(line: int, command: Command, plain: bytes, model: Model, names: list
 
 
 def said_words(code: CC, handles: list[int], plain: bytes) -> str:
-    """An assertion as its line has it, without the session and the entries."""
+    """Returns an assertion as written in a line, without the session and the entries."""
     fields = Fields(plain)
     words = [handle_words(it) for it in handles if not is_policy(it)]
     said = " ".join([code.name, *words, *lines.parameter_words(code, fields)])
@@ -86,11 +85,11 @@ def said_words(code: CC, handles: list[int], plain: bytes) -> str:
     return said
 
 
-# Why a policy begins anew behind a use.
+# Why a policy starts over after a use.
 USED = "which it authorized: each use is told its policy anew"
 
 WRITES_PCR = CC.PCR_Extend, CC.PCR_Event, CC.PCR_Reset
-# How many states of the PCRs are kept.
+# The largest number of PCR states that are stored.
 MOST_STATES = 64
 
 
@@ -102,7 +101,7 @@ class Since:
 
 @dataclass
 class Begun:
-    """A session that lives, since a line; what it was told, and what its entries had before."""
+    """A live session: its starting line, its assertions, and the data of its earlier entries."""
 
     session: Session
     line: int
@@ -140,7 +139,7 @@ class Moved:
 
 
 class Past:
-    """The values are by handles; each list has the oldest first."""
+    """The earlier values, by handle; the oldest comes first in each list."""
 
     def __init__(self, model: Model) -> None:
         self.model = model
@@ -168,7 +167,9 @@ class Past:
     def accepted(
         self, line: int, command: Command, plain: bytes, answered: int | None, names: list[bytes]
     ) -> None:
-        """`answered` is the handle that it answered; the Names are those before it."""
+        """Notes an accepted command. `answered` is the handle that it returned; `names` are the
+        Names before it.
+        """
         name = command.code.name
         if command.code in (*WRITES_PCR, CC.Clear) and command.handles[0] != frames.RH_NULL:
             pcr = None if command.code == CC.Clear else command.handles[0]
@@ -187,12 +188,12 @@ class Past:
             self.note_policy(line, command, plain, names)
         for _, entry, handle in command.places:
             if handle is not None and handle_kinds.is_policy(entry.handle):
-                # A policy session that authorized begins anew.
+                # The policy of a session that authorized a handle starts over.
                 if entry.handle in self.sessions:
                     self.sessions[entry.handle].restart(line, f"{name}, {USED}")
 
     def note_value(self, command: Command, plain: bytes, answered: int | None) -> None:
-        """An authorization value as it was given, with the zeros at its end."""
+        """Notes an authorization value as it was given, with its trailing zeros."""
         fields = Parameters(plain)
         if command.code in (CC.HierarchyChangeAuth, CC.NV_ChangeAuth):
             self.untrimmed[command.handles[0]] = fields.sized(frames.COMMAND_BYTES)

@@ -1,4 +1,4 @@
-"""A log that is played: each event with what came of it, and why."""
+"""A played log: each event with its outcome, and the reason for it."""
 
 import re
 from collections import deque
@@ -31,12 +31,12 @@ class Difference:
 
 @dataclass
 class Event:
-    """An event of a log, whose scene has no buffer at a power cycle: why it was refused, what else
-    is told of it, and where the log's answers differ, of which there are so many. If it is looked
-    at as a whole, `entries` has what the HMACs are of, by their places, and `answered` the answered
-    parameters in plain. `comments` has the paragraphs of comments before it. With `completes` the
-    completing layer was there: `layer` has what it did, if anything, and `own` what the device itself
-    came to.
+    """An event of a log; at a power cycle its scene has no buffer. It holds why the command was
+    refused, what else is reported about it, and where the log's responses differ; `answers` is the
+    number of responses in the log. If it is examined as a whole, `entries` holds the ingredients of
+    the HMACs, by position, and `answered` the decrypted response parameters. `comments` holds the
+    paragraphs of comments before it. With `completes` the completing layer was present: `layer`
+    says what it did, if anything, and `own` is the outcome of the device itself.
     """
 
     line: int
@@ -73,7 +73,7 @@ class Event:
         return asked, dissection.fields_of_response(number, self.response, self.answered)
 
     def compare(self, text: str) -> None:
-        """Holds a trace, a response code or a response that the log has against the model's."""
+        """Compares a trace, a response code or a response in the log with the model's."""
         assert self.outcome is not None
         self.answers += 1
         if re.fullmatch(TRACE, text):
@@ -88,7 +88,7 @@ class Event:
             self.differences.append(Difference(words, text, wanted))
 
     def compare_all(self, step: records.Command) -> None:
-        """With all that the log says of the answer."""
+        """Compares everything that the log says about the response."""
         if step.damage:
             self.differences.append(Difference(step.damage, "", ""))
         for it in step.said:
@@ -97,7 +97,7 @@ class Event:
             self.compare_sum(step.mark.answered)
 
     def compare_sum(self, answered: int) -> None:
-        """Holds the sum of the response that was recorded against the model's response."""
+        """Compares the recorded checksum of the response with that of the model's response."""
         self.answers += 1
         own = sum_of(self.response)
         if own != answered:
@@ -114,19 +114,21 @@ class Event:
 
 
 class Answers:
-    """The lines of an output of `tpmsim run`, if any."""
+    """The lines printed by `tpmsim run`, if they are given."""
 
     def __init__(self, text: bytes | None) -> None:
         self.is_given = text is not None
         self.left = deque((text or b"").decode("latin-1").splitlines())
 
     def power(self) -> None:
-        """A trace says `power`; without one nothing is printed."""
+        """Takes the line `power` of a trace; without a trace nothing is printed for a power
+        cycle.
+        """
         if self.left and self.left[0] == "power":
             self.left.popleft()
 
     def compare(self, event: Event) -> None:
-        """Compares what is said of a command beside it."""
+        """Compares what the output says about a command."""
         said = list[str]()
         if self.left and self.left[0] == records.COMPLETED:
             self.left.popleft()
@@ -150,21 +152,21 @@ def reason_of(scene: Scene) -> Reason:
 
 
 class Watched:
-    """A device that is looked at; a refusal is explained where `explains` of its scene holds."""
+    """An observed device; explains a refusal if `explains` returns true for its scene."""
 
     def __init__(
         self, model: Model, explains: Callable[[Scene], bool] = lambda scene: True
     ) -> None:
         self.explains = explains
         self.line, self.at, self.is_whole = 0, -1, False
-        # Values that the user wants tried in an HMAC, a password or a policy that is refused.
+        # Values that the user tries in a refused HMAC, password or policy.
         self.tried: tuple[bytes, ...] = ()
         self.event: Event | None = None
         self.layer = Completion()
         self.put(model)
 
     def put(self, model: Model) -> None:
-        """This device is looked at, of which nothing is known from before."""
+        """Observes this device from now on; nothing is known about its past."""
         self.model, self.past = model, Past(model)
         for it in (self.authorize, self.answered_parameters, self.plain_parameters):
             setattr(model, it.__name__, it)
@@ -191,7 +193,7 @@ class Watched:
         return self.judged()
 
     def execute(self, buffer: bytes, locality: int, random: bytes, elapsed: int) -> Outcome:
-        """The device executes a command, which is not judged yet."""
+        """Executes a command on the device, without judging it yet."""
         scene = Scene(self.model, self.past, self.line, buffer, locality, random, elapsed)
         scene.tried = self.tried
         event = self.event = Event(self.line, scene)
@@ -200,7 +202,7 @@ class Watched:
         return outcome
 
     def judged(self) -> Event:
-        """The event, with why the device refused it, or what it did."""
+        """Returns the event, with why the device refused it, or what it did."""
         event, scene = self.now, self.now.scene
         assert event.outcome is not None
         if not event.refused:
@@ -214,7 +216,9 @@ class Watched:
         return event
 
     def completed(self, buffer: bytes, locality: int, random: bytes, elapsed: int) -> Event:
-        """A command with the completing layer, which may answer it, or execute another one first."""
+        """Executes a command with the completing layer, which may respond itself, or execute
+        another command first.
+        """
         told = buffer, locality, random, elapsed
         done = self.layer.execute(self.model, told, self.execute, self.give_up)
         if self.event is None or self.event.scene.buffer != buffer:
@@ -232,7 +236,9 @@ class Watched:
         return event
 
     def give_up(self, buffer: bytes, locality: int, random: bytes, elapsed: int) -> Outcome:
-        """A command that the layer has the device execute, and which is no event of the log."""
+        """Executes a command that the layer sends to the device, and that is not an event of the
+        log.
+        """
         outcome = self.execute(buffer, locality, random, elapsed)
         self.event = None
         self.past.follow(self.line, "given up by the completing layer")
@@ -248,7 +254,7 @@ class Watched:
             self.past.accepted_buffers[scene.buffer] = self.line
         self.past.accepted(self.line, scene.command, scene.plain, answered, event.names)
 
-    # What the model is asked while it executes.
+    # Methods that the model calls during execution.
 
     def authorize(self, command: Command, locality: int) -> None:
         self.now.scene.known = command
@@ -273,9 +279,10 @@ def of_layer(done: Completed) -> Reason:
 
 
 class Play(Watched):
-    """A device that plays the lines of a log. `bad_line` is the number of the line that is none, and
-    `fault` says why nothing more is played. `damages` has what is wrong with heads, and `cuts` what a
-    crash left of records. `watch` is called with each event at once, while the device is as it left it.
+    """A device that plays the lines of a log. `bad_line` is the number of a bad line, and `fault`
+    says why playing stopped. `damages` lists what is wrong with heads, and `cuts` the parts of
+    records that a crash cut off. `watch` is called with each event immediately, while the device is
+    in the state after the event.
     """
 
     def __init__(
@@ -285,8 +292,8 @@ class Play(Watched):
         at: int | None = None,
         is_whole: bool = False,
     ) -> None:
-        """image.Fault of what is neither an image nor a state text. The line `at`, or each with
-        `is_whole`, is looked at whole.
+        """Raises image.Fault if the image is neither an image nor a state text. Examines as a whole
+        the line `at`, or with `is_whole` each line.
         """
         begun = Opened(Model(), Completion()) if image is None else opened(image)
         super().__init__(begun.device)
@@ -300,7 +307,7 @@ class Play(Watched):
         self.watch: Callable[[Event], None] = lambda event: None
 
     def events(self, log: bytes) -> Iterator[Event]:
-        """Each event, with all that the log says of its answer."""
+        """Yields each event, with everything that the log says about its response."""
         for step in records.steps_of(log):
             try:
                 event = self.step(step)
@@ -311,7 +318,7 @@ class Play(Watched):
                 yield event
 
     def step(self, step: records.Step) -> Event | None:
-        """What becomes of a step, if that is an event."""
+        """Plays a step, and returns its event, if it is an event."""
         self.line = step.line
         if isinstance(step, records.Command):
             return self.shown(self.told(step), step.text)
@@ -331,7 +338,7 @@ class Play(Watched):
         return None
 
     def told(self, step: records.Command) -> Event:
-        """A command of the log, and what is said of its answer."""
+        """Plays a command of the log, with what the log says about its response."""
         told = step.buffer, step.locality, step.random, step.elapsed
         event = self.command(*told, step.completes)
         event.compare_all(step)
@@ -339,7 +346,7 @@ class Play(Watched):
         return event
 
     def shown(self, event: Event, text: bytes) -> Event:
-        """With its line, and the comments before it."""
+        """Adds to an event its line and the comments before it."""
         event.text = text.decode("latin-1")
         event.comments = [it for it in self.comments if it]
         self.comments = []
@@ -347,7 +354,7 @@ class Play(Watched):
         return event
 
     def comment(self, words: str) -> None:
-        """A line of a comment, or an empty line, which ends a paragraph."""
+        """Takes a line of a comment, or an empty line, which ends a paragraph."""
         if words and self.comments:
             self.comments[-1] = f"{self.comments[-1]} {words}".strip()
         elif words:
@@ -356,8 +363,8 @@ class Play(Watched):
             self.comments.append("")
 
     def begin(self, step: records.Begin) -> Event | None:
-        """The device of a head. Where it is that of the log before, it goes on: after a power cycle, if
-        the head holds an image, or a state text that says so.
+        """Takes the device of a head. If it is the device of the log so far, it continues: after a
+        power cycle, if the head holds an image, or a state text that says so.
         """
         is_first = self.event is None
         if step.damage:
@@ -374,7 +381,7 @@ class Play(Watched):
         return self.shown(event, b"power")
 
     def is_same(self, step: records.Begin, is_first: bool) -> bool:
-        """Whether the head's device is the one that is looked at."""
+        """Whether the head's device is the observed one."""
         is_same = goes_on(self.model, step.content)
         if is_first and self.given is not None and not is_same:
             words = "the device in the log is another one than that of --image"

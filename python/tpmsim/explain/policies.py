@@ -1,4 +1,4 @@
-"""Which condition of a policy session does not hold, and what makes its digest another one."""
+"""Which condition of a policy session does not hold, and why its digest differs."""
 
 from typing import Sequence
 
@@ -42,7 +42,7 @@ def policy_lacks(use: Use) -> str:
 
 
 def difference(use: Use, wanted: bytes, found: Reason) -> str:
-    """In words, with facts, as far as it can be seen."""
+    """Returns the difference as text, with facts, as far as it can be seen."""
     if use.begun is None:
         return "Its session began before the log, which may not have all that it was told."
     steps = use.begun.told
@@ -56,7 +56,7 @@ def difference(use: Use, wanted: bytes, found: Reason) -> str:
     return from_outside(use, steps, wanted, found)
 
 
-# The wanted digest was made before, in this log.
+# If the expected digest was made earlier in this log.
 
 
 def from_earlier(use: Use, steps: Sequence[Step], earlier: Made, found: Reason) -> str:
@@ -116,7 +116,7 @@ def step_words(use: Use, own: Step, its: Step, earlier: Made, found: Reason) -> 
 
 
 def when_words(use: Use, own: Step, its: Step) -> str:
-    """Of when the PCRs were that the wanted digest has."""
+    """Returns when the PCRs had the values in the expected digest."""
     between = sorted((own.line, its.line))
     lines = [it.line for it in use.scene.past.moves if between[0] < it.line < between[1]]
     if not lines:
@@ -126,7 +126,7 @@ def when_words(use: Use, own: Step, its: Step) -> str:
 
 
 def moved(use: Use, step: Step, then: Banks, found: Reason) -> str:
-    """Which of the selected PCRs have another value than then, and which commands wrote them."""
+    """Returns which of the selected PCRs had another value then, and which commands wrote them."""
     past, said = use.scene.past, []
     now = past.told_banks.get(step.line, use.scene.model.banks)
     for bank, pcr in [(bank, pcr) for bank, pcrs in step.selected or [] for pcr in pcrs]:
@@ -140,11 +140,11 @@ def moved(use: Use, step: Step, then: Banks, found: Reason) -> str:
     return listed(dict.fromkeys(said)) + "." if said else "in what PolicyPCR was given."
 
 
-# The wanted digest comes from outside.
+# If the expected digest was made outside this log.
 
 
 def from_outside(use: Use, steps: Sequence[Step], wanted: bytes, found: Reason) -> str:
-    """What makes the wanted digest, in words, or how much was tried."""
+    """Returns what makes the expected digest, as text, or how much was tried."""
     search = policy_slips.Search(use, steps, wanted)
     told = search.told()
     if not told:
@@ -164,7 +164,7 @@ MAKES_IT = " it would be"
 
 
 def together(told: Sequence[str]) -> str:
-    """The sentence of a slip, or one of two that are both needed, but its full stop."""
+    """Returns the sentence for one slip, or for two slips that combine, without its full stop."""
     if len(told) == 1:
         return told[0].removesuffix(".")
     slips, _, rests = zip(*(it.rpartition(MAKES_IT) for it in told))
@@ -173,7 +173,7 @@ def together(told: Sequence[str]) -> str:
     return f"{first}, and {second[0].lower()}{second[1:]},{MAKES_IT}{rest}"
 
 
-# How many commands that wrote PCRs are named.
+# The largest number of commands that are named as writers of PCRs.
 MOST_MOVED = 4
 
 

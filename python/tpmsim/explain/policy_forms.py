@@ -1,4 +1,4 @@
-"""How the text of an assertion is put together in another way: a table."""
+"""Wrong ways to assemble the hashed text of an assertion: a table."""
 
 from dataclasses import dataclass
 from typing import Any, Callable, Iterator
@@ -14,7 +14,9 @@ from tpmsim.standard import CC, digest, digest_bytes, number, sized
 
 @dataclass(frozen=True)
 class Text:
-    """A row: a name, words, and the digest from the one before; None where it is not for this one."""
+    """A row: a name, words, and a function from the previous digest to the next, which returns None
+    if the row does not apply to this assertion.
+    """
 
     name: str
     words: str
@@ -22,7 +24,9 @@ class Text:
 
 
 def pcr_text(parts: Callable[[int, bytes, bytes], bytes | None]) -> Any:
-    """A row of PolicyPCR: what comes after the command code, of the selection and the digest."""
+    """Returns a row for PolicyPCR: `parts` makes what follows the command code, from the selection
+    and the digest.
+    """
 
     def link(step: Step, update: Update, algorithm: int, old: bytes) -> bytes | None:
         if step.selected is None:
@@ -43,14 +47,14 @@ def by_password(algorithm: int, update: Update, old: bytes) -> bytes | None:
 
 
 def without_reference(algorithm: int, update: Update, old: bytes) -> bytes | None:
-    """One hash, with policyRef in it, where two are."""
+    """Uses one hash that includes policyRef, instead of two hashes."""
     if update.reference is None:
         return None
     return digest(algorithm, old + number(update.code, 4) + update.about + update.reference)
 
 
 def old_before_or(algorithm: int, update: Update, old: bytes) -> bytes | None:
-    """PolicyOR that goes on with the digest before it."""
+    """Continues a PolicyOR from the digest before it."""
     return (
         digest(algorithm, old + number(update.code, 4) + update.about) if update.forgets else None
     )
@@ -61,7 +65,7 @@ def or_without_zeros(algorithm: int, update: Update, old: bytes) -> bytes | None
 
 
 def unhashed_arguments(algorithm: int, update: Update, old: bytes) -> bytes | None:
-    """PolicyNV with its operand, offset and operation instead of their hash."""
+    """Uses PolicyNV's operand, offset and operation instead of their hash."""
     if not update.apart:
         return None
     name = update.about[digest_bytes(algorithm) :]
@@ -154,7 +158,7 @@ def of_texts(use: Use, place: int, step: Step) -> Iterator[Turned]:
 
 
 def of_pcr_digests(use: Use, place: int, step: Step) -> Iterator[Turned]:
-    """The values of the PCRs by the other hash, or as they are."""
+    """Yields assertions with the PCR values hashed by the other hash, or not hashed."""
     algorithm, selected, past = use.session.algorithm, step.selected or [], use.scene.past
     states = [past.told_banks.get(step.line, use.scene.model.banks)]
     states += [banks for _, banks in reversed(past.pcr_states)]

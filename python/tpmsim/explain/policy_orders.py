@@ -1,4 +1,4 @@
-"""Which assertions a policy has, and in which order: one is missing, too many or there twice, or they are
+"""Which assertions a policy has, and in which order: one is missing, added or repeated, or they are
 in another order.
 """
 
@@ -16,13 +16,13 @@ from tpmsim.explain.words import listed
 from tpmsim.policies.written import Said
 from tpmsim.standard import CC, policy
 
-# Of more assertions than these one is moved, and no two.
+# With more assertions than this, one is moved, but not two.
 MOST_ORDERED = 5
 
 
 @dataclass(frozen=True)
 class Item:
-    """An assertion with its words, and its place among those that were told, where it is one of them."""
+    """An assertion with its words, and its position if it is one of the session's assertions."""
 
     link: Link
     words: str
@@ -41,7 +41,9 @@ def items_of(algorithm: int, steps: Sequence[Step]) -> Items:
 
 
 def arrangements(items: Items, missing: Sequence[Item]) -> Iterator[Arranged]:
-    """Each with one mistake in it; `missing` are those that may be missing."""
+    """Yields arrangements with one mistake each; `missing` are the assertions that may be
+    missing.
+    """
     yield from without(items)
     yield from orders(items)
     yield from with_another(items, missing)
@@ -49,7 +51,7 @@ def arrangements(items: Items, missing: Sequence[Item]) -> Iterator[Arranged]:
 
 
 def others(items: Items, missing: Sequence[Item]) -> Iterator[Arranged]:
-    """Those whose order is as it was."""
+    """Yields arrangements that keep the order."""
     yield from without(items)
     yield from with_another(items, missing)
     yield from twice(items)
@@ -62,7 +64,9 @@ def without(items: Items) -> Iterator[Arranged]:
 
 
 def twice(items: Items) -> Iterator[Arranged]:
-    """One that is there again; and what has nothing where zeros begin it."""
+    """Yields arrangements that repeat one assertion, or start from an empty digest, not from
+    zeros.
+    """
     for at, it in enumerate(items):
         words = f"With {it.words} twice it would be."
         yield (*items[:at], it, *items[at:]), ("assertion twice", words)
@@ -82,7 +86,7 @@ def orders(items: Items) -> Iterator[Arranged]:
 
 
 def moves(items: Items) -> Iterator[Arranged]:
-    """One assertion comes elsewhere."""
+    """Yields arrangements with one assertion at another position."""
     seen = {tuple(range(len(items)))}
     for at in range(len(items)):
         left = [it for it in range(len(items)) if it != at]
@@ -108,7 +112,7 @@ def with_another(items: Items, missing: Sequence[Item]) -> Iterator[Arranged]:
 
 
 def missing(use: Use) -> list[Item]:
-    """Assertions that may be missing, the likely ones first."""
+    """Returns the assertions that may be missing, the most likely ones first."""
     named = Said(CC.PolicyCommandCode, (use.code,))
     those = [(Said(CC.PolicyAuthValue), "PolicyAuthValue or PolicyPassword")]
     those.append((named, f"PolicyCommandCode {use.code.name}"))

@@ -1,7 +1,9 @@
-"""Usual slips in a policy digest that was made elsewhere: which ones make just the wanted digest.
+"""Common slips in a policy digest that was made elsewhere: finds those that make exactly the
+expected digest.
 
-A digest is a chain of links, one for each assertion. A slip turns one link (policy_values.py,
-policy_forms.py), or which links there are and in which order (policy_orders.py); two are tried together.
+A digest is a chain of links, one for each assertion. A slip changes one link (policy_values.py,
+policy_forms.py), or which links there are and their order (policy_orders.py). Two slips are also
+tried together.
 """
 
 from __future__ import annotations
@@ -18,16 +20,17 @@ from tpmsim.explain.policy_values import Turned
 from tpmsim.explain.slip import Told
 from tpmsim.standard import digest_bytes
 
-# How many links are computed at most, for the digests of each way to search with one slip, and with two.
+# The largest number of links that are computed for the digests of each search, with one slip and
+# with two.
 MOST_LINKS, MOST_PAIRED = 50_000, 200_000
 
-# Of the assertions that may be missing, so many are tried together with another slip.
+# The number of possibly missing assertions that are tried together with another slip.
 LIKELY = 4
 
 
 class Search:
-    """What makes a wanted digest of what a session was told. It counts what it tries, and has the
-    PCRs of a slip that is in their values.
+    """Searches for slips that make an expected digest from a session's assertions. It counts its
+    tries, and stores the PCRs of a slip in their values.
     """
 
     def __init__(self, use: Use, steps: Sequence[Step], wanted: bytes) -> None:
@@ -55,7 +58,7 @@ class Search:
         return self.one_turned(self.items, self.alternatives)
 
     def one_turned(self, items: Items, those: Sequence[Turned]) -> list[Told]:
-        """One of these assertions in another way."""
+        """Tries one of these changed assertions."""
         self.tried += 1
         before = digests_before(self.zeros, items)
         places = {it.place: at for at, it in enumerate(items) if it.place is not None}
@@ -70,7 +73,7 @@ class Search:
         return self.two_turned() or self.turned_and_arranged() or self.two_arranged()
 
     def two_turned(self) -> list[Told]:
-        """Two assertions in another way."""
+        """Tries two changed assertions."""
         until = self.tried + self.most_paired
         for at, first in enumerate(self.alternatives):
             if self.tried >= until:
@@ -82,7 +85,9 @@ class Search:
         return []
 
     def turned_and_arranged(self) -> list[Told]:
-        """One assertion in another way, and one more mistake in which there are, or in their order."""
+        """Tries one changed assertion together with one mistake in which assertions there are, or
+        in their order.
+        """
         until = self.tried + self.most_paired
         for items, told in arrangements(self.items, self.missing[:LIKELY]):
             if self.tried >= until:
@@ -93,7 +98,7 @@ class Search:
         return []
 
     def two_arranged(self) -> list[Told]:
-        """Two mistakes in which assertions there are, or one in their order."""
+        """Tries two mistakes in which assertions there are; one of them may be in the order."""
         likely = self.missing[:LIKELY]
         counted = ((it, arrangements(it[0], likely)) for it in others(self.items, likely))
         ordered = ((it, others(it[0], likely)) for it in orders(self.items))
@@ -105,7 +110,7 @@ class Search:
 
 
 def digests_before(begin: bytes, items: Items) -> list[bytes]:
-    """The digest before each of these."""
+    """Returns the digest before each of these items."""
     found = [begin]
     for it in items:
         found.append(it.link(found[-1]))
@@ -117,7 +122,7 @@ def with_link(items: Items, turned: Turned) -> Items:
 
 
 def alternatives(use: Use, steps: Sequence[Step]) -> Iterator[Turned]:
-    """Each assertion in another way, the likely ones first."""
+    """Yields each assertion with a change, the most likely changes first."""
     ways = policy_values.of_values, policy_forms.of_texts, policy_values.of_tried
     return chain.from_iterable(
         way(use, place, step) for way in ways for place, step in enumerate(steps)

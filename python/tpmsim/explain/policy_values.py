@@ -1,4 +1,6 @@
-"""One assertion of a policy with other values: of PCRs, other Names, or values that the user wants tried."""
+"""An assertion of a policy with other values: other PCR values, Names, or values that the user
+tries.
+"""
 
 from __future__ import annotations
 
@@ -16,13 +18,13 @@ from tpmsim.policies.written import Said
 from tpmsim.standard import CC, digest, frames, number, policy
 from tpmsim.standard.command_names import NAMES
 
-# The digest after an assertion, from the one before it.
+# The function from the digest before an assertion to the digest after it.
 Link = Callable[[bytes], bytes]
 
 
 @dataclass(frozen=True)
 class Turned:
-    """An assertion in another way, at its place."""
+    """A changed assertion, and its position."""
 
     place: int
     link: Link
@@ -43,7 +45,7 @@ def turned(use: Use, place: int, step: Step, told: Told, banks: Banks | None = N
 
 
 def of_values(use: Use, place: int, step: Step) -> Iterator[Turned]:
-    """Other values in the same assertion."""
+    """Yields the same assertion with other values."""
     if step.selected is not None:
         yield from of_pcrs(use, place, step)
     if step.handle is not None:
@@ -78,7 +80,7 @@ def pcr_step(step: Step, selected: Sequence[Any], algorithm: int, banks: Banks) 
 
 
 def of_pcrs(use: Use, place: int, step: Step) -> Iterator[Turned]:
-    """Other values of the PCRs, the latest first; other banks; another PCR."""
+    """Yields other values of the PCRs, the latest first; other banks; another PCR."""
     algorithm, selected, past = use.session.algorithm, step.selected or [], use.scene.past
     now = past.told_banks.get(step.line, use.scene.model.banks)
     pairs = list(zip(past.pcr_states, [*past.pcr_states[1:], None]))
@@ -108,7 +110,7 @@ def before_words(pairs: Sequence[Any]) -> Iterator[tuple[Any, str]]:
 
 
 def other_banks(selected: Sequence[Any]) -> Iterator[list[Any]]:
-    """The same PCRs of the other bank, or of both; of both the banks in the other order, or one."""
+    """Yields the same PCRs in the other bank or in both; for two banks, swapped, or one of them."""
     if len(selected) == 1:
         bank, pcrs = selected[0]
         other = other_hash(bank), pcrs
@@ -141,7 +143,7 @@ def of_names(use: Use, place: int, step: Step, handle: int) -> Iterator[Turned]:
 
 
 def of_tried(use: Use, place: int, step: Step) -> Iterator[Turned]:
-    """The user's values in the place of each of the assertion's buffers."""
+    """Yields assertions with the user's values in each of the assertion's buffers."""
     for value in use.scene.tried:
         for at, own in enumerate(step.said.values):
             if isinstance(own, bytes):

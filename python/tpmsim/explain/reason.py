@@ -1,4 +1,6 @@
-"""A command that is looked at, and why it was refused, or what is told of one that was accepted."""
+"""A command under examination, and why it was refused, or what is reported about it if it was
+accepted.
+"""
 
 import json
 import pathlib
@@ -16,11 +18,11 @@ from tpmsim.model.object_rules import Object
 from tpmsim.model.policy_state import Session
 from tpmsim.standard import CC, frames, HEADER_BYTES, is_policy, NUMBERED, nv, values
 
-# The sentence of each check, with its place in docs/table. Written by tests/table_rules.py.
+# The sentence for each check and its location in docs/table; tests/table_rules.py writes the file.
 RULES_FILE = pathlib.Path(__file__).with_name("rules.json")
 RULES: dict[str, list[str]] = json.loads(RULES_FILE.read_text("utf-8"))
 
-# What a fact shows: what was wanted, what was had in its place, or neither.
+# Whether a fact is what was expected, what was found instead, or neither.
 WANTED, HAD, PLAIN = "wanted", "had", ""
 
 
@@ -29,7 +31,7 @@ SLIP = "slip"
 
 @dataclass(frozen=True)
 class Fact:
-    """A value with what it is; long values are in hex."""
+    """A value with its label; long values are in hex."""
 
     label: str
     value: str
@@ -38,8 +40,8 @@ class Fact:
 
 @dataclass
 class Reason:
-    """A check, by its key of RULES, with what it found: `slips` are the usual mistakes that come to
-    just what was given, and `at` is the byte of the buffer at which something is wrong.
+    """A check, by its key of RULES, with the findings: `slips` are the common mistakes that make
+    exactly the given bytes, and `at` is the offset of the error in the buffer.
     """
 
     rule: str
@@ -56,12 +58,12 @@ class Reason:
 
     @property
     def link(self) -> str:
-        """Where in docs/table the sentence stands."""
+        """The location of the sentence in docs/table."""
         return RULES[self.rule][1]
 
     @property
     def told(self) -> list[Fact]:
-        """The facts, of which the slips are first."""
+        """Returns the facts, with the slips first."""
         return sorted(self.facts, key=lambda it: it.label != SLIP)
 
     def add(self, label: str, value: str, sort: str = PLAIN) -> None:
@@ -78,9 +80,9 @@ class Reason:
 
 @dataclass
 class Scene:
-    """A command with the model before it; `refused` is as VALUE/p1, and `elapsed` in milliseconds.
-    `known` is the command where the general checks passed, and `plain` its parameters where the
-    entries did. `tried` has the values that the user wants tried in each place.
+    """A command, and the model before it. `refused` is the code, such as VALUE/p1, and `elapsed` is
+    in milliseconds. `known` is the command, if the general checks passed, and `plain` its decrypted
+    parameters, if the entries passed. `tried` holds the values that the user tries everywhere.
     """
 
     model: Model
@@ -112,7 +114,7 @@ class Scene:
 
     @property
     def number(self) -> int:
-        """The command code that the buffer has, or 0."""
+        """The command code in the buffer, or 0."""
         return int.from_bytes(self.buffer[6:HEADER_BYTES], "big")
 
     @property
@@ -140,7 +142,9 @@ class Scene:
         return at + 4 + int.from_bytes(self.buffer[at : at + 4], "big")
 
     def entry_at(self, place: int) -> int:
-        """Where an entry begins, counted from 1, of a command whose entries could be read."""
+        """Returns the offset of an entry, counted from 1, if the command's entries could be
+        parsed.
+        """
         at = self.area_at + 4
         for _ in range(place - 1):
             at += 4
@@ -165,7 +169,7 @@ class OfLayer(Reason):
 
 
 class Look:
-    """A command that passed the checks of its parameters, and the reason that is being found."""
+    """A command that passed the checks of its parameters, and the reason found so far."""
 
     def __init__(self, scene: Scene, found: Reason) -> None:
         self.scene, self.found, self.past = scene, found, scene.past
@@ -186,7 +190,7 @@ class Look:
 
     @property
     def index(self) -> Index:
-        """The index that is asked for, the last handle that names one."""
+        """Returns the index concerned: the last handle that names one."""
         return self.model.indices[[it for it in self.handles if it in self.model.indices][-1]]
 
     @property
@@ -201,12 +205,12 @@ class Look:
         return handle_words(self.handles[place])
 
     def since(self, handle: int, words: str) -> str:
-        """The words with the line at which what has a handle began, or none where that is unknown."""
+        """Returns the words with the line that made a handle's entity; empty if that is unknown."""
         line = self.past.begun.get(handle, 0)
         return f"{words} {line}" if line else ""
 
     def say(self, words: str, at: str = "") -> None:
-        """Why it is refused, and the field that is at fault, of the parameters in plain."""
+        """Sets why the command is refused, and the wrong field of the decrypted parameters."""
         self.found.words = words
         if at:
             fields = dissection.fields_of_command(self.scene.buffer, self.scene.plain)

@@ -1,4 +1,4 @@
-"""A slip of a caller: its name, words, and what it turns of what a hash or an HMAC is made of."""
+"""A caller's slip: its name, its words, and how it changes the ingredients of a hash or an HMAC."""
 
 from __future__ import annotations
 
@@ -15,9 +15,9 @@ Changes = Mapping[str, Any]
 
 @dataclass(frozen=True)
 class Slip:
-    """What the ingredients have instead of the right ones. It has a name and words, or two where two
-    mistakes are in one ingredient. One that is not paired comes alone. `turn` makes the changes of
-    ingredients that another slip has turned before, where that can be.
+    """The ingredients that a slip changes. It has a name and words, or two of each if one
+    ingredient contains two mistakes. An unpaired slip is not combined with others. `turn` makes the
+    changes on ingredients that another slip has already changed, if that is possible.
     """
 
     told: tuple[Told, ...] = ()
@@ -38,7 +38,7 @@ class Slip:
 
 
 class Row(NamedTuple):
-    """A slip whose changes are made of the right ingredients, or of the right parts of KDFa."""
+    """A slip that changes the correct ingredients, or the correct parts of KDFa."""
 
     name: str
     words: str

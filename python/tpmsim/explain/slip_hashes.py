@@ -1,4 +1,6 @@
-"""Slips in cpHash: another Name, another form of it, other parameters, or the whole buffer."""
+"""Slips in cpHash: another Name, another form of the Name, other parameters, or the whole
+buffer.
+"""
 
 from dataclasses import replace
 from itertools import product
@@ -15,12 +17,12 @@ from tpmsim.standard import CC, digest, digest_bytes, frames, HEADER_BYTES, name
 from tpmsim.standard import NUMBERED, nv, objects, sized
 
 
-# The Names of how many other entities are tried together with another slip.
+# The number of other entities whose Names are tried together with another slip.
 PAIRED_OTHERS = 8
 
 
 def renamed(use: Use, handles: Sequence[int], names: Sequence[bytes]) -> tuple[bytes, ...]:
-    """The Names, where those of some handles are others, wherever they stand."""
+    """Returns the Names, with replacements for some handles wherever they occur."""
     others = dict(zip(handles, names))
     right = use.scene.model.names(use.command)
     return tuple(others.get(at, old) for at, old in zip(use.command.handles, right))
@@ -51,7 +53,7 @@ def names(use: Use) -> Iterator[Slip]:
 
 
 def groups(handles: list[int]) -> list[list[int]]:
-    """All of them, and each alone."""
+    """Returns all handles as one group, and each handle as its own group."""
     alone = [[it] for it in handles]
     return [handles, *alone] if len(handles) > 1 else alone
 
@@ -68,7 +70,7 @@ def formed_names(use: Use, handles: list[int]) -> Iterator[Slip]:
 
 
 def made_otherwise(use: Use, handle: int) -> Iterator[Slip]:
-    """Names that are made of the public area in another way, and those of what is above."""
+    """Yields wrong computations of a Name from the public area, and the Names of the ancestors."""
     held, said = use.scene.model.held(handle), handle_words(handle)
     if held is None:
         return
@@ -116,7 +118,7 @@ def is_parent(it: Object, held: Object) -> bool:
 
 
 def names_of_others(use: Use, handles: list[int]) -> Iterator[Slip]:
-    """Those of all else that is there."""
+    """Yields the Names of all other existing entities."""
     model = use.scene.model
     known = [*model.objects, *model.indices]
     for handle in handles:
@@ -127,7 +129,7 @@ def names_of_others(use: Use, handles: list[int]) -> Iterator[Slip]:
                 yield name_slip("another's Name", words, names, at < PAIRED_OTHERS)
 
 
-# What else is hashed.
+# Other texts that are hashed.
 
 
 def parameters(use: Use) -> Iterator[Slip]:
@@ -154,7 +156,7 @@ def plain_parameters(use: Use) -> Iterator[Slip]:
 
 
 def whole_buffers(use: Use) -> Iterator[Slip]:
-    """cpHash over the command as it is sent: with the HMACs as zeros or left out, or without the
+    """Yields cpHash over the whole command: with the HMACs as zeros or left out, or without the
     entries.
     """
     for words, text in texts_of_buffer(use):
@@ -163,8 +165,8 @@ def whole_buffers(use: Use) -> Iterator[Slip]:
 
 
 def blank_entries(use: Use) -> Iterator[tuple[str, list[frames.Entry]]]:
-    """The entries with what a caller may have in place of the HMAC as it makes it: in all of them, or in
-    its own alone.
+    """Yields the entries with placeholders that a caller may use for the HMAC while it computes it:
+    in all entries, or only in its own.
     """
     entries, size = use.command.entries or [], digest_bytes(use.session.algorithm)
     sizes = ("zeros", None), (f"{size} zeros", size), ("empty", 0)

@@ -1,5 +1,5 @@
-"""The usual slips in KDFa, which makes a session key: a table of a name, of words, and of how its parts
-are turned.
+"""The common slips in KDFa, which makes a session key: a table of a name, words, and how the parts
+change.
 """
 
 from typing import Callable, Iterator, NamedTuple
@@ -10,7 +10,7 @@ from tpmsim.standard.sessions import mac
 
 
 class Kdf(NamedTuple):
-    """What a session key is made of, in the order of KDFa's text."""
+    """The ingredients of a session key, in the order of KDFa's text."""
 
     algorithm: int
     value: bytes
@@ -23,7 +23,7 @@ class Kdf(NamedTuple):
 
     @property
     def key(self) -> bytes:
-        """Of a session key there is one block."""
+        """Returns the session key that KDFa makes, which is a single block."""
         text = self.counter + self.label + self.zero + self.newer + self.older + self.bits
         return mac(self.algorithm, self.value, text)
 
@@ -97,7 +97,7 @@ KDF_ROWS = (
 
 
 def of_kdf(right: Kdf) -> Iterator[tuple[Told, bytes]]:
-    """Each slip in a session key that is made of the right parts, and the key that it makes."""
+    """Yields each slip in a session key made from the correct parts, and the resulting key."""
     said = other_words(right.algorithm)
     for row in KDF_ROWS:
         words = "the session key was " + row.words.format(hash=said)

@@ -1,8 +1,8 @@
-"""Two slips at once in an HMAC: each two that turn other ingredients, and one made of what another one
-has turned.
+"""Two slips at once in an HMAC: two that change different ingredients, or one that is applied to
+the result of the other.
 
-Each of three parts of an HMAC, its key, cpHash and the rest of its text, is made once for each slip that
-turns that part alone, and two such are put together.
+An HMAC has three parts: its key, cpHash and the rest of its text. Each part is computed once for
+each slip that changes only that part, and two parts are combined.
 """
 
 from __future__ import annotations
@@ -23,7 +23,9 @@ PARTS = {
 
 
 class Turned:
-    """A slip that is tried with others; `part` is the one that it turns, if that is one alone."""
+    """A slip that is tried with others; `part` is the part that it changes, if it changes only
+    one.
+    """
 
     def __init__(self, slip: Slip, right: Ingredients) -> None:
         self.slip, self.made, self.names = slip, slip.change(right), frozenset(slip.changes)
@@ -37,7 +39,7 @@ class Turned:
 
 
 def hmacs_of(those: Sequence[Slip], right: Ingredients) -> Iterator[tuple[Slip, Slip, bytes]]:
-    """Two slips, the inner one first, and the HMAC that they make. The likely ones are first."""
+    """Yields two slips, the inner one first, and the resulting HMAC; the likely ones come first."""
     turned = [Turned(it, right) for it in those]
     for first, second in combinations(turned, 2):
         if first.names.isdisjoint(second.names):
@@ -49,7 +51,7 @@ def hmacs_of(those: Sequence[Slip], right: Ingredients) -> Iterator[tuple[Slip, 
 
 
 def together(first: Turned, second: Turned, right: Ingredients) -> bytes:
-    """The HMAC of two that turn other ingredients."""
+    """Returns the HMAC for two slips that change different ingredients."""
     parts = first.part, second.part
     if "" in parts or parts[0] == parts[1]:
         return right._replace(**first.slip.changes, **second.slip.changes).hmac
@@ -61,7 +63,7 @@ def together(first: Turned, second: Turned, right: Ingredients) -> bytes:
 
 
 def upon(inner: Turned, outer: Turned) -> Ingredients | None:
-    """What an outer slip makes of what an inner one has turned, where both turn one ingredient."""
+    """Applies the outer slip to the inner slip's result, if both change one ingredient."""
     if inner is outer or outer.slip.turn is None or inner.names.isdisjoint(outer.names):
         return None
     changes = outer.slip.turn(inner.made)

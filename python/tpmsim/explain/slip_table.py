@@ -1,5 +1,5 @@
-"""The usual slips in the parts of an HMAC: a table of a name, of words, and of how the ingredients are
-turned.
+"""The common slips in the parts of an HMAC: a table of a name, words, and how the ingredients
+change.
 """
 
 from typing import Callable, Iterator
@@ -10,7 +10,7 @@ from tpmsim.standard import digest, number, sized
 from tpmsim.standard.sessions import mac
 
 
-# How the parts are put together in another way.
+# Other ways to combine the parts.
 
 
 def value_first(session_key: bytes, auth_value: bytes) -> bytes:
@@ -63,7 +63,9 @@ def as_hex(data: bytes) -> bytes:
 
 
 def without_size(parameters: bytes) -> bytes:
-    """Parameters without the size of their first buffer, if they begin with one."""
+    """Returns the parameters without the size of their first buffer, if they start with a
+    buffer.
+    """
     size = int.from_bytes(parameters[:2], "big")
     return parameters[2:] if 0 < size <= len(parameters) - 2 else parameters
 
@@ -265,7 +267,9 @@ ROWS = (
 
 
 def of_rows(right: Ingredients) -> Iterator[Slip]:
-    """Those of the table; a row that changes nothing here makes the right HMAC, and explains none."""
+    """Yields the slips of the table. A row that changes nothing here makes the correct HMAC, and so
+    explains nothing.
+    """
     said = other_words(right.algorithm)
     for row in ROWS:
         changes = row.turn(right)

@@ -1,5 +1,4 @@
-"""Slips in the key of an HMAC: another authorization value, another form of it, another session key.
-"""
+"""Slips in the key of an HMAC: another authorization value, another form of it, another session key."""
 
 from typing import Any, Callable, Iterator
 
@@ -12,7 +11,7 @@ from tpmsim.explain.words import bytes_words, handle_words
 from tpmsim.standard import RH_NULL, trimmed
 
 
-# Of how many other entities the values are tried together with another slip.
+# The number of other entities whose values are tried together with another slip.
 PAIRED_OTHERS = 4
 
 
@@ -63,7 +62,9 @@ def new_value(use: Use) -> bytes:
 
 
 def values_put_in(use: Use) -> Iterator[Slip]:
-    """Of an entry that authorizes nothing: the value of a handle of the command, or of its bind."""
+    """For an entry that authorizes nothing, yields the values of the command's handles and of the
+    bind entity.
+    """
     bind = [] if use.begun is None else [use.begun.bind]
     for handle in dict.fromkeys([*use.scene.handles, *bind]):
         value = use.scene.model.auth_value(handle)
@@ -74,19 +75,21 @@ def values_put_in(use: Use) -> Iterator[Slip]:
 
 
 def told_forms(value: bytes) -> Iterator[tuple[tuple[Told, ...], bytes, bool]]:
-    """A value in each form, and whether it is of one form."""
+    """Yields a value in each form, and whether that is a single form."""
     for it in forms_of(value):
         told = tuple((f"authValue {form.name}", form.words) for form in it.forms)
         yield told, it.value, it.is_single
 
 
 def worded(told: tuple[Told, ...], begin: str) -> tuple[Told, ...]:
-    """The words of each form, after what is in that form."""
+    """Returns the words for each form, preceded by the words for the value in that form."""
     return tuple((name, f"{begin} {words}") for name, words in told)
 
 
 def formed(use: Use) -> Iterator[Slip]:
-    """The value in another form in the key, and in the session key where that is of the same value."""
+    """Yields the value in another form in the key, and also in the session key if that is made from
+    the same value.
+    """
     value, kdf = use.auth_value, kdf_of(use)
     for told, other, is_single in told_forms(value):
         told = worded(told, "the authValue is in the key")
@@ -105,12 +108,12 @@ def of_others(use: Use) -> Iterator[Slip]:
         yield value_slip("another's authValue", words, value, at < PAIRED_OTHERS)
 
 
-# The bytes of a block of both hashes: an HMAC's key is padded with zeros to it.
+# The block size of both hashes, to which an HMAC's key is padded with zeros.
 BLOCK, MOST_PADDED = 64, 128
 
 
 def zeros(use: Use) -> Iterator[Slip]:
-    """Zeros at the end of a key count where it is longer than a block; in front they always do."""
+    """Trailing zeros of a key matter only if it is longer than a block; leading zeros always do."""
     value = use.auth_value if use.takes_value else b""
     if not value:
         return
@@ -133,7 +136,7 @@ def padded(value: bytes, words: str, pad: Callable[[bytes, int, bytes], bytes], 
 
 
 def mistyped(use: Use) -> Iterator[Slip]:
-    """The value with one slip of the finger, in the key and in the session key."""
+    """Yields the value with one typing error, in the key and in the session key."""
     kdf = kdf_of(use)
     values = {use.auth_value} if use.takes_value else set()
     for value in sorted(values | ({kdf.value} if kdf else set())):
@@ -152,7 +155,7 @@ def mistyped(use: Use) -> Iterator[Slip]:
 
 
 def kdf_of(use: Use) -> Kdf | None:
-    """What the session key is made of, if there is one and its start is known."""
+    """Returns the parts of the session key, if there is one and its start is known."""
     begun, session = use.begun, use.session
     if begun is None or not session.key:
         return None
@@ -193,7 +196,7 @@ def session_keys(use: Use) -> Iterator[Slip]:
 
 
 def keys_made(use: Use) -> Iterator[Slip]:
-    """Of a session that is bound to nothing, and so has an empty key."""
+    """Yields keys for an unbound session, whose correct key is empty."""
     begun = use.begun
     if begun is None or begun.bind != RH_NULL:
         return
@@ -224,11 +227,11 @@ def bind_values(use: Use) -> Iterator[tuple[bytes, str]]:
             yield value, f"the authValue of {handle_words(handle)}, and it is bound to {said}"
 
 
-# Values that the user wants tried.
+# Values that the user tries.
 
 
 def tried(use: Use) -> Iterator[Slip]:
-    """Each in every place, and as an authorization value in each form."""
+    """Yields each value in every position, and as an authorization value in each form."""
     names, kdf = use.right().names, kdf_of(use)
     for value in use.scene.tried:
         said = f"the tried value, {bytes_words(value)},"

@@ -1,7 +1,7 @@
-"""Which usual slips of a caller come to just the HMAC that it gave: one, or two together.
+"""Finds the common slips of a caller that make exactly the HMAC that it sent: one slip, or two.
 
-A slip is told only where its HMAC is the one that was given. The tables of slips are in slip_table.py,
-slip_kdf.py, name_forms.py and forms.py; two at once are tried by slip_pairs.py.
+A slip is reported only if its HMAC is the one that was sent. The tables of slips are in
+slip_table.py, slip_kdf.py, name_forms.py and forms.py; slip_pairs.py tries two at once.
 """
 
 from __future__ import annotations
@@ -17,24 +17,24 @@ from tpmsim.explain.words import attribute_words, plural, size_words
 from tpmsim.standard import CONTINUE_SESSION, DECRYPT, digest_bytes, ENCRYPT, HASH_WORDS, number
 from tpmsim.standard import trimmed
 
-# How many slips are tried alone, and how many pairs of them, at most: so many HMACs are computed.
+# The largest number of single slips that are tried, and of pairs. Each of them costs one HMAC.
 MOST_ALONE, MOST_PAIRS = 10_000, 100_000
 
-# How many old nonces are tried together with another slip, and how many of a session are tried at
-# all, beside its first one.
+# The number of old nonces that are tried together with another slip, and the number of a session's
+# nonces that are tried at all, in addition to its first one.
 PAIRED, MOST_NONCES = 3, 100
 
-# Fewer bytes than these are the beginning of too many HMACs.
+# A shorter value would be the beginning of too many HMACs.
 LEAST_CUT = 4
 
 
-# What is left to the user.
+# What the user can still try.
 TRY = "--try VALUE tries one that the log does not have, as another PIN"
 
 
 @dataclass
 class Found:
-    """The slips that explain an HMAC, and how many were tried alone and in pairs."""
+    """The slips that explain an HMAC, and how many were tried singly and in pairs."""
 
     told: list[Told] = field(default_factory=list)
     alone: int = 0
@@ -47,7 +47,9 @@ class Found:
 
 
 def found(use: Use) -> Found:
-    """What makes the HMAC that was given; a whole command that is sent again is a slip of its own."""
+    """Returns what makes the HMAC that was sent. Sending a whole command again is a slip as
+    well.
+    """
     if not use.entry.hmac:
         words = "the HMAC was left out, which is right only where the key is empty"
         return Found([("HMAC left out", words)])
@@ -63,7 +65,7 @@ def found(use: Use) -> Found:
 
 
 class Search:
-    """It counts what it tries."""
+    """A search for what makes an HMAC, which counts what it tries."""
 
     def __init__(self, use: Use) -> None:
         self.use, self.given, self.found = use, use.entry.hmac, Found()
@@ -75,7 +77,9 @@ class Search:
         return explained or plain_value(use) or another_size(use)
 
     def one(self, right: Ingredients, those: Iterable[Slip]) -> list[Told]:
-        """The first slip that makes this HMAC, or a longer or a shorter one that it is a part of."""
+        """Returns the first slip whose HMAC equals, contains or is part of the HMAC that was
+        sent.
+        """
         for slip in chain([Slip()], islice(those, MOST_ALONE)):
             self.found.alone += bool(slip.told)
             made = slip.change(right).hmac
@@ -87,7 +91,7 @@ class Search:
         return []
 
     def part_words(self, made: bytes) -> str:
-        """How the given HMAC is a part of this one, or the other way round."""
+        """Returns how the given HMAC is a part of this one, or this one a part of it."""
         given, algorithm = self.given, self.use.session.algorithm
         has = f"{size_words(len(given))}, and one by {HASH_WORDS[algorithm]} has "
         has += str(digest_bytes(algorithm))
@@ -108,7 +112,7 @@ class Search:
 
 
 def kept(those: Iterator[Slip], tried: list[Slip]) -> Iterator[Slip]:
-    """The same, of which those that may be paired are kept."""
+    """Yields the same slips, and stores those that may be paired."""
     for it in those:
         if it.is_paired:
             tried.append(it)
@@ -116,7 +120,7 @@ def kept(those: Iterator[Slip], tried: list[Slip]) -> Iterator[Slip]:
 
 
 def slips(use: Use) -> Iterator[Slip]:
-    """The likely ones first."""
+    """Yields all slips, the most likely ones first."""
     yield from old_nonces(use)
     yield from slip_values.auth_values(use)
     yield from slip_values.session_keys(use)
@@ -164,7 +168,7 @@ def old_nonces(use: Use) -> Iterator[Slip]:
 
 
 def other_attributes(use: Use) -> Iterator[Slip]:
-    """All of them; of those of the entry before the words say so."""
+    """Yields all other attributes; the words say if they are those of the previous entry."""
     last = use.begun.last_attributes if use.begun else None
     own = use.entry.attributes
     sent = f"sent were {attribute_words(own)}"
@@ -178,7 +182,9 @@ def other_attributes(use: Use) -> Iterator[Slip]:
 
 
 def others(use: Use) -> Iterator[Slip]:
-    """The nonces of sessions that decrypt and encrypt, in the first entry; and other sessions."""
+    """Yields the nonces of the sessions that decrypt and encrypt, in the first entry; other
+    sessions.
+    """
     model, right = use.scene.model, use.right().others
     for attribute, what in ((DECRYPT, "decrypts"), (ENCRYPT, "encrypts")):
         encrypting = use.command.with_attribute(attribute)

@@ -1,4 +1,4 @@
-"""Explanations as lines of text, and as values that JSON has."""
+"""Explanations as lines of text, and as JSON values."""
 
 import textwrap
 from dataclasses import dataclass, field
@@ -19,7 +19,7 @@ WRAPPER = textwrap.TextWrapper(
 
 @dataclass
 class Counts:
-    """How many events there were, by what came of them, and the lines where answers differ."""
+    """The number of events with each outcome, and the lines at which responses differ."""
 
     commands: int = 0
     power_cycles: int = 0
@@ -59,12 +59,14 @@ class Counts:
 
 
 def name_of(event: Event) -> str:
-    """The command's name, whether it is served or not."""
+    """Returns the command's name, whether the device implements the command or not."""
     return command_name(event.scene.number) or "A command"
 
 
 def of_log(events: list[Event], play: Play) -> Iterator[str]:
-    """What a log does not have in common with the model comes first, since it spoils what follows."""
+    """Yields the lines about a log. Differences from the model come first, since they make the rest
+    unreliable.
+    """
     for words in play.damages:
         yield from (words, "")
     differing = [it for it in events if it.differences]
@@ -86,7 +88,7 @@ def cut_words(play: Play) -> list[str]:
 
 
 def ends_words(play: Play) -> list[str]:
-    """What is wrong with the log's heads and ends, as sentences."""
+    """Returns sentences about what is wrong with the log's heads and ends."""
     return [f"{it[0].upper()}{it[1:]}." for it in (*play.damages, *cut_words(play))]
 
 
@@ -127,7 +129,7 @@ def code_words(refused: str, response: bytes) -> str:
 
 
 def layer_words(event: Event) -> list[str]:
-    """What the completing layer did, and what the device itself answered."""
+    """Returns what the completing layer did, and what the device itself returned."""
     if not event.layer:
         return []
     return wrapped(f"The completing layer: {event.layer}. {own_words(event)}")
@@ -235,7 +237,7 @@ def value_of_event(event: Event, is_whole: bool) -> Value:
 
 
 def value_of_layer(event: Event) -> Value | None:
-    """What the completing layer did, and how the device itself answered."""
+    """Returns what the completing layer did, and what the device itself returned."""
     if not event.layer or event.own is None:
         return None
     own = event.own

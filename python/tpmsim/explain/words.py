@@ -1,4 +1,4 @@
-"""How numbers, handles, codes and bytes are said."""
+"""Numbers, handles, codes and bytes as text."""
 
 import enum
 from typing import Iterable
@@ -53,7 +53,7 @@ def algorithm_words(number: int) -> str:
 
 
 def handle_words(handle: int) -> str:
-    """A handle as a line has it; a PCR by its number, and the password's by what it is."""
+    """Returns a handle as in a line; a PCR by number, and the password's handle by its meaning."""
     if handle_kinds.is_pcr(handle):
         return f"PCR {handle}"
     return "the password" if handle == frames.RS_PW else lines.handle_word(handle)
@@ -85,7 +85,7 @@ def printable(data: bytes) -> bool:
 
 
 def bytes_words(data: bytes) -> str:
-    """Hex; text behind it where the bytes are one."""
+    """Returns bytes in hex, followed by the text if they are one."""
     if not data:
         return "empty"
     return f'{data.hex()} "{data.decode("ascii")}"' if printable(data) else data.hex()
@@ -100,13 +100,13 @@ def size_words(count: int) -> str:
 
 
 def listed(words: Iterable[str]) -> str:
-    """a, b and c."""
+    """Returns words as a list, such as "a, b and c"."""
     *before, last = list(words) or [""]
     return f"{', '.join(before)} and {last}" if before else last
 
 
 def bit_words(value: int, names: dict[int, str]) -> str:
-    """The names of bits that are set; those that have none are given in hex."""
+    """Returns the names of the set bits; bits without a name are in hex."""
     found = [name for bit, name in names.items() if value & bit]
     others = value & ~sum(names)
     if others:
@@ -127,6 +127,6 @@ def localities_words(bits: int) -> str:
 
 
 def seconds_words(milliseconds: int) -> str:
-    """So many milliseconds, in seconds, or in hours where it is many."""
+    """Returns milliseconds in seconds, or in hours if there are many."""
     seconds = milliseconds / 1000
     return f"{seconds:,g} s" if seconds < 36_000 else f"{seconds / 3600:,.1f} h"

@@ -1,1 +1,1 @@
-"""The device once more, in plain Python. It knows nothing of the program's code."""
+"""A second implementation of the device, in plain Python, which shares no code with the program."""

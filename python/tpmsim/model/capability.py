@@ -20,13 +20,13 @@ PERMANENT = (
     frames.RH_PLATFORM,
 )
 
-# The properties (section 6.13). The family is "2.0", with a zero behind it.
+# The properties (section 6.13). The family is "2.0", followed by a zero byte.
 FAMILY_INDICATOR, TOTAL_COMMANDS = 0x100, 0x129
 LOCKOUT_COUNTER, MAX_AUTH_FAIL, LOCKOUT_INTERVAL, LOCKOUT_RECOVERY = range(0x20E, 0x212)
 FAMILY = b"2.0\0"
 
-# Where the attributes of a command (TPMA_CC) have the number of its handles, and that it answers
-# one.
+# The places in the attributes of a command (TPMA_CC) of the number of its handles, and of the bit that
+# says that its response has a handle.
 HANDLES_SHIFT, ANSWERED_HANDLE = 25, 1 << 28
 PLACE_BITS = 0xFF_FFFF
 
@@ -37,7 +37,7 @@ def command_attributes(code: CC) -> int:
 
 
 class Commands(Held):
-    """The command, of a device that has all that is asked for."""
+    """The command of a device that has all that is asked for."""
 
     @takes(integer(4), integer(4), integer(4))
     def get_capability(self, request: Request, capability: int, wanted: int, count: int) -> Answer:
@@ -50,7 +50,7 @@ class Commands(Held):
         return Answer(more + number(capability, 4) + number(len(given), 4) + b"".join(given))
 
     def elements(self, capability: int, wanted: int) -> list[bytes]:
-        """All from the one that is wanted on, in their order."""
+        """All elements from the requested one on, in their order."""
         if capability == HANDLES:
             return [number(it, 4) for it in self.handles_from(wanted)]
         if capability == COMMANDS:
@@ -62,7 +62,7 @@ class Commands(Held):
         raise Refusal("VALUE/p1", "A1")
 
     def handles_from(self, wanted: int) -> list[int]:
-        """The handles of the kind that the first byte of the wanted one says."""
+        """The handles from this one on, of the kind that its first byte says."""
         kind = handle_kinds.first_byte(wanted)
         held = {
             PCR_KIND: handle_kinds.PCRS,

@@ -7,7 +7,8 @@ from __future__ import annotations
 from dataclasses import dataclass, replace
 from typing import Callable, Self
 
-from tpmsim.model import capability, object_commands
+from tpmsim.model import capability, completion_rows, object_commands
+from tpmsim.model.completion_properties import Counts, properties
 from tpmsim.model.machine import Model, Outcome, PLACE_BITS, SESSIONS
 from tpmsim.model.state_text import Layer
 from tpmsim.standard import CC, command, Fields, frames, is_session, number, RH_NULL
@@ -16,9 +17,12 @@ from tpmsim.standard.handle_kinds import first_byte
 
 OBJECTS = object_commands.OBJECTS
 
-# The commands that the layer alone has, with what TPM2_GetCapability tells of them.
+# The commands that only the layer has, each with its attributes in TPM2_GetCapability.
 STIR_RANDOM, CONTEXT_LOAD, CONTEXT_SAVE = 0x146, 0x161, 0x162
-OWN_COMMANDS = {STIR_RANDOM: 0x146, CONTEXT_LOAD: 0x1000_0161, CONTEXT_SAVE: 0x0200_0162}
+OWN_COMMANDS = {
+    **{STIR_RANDOM: 0x146, CONTEXT_LOAD: 0x1000_0161, CONTEXT_SAVE: 0x0200_0162},
+    **{it: it for it in completion_rows.ROWS},
+}
 MOST_STIRRED = 128
 
 # A code that the device has no use for.
@@ -31,17 +35,27 @@ ALGORITHMS = {
     **{0x04: 0x004, 0x05: 0x104, 0x06: 0x002, 0x08: 0x30C, 0x0A: 0x006, 0x0B: 0x004},
     **{0x22: 0x404, 0x25: 0x008, 0x43: 0x202},
 }
-OF_ALGORITHMS = 0
-OWN_PROPERTIES = {
-    **{0x105: 0x5453494D, 0x10B: 1, 0x10C: 0, 0x112: 24, 0x11E: 4096, 0x11F: 4096},
-    **{0x120: 32, 0x12C: 1024},
+OF_ALGORITHMS, OF_PCR_PROPERTIES = 0, 7
+
+# The PCRs, each a bit, that a TPM2_Shutdown(STATE) saves (0); that may be extended from each locality (1, 3,
+# ..) and reset from it (2, 4, ..); that do not count (11); and with a policy (13) or a value (14).
+PCR_PROPERTIES = {
+    **{0x00: 0x00FFFF, 0x01: 0x81FFFF, 0x02: 0x810000, 0x03: 0x81FFFF, 0x04: 0x810000},
+    **{0x05: 0xFFFFFF, 0x06: 0x810000, 0x07: 0xFFFFFF, 0x08: 0x810000, 0x09: 0xFFFFFF},
+    **{0x0A: 0xFF0000, 0x11: 0, 0x13: 0, 0x14: 0},
 }
+
+# The capabilities that the device refuses, and of which the layer has an empty list: physical presence,
+# the audit of commands, and elliptic curves.
+EMPTY = (3, 4, 8)
 
 LISTS = {
     OF_ALGORITHMS: "the algorithms",
     capability.HANDLES: "the handles",
     capability.COMMANDS: "the commands",
     capability.PROPERTIES: "the properties",
+    OF_PCR_PROPERTIES: "the properties of PCRs",
+    **{it: "an empty list" for it in EMPTY},
 }
 
 TOKEN, LAST_NUMBER = b"tpmsim 1", 2**64 - 1
@@ -226,6 +240,9 @@ class Completion:
             return self.load(device, asked.parameters, own)
         if asked.code == CONTEXT_SAVE and numbers is not None:
             return self.save(device, numbers[0], own)
+        if asked.code in completion_rows.ROWS:
+            answer, fault, words = completion_rows.answer(device, asked.code, asked.parameters)
+            return Completed(refused(own, fault) if fault else told(own, answer), own, words)
         return stands
 
     def capability(self, device: Model, asked: Asked, stands: Completed) -> Completed:
@@ -245,18 +262,28 @@ class Completion:
     ) -> list[tuple[int, bytes]] | None:
         """The elements of a list that is the layer's, each with the number by which it is asked for."""
         if own.refused:
-            is_refused = own.refused == "VALUE/p1" and wanted[0] == OF_ALGORITHMS
-            texts = [(it, number(it, 2) + number(told, 4)) for it, told in ALGORITHMS.items()]
-            return texts if is_refused else None
+            return self.unserved(wanted[0]) if own.refused == "VALUE/p1" else None
         if wanted[0] == capability.COMMANDS:
             commands = {int(it): capability.command_attributes(it) for it in CC} | OWN_COMMANDS
             return [(it, number(told, 4)) for it, told in sorted(commands.items())]
         if wanted[0] == capability.PROPERTIES:
-            properties = device.properties()
-            properties |= {it: number(told, 4) for it, told in OWN_PROPERTIES.items()}
-            properties[capability.TOTAL_COMMANDS] = number(len(CC) + len(OWN_COMMANDS), 4)
-            return [(it, number(it, 4) + told) for it, told in sorted(properties.items())]
+            found = properties(device, self.counts(device), len(OWN_COMMANDS))
+            return [(it, number(it, 4) + number(told, 4)) for it, told in sorted(found.items())]
         return self.handles(device, wanted[1] >> 24) if wanted[0] == capability.HANDLES else None
+
+    @staticmethod
+    def unserved(wanted: int) -> list[tuple[int, bytes]] | None:
+        """The elements of a list that the device refused."""
+        if wanted == OF_ALGORITHMS:
+            return [(it, number(it, 2) + number(told, 4)) for it, told in ALGORITHMS.items()]
+        if wanted == OF_PCR_PROPERTIES:
+            octets = ((it, bits.to_bytes(3, "little")) for it, bits in PCR_PROPERTIES.items())
+            return [(it, number(it, 4) + number(3, 1) + text) for it, text in octets]
+        return [] if wanted in EMPTY else None
+
+    def counts(self, device: Model) -> Counts:
+        kinds = frames.HMAC_SESSION, frames.POLICY_SESSION, TRANSIENT
+        return Counts(*(len(self.handles(device, it) or ()) for it in kinds))
 
     def handles(self, device: Model, kind: int) -> list[tuple[int, bytes]] | None:
         """Those of objects that do not wait, and of sessions that are loaded (02) or saved (03)."""

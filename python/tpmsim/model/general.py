@@ -1,4 +1,4 @@
-"""What every command goes through first (docs/table/order_of_refusals.md)."""
+"""The checks that every command passes first (docs/table/order_of_refusals.md)."""
 
 from __future__ import annotations
 
@@ -18,13 +18,13 @@ if TYPE_CHECKING:
 
 LEAST_AREA, MOST_NONCE_OR_HMAC = 9, 32
 
-# The checks of a command's header, which come before it is known which command it is.
+# The checks of a command's header, before the command's code is known.
 HEADER_CHECKS = "G1", "G2", "G3", "G4"
 
 
 class Refusal(Exception):
-    """A command that is refused: by a code, as HASH/p1, at a check, as G11 or A1; `touched` is what
-    dictionary attack protection counts it at, if at anything.
+    """A refusal of a command: a code such as HASH/p1, and a check such as G11 or A1. `touched` is
+    what it counts against in dictionary attack protection, if anything.
     """
 
     def __init__(self, name: str, check: str, touched: str | None = None) -> None:
@@ -34,7 +34,7 @@ class Refusal(Exception):
 
 @dataclass
 class Command:
-    """A command that its buffer spells; without sessions `entries` is None."""
+    """The command that a buffer encodes; `entries` is None for a command without sessions."""
 
     code: CC
     handles: list[int]
@@ -43,20 +43,24 @@ class Command:
 
     @cached_property
     def places(self) -> list[tuple[int, Entry, int | None]]:
-        """Each entry with its number and the handle that it authorizes, if any."""
+        """Returns each entry with its number and the handle that it authorizes, if any."""
         entries = self.entries or []
         authorized = [*self.handles[: self.code.authorized], *[None for _ in entries]]
         return [(at, *both) for at, both in enumerate(zip(entries, authorized), 1)]
 
     def others(self, place: int, handle: int | None) -> list[int]:
-        """In the first entry, where it authorizes: the other sessions that decrypt and encrypt."""
+        """Returns, for a first entry that authorizes, the other sessions that decrypt and
+        encrypt.
+        """
         if place != 1 or handle is None:
             return []
         found = [self.with_attribute(it) for it in (DECRYPT, ENCRYPT)]
         return list(dict.fromkeys(it[1].handle for it in found if it and it[0] != 1))
 
     def with_attribute(self, attribute: int) -> tuple[int, Entry, int | None] | None:
-        """The entry that decrypts or encrypts, its number, and the handle that it authorizes."""
+        """Returns the entry that decrypts or encrypts, its number, and the handle that it
+        authorizes.
+        """
         for place, entry, handle in self.places:
             if entry.attributes & attribute:
                 return place, entry, handle
@@ -150,7 +154,7 @@ def check_entry(
 
 
 def decode(buffer: bytes, device: Held) -> Command:
-    """The command of a buffer, or its first refusal that no authorization value decides."""
+    """Decodes a buffer's command; raises the first refusal that needs no authorization value."""
     fields = Fields(buffer)
     tag, code = read_header(fields, len(buffer))
     if device.started == (code == CC.Startup):

@@ -1,8 +1,8 @@
-"""What a device has accepted, and what that alone tells of it: the values of its PCRs, its
+"""What a device has accepted, and everything that this determines: the values of its PCRs, its
 counters, its authorization values, and the start, key, nonce and policy of each session.
 
-Each of them is a fold over the accepted events, the first one first. It reads nothing of the device
-but what an event shows; its rules are those of docs/THEOREMS.md.
+Each of them is a fold over the accepted events, the earliest first. It reads only what the events
+show of the device. Its rules are those of docs/THEOREMS.md.
 """
 
 from __future__ import annotations
@@ -23,7 +23,9 @@ if TYPE_CHECKING:
 
 @dataclass(frozen=True)
 class Use:
-    """An entry of a command: its session, whether that goes on, and whether it authorizes."""
+    """An entry of a command: its session, whether the session continues, and whether it
+    authorizes.
+    """
 
     handle: int
     continues: bool
@@ -32,9 +34,10 @@ class Use:
 
 @dataclass(frozen=True)
 class Accepted:
-    """An accepted command: its handles, with their Names and protections before it, its entries, its
-    parameters in plain, the event's random bytes and how many of them the command itself drew, the
-    handle that it answered, if any, and for TPM2_Load the authorization value of the sensitive area.
+    """An accepted command: its handles, with their Names and protections before it; its entries;
+    its decrypted parameters; the event's random bytes, and the number of them that the command
+    itself drew; the returned handle, if any; and for TPM2_Load the sensitive area's authorization
+    value.
     """
 
     code: int
@@ -60,15 +63,15 @@ class Accepted:
 
 @dataclass(frozen=True)
 class PowerCycle:
-    """Power goes off and on again."""
+    """A power cycle."""
 
 
-# PCRs: the values of each bank, and those that the last shutdown found.
+# PCRs: the current values of each bank, and those at the last shutdown.
 
 
 @dataclass
 class Pcrs:
-    """`updates` counts writes and TPM2_Clear; `saved` is what the last shutdown found."""
+    """`updates` counts writes and TPM2_Clear; `saved` holds the values at the last shutdown."""
 
     values: dict[int, list[bytes]] = field(default_factory=pcrs.starting_banks)
     updates: int = 0
@@ -112,8 +115,8 @@ class Pcrs:
         return digest(algorithm, b"".join(values))
 
 
-# Authorization values: the one that was set last for each handle. These are always there, and have
-# none at first.
+# Authorization values: the value that was last set for each handle. These handles always exist, and
+# their value is empty at first.
 
 ALWAYS_THERE = frozenset((*HIERARCHIES, RH_NULL, *PCRS))
 
@@ -146,7 +149,8 @@ def defined_index(it: Accepted) -> int:
     return nv.Public.read(it.given["publicInfo"]).index
 
 
-# Counters: the value of each since its definition, all that any ever had, and the largest of these.
+# Counters: the value of each counter since its definition, all values that any counter ever had,
+# and the largest of these.
 
 
 @dataclass
@@ -165,14 +169,13 @@ class Counters:
             self.largest = max(self.largest, value)
 
 
-# Sessions, with their policies. What one is bound to: a Name, its authorization value, and how it
-# is protected.
+# Sessions, with their policies. A binding is a Name, its authorization value, and its protection.
 Bound = tuple[bytes, bytes, str | None]
 
 
 @dataclass(frozen=True)
 class LiveSession:
-    """A session, with the Name, the value and the protection that it is bound to."""
+    """A session, with the Name, the authorization value and the protection to which it is bound."""
 
     kind: int
     algorithm: int
@@ -185,7 +188,7 @@ class LiveSession:
 
 @dataclass
 class Sessions:
-    """Those that live. The PCRs and the authorization values are those before the command."""
+    """The live sessions. The PCRs and the authorization values are those before the command."""
 
     live: dict[int, LiveSession] = field(default_factory=dict)
 
@@ -220,7 +223,7 @@ class Sessions:
         return LiveSession(kind, algorithm, cipher, bound, key, nonce_tpm, starting)
 
     def roll(self, it: Accepted) -> None:
-        """A new nonce of its size for the session of each entry, in order."""
+        """Draws a new nonce of the same size for the session of each entry, in order."""
         left = it.random[it.drawn :]
         for use in it.uses:
             if use.handle != RS_PW:
@@ -289,7 +292,7 @@ def made_of(it: Accepted, session: LiveSession, values: Pcrs) -> tuple[bytes, di
     return policy.after_auth_value(algorithm, old), {"demand": demand}
 
 
-# All of it, and a device that is compared with it.
+# The whole history, and its comparison with a device.
 
 
 @dataclass
@@ -310,7 +313,9 @@ class History:
             self.counters.command(event)
 
     def differences(self, device: Model) -> Iterator[str]:
-        """What a device has that its history does not tell, each with its name."""
+        """Yields the name of each part of a device that differs from what its history
+        determines.
+        """
         yield from self.pcr_differences(device)
         yield from self.auth_differences(device)
         yield from self.counter_differences(device)

@@ -1,8 +1,9 @@
-"""The image of what a device keeps without power: bytes that another device is opened from.
+"""The image of what a device keeps without power: bytes from which another device can be opened.
 
-Behind the word TPMI stand a version and the length of the whole; at the end stands the SHA-256 of
-all before. The body has the fields of docs/table in their order. Version 2 is written, and has the
-limits on NV indices before the body; version 1 is read, too, within limits of its own.
+It starts with the word TPMI, a version and the total length, and ends with the SHA-256 of
+everything before. The body contains the fields of docs/table in their order. Images are written in
+version 2, which has the limits on NV indices before the body. Version 1, with fixed limits, is also
+read.
 """
 
 from dataclasses import dataclass
@@ -28,12 +29,14 @@ BANKS = SHA1, SHA256
 
 
 class Fault(Exception):
-    """Why bytes are no image: Short, Magic, Version, Length, Digest or Body."""
+    """Why bytes are not an image: Short, Magic, Version, Length, Digest or Body."""
 
 
 @dataclass(frozen=True)
 class Version:
-    """The limits on NV indices and on the bytes of their data, and whether the image says them."""
+    """The limits on NV indices and on the size of their data, and whether the image contains
+    them.
+    """
 
     number: int
     indices: int
@@ -49,7 +52,7 @@ VERSION_1 = Version(1, 32, 8192, False)
 VERSION_2 = Version(2, nv_commands.INDICES, nv_commands.ALL_BYTES, True)
 VERSIONS = {it.number: it for it in (VERSION_1, VERSION_2)}
 
-# Where the body begins in an image that is written.
+# The offset of the body in an image that is written.
 BODY_AT = HEAD_BYTES + len(VERSION_2.limits)
 
 
@@ -72,12 +75,12 @@ def body_text(device: Model) -> bytes:
 
 
 def framed(body: bytes, version: Version = VERSION_2) -> bytes:
-    """A body between its head, with the limits behind it that the version says, and its digest."""
+    """Returns a body with its head, the limits if the version writes them, and the digest."""
     return digested(version.number, version.limits + body)
 
 
 def digested(version: int, behind_head: bytes, magic: bytes = MAGIC) -> bytes:
-    """What is behind the head of a version, whatever that is, between the head and the digest."""
+    """Returns an image of any version, with this content between the head and the digest."""
     length = HEAD_BYTES + len(behind_head) + DIGEST_AT_END
     text = magic + number(version, 2) + number(length, 4) + behind_head
     return text + digest(SHA256, text)
@@ -92,7 +95,7 @@ def hierarchies_text(device: Model) -> bytes:
 
 
 def lockout_text(lockout: Lockout) -> bytes:
-    """The two times are not kept: a power cycle starts them anew."""
+    """The two times are not written, since a power cycle restarts them."""
     names = "failed_tries", "max_tries", "recovery_time", "lockout_recovery"
     numbers = b"".join(number(getattr(lockout, it), 4) for it in names)
     return numbers + number(lockout.is_closed, 1)
@@ -119,7 +122,7 @@ def objects_text(device: Model) -> bytes:
 
 
 def object_text(kept: object_rules.Object) -> bytes:
-    """An object without its handle."""
+    """Returns the encoding of an object, without its handle."""
     areas = sized(kept.public.text) + sized(kept.sensitive.text)
     return number(kept.hierarchy, 4) + sized(kept.qualified_name) + areas
 
@@ -132,7 +135,7 @@ def indices_text(device: Model) -> bytes:
     return text
 
 
-# Reading. A fault of the body is a refusal of the readers that commands have, or one of these.
+# Reading. A fault in the body is one of these, or a refusal by a parser of command parameters.
 
 
 def check(holds: bool) -> None:
@@ -141,7 +144,7 @@ def check(holds: bool) -> None:
 
 
 def within_frame(text: bytes, magic: bytes, versions: Container[int]) -> tuple[int, bytes]:
-    """The version of a text in its frame, and what is between the head and the digest."""
+    """Returns the version of a framed text, and its content between the head and the digest."""
     if len(text) < HEAD_BYTES + DIGEST_AT_END:
         raise Fault("Short")
     fields = Fields(text)
@@ -158,7 +161,7 @@ def within_frame(text: bytes, magic: bytes, versions: Container[int]) -> tuple[i
 
 
 def open_image(text: bytes, block_cipher: aes.BlockCipher = encrypt_block) -> Model:
-    """The device of an image, as it is behind a power cycle."""
+    """Returns the device of an image, in the state after a power cycle."""
     version, body = within_frame(text, MAGIC, VERSIONS)
     device = Model(block_cipher=block_cipher)
     try:
@@ -171,7 +174,7 @@ def open_image(text: bytes, block_cipher: aes.BlockCipher = encrypt_block) -> Mo
 
 
 def goes_on(device: Model, text: bytes) -> bool:
-    """Whether an image is that of this device; its clock, which becomes the device's, may be later."""
+    """Whether an image is of this device. A later clock is allowed, and is then taken over."""
     found, clock = open_image(text), device.clock
     device.clock = found.clock
     if image(device) == image(found):
@@ -189,7 +192,7 @@ def fault_of(text: bytes) -> str | None:
 
 
 def read_kept(fields: Parameters, version: Version, device: Model) -> None:
-    """What a device keeps without power, up to its indices."""
+    """Reads what a device keeps without power, up to its indices."""
     check(fields.take(len(version.limits)) == version.limits)
     read_hierarchies(fields, device)
     device.disable_clear = bool(fields.one_of(1, (0, 1), "VALUE"))

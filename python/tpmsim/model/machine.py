@@ -1,6 +1,7 @@
-"""The device once more, in plain Python: what it answers to each event, and what it then is.
+"""A second implementation of the device, in plain Python: its response to each event, and its state
+afterwards.
 
-It knows nothing of the product's code, and its rules are those of docs/table.
+It shares no code with the product, and its rules are those of docs/table.
 """
 
 from __future__ import annotations
@@ -23,18 +24,19 @@ from tpmsim.standard import trimmed
 from tpmsim.standard.aes_tables import encrypt_block
 from tpmsim.standard.objects import Attribute
 
-# How many bytes TPM2_GetRandom gives.
+# The largest number of bytes that TPM2_GetRandom returns.
 RANDOM_AT_ONCE = 32
 
-# How many sessions there may be, and the least size of a nonce.
+# The largest number of sessions, and the least size of a nonce.
 SESSIONS = 16
 LEAST_NONCE = 16
 
-# The device is manufactured with the bytes 00 to ff: the seeds of these, and then their proofs.
+# The device is manufactured with the bytes 00 to ff: first the seeds of these hierarchies, then
+# their proofs.
 WITH_SEEDS = RH_OWNER, RH_ENDORSEMENT, RH_PLATFORM, RH_NULL
 MANUFACTURED = bytes(range(256))
 
-# What the handle of a session of each kind begins with; the rest of it is its place.
+# The first byte of a session's handle, by the session's type; the rest is the number of its slot.
 HANDLE_KINDS = {
     frames.SE_HMAC: frames.HMAC_SESSION,
     frames.SE_POLICY: frames.POLICY_SESSION,
@@ -42,13 +44,14 @@ HANDLE_KINDS = {
 }
 PLACE_BITS = 0xFF_FFFF
 
-# What a command is answered that is refused memory, MEMORY, and how its trace names that.
+# The response to a command for which allocation fails, MEMORY, and the name of the check in its
+# trace.
 STARVED, MEMORY_CHECK = frames.refusal(0x904), "M"
 
 
 @dataclass(frozen=True)
 class Row:
-    """A command's code, or 0 where its header is refused; and the name of the check, or `ok`."""
+    """A command's code, or 0 if its header is refused, and the name of the check, or `ok`."""
 
     code: int
     check: str
@@ -61,7 +64,7 @@ class Row:
 
 @dataclass(frozen=True)
 class Outcome:
-    """What comes of a command: `refused` names the response code, or is None for a success."""
+    """The outcome of a command: `refused` names the response code, or is None on success."""
 
     response: bytes
     row: Row
@@ -78,8 +81,8 @@ class Model(
     state.Commands,
     capability.Commands,
 ):
-    """The device. `tell` is called with each event that is accepted. It is manufactured with 256
-    bytes, and encrypts by the cipher of aes_tables.py where no other is given.
+    """The device. It calls `tell` with each accepted event. It is manufactured with 256 bytes, and
+    uses the block cipher of aes_tables.py unless another one is given.
     """
 
     def __init__(
@@ -115,7 +118,7 @@ class Model(
         elapsed: int = 0,
         is_starved: bool = False,
     ) -> Outcome:
-        """The milliseconds count first; a command that is starved changes nothing but the time."""
+        """Time passes first. If allocation fails for the command, nothing else changes."""
         self.tick(elapsed)
         if is_starved:
             return Outcome(STARVED, Row.of(buffer, MEMORY_CHECK), "MEMORY")
@@ -137,7 +140,7 @@ class Model(
 
     @staticmethod
     def tell(event: Accepted | PowerCycle) -> None:
-        """Nobody listens at first."""
+        """Has no effect unless it is replaced."""
 
     def accepted(
         self,
@@ -147,7 +150,7 @@ class Model(
         answer: Answer,
         random: bytes,
     ) -> Accepted:
-        """What is told of a command, once its row has acted: the Names are those before it."""
+        """Returns the event of a command, after its effect; the Names are those before it."""
         goes_on = frames.CONTINUE_SESSION
         uses = [
             history.Use(it.handle, bool(it.attributes & goes_on), handle is not None)
@@ -176,14 +179,14 @@ class Model(
         return [self.name(it) for it in command.handles]
 
     def auth_value(self, handle: int | None) -> bytes:
-        """That of a PCR and of TPM_RH_NULL is empty, and so is that of no entity."""
+        """Returns a handle's authorization value; empty for a PCR, for TPM_RH_NULL and for None."""
         if handle is None:
             return b""
         held = self.held(handle)
         return held.auth_value if held else self.auth_values.get(handle, b"")
 
     def protection(self, handle: int) -> str | None:
-        """What wrong authorization values count at, if at anything."""
+        """Returns what wrong authorization values for a handle count against, if anything."""
         if handle == RH_LOCKOUT:
             return protection.LOCKOUT_AUTH
         held = self.held(handle)
@@ -197,7 +200,9 @@ class Model(
         return True
 
     def policy_entity(self, handle: int, code: CC) -> objects.Public | nv.Public | None:
-        """What a policy can authorize: an object or an index, whose attributes allow it."""
+        """Returns the entity that a policy can authorize: an object or an index whose attributes
+        allow it; otherwise None.
+        """
         held = self.held(handle)
         if held is None or not held.public.auth_policy:
             return None
@@ -206,7 +211,7 @@ class Model(
         return held.public
 
     def written(self, handle: int) -> bool | None:
-        """Whether an NV index is written; None of all else."""
+        """Whether an NV index is written; None for any other entity."""
         if handle not in self.indices:
             return None
         return self.indices[handle].public.has(nv.Attribute.WRITTEN)
@@ -216,7 +221,7 @@ class Model(
         return (session.bind, session.bind_auth) == now
 
     def uses_auth_value(self, entry: Entry, handle: int | None) -> bool:
-        """Whether the authorization value of the handle is the password, or in the hmac's key."""
+        """Whether the handle's authorization value is the password, or is in the hmac's key."""
         if handle is None:
             return False
         if entry.handle == RS_PW:
@@ -230,11 +235,13 @@ class Model(
         return self.sessions[entry.handle].key + (self.auth_value(handle) if uses else b"")
 
     def encryption_key(self, session: Session, handle: int | None) -> bytes:
-        """That of parameters has the authorization value whether the session is bound or not."""
+        """The key for parameters includes the authorization value even if the session is bound."""
         return session.key + self.auth_value(handle)
 
     def touched(self, entry: Entry, handle: int | None) -> str | None:
-        """What an entry is a try at: at its value, or at that which the key was made of."""
+        """Returns what an entry tries: the protection of the value that it uses, or of the value
+        from which the session's key was made.
+        """
         if handle is not None and self.uses_auth_value(entry, handle) and self.protection(handle):
             return self.protection(handle)
         session = self.sessions.get(entry.handle)
@@ -297,7 +304,7 @@ class Model(
         nonces = entry.nonce, session.nonce_tpm
         return sessions.first_decrypted(*given, *nonces, command.parameters, self.block_cipher)
 
-    # Responses. The effect has come before.
+    # Responses, which are made after the effect.
 
     def success(self, command: Command, answer: Answer, random: bytes) -> bytes:
         if command.entries is None:
@@ -311,7 +318,7 @@ class Model(
         return frames.success(parameters, entries, answer.handle)
 
     def end_use(self, entry: Entry, handle: int | None) -> None:
-        """A session ends, or goes on: what it was told of a policy counts for one authorization."""
+        """Ends a session, or restarts its policy, which is valid for one authorization."""
         if entry.handle == RS_PW:
             return
         if not entry.attributes & frames.CONTINUE_SESSION:
@@ -344,14 +351,15 @@ class Model(
             return frames.entry_answer()
         session = self.sessions[entry.handle]
         hmac = b""
-        # An empty hmac was accepted by an empty key, and is answered by another; so is a password.
+        # The response to an empty hmac, accepted with an empty key, is empty; so is that to a
+        # password.
         if entry.hmac and entry.demand != policy.PASSWORD:
             answered = sessions.response_hash(session.algorithm, command.code, parameters)
             given = session.algorithm, self.key(entry, handle), answered, session.nonce_tpm
             hmac = sessions.entry_hmac(*given, entry.nonce, [], entry.attributes)
         return frames.entry_answer(session.nonce_tpm, entry.attributes, hmac)
 
-    # The commands: their parameters, their own checks, and then what changes.
+    # The commands: first their parameters, then their own checks, then the changes.
 
     @takes(integer(2))
     def get_random(self, request: Request, wanted: int) -> Answer:
@@ -411,7 +419,7 @@ class Model(
         return Answer(sized(nonce_tpm), number(handle, 4), drawn=size)
 
 
-# Each command is the method of its name.
+# Each command's row is the method with its name.
 ROWS: dict[CC, Callable[[Model, Request], Answer]] = {
     it: getattr(Model, it.method_name) for it in CC
 }

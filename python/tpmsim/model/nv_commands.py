@@ -1,6 +1,6 @@
 """NV indices, and the commands that define and use them (TPM 2.0 Library, Part 1, section 37; Part
-2, section 13; Part 3, section 31). What is left to each TPM, or is narrower here, is that of
-docs/table.
+2, section 13; Part 3, section 31). docs/table says what the standard leaves to each TPM, and what
+is narrower here.
 """
 
 from dataclasses import dataclass
@@ -11,17 +11,18 @@ from tpmsim.standard import CC, digest, DIGEST_BYTES, digest_bytes, Fact, first_
 from tpmsim.standard import RH_OWNER, RH_PLATFORM, sized, trimmed
 from tpmsim.standard.nv import Attribute, NAMED, NUMBER_BYTES, Public, READS, Type, WRITES
 
-# How many indices there may be, how many bytes they may have in all, and one alone.
+# The largest number of indices, the largest total size of their data, and the largest size of one.
 INDICES, ALL_BYTES, INDEX_BYTES = 64, 16_384, 2048
 
-# The most bytes of a buffer that is written, extended by or read at once.
+# The largest size of a buffer that is written, extended by or read.
 BUFFER_BYTES = 1024
 
 # The largest value of a counter.
 LARGEST = 2**64 - 1
 
 
-# What an index cannot be defined with: what only happens to it later, and what is not served.
+# Attributes that a new index may not have: those that it gets only later, and those not
+# implemented.
 NOT_DEFINED = (
     Attribute.WRITTEN
     | Attribute.READLOCKED
@@ -34,7 +35,7 @@ NOT_DEFINED = (
 
 @dataclass
 class Index:
-    """An index that is defined. It has no data until it is written."""
+    """A defined index. It has no data until it is written."""
 
     public: Public
     auth_value: bytes
@@ -65,7 +66,7 @@ def has_wrong_attributes(public: Public, hierarchy: int) -> bool:
         return True
     if not public.has(WRITES) or not public.has(READS):
         return True
-    # A counter never goes back, and so is not cleared.
+    # A counter never decreases, and so is not cleared.
     if public.kind == Type.COUNTER and public.has(Attribute.CLEAR_STCLEAR):
         return True
     return public.has(Attribute.PLATFORMCREATE) != (hierarchy == RH_PLATFORM)
@@ -92,14 +93,14 @@ def check_definition(
         raise Refusal("SIZE/p2", "A4")
     if public.index in indices:
         raise Refusal("NV_DEFINED", "A5")
-    # The bytes of an index are counted whether it is written or not.
+    # An index uses up its bytes even if it is not written.
     taken = sum(it.public.data_size for it in indices.values())
     if len(indices) == INDICES or taken + public.data_size > ALL_BYTES:
         raise Refusal("NV_SPACE", "A6")
 
 
-# Authorization by an index itself: what its attributes allow of a command. They are those of the
-# index that authorizes, whichever one the command then asks for.
+# Authorization by an index itself: what its attributes allow for a command. The attributes are
+# those of the index that authorizes, whichever index the command uses.
 
 
 def takes_auth_value(public: Public, code: CC) -> bool:
@@ -126,7 +127,7 @@ def check_asker(public: Public, asker: int, by_owner: Attribute, by_platform: At
 
 
 def check_writing(public: Public, asker: int, kind: Type) -> None:
-    """Before every change of an index that is to be of some type."""
+    """Makes the checks before every change of an index; the index has to be of this type."""
     check_asker(public, asker, *WRITERS)
     if public.has(Attribute.WRITELOCKED):
         raise Refusal("NV_LOCKED", "A2")
@@ -153,7 +154,7 @@ def start_up(indices: dict[int, Index]) -> None:
             index.data = b""
             index.public = index.public.but(cleared=Attribute.WRITTEN)
         index.public = index.public.but(cleared=Attribute.READLOCKED)
-        # What WRITEDEFINE locks stays locked, where there is something in it.
+        # A lock by WRITEDEFINE remains if the index is written.
         if not (index.public.has(Attribute.WRITEDEFINE) and index.public.has(Attribute.WRITTEN)):
             index.public = index.public.but(cleared=Attribute.WRITELOCKED)
 
@@ -194,7 +195,7 @@ def check_comparison(index: Index, asker: int, operand: bytes, offset: int, oper
 
 
 class Commands(Held):
-    """The commands on indices, of a device that has `indices` and the `largest_counter` ever."""
+    """The commands on indices, for a device with `indices` and the `largest_counter` so far."""
 
     def asked(self, request: Request) -> tuple[int, Index]:
         asker, handle = request.handles
@@ -228,7 +229,7 @@ class Commands(Held):
         check_range(index.public, offset, len(data), "A4")
         if index.public.has(Attribute.WRITEALL) and len(data) != size:
             raise Refusal("NV_RANGE", "A4")
-        # What the first write leaves out is all ones.
+        # Bytes outside the first write become ff.
         old = index.data if index.public.has(Attribute.WRITTEN) else b"\xff" * size
         index.write(old[:offset] + data + old[offset + len(data) :])
         return Answer()
@@ -237,7 +238,7 @@ class Commands(Held):
     def nv_increment(self, request: Request) -> Answer:
         asker, index = self.asked(request)
         check_writing(index.public, asker, Type.COUNTER)
-        # So a counter that is undefined and defined again does not go back.
+        # So a counter that is undefined and defined again does not decrease.
         old = self.largest_counter
         if index.public.has(Attribute.WRITTEN):
             old = unsigned(index.data)

@@ -11,13 +11,13 @@ from tpmsim.standard import aes, ALG_NULL, digest, HASHES, KEYEDHASH, mac, numbe
 from tpmsim.standard import trimmed
 from tpmsim.standard.objects import Attribute, Public
 
-# How many transient objects there may be, and how many bytes TPM2_HMAC takes.
+# The largest number of transient objects, and the largest size of data for TPM2_HMAC.
 OBJECTS = 8
 HMAC_BYTES = 1024
 
 
 class Commands(Held):
-    """Of a device that has `objects`, the PCRs, and the hierarchies' `seeds` and `proofs`."""
+    """The commands for a device with `objects`, PCRs, and the hierarchies' `seeds` and `proofs`."""
 
     def free_object(self, check: str) -> int:
         places = [TRANSIENT << 24 | it for it in range(OBJECTS)]
@@ -40,7 +40,9 @@ class Commands(Held):
         hierarchy: int,
         locality: int,
     ) -> bytes:
-        """What both commands answer: the public area, creation data, their hash, and the ticket."""
+        """Returns the response of both commands: public area, creation data, their hash and
+        ticket.
+        """
         values = self.values(template.pcrs)
         data = object_rules.creation_data(template, parent, hierarchy, values, locality)
         data_hash = digest(public.name_algorithm, data)
@@ -110,7 +112,7 @@ class Commands(Held):
             raise Refusal("ATTRIBUTES/h1", "A2")
         if not key.public.has(Attribute.SIGN):
             raise Refusal("KEY/h1", "A3")
-        # The scheme's hash algorithm is the key's; with scheme NULL its user names one.
+        # The hash algorithm is that of the key's scheme; for scheme NULL the caller chooses one.
         chosen = {scheme, asked} - {ALG_NULL}
         if len(chosen) != 1:
             raise Refusal("VALUE/p2", "A4")

@@ -1,5 +1,5 @@
-"""Objects: what they are made of, and how a parent protects them (TPM 2.0 Library, Part 1, sections
-16, 22 and 25 to 27; Part 2, section 12). A primary object has no parent: its `parent` is None.
+"""Objects: how they are made, and how a parent protects them (TPM 2.0 Library, Part 1, sections 16,
+22 and 25 to 27; Part 2, section 12). A primary object has no parent: its `parent` is None.
 """
 
 from dataclasses import dataclass, replace
@@ -13,18 +13,18 @@ from tpmsim.standard.objects import Attribute, NAMED, Public
 
 AES_KEY_BYTES = 16
 
-# The most bytes of a key or of what is sealed, of a Name, and of a private area.
+# The largest sizes of a key or sealed data, of a Name, and of a private area.
 DATA_BYTES = 128
 NAME_BYTES = 34
 PRIVATE_BYTES = 256
 
-# How many checks a public area has, before those of a sensitive one.
+# The number of checks of a public area, which come before the checks of a sensitive area.
 PUBLIC_CHECKS = 3
 
 
 @dataclass(frozen=True)
 class Sensitive:
-    """TPMT_SENSITIVE: `data` is a key, or what is sealed."""
+    """TPMT_SENSITIVE: `data` is a key, or sealed data."""
 
     kind: int
     auth_value: bytes
@@ -56,7 +56,7 @@ class Object:
 def loaded(
     public: Public, sensitive: Sensitive, hierarchy: int, parent_qualified_name: bytes
 ) -> Object:
-    """Its qualified name is of all the Names above it, and by its own hash algorithm."""
+    """The qualified Name covers all Names above the object, and uses the object's own nameAlg."""
     algorithm = public.name_algorithm
     qualified = digest(algorithm, parent_qualified_name + public.name)
     return Object(public, sensitive, hierarchy, number(algorithm, 2) + qualified)
@@ -64,7 +64,7 @@ def loaded(
 
 @dataclass(frozen=True)
 class Template:
-    """What TPM2_CreatePrimary and TPM2_Create are asked for; `pcrs` are the PCRs to be noted."""
+    """The template of TPM2_CreatePrimary and TPM2_Create; `pcrs` are for the creation data."""
 
     values: tuple[bytes, bytes]
     public: Public
@@ -109,7 +109,7 @@ TEMPLATE = (
 def has_wrong_attributes(public: Public, parent: Object | None) -> bool:
     if public.has(Attribute.FIXED_TPM) and public.has(Attribute.ENCRYPTED_DUPLICATION):
         return True
-    # fixedTPM says that no ancestor can be duplicated, and so it comes from the parent.
+    # fixedTPM says that no ancestor can be duplicated, and so depends on the parent.
     if parent is not None and not parent.public.has(Attribute.FIXED_TPM):
         if public.has(Attribute.FIXED_TPM):
             return True
@@ -124,7 +124,9 @@ def has_wrong_attributes(public: Public, parent: Object | None) -> bool:
 
 
 def checks_before(parent: Object | None) -> int:
-    """How many checks come before those of a template: whether the parent is one."""
+    """Returns the number of checks before those of a template: one if a parent has to be
+    checked.
+    """
     return 0 if parent is None else 1
 
 
@@ -154,7 +156,7 @@ def check_sensitive(template: Template, parent: Object | None) -> None:
 
 
 def key_bytes(template: Template) -> int:
-    """How many bytes of a key are generated: none where the data are given."""
+    """Returns the size of the generated key, 0 if the data are given."""
     public = template.public
     if template.data:
         return 0
@@ -165,7 +167,7 @@ def key_bytes(template: Template) -> int:
 
 
 def made(template: Template, key: bytes, seed_value: bytes) -> tuple[Public, Sensitive]:
-    """What is unique in the public area binds it to the sensitive one."""
+    """Returns the two areas; the field `unique` binds the public area to the sensitive area."""
     public = template.public
     data = template.data or key
     unique = digest(public.name_algorithm, seed_value + data)
@@ -174,7 +176,7 @@ def made(template: Template, key: bytes, seed_value: bytes) -> tuple[Public, Sen
 
 
 def primary(template: Template, hierarchy: int, seed: bytes) -> Object:
-    """The primary object that a template and a hierarchy's seed have: always the same."""
+    """Returns the primary object of a template and a hierarchy's seed, which is always the same."""
     algorithm = template.public.name_algorithm
     size = digest_bytes(algorithm)
     texts = template.public.text, b"".join(map(sized, template.values))
@@ -185,7 +187,9 @@ def primary(template: Template, hierarchy: int, seed: bytes) -> Object:
 
 
 def created(template: Template, random: bytes) -> tuple[Public, Sensitive, int]:
-    """The areas of an ordinary object, and how many random bytes its key and its seed took."""
+    """Returns the areas of an ordinary object, and the number of random bytes drawn for its key and
+    seed.
+    """
     key = random[: key_bytes(template)]
     size = len(key) + digest_bytes(template.public.name_algorithm)
     return *made(template, key, seed_value=random[len(key) : size]), size
@@ -194,7 +198,7 @@ def created(template: Template, random: bytes) -> tuple[Public, Sensitive, int]:
 def creation_data(
     template: Template, parent: Object | None, hierarchy: int, values: bytes, locality: int
 ) -> bytes:
-    """TPMS_CREATION_DATA (Part 2, section 15.1), of the PCRs' values at that time."""
+    """Returns TPMS_CREATION_DATA (Part 2, section 15.1), with the PCR values at that time."""
     if parent is None:
         of_parent = number(ALG_NULL, 2) + 2 * sized(number(hierarchy, 4))
     else:
@@ -210,16 +214,18 @@ def creation_data(
 
 
 def creation_ticket(hierarchy: int, proof: bytes, name: bytes, creation_hash: bytes) -> bytes:
-    """It shows this device alone that it created an object of this Name (Part 2, 10.7.3)."""
+    """Returns the ticket that proves, only to this device, that it created an object of this Name
+    (Part 2, 10.7.3).
+    """
     text = number(frames.ST_CREATION, 2) + name + creation_hash
     return frames.ticket(frames.ST_CREATION, hierarchy, mac(SHA256, proof, text))
 
 
-# Private areas: an HMAC, the first block of the cipher, and what is encrypted (Part 1, 22.4).
+# Private areas: an HMAC, the initial vector, and the encrypted sensitive area (Part 1, 22.4).
 
 
 def encrypting_key(parent: Object, name: bytes) -> bytes:
-    """A key for each object, as its Name is in it."""
+    """Returns the key, which differs for each object, since it depends on the object's Name."""
     algorithm, seed = parent.public.name_algorithm, parent.sensitive.seed_value
     return kdfa(algorithm, seed, b"STORAGE", name, b"", AES_KEY_BYTES)
 
@@ -251,7 +257,7 @@ def read_sensitive(fields: Parameters) -> Sensitive:
 def unwrapped(
     parent: Object, public: Public, private: bytes, block_cipher: aes.BlockCipher = encrypt_block
 ) -> Sensitive:
-    """The sensitive area of a private one that the parent made, for this public area."""
+    """Returns the sensitive area in a private area that the parent made for this public area."""
     name, wrong = public.name, Refusal("INTEGRITY/p1", "A5")
     fields = Fields(private)
     try:

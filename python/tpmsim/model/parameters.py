@@ -1,4 +1,4 @@
-"""A command's parameters, and the fields of structures in them, as the device reads them."""
+"""A command's parameters, and the fields of structures in them, as the device parses them."""
 
 from __future__ import annotations
 
@@ -19,16 +19,16 @@ if TYPE_CHECKING:
 
 T = TypeVar("T")
 
-# The banks of a selection of PCRs, each with its hash algorithm and the PCRs' numbers.
+# A selection of PCRs: the hash algorithm of each bank, and the numbers of its PCRs.
 Selection = list[tuple[int, list[int]]]
 
-# The most banks of a selection.
+# The largest number of banks in a selection.
 MOST_BANKS = 16
 
 
 class Parameters:
-    """A command's parameters, or the fields of a structure, read in order; a fault is at the place
-    of the one that is read, and `short` is the code where there are too few bytes.
+    """A command's parameters, or the fields of a structure, parsed in order. A fault names the
+    parameter that is being parsed, and has the code `short` if there are too few bytes.
     """
 
     def __init__(self, data: bytes, place: int = 0, short: str = "INSUFFICIENT") -> None:
@@ -63,7 +63,7 @@ class Parameters:
         return self.take(size)
 
     def structure(self, read: Callable[[Parameters], T]) -> T:
-        """What `read` makes of a sized buffer, which it has to fill."""
+        """Returns what `read` parses from a sized buffer; it has to use the whole buffer."""
         fields = Parameters(self.take(self.number(2)), self.place, "SIZE")
         value = read(fields)
         if fields.fields.data:
@@ -95,7 +95,7 @@ class Parameters:
         return [self.sized(DIGEST_BYTES) for _ in range(count)]
 
     def cipher(self, allowed: Iterable[int] = (frames.AES,)) -> int:
-        """The algorithm of a cipher; that of AES has a key of 128 bits, and the mode CFB."""
+        """Parses the algorithm of a cipher; AES requires a 128-bit key and the mode CFB."""
         algorithm = self.one_of(2, allowed, "SYMMETRIC")
         if algorithm == frames.AES:
             self.one_of(2, (frames.AES_KEY_BITS,), "VALUE")
@@ -103,7 +103,7 @@ class Parameters:
         return algorithm
 
     def symmetric(self) -> tuple[int, int | None]:
-        """The cipher of a session, which may be none, and with XOR the hash of its masks."""
+        """Parses the cipher of a session, if any, and for XOR the hash algorithm of its masks."""
         algorithm = self.cipher((frames.AES, frames.XOR, frames.ALG_NULL))
         return algorithm, self.hash() if algorithm == frames.XOR else None
 
@@ -112,7 +112,7 @@ class Parameters:
             raise Refusal("SIZE", "G11")
 
 
-# How a parameter is read.
+# A parser of one parameter.
 Reader = Callable[[Parameters], Any]
 
 
@@ -134,7 +134,7 @@ def structure(read: Callable[[Parameters], T]) -> Reader:
 
 @dataclass(frozen=True)
 class Request:
-    """What a command asks for, its parameters in plain; where it comes from; and random bytes."""
+    """A command's request: its decrypted parameters, its locality, and random bytes."""
 
     handles: list[int]
     parameters: Parameters
@@ -142,13 +142,13 @@ class Request:
     random: bytes
 
 
-# What does a command, and the command as it is asked for.
+# A command as a function of its parameters, and as a function of a whole request.
 Act = Callable[..., Answer]
 Row = Callable[[Any, Request], Answer]
 
 
 def takes(*readers: Reader) -> Callable[[Act], Row]:
-    """The parameters of a command, each as it is read, and nothing behind them."""
+    """Sets the parsers of a command's parameters; no bytes may be left after them."""
 
     def row_of(act: Act) -> Row:
         @functools.wraps(act)
@@ -163,7 +163,7 @@ def takes(*readers: Reader) -> Callable[[Act], Row]:
 
 
 class Held:
-    """Values by the handles of what they are of. The times are in milliseconds."""
+    """Values by the handles of their entities. The times are in milliseconds."""
 
     block_cipher: BlockCipher
     started: bool

@@ -1,5 +1,5 @@
-"""PCRs: where they start, who may change them, and their commands (TPM 2.0 Library, Part 1, section
-17; Part 3, section 22). What of these sections is left to each TPM is that of docs/table.
+"""PCRs: their first values, who may change them, and their commands (TPM 2.0 Library, Part 1,
+section 17; Part 3, section 22). docs/table says what these sections leave to each TPM.
 """
 
 from typing import Sequence
@@ -12,14 +12,14 @@ from tpmsim.standard import SHA256, sized
 DYNAMIC_PCRS = range(17, 23)
 LOCALITIES = range(5)
 
-# How many values TPM2_PCR_Read gives at once, how many digests a list may have, and how many bytes
-# TPM2_PCR_Event takes.
+# The largest number of values in a response of TPM2_PCR_Read and of digests in a list, and the
+# largest size of an event.
 VALUES_AT_ONCE, MOST_DIGESTS = 8, 2
 EVENT_BYTES = 1024
 
 
 def starting_value(algorithm: int, pcr: int) -> bytes:
-    """All ones for the PCRs of a dynamic launch, and zeros for the others."""
+    """Returns all ones for the PCRs of a dynamic launch, and zeros for the others."""
     byte = b"\xff" if pcr in DYNAMIC_PCRS else b"\x00"
     return byte * digest_bytes(algorithm)
 
@@ -42,14 +42,14 @@ def read_digests(fields: Parameters) -> list[tuple[int, bytes]]:
 
 
 class Commands(Held):
-    """The commands on PCRs, of a device that has `banks` and their `update_counter`."""
+    """The commands on PCRs, for a device with `banks` and their `update_counter`."""
 
     def values(self, selection: list[tuple[int, list[int]]]) -> bytes:
         return b"".join(self.banks[bank][pcr] for bank, pcrs in selection for pcr in pcrs)
 
     @takes(Parameters.selection)
     def pcr_read(self, request: Request, asked: Selection) -> Answer:
-        """The update counter, the selection of the values that follow, and these."""
+        """Returns the update counter, the selection of the returned values, and these values."""
         selection: list[tuple[int, list[int]]] = []
         values: list[bytes] = []
         for algorithm, pcrs in asked:
@@ -62,7 +62,7 @@ class Commands(Held):
         return Answer(counter + frames.selection(*selection) + listed)
 
     def extend(self, handle: int, values: list[tuple[int, bytes]], locality: int) -> None:
-        """Folds each digest into the PCR's value in its bank; on TPM_RH_NULL nothing is done."""
+        """Extends the PCR in each digest's bank by the digest; has no effect for TPM_RH_NULL."""
         if handle == RH_NULL:
             return
         if locality not in extended_from(handle):

@@ -1,4 +1,4 @@
-"""TPM2_EvictControl: objects that outlive power cycles (TPM 2.0 Library, Part 3, section 28.5)."""
+"""TPM2_EvictControl: objects that survive power cycles (TPM 2.0 Library, Part 3, section 28.5)."""
 
 from tpmsim.model.general import Answer, Refusal
 from tpmsim.model.object_rules import Object
@@ -6,7 +6,7 @@ from tpmsim.model.parameters import Held, Parameters, Request, takes
 from tpmsim.standard import first_byte, PERSISTENT, RH_ENDORSEMENT, RH_OWNER, RH_PLATFORM
 from tpmsim.standard.objects import Attribute
 
-# How many there may be, and the first handle of those that are the platform's.
+# The largest number of persistent objects, and the first handle that belongs to the platform.
 PERSISTENT_OBJECTS = 16
 FIRST_OF_PLATFORM = 0x8180_0000
 
@@ -16,7 +16,7 @@ def is_persistent(handle: int) -> bool:
 
 
 def check_hierarchy(asker: int, held: Object, removes: bool) -> None:
-    """The platform keeps what is its own, and removes what it likes."""
+    """The platform may make only its own objects persistent, but remove any."""
     if asker == RH_PLATFORM:
         allowed = removes or held.hierarchy == RH_PLATFORM
     else:
@@ -33,7 +33,7 @@ def read_persistent(fields: Parameters) -> int:
 
 
 class Commands(Held):
-    """The command, of a device that has `objects`, transient and persistent ones."""
+    """The command, for a device with transient and persistent `objects`."""
 
     @takes(read_persistent)
     def evict_control(self, request: Request, wanted: int) -> Answer:
@@ -42,7 +42,7 @@ class Commands(Held):
         check_hierarchy(asker, held, removes)
         if held.public.has(Attribute.ST_CLEAR):
             raise Refusal("ATTRIBUTES/h2", "A2")
-        # The lower half of the handles is the owner's, the upper half the platform's.
+        # The lower half of the handles belongs to the owner, the upper half to the platform.
         is_upper = wanted >= FIRST_OF_PLATFORM
         if asker == RH_OWNER and is_upper or asker == RH_PLATFORM and not removes and not is_upper:
             raise Refusal("RANGE/p1", "A3")

@@ -1,4 +1,4 @@
-"""Scripts: what `tpmsim run --trace` prints of one, line by line, and how it ends."""
+"""Scripts: what `tpmsim run --trace` prints for a script, line by line, and how it ends."""
 
 import re
 from typing import Iterable
@@ -14,7 +14,7 @@ DECIMAL, HEX = re.compile(rb"0*([0-9]{1,19})"), re.compile(rb"(?:[0-9A-Fa-f]{2})
 
 
 class BadLine(Exception):
-    """A line that is none of a script's."""
+    """A line that is not a line of a script."""
 
 
 def found(form: re.Pattern[bytes], text: bytes) -> re.Match[bytes]:
@@ -36,15 +36,15 @@ def hex_bytes(text: bytes) -> bytes:
 
 
 class Words:
-    """What the lines of a script say of the next command: its locality, its random bytes, and how many
-    milliseconds come before it.
+    """What a script's lines set for the next command: its locality, its random bytes, and the
+    elapsed milliseconds.
     """
 
     def __init__(self) -> None:
         self.locality, self.random, self.elapsed = 0, bytes(RANDOM_BYTES), 0
 
     def take(self, line: bytes) -> bytes | None:
-        """The buffer of a line that is a command's; other words are kept. `power` is no such line."""
+        """Returns the buffer of a command's line; stores other settings. `power` is not allowed."""
         word, space, argument = line.partition(b" ")
         if len(line) > LINE_BYTES:
             raise BadLine
@@ -78,7 +78,9 @@ class Words:
 
 
 class Player(Words):
-    """A device that plays lines; `starved` has the numbers of the commands without memory."""
+    """A device that plays lines; `starved` lists the commands, by number, whose allocation
+    fails.
+    """
 
     def __init__(self, device: Model | None = None, starved: Iterable[int] = ()) -> None:
         super().__init__()
@@ -101,8 +103,8 @@ class Player(Words):
 
 
 def played(text: bytes) -> tuple[list[tuple[int, str]], str]:
-    """What is printed of a script: each line with the number of the script's line that it comes of;
-    and what is said on standard error, which is nothing where the script ends well.
+    """Returns the output of a script, each line with the number of its line in the script, and the
+    message on standard error, which is empty if the script ends well.
     """
     player, printed = Player(), []
     script = text.removesuffix(b"\n").split(b"\n") if text else []

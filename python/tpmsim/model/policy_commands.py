@@ -1,4 +1,6 @@
-"""The assertions (TPM 2.0 Library, Part 3, section 23). A trial session's need not be so."""
+"""The policy assertions (TPM 2.0 Library, Part 3, section 23); in a trial session they may be
+false.
+"""
 
 from tpmsim.model import nv_commands, policy_state
 from tpmsim.model.general import Answer, Refusal
@@ -9,7 +11,7 @@ from tpmsim.standard import digest, digest_bytes, frames, number, NUMBERED, poli
 
 
 class Commands(Held):
-    """The commands, of a device that has `sessions`, the PCRs, and `indices`."""
+    """The commands, for a device with `sessions`, PCRs, and `indices`."""
 
     def told_to(self, request: Request) -> tuple[Session, State, int]:
         session = self.sessions[request.handles[-1]]
@@ -43,7 +45,7 @@ class Commands(Held):
         return Answer()
 
     def demanding(self, request: Request, demand: str) -> Answer:
-        """What the policy's use has to show beside the session, the last demand alone."""
+        """Sets what a use has to show in addition to the session; only the last demand counts."""
         _, told, algorithm = self.told_to(request)
         told.digest = policy.after_auth_value(algorithm, told.digest)
         told.demand = demand

@@ -1,4 +1,6 @@
-"""What a policy session was told, and what that is held against (TPM 2.0 Library, Part 1, 19.7)."""
+"""A policy session's state, and what it is compared with at a use (TPM 2.0 Library, Part 1,
+19.7).
+"""
 
 from __future__ import annotations
 
@@ -11,7 +13,7 @@ from tpmsim.standard.policy import ALL_LOCALITIES
 
 @dataclass
 class State:
-    """What a policy was told, and what is held against at a use; None was not told."""
+    """What a policy recorded, to be compared at a use; None if it was not recorded."""
 
     digest: bytes
     update_counter: int | None = None
@@ -28,9 +30,9 @@ def starting_state(algorithm: int) -> State:
 
 @dataclass
 class Session:
-    """A session, with the Name, the authorization value and the protection of its bind entity at
-    the start, which are those of TPM_RH_NULL where it is not bound. `cipher` is AES, XOR or
-    ALG_NULL; the masks of XOR are by the session's own hash algorithm, which `masks` is then too.
+    """A session, with the Name, the authorization value and the protection that its bind entity had
+    at the start, or those of TPM_RH_NULL if it is not bound. `cipher` is AES, XOR or ALG_NULL. For
+    XOR the masks use the session's own hash algorithm, which is then also in `masks`.
     """
 
     kind: int
@@ -52,7 +54,7 @@ class Session:
 
 @dataclass(frozen=True)
 class Use:
-    """What is held against a policy; `written` is None of what is no NV index."""
+    """What a use is compared with in a policy; `written` is None if there is no NV index."""
 
     code: int
     is_admin: bool
@@ -65,7 +67,7 @@ class Use:
 def check_use(
     session: Session, entity: objects.Public | nv.Public | None, use: Use, place: int
 ) -> None:
-    """What refuses an entry before its hmac is looked at; no policy can authorize no entity."""
+    """Refuses an entry before its hmac is checked; without an entity no policy can authorize."""
     told = session.policy
     if session.is_trial:
         raise Refusal(f"ATTRIBUTES/s{place}", "G9")

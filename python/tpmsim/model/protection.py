@@ -1,5 +1,5 @@
-"""Dictionary attack protection: wrong tries, which are counted and forgiven (TPM 2.0 Library, Part
-1, section 19.8). lockoutAuth, TPM_RH_LOCKOUT's value, is closed by one wrong try.
+"""Dictionary attack protection: failed tries are counted and forgiven (TPM 2.0 Library, Part 1,
+section 19.8). One failed try disables lockoutAuth, the value of TPM_RH_LOCKOUT.
 """
 
 from dataclasses import dataclass
@@ -7,7 +7,7 @@ from dataclasses import dataclass
 from tpmsim.model.general import Answer
 from tpmsim.model.parameters import Held, integer, Request, takes
 
-# What a wrong try counts at: at all protected objects and NV indices together, or at lockoutAuth.
+# What a failed try counts against: all protected objects and NV indices together, or lockoutAuth.
 TRIES, LOCKOUT_AUTH = "tries", "lockoutAuth"
 
 MILLISECONDS = 1000
@@ -15,9 +15,9 @@ MILLISECONDS = 1000
 
 @dataclass
 class Lockout:
-    """`failed_tries` are those that are not forgiven. recovery_time and lockout_recovery are in
-    seconds; the two times, in milliseconds, are those since a try was counted or forgiven, and
-    since lockoutAuth was closed.
+    """`failed_tries` counts those not yet forgiven. `recovery_time` and `lockout_recovery` are in
+    seconds. The two times are the milliseconds since a try was counted or forgiven, and since
+    lockoutAuth was disabled.
     """
 
     failed_tries: int = 0
@@ -29,7 +29,7 @@ class Lockout:
     closed_time: int = 0
 
     def power_cycle(self) -> None:
-        """Nothing but the times starts over."""
+        """Restarts only the times."""
         self.forgiving_time = self.closed_time = 0
 
     def tick(self, elapsed: int) -> None:
@@ -42,7 +42,7 @@ class Lockout:
             self.closed_time = 0
 
     def forgive(self, elapsed: int) -> None:
-        """A try for each whole recovery time; what is left of the time counts on."""
+        """Forgives a try for each whole recovery time, and carries over the remaining time."""
         period = MILLISECONDS * self.recovery_time
         if not self.failed_tries or not period:
             self.forgiving_time = 0
@@ -53,7 +53,7 @@ class Lockout:
             self.forgiving_time = 0
 
     def is_locked(self) -> bool:
-        """With recovery_time 0 the protection is off; else, with max_tries 0, nothing is open."""
+        """With recovery_time 0 the protection is off; otherwise max_tries 0 locks at once."""
         return self.recovery_time != 0 and self.failed_tries >= self.max_tries
 
     def refuses(self, touched: str | None) -> bool:
@@ -62,7 +62,7 @@ class Lockout:
         return touched == LOCKOUT_AUTH and self.is_closed
 
     def count(self, touched: str | None) -> None:
-        """A wrong try that was looked at."""
+        """Counts a failed try whose value was compared."""
         if touched == TRIES and self.recovery_time:
             self.failed_tries += 1
             self.forgiving_time = 0

@@ -1,5 +1,5 @@
-"""Starts and ends, clocks and counts, and TPM2_Clear (TPM 2.0 Library, Part 1, sections 12, 14 and
-36; Part 3, sections 9, 10, 24 and 29).
+"""Startup and shutdown, clocks and counts, and TPM2_Clear (TPM 2.0 Library, Part 1, sections 12, 14
+and 36; Part 3, sections 9, 10, 24 and 29).
 """
 
 import enum
@@ -11,10 +11,10 @@ from tpmsim.standard import number, nv, RH_ENDORSEMENT, RH_LOCKOUT, RH_NULL, RH_
 
 CLEAR, STATE = 0, 1
 
-# The PCRs that TPM2_Shutdown(STATE) saves.
+# The number of PCRs that TPM2_Shutdown(STATE) saves.
 SAVED_PCRS = 16
 
-# Times and counts stop here.
+# The largest time and the largest count.
 LAST_TIME, LAST_COUNT = 2**64 - 1, 2**32 - 1
 
 SECRET_BYTES = 32
@@ -31,7 +31,7 @@ def secrets(random: bytes, count: int) -> list[bytes]:
 
 
 class Commands(Held):
-    """Of a device that has `saved` and `saved_banks`, the times, and the counts of starts."""
+    """The commands for a device with `saved` and `saved_banks`, times, and counts of startups."""
 
     def tick(self, elapsed: int) -> None:
         self.time = min(self.time + elapsed, LAST_TIME)
@@ -45,7 +45,7 @@ class Commands(Held):
         # The clock never goes back, and so is safe.
         return Answer(times + counts + b"\x01")
 
-    # A start, which is a reset, or a restart or a resume of what was saved.
+    # A startup is a reset, or a restart or a resume of the saved state.
 
     @takes(choice(2, (CLEAR, STATE)))
     def startup(self, request: Request, kind: int) -> Answer:
@@ -74,7 +74,7 @@ class Commands(Held):
         self.reset_count = min(self.reset_count + 1, LAST_COUNT)
         self.restart_count = 0
         self.seeds[RH_NULL], self.proofs[RH_NULL] = secrets(random, 2)
-        # That is how long lockoutAuth stays closed where no time is given for it.
+        # If lockoutRecovery is 0, lockoutAuth stays disabled until a reset.
         if not self.lockout.lockout_recovery:
             self.lockout.is_closed = False
 
@@ -88,7 +88,7 @@ class Commands(Held):
     def self_test(self, request: Request, full: int) -> Answer:
         return Answer()
 
-    # TPM2_Clear takes away what belongs to the owner of the computer.
+    # TPM2_Clear removes what belongs to the owner of the computer.
 
     @takes()
     def clear(self, request: Request) -> Answer:
@@ -110,7 +110,7 @@ class Commands(Held):
 
     @takes(choice(1, (0, 1)))
     def clear_control(self, request: Request, disables: int) -> Answer:
-        # Only the platform takes it back.
+        # Only the platform may enable TPM2_Clear again.
         if request.handles[0] == RH_LOCKOUT and not disables:
             raise Refusal("AUTH_FAIL", "A1")
         self.disable_clear = bool(disables)

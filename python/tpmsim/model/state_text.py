@@ -1,9 +1,9 @@
-"""The state text of a device: all that it is, as bytes, so that one that is restored from them goes
-on where it was.
+"""The state text of a device: its whole state as bytes. A device that is restored from it continues
+where the old one stopped.
 
-It has the frame of an image with another word. In its body stand, as docs/table/state_text.md has
-them, what the device keeps without power, as in its image; what a power cycle would take; and what
-the completing layer remembers, if there is one.
+It has the frame of an image, with another magic. Its body (docs/table/state_text.md) contains what
+the device keeps without power, as in its image; what a power cycle would clear; and what the
+completing layer remembers, if there is one.
 """
 
 from __future__ import annotations
@@ -27,7 +27,7 @@ T = TypeVar("T")
 
 MAGIC, VERSION = b"TPMS", 1
 
-# What a byte says by its number.
+# The meaning of a byte, by its value.
 PROTECTIONS = None, TRIES, LOCKOUT_AUTH
 DEMANDS = None, policy.AUTH_VALUE, policy.PASSWORD
 
@@ -37,8 +37,8 @@ LOCKOUT_TIMES = range(MILLISECONDS * 2**32)
 
 @dataclass
 class Layer:
-    """What the completing layer remembers: of each object, by its place, the numbers of its context
-    and of its flush, and of each session that of its context; 0 is none.
+    """What the completing layer remembers: for each object slot the numbers of its context and of
+    its flush, and for each session the number of its context; 0 if there is none.
     """
 
     start: int = 0
@@ -126,7 +126,7 @@ def layer_text(layer: Layer) -> bytes:
     return b"".join(number(it, 8) for it in numbers)
 
 
-# Reading. A text that is none has the faults of an image, in the same order.
+# Reading. Bytes that are not a state text have the faults of an image, in the same order.
 
 
 def open_state(

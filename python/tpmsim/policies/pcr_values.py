@@ -1,5 +1,5 @@
-"""PCRs with their values, as a policy in words may have them: `sha256:7=HEX,11=HEX`. Each hash makes a
-digest of them, which is what TPM2_PolicyPCR is told.
+"""PCRs with their values, as a policy in words may contain them: `sha256:7=HEX,11=HEX`. Each hash
+algorithm turns them into a digest for TPM2_PolicyPCR.
 """
 
 from __future__ import annotations
@@ -38,7 +38,7 @@ def pair_word(pair: tuple[int, bytes]) -> str:
 
 
 def read_values(word: bytes) -> PcrValues:
-    """Wrong where a word is none."""
+    """Parses such a word; raises Wrong for any other word."""
     return PcrValues(tuple(map(read_bank, word.split(JOIN))))
 
 

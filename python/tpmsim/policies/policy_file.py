@@ -1,4 +1,4 @@
-"""The policy in a file (docs/USING.md), and what a session is told of it, in order."""
+"""The policy in a file (docs/USING.md), and its steps in a session, in order."""
 
 from __future__ import annotations
 
@@ -16,12 +16,12 @@ EITHER, OR, NOTHING = b"either", b"or", b"nothing"
 
 NO_DEMAND = "one that asks for nothing is the word nothing"
 
-# How far in a branch stands, in spaces.
+# The indentation of a branch, in spaces.
 STEP = 4
 
 
 class Fault(Exception):
-    """Why a file is no policy: the line, and words."""
+    """Why a file is not a policy: the line, and the reason as text."""
 
     def __init__(self, line: int, words: object) -> None:
         super().__init__(f"line {line}: {words}")
@@ -29,7 +29,7 @@ class Fault(Exception):
 
 @dataclass(frozen=True)
 class Row:
-    """A line that says something: its number, how many steps in it stands, and its words."""
+    """A line with content: its number, its indentation in steps, and its words."""
 
     number: int
     depth: int
@@ -50,7 +50,7 @@ def row_of(number: int, line: bytes) -> Row:
 
 
 def rows_of(text: bytes) -> list[Row]:
-    """Those that are neither empty nor a comment."""
+    """Returns the lines that are neither empty nor comments."""
     lines = text.removesuffix(b"\n").split(b"\n")
     told = [it for it in enumerate(lines, 1) if it[1] and not it[1].lstrip(b" ").startswith(b"#")]
     if not told:
@@ -58,7 +58,7 @@ def rows_of(text: bytes) -> list[Row]:
     return [row_of(*it) for it in told]
 
 
-# How many steps in a branch may stand, and why what opens or fills a block is out of place.
+# The largest indentation, in steps, and why a line that opens or fills a block is misplaced.
 MOST_STEPS = 16
 OUT_OF_PLACE = {
     EITHER: "either stands first in its block",
@@ -68,7 +68,9 @@ OUT_OF_PLACE = {
 
 
 class Reader:
-    """The policy of rows. All digests in it have the size of the first, which is on a line."""
+    """Reads the policy in rows. All digests in it have the size of the first one, which is in line
+    `size_line`.
+    """
 
     def __init__(self, rows: list[Row]) -> None:
         self.rows, self.at = rows, 0
@@ -88,13 +90,13 @@ class Reader:
         return self.rows[self.at - 1]
 
     def goes_on(self, depth: int) -> bool:
-        """Whether the next row is one of a block that stands so far in."""
+        """Whether the next row belongs to a block at this depth; raises Fault if it is deeper."""
         if self.next and self.next.depth > depth:
             raise Fault(self.next.number, "it stands further in than its block")
         return self.next is not None and self.next.depth == depth
 
     def policy(self, depth: int, opener: int) -> Policy:
-        """That of a block; the opener is the line below which it stands."""
+        """Reads the policy of a block; `opener` is the line above the block that opens it."""
         if self.next is None or self.next.depth < depth:
             words = f"no branch stands below it, {STEP} spaces further in; {NO_DEMAND}"
             raise Fault(opener, words)
@@ -169,7 +171,7 @@ class PolicyFile:
 
 @dataclass(frozen=True)
 class Step:
-    """An assertion; PolicyOR has the steps of each branch, and one about an entity its Name."""
+    """An assertion. A PolicyOR has the steps of each branch; one about an entity has its Name."""
 
     code: CC
     parameters: bytes = b""
@@ -178,7 +180,7 @@ class Step:
 
 
 def policy_of(words: str) -> Policy:
-    """Fault where they say none."""
+    """Parses a policy in words; raises Fault if the words are not a policy."""
     return PolicyFile("policy", words.encode()).policy
 
 
@@ -187,7 +189,7 @@ def digest_of(words: str, algorithm: int = SHA256) -> bytes:
 
 
 def steps_of(policy: Policy, algorithm: int) -> tuple[Step, ...]:
-    """All steps of a policy, those of its branches within the first."""
+    """Returns all steps of a policy; the first one contains the steps of its branches."""
     those = [it.said.by(algorithm) for it in policy.assertions]
     steps = [Step(it.code, it.parameters, it.name) for it in those]
     if policy.branches:

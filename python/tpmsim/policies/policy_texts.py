@@ -1,5 +1,5 @@
-"""The digest of a policy, as an authPolicy has it: the end of a chain of texts, each of which
-begins with the hash of the one before, as tpm_policy_meaning has it (PolicyDigest).
+"""The digest of a policy, as in an authPolicy. It is the end of a chain of texts, each of which
+starts with the hash of the previous one, as tpm_policy_meaning defines it (PolicyDigest).
 """
 
 from __future__ import annotations
@@ -18,7 +18,7 @@ class Written:
 
 @dataclass(frozen=True)
 class Policy:
-    """Assertions, behind one of several branches; then the line is that of `either`."""
+    """Assertions, perhaps after one of several branches; the line is then that of the `either`."""
 
     line: int = 0
     branches: tuple[Policy, ...] = ()
@@ -30,7 +30,7 @@ def zeros(algorithm: int) -> bytes:
 
 
 def texts_after(algorithm: int, old: bytes, update: Update) -> list[bytes]:
-    """The texts that are hashed for an assertion after a digest, the latest first."""
+    """Returns the texts that are hashed for an assertion after a digest, the latest first."""
     begin = zeros(algorithm) if update.forgets else old
     text = begin + number(update.code, 4) + update.about
     referred = []
@@ -40,7 +40,7 @@ def texts_after(algorithm: int, old: bytes, update: Update) -> list[bytes]:
 
 
 def digest_after(algorithm: int, texts: list[bytes]) -> bytes:
-    """The digest of texts, the latest first: the hash of the latest."""
+    """Returns the digest of texts, given the latest first: the hash of the latest."""
     return digest(algorithm, texts[0]) if texts else zeros(algorithm)
 
 

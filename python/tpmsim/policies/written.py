@@ -1,5 +1,5 @@
-"""Assertions as they are written down, in the terms of tpm_policy_meaning (Expression, PolicyDigest):
-their words in docs/USING.md, what they put into the digest, and what a session is told of them.
+"""Assertions as they are written, in the terms of tpm_policy_meaning (Expression, PolicyDigest):
+their words in docs/USING.md, what they add to the digest, and the parameters sent to a session.
 """
 
 from __future__ import annotations
@@ -13,18 +13,19 @@ from tpmsim.standard import Kind, name_of, number, NUMBERED, PCRS, SHA1, SHA256,
 from tpmsim.standard.lines import bytes_of, HANDLE_NAMES, handle_word, hex_word, number_up_to, WORDS
 from tpmsim.standard.lines import Wrong
 
-# How TPM2_PolicyNV compares, by the numbers of its operations.
+# The comparisons of TPM2_PolicyNV, indexed by operation number.
 OPERATIONS = "eq neq sgt ugt slt ult sge uge sle ule bs bc".split()
 LOCALITIES = {b"0", b"1", b"2", b"3", b"4"}
 
-# How the Name of an object or an index begins, and how long it is.
+# The first bytes of the Name of an object or an index, and the size of that Name.
 HASHED_NAMES = {number(it, 2): 2 + digest_bytes(it) for it in (SHA1, SHA256)}
 
 
 @dataclass(frozen=True)
 class Update:
-    """What an assertion puts into the digest: its code, what it is about, and policyRef, if it has
-    one; the text that is hashed apart, if any; and whether it forgets the digest before it.
+    """What an assertion adds to the digest: its code, the entity that it is about, its policyRef,
+    if any, and the text that is hashed separately, if any. It also says whether the assertion
+    discards the previous digest.
     """
 
     code: CC
@@ -35,7 +36,7 @@ class Update:
 
 
 class Unsaid(Exception):
-    """Why words say no assertion, in words."""
+    """Why words are not an assertion."""
 
 
 def shown(word: bytes) -> str:
@@ -43,7 +44,7 @@ def shown(word: bytes) -> str:
     return f'"{plain}"'
 
 
-# What each word says; one that says nothing is Wrong.
+# The value of each word; a word without a value raises Wrong.
 
 
 def held_to(holds: bool) -> None:
@@ -58,7 +59,9 @@ def read_index_name(word: bytes) -> bytes:
 
 
 def read_name(word: bytes) -> bytes:
-    """The Name of what TPM2_PolicySecret may name: of a hierarchy or a PCR it is the handle."""
+    """Parses the Name of an entity for TPM2_PolicySecret; for a hierarchy or a PCR it is the
+    handle.
+    """
     name = name_of(HANDLE_NAMES[word]) if word in HANDLE_NAMES else bytes_of(word)
     is_handle = name in [name_of(it) for it in (*HIERARCHIES, *PCRS)]
     return name if is_handle else read_index_name(word)
@@ -91,7 +94,7 @@ def code_word(code: int) -> str:
 
 
 def read_localities(word: bytes) -> int:
-    """Their numbers, and not the bits of a `do` line."""
+    """Parses the localities, written as numbers, and not as the bits of a `do` line."""
     allowed = set(word.split(b","))
     held_to(allowed <= LOCALITIES)
     return sum(1 << int(it) for it in allowed)
@@ -109,7 +112,7 @@ def read_operation(word: bytes) -> int:
 
 @dataclass(frozen=True)
 class Word:
-    """A word behind an assertion's name: what it is, how it is read, and how it is written."""
+    """A word after an assertion's name: what it is, how it is parsed, and how it is written."""
 
     name: str
     read: Callable[[bytes], Any]
@@ -132,7 +135,7 @@ OPERAND = Word("an operand of at most 32 bytes in hex", read_buffer)
 OFFSET = Word("an offset up to 65535", lambda word: number_up_to(2**16 - 1, word), str)
 OPERATION = Word("a comparison", read_operation, lambda it: str(OPERATIONS[it]))
 
-# The assertions by their commands, each with the words behind its name.
+# The assertions by their commands, each with the words after its name.
 FORMS: dict[CC, tuple[Word, ...]] = {
     CC.PolicyPCR: (SELECTION, DIGEST),
     CC.PolicyAuthValue: (),
@@ -145,25 +148,30 @@ FORMS: dict[CC, tuple[Word, ...]] = {
     CC.PolicyNV: (INDEX_NAME, OPERAND, OFFSET, OPERATION),
 }
 
-# What may stand in place of a selection and a digest: the values themselves.
+# The values themselves, which may replace a selection and a digest.
 BY_VALUES = {CC.PolicyPCR: (PCR_VALUES,)}
 
 
 def form_of(code: CC, count: int) -> tuple[Word, ...]:
-    """The words behind an assertion's name, where there are so many."""
+    """Returns the words after an assertion's name, if there are `count` of them."""
     return BY_VALUES[code] if count == 1 and code in BY_VALUES else FORMS.get(code, ())
 
 
 @dataclass(frozen=True)
 class Said:
-    """An assertion, with a value for each of its words. What it demands of a use: of PolicyPCR, that
-    the selected PCRs have this digest, the selection being its text, or that PCRs have these values;
-    of PolicyAuthValue and PolicyPassword, the authorization value in the HMAC's key or as the password; of
-    PolicyCommandCode, PolicyCpHash and PolicyLocality (bit n for locality n), such a command; of
-    PolicyNvWritten, an NV index that is written, or is not; of PolicySecret, that the entity of the
-    Name was authorized for the policyRef; and of PolicyNV, that the bytes of the index of the Name
-    from the offset on compare so with the operand. PolicyOR, which is not written so, has
-    the digests of its branches.
+    """An assertion, with a value for each of its words. It requires this at a use:
+
+    - PolicyPCR: the PCRs of the selection, given as its encoding, have this digest; or the PCRs
+      have these values.
+    - PolicyAuthValue, PolicyPassword: the authorization value is in the HMAC's key, or is the
+      password.
+    - PolicyCommandCode, PolicyCpHash, PolicyLocality (bit n for locality n): the command matches.
+    - PolicyNvWritten: the NV index is written, or is not written.
+    - PolicySecret: the entity with the Name was authorized for the policyRef.
+    - PolicyNV: the operation holds for the data of the index with the Name, from the offset on,
+      and the operand.
+
+    PolicyOR, which is not written like this, holds the digests of its branches.
     """
 
     code: CC
@@ -175,7 +183,9 @@ class Said:
         return " ".join([str(self.code.name), *(word.written(it) for word, it in pairs)])
 
     def by(self, algorithm: int) -> Said:
-        """What a session of this hash is told: of PCRs with values their digest."""
+        """Returns the assertion for a session of this hash, with PCR values replaced by a
+        digest.
+        """
         match self.code, *self.values:
             case CC.PolicyPCR, PcrValues() as found:
                 return Said(self.code, (found.selection, found.digest(algorithm)))
@@ -201,7 +211,9 @@ class Said:
 
     @property
     def parameters(self) -> bytes:
-        """Those of its command, which a session is told; no PCRs with values are among them."""
+        """Returns the parameters of its command for a session; PCR values must have been
+        replaced.
+        """
         match self.code, *self.values:
             case CC.PolicyPCR, selection, values_digest:
                 return sized(values_digest) + bytes(selection)
@@ -213,7 +225,7 @@ class Said:
 
     @property
     def name(self) -> bytes:
-        """The Name of the entity or the index that it is about, if it is about one."""
+        """Returns the Name of the entity or index that it is about, if there is one."""
         is_about = self.code in (CC.PolicySecret, CC.PolicyNV)
         return bytes(self.values[0]) if is_about else b""
 
@@ -224,7 +236,7 @@ def said_of(
     names: Sequence[bytes],
     pcr_digest: Callable[[list[values.Bank], bytes], bytes],
 ) -> Said:
-    """What a command asserts, by its Names, and of TPM2_PolicyPCR by the `pcr_digest`."""
+    """Returns what a command asserts, given its Names, and for TPM2_PolicyPCR `pcr_digest`."""
     given = values.read_all(code.parameters, parameters)
     match code:
         case CC.PolicyPCR:
@@ -248,7 +260,7 @@ def read_word(word: Word, given: bytes) -> Any:
 
 
 def read_assertion(text: bytes) -> Said:
-    """What the words of a line say. They have one form each."""
+    """Parses a line, which has one form for each assertion; raises Unsaid for other lines."""
     name, *given = text.split(b" ")
     code = CC.__members__.get(name.decode("latin-1"))
     if code not in FORMS:

@@ -1,17 +1,17 @@
-"""The random bytes of a command that nobody was told, as far as its answer shows them: what it asked for,
-and the nonces of its sessions. So a log of another's device is followed, which says commands and
-responses alone.
+"""The random bytes of a command in a log that does not record them, as far as the response shows
+them: the bytes that the command requested, and the nonces of its sessions. So logs of other
+devices, which contain only commands and responses, can be replayed.
 """
 
 from tpmsim.model.state import SECRET_BYTES
 from tpmsim.standard import CC, Fields, frames, HEADER_BYTES, NUMBERED, Short
 
-# What is drawn before the nonces, and no answer shows.
+# The number of bytes drawn before the nonces, which no response shows.
 HIDDEN = {CC.Clear: 3 * SECRET_BYTES}
 
 
 def drawn_of(buffer: bytes, response: bytes, size: int) -> bytes:
-    """So many random bytes; zeros where nothing shows them."""
+    """Returns `size` random bytes; those that nothing shows are zeros."""
     try:
         shown = shown_in(NUMBERED.get(int.from_bytes(buffer[6:10], "big")), Fields(response))
     except Short:

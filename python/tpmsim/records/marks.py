@@ -1,5 +1,5 @@
-"""The marks of a journal: comments of a script that hold numbers and sums in hex. The sum of bytes is
-FNV-1a of 64 bits, and a mark's own sum is that of it and of all marks before it.
+"""The marks of a journal: comments of a script that contain numbers and checksums in hex. The
+checksum is 64-bit FNV-1a; a mark's own checksum covers the mark and all marks before it.
 """
 
 from __future__ import annotations
@@ -17,10 +17,11 @@ MARK = re.compile(rb"# ([0-9a-f]{52}) ([0-9a-f]{16})")
 STATE = b"2"
 MARK_LINE_BYTES = 72
 
-# An entry's lines beside its mark have so many bytes, and two for each that was drawn or sent.
+# The size of an entry's lines without its mark and without the two digits for each byte drawn or
+# sent.
 LINES_BYTES = 36
 
-# Its lines of the time, of the locality, and of the random bytes without these.
+# The sizes of its lines for the time, the locality, and the random bytes (without the bytes).
 WAIT_BYTES, LOC_BYTES, ENTROPY_BYTES = 16, 6, 9
 
 
@@ -36,8 +37,8 @@ def sum_of(data: bytes) -> int:
 
 @dataclass(frozen=True)
 class HeadMark:
-    """The host's clock, and of the image or the state text its size and sum; `said` is the mark's own
-    sum.
+    """The host's clock, and the size and the checksum of the image or the state text; `said` is the
+    mark's own checksum.
     """
 
     is_state: bool
@@ -65,7 +66,7 @@ class HeadMark:
 
 @dataclass(frozen=True)
 class Mark:
-    """What an entry says of its command, and the sum of what that was answered."""
+    """What an entry says about its command, and the checksum of the response."""
 
     elapsed: int
     locality: int
@@ -95,7 +96,7 @@ class Mark:
 
     @property
     def line_ends(self) -> set[int]:
-        """Where the lines of the entry end, but for its last one."""
+        """The offsets at which the entry's lines end, except its last one."""
         lines = (MARK_LINE_BYTES, WAIT_BYTES, LOC_BYTES, ENTROPY_BYTES + 2 * max(1, self.drawn))
         return {end - 1 for end in accumulate(lines)}
 

@@ -1,5 +1,5 @@
-"""The device that a log begins with: that of an image, as its power comes on, or that of a state text,
-which goes on where it was.
+"""The device at the start of a log: that of an image, just powered on, or that of a state text,
+which continues where it stopped.
 """
 
 from __future__ import annotations
@@ -13,7 +13,7 @@ from tpmsim.model.machine import Model
 
 @dataclass
 class Opened:
-    """A device, with what the completing layer remembers of it."""
+    """A device, with what the completing layer remembers about it."""
 
     device: Model
     layer: Completion
@@ -25,8 +25,8 @@ def is_state_text(text: bytes) -> bool:
 
 
 def opened(text: bytes, start: int = 0) -> Opened:
-    """The device of either; image.Fault of a text that is none. `start` is the number by which a layer
-    that begins here knows its contexts.
+    """Opens an image or a state text; raises image.Fault for other bytes. `start` is the number by
+    which a completing layer that starts here identifies its contexts.
     """
     if not is_state_text(text):
         return Opened(image.open_image(text), Completion(start))
@@ -35,7 +35,7 @@ def opened(text: bytes, start: int = 0) -> Opened:
 
 
 def goes_on(device: Model, text: bytes) -> bool:
-    """Whether a text is that of this device, whose clock may have gone on, and does then."""
+    """Whether a text is of this device. A later clock is allowed, and is then taken over."""
     if not is_state_text(text):
         return image.goes_on(device, text)
     found, _ = state_text.open_state(text)
@@ -47,5 +47,7 @@ def goes_on(device: Model, text: bytes) -> bool:
 
 
 def is_cycled(device: Model, text: bytes) -> bool:
-    """Whether a state text is that of this device after a power cycle, with which a journal begins anew."""
+    """Whether a state text is of this device after a power cycle; a restarted journal begins with
+    such a text.
+    """
     return is_state_text(text) and goes_on(image.open_image(image.image(device)), text)

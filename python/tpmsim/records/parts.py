@@ -1,4 +1,6 @@
-"""A text of one or more logs, divided into those: each begins with a head, but the first need not."""
+"""Splits a text into the logs that it contains; each starts with a head, except perhaps the
+first.
+"""
 
 import re
 from dataclasses import dataclass
@@ -6,12 +8,12 @@ from typing import Iterator
 
 from tpmsim.records.marks import HEAD, Mark, MARK
 
-# The start as Python's devices and pytest report it: what follows begins with a magic, or has as many
-# digits as the shortest image and state text. A word of a comment that happens to be hex is neither.
+# The start that Python's devices and pytest report. It is followed by a magic, or by as many digits
+# as the shortest image and state text have, since a word in a comment may happen to be hex.
 REPORTED = re.compile(rb"^# (image|state) (?=54504d|[0-9a-f]{84})", re.MULTILINE)
 
-# A head as a journal has it, or such a start.
-# What a crash left of a journal has no newline before the head of the next one.
+# The head of a journal, or such a start. If a crash cut off a journal, no newline separates it from
+# the head of the next one.
 HEADS = re.compile(HEAD.pattern + rb"(?=\n)|" + REPORTED.pattern, re.MULTILINE)
 LINES_OF_HEAD, LINES_OF_ENTRY = 2, 5
 BEGUN = re.compile(rb"#( ([0-9a-f]+( [0-9a-f]*)?)?)?")
@@ -33,7 +35,7 @@ class Part:
 
     @property
     def last_line(self) -> int:
-        """The number of the line that what is torn begins in."""
+        """The number of the line in which the incomplete bytes start."""
         return self.line + self.text.count(b"\n")
 
 
@@ -47,7 +49,7 @@ def parts_of(text: bytes) -> Iterator[Part]:
 
 
 def whole_of(part: Part) -> Part:
-    """The part without what is no whole record at its end: less than an entry, and zeros."""
+    """Returns the part without the incomplete record at its end: less than an entry, and zeros."""
     if not part.is_journal:
         return part
     front = part.text.rstrip(b"\0")
@@ -61,8 +63,8 @@ def whole_of(part: Part) -> Part:
 
 
 def is_cut(entry: bytes) -> bool:
-    """Whether what begins with the line of a mark, if anything, is less than an entry, and its lines
-    end as those of the entry do.
+    """Whether the bytes, which may start with the line of a mark, are shorter than an entry, with
+    lines that end where those of the entry do.
     """
     mark = Mark.read(entry.partition(b"\n")[0])
     ends = {it.start() for it in LINE_END.finditer(entry)}
@@ -70,7 +72,7 @@ def is_cut(entry: bytes) -> bool:
 
 
 def after_lines(text: bytes, count: int, at: int = 0) -> int:
-    """Where so many lines end; the text's end where it has fewer."""
+    """Returns the offset after this number of lines, or the text's end if it has fewer."""
     for _ in range(count):
         at = text.find(b"\n", at) + 1
         if not at:

@@ -1,5 +1,5 @@
-"""What a log says, step by step: a script, by hand or of a device in Python; a journal, and a log of
-`tpmsim serve`; what `tpmsim script` prints; and several of these one after another.
+"""Reads a log, step by step. A log is a script, written by hand or by a device in Python; a
+journal; a log of `tpmsim serve`; the output of `tpmsim script`; or several of these in sequence.
 """
 
 from __future__ import annotations
@@ -14,15 +14,15 @@ from tpmsim.records.marks import HeadMark, Mark, OFFSET_BASIS, sum_from
 from tpmsim.records.opened import is_state_text
 from tpmsim.records.parts import Part, parts_of, REPORTED
 
-# An answer in a comment: a trace, which may have the time of day before it, a code or a response.
+# A response in a comment: a trace, perhaps after the time of day; a code; or the bytes.
 TRACE = r"\S+ L\d \+\d+ \S+ [0-9a-f]{8}"
 RESPONSE = re.compile(r"(?:8001|8002|00c4)[0-9a-f]{16,}")
 GIVEN = re.compile(r"# (\d\d:\d\d:\d\d\.\d{3} )?" rf"({TRACE}|[0-9a-f]{{8}}|{RESPONSE.pattern})")
 
-# How `tpmsim script` says that the completing layer was there for a command, in place of a trace.
+# What `tpmsim script` prints instead of a trace for a command with the completing layer.
 COMPLETED = "completed"
 
-# What makes an answer be read after its command, where it stands first in a log.
+# If one of these lines comes before any response, responses are read after their commands.
 COMMANDS = b"cmd", b"do "
 
 DAMAGED_HEAD = "the head is damaged: its sums are others"
@@ -33,9 +33,9 @@ OTHER_LINES = "the record is damaged: its lines are not those of its mark"
 
 @dataclass(frozen=True)
 class Begin:
-    """The power comes on of the device of an image, or the device of a state text goes on. `start` is the
-    number by which a completing layer that begins here knows its contexts; `damage` says what is wrong
-    with the head.
+    """The device of an image is powered on, or the device of a state text continues. `start` is the
+    number by which a completing layer that starts here identifies its contexts; `damage` says what
+    is wrong with the head.
     """
 
     line: int
@@ -51,9 +51,9 @@ class Power:
 
 @dataclass(frozen=True)
 class Command:
-    """A command with what is said of its answer: traces, codes and responses in comments before or
-    after it, and the mark of a journal, which has the sum of the response. `damage` says what is wrong
-    with its record.
+    """A command and what the log says about its response: traces, codes and responses in comments
+    before or after it, and a journal's mark, which has the checksum of the response. `damage` says
+    what is wrong with its record.
     """
 
     line: int
@@ -70,7 +70,7 @@ class Command:
 
 @dataclass(frozen=True)
 class Comment:
-    """The words of a comment; none is an empty line."""
+    """The words of a comment; none for an empty line."""
 
     line: int
     words: str
@@ -78,7 +78,7 @@ class Comment:
 
 @dataclass(frozen=True)
 class Cut:
-    """What a crash left of a record: so many bytes, which begin in a line."""
+    """The part of a record that a crash left: its size, and the line in which it starts."""
 
     line: int
     size: int
@@ -86,14 +86,14 @@ class Cut:
 
 @dataclass(frozen=True)
 class Bad:
-    """A line that is none of a script's; nothing follows it."""
+    """A line that is not a line of a script; nothing after it is read."""
 
     line: int
 
 
 @dataclass(frozen=True)
 class BadHead(Bad):
-    """A head that is not whole."""
+    """A head that is incomplete."""
 
 
 Step = Begin | Power | Command | Comment | Cut | Bad
@@ -117,14 +117,16 @@ class Reading:
         self.line, self.lines = part.line - 1, text.removesuffix(b"\n").split(b"\n") if text else []
         self.words, self.sum = Words(), OFFSET_BASIS
         self.said, self.is_completed = list[str](), False
-        self.after: list[str] | None = None  # where an answer after a command goes
+        self.after: list[str] | None = None  # takes the answers after a command
         self.mark: Mark | None = None
         self.damage = ""
         self.tells_random = any(it.startswith(b"entropy ") for it in self.lines)
         self.is_before = answers_come_first(self.lines)
 
     def whole_steps(self) -> Iterator[Step]:
-        """Each step; a command once the answers after it were read, and before the comments there."""
+        """Yields each step. A command comes after its responses were read, and before the comments
+        among them.
+        """
         waiting = list[Step]()
         for step in self.steps():
             if not isinstance(step, Comment):
@@ -134,7 +136,7 @@ class Reading:
         yield from map(self.followed, waiting)
 
     def followed(self, step: Step) -> Step:
-        """Where no random bytes are told, those of a command are as its response shows them."""
+        """Takes a command's random bytes from its response, if the log does not record them."""
         if not isinstance(step, Command) or self.tells_random:
             return step
         for it in step.said:
@@ -157,7 +159,7 @@ class Reading:
                 return
 
     def head(self) -> Iterator[Step]:
-        """That of a journal has two lines, that of a report one."""
+        """Reads the head, which has two lines in a journal and one in a report."""
         first = self.lines[0] if self.lines else b""
         mark, reported = HeadMark.read(first), REPORTED.match(first)
         if mark is None and reported is None:
@@ -219,8 +221,8 @@ class Reading:
 
 
 def answers_come_first(lines: list[bytes]) -> bool:
-    """Whether answers stand before their commands, as `tpmsim script` prints them: where one stands before
-    any command does.
+    """Whether responses come before their commands, as `tpmsim script` prints them: this holds if a
+    response comes before any command.
     """
     for line in lines:
         if line.startswith(COMMANDS):

@@ -1,4 +1,6 @@
-"""Layered scripts: scripts with names for what is answered, and with entries whose HMAC is computed."""
+"""Layered scripts: they can name values from responses, and the HMACs of their entries are
+computed.
+"""
 
 from tpmsim.script.layer import BadScript, Layer
 from tpmsim.script.own_device import own_device

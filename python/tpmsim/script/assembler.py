@@ -9,14 +9,15 @@ from tpmsim.standard import first_byte, frames, HEADER_BYTES, is_policy, lines, 
 from tpmsim.standard import RS_PW, SESSIONS, TRANSIENT, trimmed
 from tpmsim.standard.values import read_all
 
-# What an entry has after its session: its entity's value, and words for its attributes.
+# What may follow the session in an entry: its entity's authorization value, and words for its
+# attributes.
 PIN, DECRYPTS, ENCRYPTS, ENDS = "pin=", "decrypt", "encrypt", "end"
 WORDS = DECRYPTS, ENCRYPTS, ENDS
 
-# An entry with its HMAC has a nonce, attributes and the HMAC after its session.
+# The parts of an entry that includes its HMAC: `s`, a session, a nonce, attributes and the HMAC.
 GIVEN_PARTS = 5
 
-# What a policy demands of the entry of its session, after these.
+# What a policy demands of its session's entry after each of these commands.
 DEMANDS = {CC.PolicyAuthValue: policy.AUTH_VALUE, CC.PolicyPassword: policy.PASSWORD}
 
 
@@ -25,7 +26,7 @@ def in_bytes(text: str) -> bytes:
 
 
 def value_of(word: Token) -> bytes:
-    """An authorization value in hex, without its trailing zeros, or `-`."""
+    """Returns an authorization value, without trailing zeros, from its hex or from `-`."""
     try:
         return trimmed(lines.buffer_of(in_bytes(word.text)))
     except lines.Wrong:
@@ -33,14 +34,18 @@ def value_of(word: Token) -> bytes:
 
 
 def is_computed(token: Token) -> bool:
-    """Whether it is an entry without its HMAC, as `s:$session` or `s:$session:pin=7391:encrypt`."""
+    """Whether a word is an entry without its HMAC, such as `s:$session` or
+    `s:$session:pin=7391:encrypt`.
+    """
     first, *parts = token.text.split(":")
     says_how = any(it in WORDS or it.startswith(PIN) for it in parts[1:])
     return first == "s" and (says_how or len(parts) + 1 < GIVEN_PARTS)
 
 
 def spelled(tokens: Sequence[Token]) -> Prepared:
-    """A command as its words say it, in which a computed entry has no HMAC yet; Bad of other words."""
+    """Returns the command for some words; a computed entry has no HMAC yet. Raises Bad for other
+    words.
+    """
     given = [f"s:{it.text.split(':')[1]}:-:01:-" if is_computed(it) else it.text for it in tokens]
     try:
         fields = Fields(lines.assemble(in_bytes(" ".join(given))))
@@ -56,7 +61,9 @@ def spelled(tokens: Sequence[Token]) -> Prepared:
 
 
 def bad_line(fault: lines.Fault, given: Sequence[str], tokens: Sequence[Token]) -> Bad:
-    """A fault of docs/LINES.md, whose column counts in what was given, and the line that is wanted."""
+    """Returns the error for a fault of docs/LINES.md, with the expected form of the line. The
+    fault's own column counts in `given`.
+    """
     name, *columns = str(fault).split()
     form = tokens[0].text
     words = f"{name}: {lines.form_of(CC[form])}" if form in CC.__members__ else name
@@ -71,7 +78,7 @@ def bad_line(fault: lines.Fault, given: Sequence[str], tokens: Sequence[Token]) 
 
 
 class Assembler:
-    """Computes entries from what it learns of the device's responses."""
+    """Computes entries from what it learns from the device's responses."""
 
     def __init__(self, knowledge: Knowledge) -> None:
         self.knowledge = knowledge
@@ -80,7 +87,7 @@ class Assembler:
         self.values_before: dict[int, bytes] = {}
 
     def prepared(self, tokens: Sequence[Token]) -> Prepared:
-        """A command with all its entries."""
+        """Prepares a command with all its entries."""
         self.values_before = dict(self.knowledge.auth_values)
         asked = spelled(tokens)
         start = 1 + len(asked.handles)
@@ -128,7 +135,9 @@ class Assembler:
         return attributes | (DECRYPT if word == DECRYPTS else ENCRYPT)
 
     def learn(self, prepared: Prepared, response: bytes) -> Response:
-        """What a success answers, in plain; WrongResponse where the device has not answered it."""
+        """Returns a success, decrypted, and learns from it; raises WrongResponse if the device did
+        not send it.
+        """
         request = self.knowledge.plain_request(prepared)
         pairs = zip(prepared.uses, prepared.entries)
         if any(isinstance(use, bytes) and it.handle != RS_PW for use, it in pairs):
@@ -140,7 +149,9 @@ class Assembler:
         return answer
 
     def learn_unchecked(self, prepared: Prepared, response: bytes) -> tuple[int | None, bytes]:
-        """The same where entries have HMACs that the script gave: what they encrypt stays so."""
+        """Returns a success and learns from it, if the script gave an entry's HMAC; what such
+        entries encrypt stays encrypted.
+        """
         fields = Fields(response[HEADER_BYTES:])
         handle = fields.number(4) if prepared.code.answers_handle else None
         parameters = fields.take(fields.number(4))
@@ -177,11 +188,11 @@ class Assembler:
         self.demands.pop(session.handle, None)
 
     def refused(self) -> None:
-        """A pin of a command that was refused is none that is known."""
+        """Forgets the pins of a refused command."""
         self.knowledge.auth_values = self.values_before
 
     def power_cycle(self) -> None:
-        """Sessions and transient objects are gone."""
+        """Forgets sessions and transient objects."""
         self.sessions.clear()
         self.demands.clear()
         gone = [it for it in self.knowledge.names if first_byte(it) == TRANSIENT]

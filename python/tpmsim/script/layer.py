@@ -1,4 +1,4 @@
-"""Plays a layered script on a device, and makes the plain script of it."""
+"""Plays a layered script on a device, and writes the plain script for it."""
 
 import hashlib
 import secrets
@@ -15,21 +15,21 @@ from tpmsim.standard import CC, lines, Short
 from tpmsim.standard.lines import handle_of, handle_word, WORDS, Wrong
 
 WANTED = "do, cmd, loc, wait, entropy, power, let or auth"
-# The field that is no answer's: the bytes of the command, for a `cmd` line.
+# The one field that is not part of a response: the bytes of the command, for a `cmd` line.
 COMMAND = "command"
 
 LET_WANTED = 'NAME = COMMAND.FIELD, or NAME = "TEXT"'
 
 
 class BadScript(Exception):
-    """A line that is wrong, its column and why, in words."""
+    """A wrong line: its number, the column, and the reason as text."""
 
     def __init__(self, line: int, column: int, words: str) -> None:
         super().__init__(f"line {line}, column {column}: {words}")
 
 
 class Layer:
-    """A device that is told lines. Its nonces are the same in each run on a script's own device."""
+    """Plays lines on a device. For a script's own device the nonces are the same in each run."""
 
     def __init__(self, device: Transport, traces: bool = False) -> None:
         self.device, self.traces, self.nonces = device, traces, 0
@@ -45,7 +45,7 @@ class Layer:
         return hashlib.shake_256(b"nonce %d" % self.nonces).digest(size)
 
     def plain(self, script: str) -> Iterator[str]:
-        """The lines of the plain script; BadScript where a line is none."""
+        """Yields the lines of the plain script; raises BadScript if a line is wrong."""
         for number, line in enumerate(script.removesuffix("\n").split("\n"), 1):
             try:
                 yield from self.play(line)
@@ -89,7 +89,7 @@ class Layer:
         return self.execute(prepared, f"do {line}")
 
     def bytes_told(self, given: str, column: int) -> list[str]:
-        """A buffer, which is learnt from if a line spells it."""
+        """Sends a buffer, and learns from the response if a line encodes the buffer."""
         try:
             buffer = hex_bytes(in_bytes(given))
         except BadLine:
@@ -119,7 +119,9 @@ class Layer:
         return event
 
     def told(self, executed: Executed, line: str) -> list[str]:
-        """The lines of a command: the random bytes that it drew, the command, and its trace."""
+        """Returns the lines for a command: the random bytes that it drew, the command, and its
+        trace.
+        """
         draws = isinstance(self.device, OwnDevice) and self.device.said is None and executed.random
         entropy = [f"entropy {executed.random.hex()}"] if draws and executed.random else []
         if len(line) > LINE_BYTES:
@@ -127,7 +129,7 @@ class Layer:
         return [*entropy, line, *([f"# {executed.traced}"] if self.traces else [])]
 
     def event(self, word: str, given: Token) -> str:
-        """A locality, a wait, or random bytes for later commands."""
+        """Sets a locality, a wait, or random bytes for later commands."""
         words = Words()
         try:
             words.told(in_bytes(word), in_bytes(given.text))
@@ -152,7 +154,7 @@ class Layer:
     # Names and values.
 
     def auth(self, rest: str, column: int) -> str:
-        """`auth HANDLE VALUE`: the value by which later lines compute."""
+        """`auth HANDLE VALUE`: sets the authorization value with which later lines compute."""
         tokens = [self.names.put(it) for it in tokens_of(rest, column)]
         if len(tokens) != 2:
             raise Bad(column, "auth takes a handle and its value")
@@ -173,7 +175,7 @@ class Layer:
         return f"# let {name} = {word}"
 
     def value(self, given: Token) -> str:
-        """The word of a field of the last answer to a command, or that of a text."""
+        """Returns the word for a field of the last response, or for a text in quotes."""
         text = given.text
         if text.startswith('"') and text.endswith('"') and len(text) > 1:
             return lines.hex_word(in_bytes(text[1:-1]))
@@ -191,7 +193,9 @@ class Layer:
 
     @staticmethod
     def field(answer: Response, given: Token) -> str:
-        """A field by its name in Part 3; `.N` is one of a list's elements, from 0."""
+        """Returns the word for a field, named as in Part 3; `.N` selects an element of a list, from
+        0.
+        """
         name, dot, at = given.text.partition(".")
         words = {it.name: handle_word(answer.handle or 0) for it in answer.code.answered_handles}
         for it in answer.code.answered_parameters:

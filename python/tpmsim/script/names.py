@@ -1,4 +1,4 @@
-"""Values by their names, and what is wrong with a line of a layered script."""
+"""Named values, and the error for a line of a layered script."""
 
 import re
 from typing import Callable, Iterator, NamedTuple
@@ -6,12 +6,12 @@ from typing import Callable, Iterator, NamedTuple
 NAME = re.compile(r"[A-Za-z_][A-Za-z0-9_]*")
 REFERENCE = re.compile(rf"\$(?:\{{({NAME.pattern})\}}|({NAME.pattern}))?")
 
-# Reserved: `$nonce` is a new nonce in each place.
+# Reserved: each `$nonce` becomes a new nonce.
 NONCE, NONCE_BYTES = "nonce", 16
 
 
 class Bad(Exception):
-    """What is wrong with a line, in words, and the column where that begins, from 1."""
+    """What is wrong with a line, as text, and the column where it starts, counted from 1."""
 
     def __init__(self, column: int, words: str) -> None:
         super().__init__(words)
@@ -19,21 +19,23 @@ class Bad(Exception):
 
 
 class Token(NamedTuple):
-    """A word of a line, and the column where it begins."""
+    """A word of a line, and the column where it starts."""
 
     text: str
     column: int
 
 
 def tokens_of(text: str, column: int) -> Iterator[Token]:
-    """The words of a text that begins in a column, with one space between two."""
+    """Yields the words of a text, with their columns. The text starts at `column`, and words are
+    separated by one space.
+    """
     for word in text.split(" "):
         yield Token(word, column)
         column += len(word) + 1
 
 
 class Names:
-    """The values that a script named, each as the word of a plain script."""
+    """The values that a script has named, each as a word of a plain script."""
 
     def __init__(self, nonce: Callable[[int], bytes]) -> None:
         self.nonce = nonce
@@ -43,7 +45,7 @@ class Names:
         return self.nonce(NONCE_BYTES).hex() if name == NONCE else self.values.get(name)
 
     def put(self, token: Token) -> Token:
-        """A word with the values in place of their names."""
+        """Returns a word with its names replaced by their values; raises Bad for an unknown name."""
 
         def value(found: re.Match[str]) -> str:
             column = token.column + found.start()
@@ -59,7 +61,7 @@ class Names:
 
     @staticmethod
     def check(name: Token) -> None:
-        """Bad where it is no name that a script may give."""
+        """Raises Bad unless a script may define this name."""
         if not NAME.fullmatch(name.text):
             raise Bad(name.column, "a name is letters, digits and _, and begins with no digit")
         if name.text == NONCE:

@@ -1,4 +1,6 @@
-"""What the TPM 2.0 Library says that both ends need: numbers, structures, lines, computations."""
+"""Parts of the TPM 2.0 Library that both the TPM and its caller need: numbers, structures, lines,
+computations.
+"""
 
 from tpmsim.standard.commands import CC, Fact, Handle, HandleKind, Kind, NUMBERED, Parameter
 from tpmsim.standard.frames import AES, ALG_HMAC, ALG_NULL, area, CFB, command, COMMAND_BYTES

@@ -1,4 +1,4 @@
-"""AES-128 (FIPS 197) and its cipher feedback mode with whole blocks (SP 800-38A, 6.3), by the book.
+"""AES-128 by the book (FIPS 197), and its cipher feedback mode with whole blocks (SP 800-38A, 6.3).
 """
 
 import operator
@@ -7,12 +7,12 @@ from typing import Callable
 BLOCK = 16
 ROUNDS = 10
 
-# The cipher of a block, by a key; both have 16 bytes.
+# The cipher of one block; key and block are 16 bytes long.
 BlockCipher = Callable[[bytes, bytes], bytes]
 
 
 def times(a: int, b: int) -> int:
-    """The product in GF(2^8) modulo x^8 + x^4 + x^3 + x + 1."""
+    """Returns the product in GF(2^8) modulo x^8 + x^4 + x^3 + x + 1."""
     product = 0
     for bit in range(8):
         if b >> bit & 1:
@@ -24,7 +24,7 @@ def times(a: int, b: int) -> int:
 
 
 def inverses() -> dict[int, int]:
-    """The inverse of each byte but 0: all are powers of 3, of which the 255th is 1."""
+    """Returns the inverse of each byte except 0. All are powers of 3, and the 255th power is 1."""
     powers = [1]
     while len(powers) < 255:
         powers.append(times(powers[-1], 3))
@@ -32,7 +32,7 @@ def inverses() -> dict[int, int]:
 
 
 def substitute(inverse: int) -> int:
-    """The affine map of a byte's inverse, which is 0 for 0."""
+    """Applies the affine map to a byte's inverse; the inverse of byte 0 is 0 here."""
     turned = [inverse << n | inverse >> (8 - n) for n in range(5)]
     return (turned[0] ^ turned[1] ^ turned[2] ^ turned[3] ^ turned[4] ^ 0x63) & 0xFF
 
@@ -41,17 +41,17 @@ INVERSES = inverses()
 S_BOX = bytes(substitute(INVERSES.get(byte, 0)) for byte in range(256))
 
 
-# Where each byte of a block comes from as its rows are shifted.
+# The position from which each byte of a block comes when its rows are shifted.
 SHIFTED = operator.itemgetter(*((at + 4 * (at % 4)) % BLOCK for at in range(BLOCK)))
 
 
 def xor(left: bytes, right: bytes) -> bytes:
-    """As many bytes as the shorter has."""
+    """Returns the XOR of the bytes; the result is as long as the shorter argument."""
     return bytes(map(operator.xor, left, right))
 
 
 def round_keys(key: bytes) -> list[bytes]:
-    """The eleven keys of the rounds, of four words each."""
+    """Returns the eleven round keys, of four words each."""
     words, constant = [key[at : at + 4] for at in range(0, BLOCK, 4)], 1
     while len(words) < 4 * (ROUNDS + 1):
         word = words[-1]
@@ -64,7 +64,7 @@ def round_keys(key: bytes) -> list[bytes]:
 
 
 def shift_rows(state: bytes) -> bytes:
-    """Byte r + 4c is row r, column c; row r turns by r."""
+    """Byte r + 4c is row r, column c; row r rotates by r."""
     return bytes(SHIFTED(state))
 
 
@@ -89,7 +89,7 @@ def encrypt_block(key: bytes, block: bytes) -> bytes:
 def cfb_encrypt(
     key: bytes, iv: bytes, text: bytes, block_cipher: BlockCipher = encrypt_block
 ) -> bytes:
-    """Each block of the text is masked by the cipher of the block before it."""
+    """XORs each block of the text with the cipher of the previous encrypted block."""
     done, before = b"", iv
     for at in range(0, len(text), BLOCK):
         before = xor(text[at : at + BLOCK], block_cipher(key, before))

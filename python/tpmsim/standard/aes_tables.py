@@ -1,4 +1,4 @@
-"""AES-128 by tables, which is quicker than the cipher of aes.py."""
+"""AES-128 with tables, which is faster than the cipher of aes.py."""
 
 import functools
 import struct
@@ -9,18 +9,18 @@ WORD = 0xFFFF_FFFF
 
 
 def turned(word: int) -> int:
-    """A word of four bytes, its last byte first."""
+    """Rotates a word of four bytes, so that its last byte comes first."""
     return word >> 8 | word << 24 & WORD
 
 
 def column_of(byte: int) -> int:
-    """What a byte in row 0 adds to its column in a round."""
+    """Returns the bytes that a byte in row 0 adds to its column in a round."""
     substituted = aes.S_BOX[byte]
     doubled, tripled = aes.times(substituted, 2), aes.times(substituted, 3)
     return int.from_bytes(bytes((doubled, substituted, substituted, tripled)), "big")
 
 
-# What a byte adds in each of the four rows.
+# What a byte adds to its column, by its row.
 ROWS = [[column_of(byte) for byte in range(256)]]
 for _ in range(3):
     ROWS.append([turned(it) for it in ROWS[-1]])

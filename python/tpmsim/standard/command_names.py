@@ -1,8 +1,8 @@
-"""The names of all commands of the standard, served or not (Part 2, section 6.5.2, TPM_CC)."""
+"""The names of all commands of the standard, implemented or not (Part 2, section 6.5.2, TPM_CC)."""
 
 from tpmsim.standard.commands import NUMBERED
 
-# Those that are not served here, by their numbers.
+# The commands that are not implemented here, by number.
 NOT_SERVED = {
     0x11F: "NV_UndefineSpaceSpecial",
     0x121: "HierarchyControl",
@@ -84,10 +84,10 @@ NOT_SERVED = {
     0x2000_0000: "Vendor_TCG_Test",
 }
 
-# The names of all, by their numbers.
+# The names of all commands, by number.
 NAMES = {**{int(it): it.name for it in NUMBERED.values()}, **NOT_SERVED}
 
 
 def command_name(number: int) -> str:
-    """The command's name without `TPM2_`; nothing of a number that no command has."""
+    """Returns the command's name without `TPM2_`; empty if no command has the number."""
     return NAMES.get(number, "")

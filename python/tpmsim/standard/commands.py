@@ -1,7 +1,6 @@
-"""The commands that are served, each in one entry of the enumeration below, in the words of the TPM
-2.0 Library, Part 3. All that is said elsewhere of every command follows from here: its number, its
-shape, its line, what a policy can name, what TPM2_GetCapability answers, and the method that does
-it.
+"""The implemented commands, each as one entry of the enumeration below, in the words of the TPM 2.0
+Library, Part 3. Everything else about a command follows from its entry: its number, its format, its
+line, what a policy can name, what TPM2_GetCapability returns, and the method that executes it.
 """
 
 from __future__ import annotations
@@ -12,8 +11,8 @@ from dataclasses import dataclass
 
 
 class HandleKind(enum.Enum):
-    """What a handle may be: the standard's TPMI_DH_, TPMI_RH_ and TPMI_SH_ types without that
-    prefix. With a `+` it may be TPM_RH_NULL too.
+    """The type of a handle: a TPMI_DH_, TPMI_RH_ or TPMI_SH_ type of the standard, without that
+    prefix. With a `+` the handle may also be TPM_RH_NULL.
     """
 
     PCR = "PCR"
@@ -34,8 +33,8 @@ class HandleKind(enum.Enum):
 
 
 class Kind(enum.Enum):
-    """What a parameter is: a word of docs/LINES.md; or a number whose word is shown in hex, as it
-    is a set of bits, a code or a handle; or a structure that is answered alone.
+    """The type of a parameter: a word of docs/LINES.md; a number that is printed in hex, because it
+    is a set of bits, a code or a handle; or a structure that occurs only in responses.
     """
 
     U8 = "u8"
@@ -57,10 +56,10 @@ class Kind(enum.Enum):
 
 
 class Fact(enum.Enum):
-    """What else holds of a command. NO_SESSIONS: it takes no entries. ADMIN: its handle is
-    authorized in the ADMIN role, and not in the user's. READS_NV: of an NV index that authorizes
-    it, it asks for the attributes of reading, and not of writing. KEEPS_SAVED: its success does
-    not cancel what a shutdown saved.
+    """Other facts about a command. NO_SESSIONS: it takes no entries. ADMIN: its handle is
+    authorized in the role ADMIN instead of USER. READS_NV: an NV index that authorizes it needs the
+    attributes for reading instead of writing. KEEPS_SAVED: its success does not discard what a
+    shutdown saved.
     """
 
     NO_SESSIONS = enum.auto()
@@ -75,7 +74,7 @@ READS_NV, KEEPS_SAVED = Fact.READS_NV, Fact.KEEPS_SAVED
 
 @dataclass(frozen=True)
 class Handle:
-    """A handle of a command. One that needs authorization has an `@` before its name."""
+    """A handle of a command. If it needs authorization, its name follows an `@`."""
 
     name: str
     kind: HandleKind
@@ -89,7 +88,7 @@ class Parameter:
 
 
 def read_fields(text: str) -> tuple[tuple[Handle, ...], tuple[Parameter, ...]]:
-    """The handles and the parameters that a text has in this order, each as `name:kind`."""
+    """Parses the handles and the parameters in a text, in this order, each as `name:kind`."""
     handles, parameters = [], []
     for word in text.split():
         name, _, kind = word.partition(":")
@@ -105,9 +104,10 @@ KINDS = {it.value for it in Kind}
 
 
 class CC(enum.IntEnum):
-    """TPM_CC (Part 2, section 6.5.2): each command by its standard's name without `TPM2_`; its
-    number; its handles, those first that are authorized, and its parameters; the handle and the
-    parameters that a success answers; and what else holds of it. Names are those of Part 3.
+    """TPM_CC (Part 2, section 6.5.2): each command by its name in the standard without `TPM2_`. An
+    entry contains its number; its handles, the authorized ones first, and its parameters; the
+    handle and the parameters of a successful response; and its other facts. Names are those of Part
+    3.
     """
 
     handles: tuple[Handle, ...]
@@ -146,7 +146,7 @@ class CC(enum.IntEnum):
     )
     PCR_Reset = 0x13D, "@pcrHandle:PCR"
 
-    # tpmKey is TPMI_DH_OBJECT+ in the standard. No key here encrypts a salt.
+    # In the standard tpmKey is TPMI_DH_OBJECT+. No key of this device can decrypt a salt.
     StartAuthSession = (
         0x176,
         "tpmKey:NULL bind:ENTITY+ nonceCaller:Buffer encryptedSalt:Buffer sessionType:u8 "
@@ -238,7 +238,7 @@ class CC(enum.IntEnum):
         "@lockHandle:LOCKOUT newMaxTries:u32 newRecoveryTime:u32 lockoutRecovery:u32",
     )
 
-    # What follows from these.
+    # What follows from an entry.
 
     def has(self, fact: Fact) -> bool:
         return fact in self.facts
@@ -253,17 +253,17 @@ class CC(enum.IntEnum):
 
     @property
     def takes_sized(self) -> bool:
-        """Whether its first parameter is a sized buffer, which a session can decrypt."""
+        """Whether the first parameter is a sized buffer, which a session can decrypt."""
         return begins_with_buffer(self.parameters)
 
     @property
     def answers_sized(self) -> bool:
-        """Whether the first parameter that it answers is one, which a session can encrypt."""
+        """Whether the response's first parameter is a sized buffer, which a session can encrypt."""
         return begins_with_buffer(self.answered_parameters)
 
     @property
     def method_name(self) -> str:
-        """Its name in small letters, with `_` between two words."""
+        """The command's name in lowercase, with `_` between words."""
         return re.sub("(?<=[a-z])(?=[A-Z])", "_", self.name).lower()
 
 

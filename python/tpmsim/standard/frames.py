@@ -1,4 +1,4 @@
-"""Frames of TPM 2.0 commands and responses, byte by byte (TPM 2.0 Library, Part 1, section 18)."""
+"""Frames of TPM 2.0 commands and responses, as bytes (TPM 2.0 Library, Part 1, section 18)."""
 
 import functools
 import struct
@@ -7,7 +7,7 @@ from typing import Iterable, Iterator
 
 from tpmsim.standard.reading import Fields
 
-# PCRs of banks: the hash algorithm of each, and the numbers.
+# PCRs of banks: for each bank its hash algorithm and the numbers of the PCRs.
 Banks = Iterable[tuple[int, Iterable[int]]]
 
 NO_SESSIONS, SESSIONS, BAD_TAG_ANSWER = 0x8001, 0x8002, 0x00C4
@@ -15,22 +15,22 @@ NO_SESSIONS, SESSIONS, BAD_TAG_ANSWER = 0x8001, 0x8002, 0x00C4
 RH_OWNER, RH_NULL, RS_PW = 0x4000_0001, 0x4000_0007, 0x4000_0009
 RH_LOCKOUT, RH_ENDORSEMENT, RH_PLATFORM = 0x4000_000A, 0x4000_000B, 0x4000_000C
 
-# The first byte of a handle that is not permanent says what it is.
+# The first byte of a handle that is not permanent, by the type of its entity.
 NV, HMAC_SESSION, POLICY_SESSION, TRANSIENT, PERSISTENT = 0x01, 0x02, 0x03, 0x80, 0x81
 
 SHA1, AES, XOR, SHA256, ALG_NULL, CFB = 0x0004, 0x0006, 0x000A, 0x000B, 0x0010, 0x0043
 AES_KEY_BITS = 128
 
-# The types of objects, and the scheme of a KEYEDHASH that makes HMACs (Part 2, section 6.3).
+# The types of objects, and the scheme of a KEYEDHASH for HMACs (Part 2, section 6.3).
 KEYEDHASH, SYMCIPHER, ALG_HMAC = 0x0008, 0x0025, 0x0005
 
-# What a session is for, and attributes of its entries (Part 2, section 8.4).
+# The types of sessions, and attributes of their entries (Part 2, section 8.4).
 SE_HMAC, SE_POLICY, SE_TRIAL = 0x00, 0x01, 0x03
 CONTINUE_SESSION, AUDIT_EXCLUSIVE, AUDIT_RESET = 0x01, 0x02, 0x04
 RESERVED, DECRYPT, ENCRYPT, AUDIT = 0x18, 0x20, 0x40, 0x80
 
-# The response codes of docs/table (Part 2, section 6.6.3), without their places; MEMORY, which no
-# script can ask for, is left out.
+# The response codes of docs/table (Part 2, section 6.6.3), without handle, parameter or session
+# numbers. MEMORY is missing, since no script can cause it.
 CODES = {
     name: int(code, 16)
     for name, code in (
@@ -48,7 +48,7 @@ CODES = {
     )
 }
 
-# What the first of a kind of places adds to a code, before 0x100 for its number (section 6.6.2).
+# What a place adds to a code, by its kind, in addition to 0x100 times its number (section 6.6.2).
 PLACES = {"h": 0, "p": 0x040, "s": 0x800}
 
 
@@ -60,16 +60,16 @@ def sized(data: bytes) -> bytes:
     return number(len(data), 2) + data
 
 
-# The header of a command and of a response: a tag, the size of all, and a code.
+# The header of a command and of a response: a tag, the total size, and a code.
 HEADER = struct.Struct(">HII")
 
-# The bytes of a header, the longest command, and the most entries of one.
+# The size of a header, the largest size of a command, and the largest number of its entries.
 HEADER_BYTES, COMMAND_BYTES, MOST_ENTRIES = HEADER.size, 4096, 3
 
 
 @dataclass
 class Entry:
-    """An entry of an authorization area. `demand` is what a policy asks of it as it authorizes."""
+    """An entry of an authorization area. `demand` is what a policy demands of it at the use."""
 
     handle: int
     nonce: bytes
@@ -79,37 +79,37 @@ class Entry:
 
 
 def command(code: int, body: bytes, tag: int = NO_SESSIONS, size: int | None = None) -> bytes:
-    """A command; commandSize is right where no other is given."""
+    """Returns a command; commandSize is correct unless another size is given."""
     return HEADER.pack(tag, HEADER_BYTES + len(body) if size is None else size, code) + body
 
 
 def entry(
     session: int = RS_PW, nonce: bytes = b"", attributes: int = CONTINUE_SESSION, hmac: bytes = b""
 ) -> bytes:
-    """An entry of an authorization area; with nothing given, the empty password."""
+    """Returns an entry of an authorization area, by default the empty password."""
     return number(session, 4) + sized(nonce) + number(attributes, 1) + sized(hmac)
 
 
 def read_entry(fields: Fields) -> Entry:
-    """The next entry of an authorization area; Short where it is cut."""
+    """Reads the next entry of an authorization area; raises Short if it is cut off."""
     return Entry(fields.number(4), fields.sized(), fields.number(1), fields.sized())
 
 
 def entries_of(area: bytes) -> Iterator[Entry]:
-    """Those of an area behind its size; Short where it cannot be divided into entries."""
+    """Yields the entries of an area without its size; raises Short if they do not fill it."""
     fields = Fields(area)
     while fields.data:
         yield read_entry(fields)
 
 
 def area(*entries: bytes, size: int | None = None) -> bytes:
-    """An authorization area; authorizationSize is right where no other is given."""
+    """Returns an authorization area; authorizationSize is correct unless another size is given."""
     text = b"".join(entries)
     return number(len(text) if size is None else size, 4) + text
 
 
 def buffer_of(code: int, handles: Iterable[int], entries: list[Entry], parameters: bytes) -> bytes:
-    """A command with handles and entries, which has sessions where it has an entry."""
+    """Returns a command with handles and entries; it has sessions if it has an entry."""
     text = b"".join(number(it, 4) for it in handles)
     if not entries:
         return command(code, text + parameters)
@@ -120,7 +120,9 @@ def buffer_of(code: int, handles: Iterable[int], entries: list[Entry], parameter
 def on_handles(
     code: int, handles: Iterable[int], parameters: bytes = b"", entries: list[bytes] | None = None
 ) -> bytes:
-    """A command with handles, and the entries that authorize the first, or the empty password."""
+    """Returns a command with handles, and with these entries or the empty password for the
+    first.
+    """
     text = b"".join(number(it, 4) for it in handles)
     text += area(*([entry()] if entries is None else entries))
     return command(code, text + parameters, SESSIONS)
@@ -133,7 +135,7 @@ def on_handle(
 
 
 def symmetric(aes: bool = False, xor: int | None = None) -> bytes:
-    """What a session encrypts by: AES-128 in mode CFB, masks by a hash algorithm, or nothing."""
+    """Returns a session's symmetric definition: AES-128 in CFB mode, XOR with a hash, or none."""
     if xor is not None:
         return number(XOR, 2) + number(xor, 2)
     if not aes:
@@ -151,13 +153,13 @@ def start_auth_session(
     kind: int = SE_HMAC,
     xor: int | None = None,
 ) -> tuple[list[int], bytes]:
-    """The handles of TPM2_StartAuthSession and its parameters."""
+    """Returns the handles of TPM2_StartAuthSession and its parameters."""
     parameters = sized(nonce) + sized(salt) + number(kind, 1)
     return [tpm_key, bind], parameters + symmetric(aes, xor) + number(algorithm, 2)
 
 
 def selection(*banks: tuple[int, Iterable[int]]) -> bytes:
-    """A selection of PCRs: for each bank its hash algorithm and the numbers of its PCRs."""
+    """Returns a PCR selection: for each bank its hash algorithm and the numbers of its PCRs."""
     text = number(len(banks), 4)
     for algorithm, pcrs in banks:
         bits = sum(1 << pcr for pcr in set(pcrs))
@@ -170,7 +172,7 @@ def digests(*values: tuple[int, bytes]) -> bytes:
 
 
 def sized_list(*values: bytes, count: int | None = None) -> bytes:
-    """A list of sized buffers; its count is right where no other is given."""
+    """Returns a list of sized buffers; its count is correct unless another count is given."""
     return number(len(values) if count is None else count, 4) + b"".join(map(sized, values))
 
 
@@ -191,13 +193,13 @@ def policy_nv(operand: bytes = b"", offset: int = 0, operation: int = 0) -> byte
 def nv_public_area(
     index: int, name_algorithm: int, attributes: int, auth_policy: bytes, data_size: int
 ) -> bytes:
-    """A TPMS_NV_PUBLIC."""
+    """Returns a TPMS_NV_PUBLIC."""
     head = number(index, 4) + number(name_algorithm, 2) + number(attributes, 4)
     return head + sized(auth_policy) + number(data_size, 2)
 
 
 def nv_define_space(public: bytes, auth: bytes = b"") -> bytes:
-    """The parameters of TPM2_NV_DefineSpace, of a public area's text."""
+    """Returns the parameters of TPM2_NV_DefineSpace, given the encoding of a public area."""
     return sized(auth) + sized(public)
 
 
@@ -210,12 +212,12 @@ def nv_read(size: int, offset: int = 0) -> bytes:
 
 
 def sensitive_create(user_auth: bytes = b"", data: bytes = b"") -> bytes:
-    """A TPM2B_SENSITIVE_CREATE: an authorization value, and what is to be sealed, or a key."""
+    """Returns a TPM2B_SENSITIVE_CREATE: an authorization value, and a key or the data to seal."""
     return sized(sized(user_auth) + sized(data))
 
 
 def scheme(algorithm: int) -> bytes:
-    """How a KEYEDHASH makes HMACs: by a hash algorithm, or by one that its user names."""
+    """Returns the HMAC scheme of a KEYEDHASH: a hash algorithm, or NULL if its user chooses one."""
     if algorithm == ALG_NULL:
         return number(ALG_NULL, 2)
     return number(ALG_HMAC, 2) + number(algorithm, 2)
@@ -229,18 +231,21 @@ def public_area(
     details: bytes,
     unique: bytes,
 ) -> bytes:
-    """A TPMT_PUBLIC; its details are a KEYEDHASH's scheme, or the cipher of a SYMCIPHER."""
+    """Returns a TPMT_PUBLIC; `details` are the scheme of a KEYEDHASH or the cipher of a
+    SYMCIPHER.
+    """
     head = number(kind, 2) + number(name_algorithm, 2) + number(attributes, 4)
     return head + sized(auth_policy) + details + sized(unique)
 
 
 def creation(sensitive: bytes, public: bytes, outside_info: bytes = b"", pcrs: Banks = ()) -> bytes:
-    """Those of TPM2_CreatePrimary and TPM2_Create; the first two have their sizes already."""
+    """Returns parameters of TPM2_CreatePrimary and TPM2_Create; two of them come with their
+    sizes.
+    """
     return sensitive + public + sized(outside_info) + selection(*pcrs)
 
 
-# What a ticket is for: that an object was created so, and that an assertion was made (Part 2,
-# section 6.9).
+# What a ticket confirms: the creation of an object, or an assertion (Part 2, section 6.9).
 ST_CREATION, ST_AUTH_SECRET = 0x8021, 0x8023
 
 
@@ -248,19 +253,18 @@ def ticket(tag: int, hierarchy: int, digest: bytes) -> bytes:
     return number(tag, 2) + number(hierarchy, 4) + sized(digest)
 
 
-# The ticket of an assertion that does not expire: of TPM_RH_NULL, and with an empty digest.
+# The ticket of an assertion that does not expire, with TPM_RH_NULL and an empty digest.
 NULL_TICKET = ticket(ST_AUTH_SECRET, RH_NULL, b"")
 
 
 def refusal(code: int) -> bytes:
-    """Ten bytes: the tag, the size and the code."""
+    """Returns a refusal, which is ten bytes long: the tag, the size and the code."""
     tag = BAD_TAG_ANSWER if code == CODES["BAD_TAG"] else NO_SESSIONS
     return HEADER.pack(tag, HEADER_BYTES, code)
 
 
 def success(answer: bytes, entries: list[bytes] | None = None, handle: bytes = b"") -> bytes:
-    """A success, of the handle that is answered, if any, the parameters, and with sessions the
-    answers to the entries."""
+    """Returns a success: a handle, if any, the parameters, and, with sessions, their entries."""
     if entries is None:
         tag, body = NO_SESSIONS, handle + answer
     else:
@@ -271,12 +275,12 @@ def success(answer: bytes, entries: list[bytes] | None = None, handle: bytes = b
 def entry_answer(
     nonce: bytes = b"", attributes: int = CONTINUE_SESSION, hmac: bytes = b""
 ) -> bytes:
-    """What answers an entry; with nothing given, a password."""
+    """Returns an entry of a response, by default the one for a password."""
     return sized(nonce) + number(attributes, 1) + sized(hmac)
 
 
 def spelled_code(code: int) -> tuple[str, str]:
-    """The name of a code and its place, as HASH and p1; each is empty where there is none."""
+    """Returns the name of a code and its place, such as HASH and p1; each is empty if unknown."""
     place = ""
     if code & 0x080 and code >> 8:
         kind = "p" if code & PLACES["p"] else "s" if code & PLACES["s"] else "h"
@@ -288,7 +292,7 @@ def spelled_code(code: int) -> tuple[str, str]:
 
 @functools.cache
 def code_of(name: str) -> int:
-    """The number of a code such as HASH/p1: the code's, and what its place adds."""
+    """Returns the number of a code such as HASH/p1: the number of HASH plus that of the place."""
     code, slash, place = name.partition("/")
     added = PLACES[place[0]] + 0x100 * int(place[1:]) if slash else 0
     return CODES[code] + added

@@ -1,4 +1,4 @@
-"""What a handle is, by its number alone (TPM 2.0 Library, Part 2, section 7)."""
+"""The kind of a handle, which depends only on its number (TPM 2.0 Library, Part 2, section 7)."""
 
 from dataclasses import dataclass
 from typing import Callable
@@ -11,8 +11,8 @@ PCRS = range(24)
 HIERARCHIES = (RH_OWNER, RH_ENDORSEMENT, RH_PLATFORM, RH_LOCKOUT)
 PRIMARY_HIERARCHIES = (RH_OWNER, RH_ENDORSEMENT, RH_PLATFORM, RH_NULL)
 
-# The hierarchies that define NV indices and make objects persistent, and take both away; and those
-# that may clear the owner's things, and say whether that is allowed.
+# The hierarchies that may define and undefine NV indices, and make objects persistent or remove
+# them; and those that may execute TPM2_Clear and TPM2_ClearControl.
 PROVISIONERS, CLEARERS = (RH_OWNER, RH_PLATFORM), (RH_LOCKOUT, RH_PLATFORM)
 
 
@@ -24,7 +24,7 @@ def is_pcr(handle: int) -> bool:
     return handle in PCRS
 
 
-# Of these a handle says what it names, whether that is there or not.
+# For these kinds the handle's number identifies the entity, whether the entity exists or not.
 
 
 def is_object(handle: int) -> bool:
@@ -44,13 +44,15 @@ def is_session(handle: int) -> bool:
 
 
 def is_entity(handle: int) -> bool:
-    """What has an authorization value of its own."""
+    """Whether a handle has an authorization value of its own."""
     return is_pcr(handle) or handle in HIERARCHIES or is_object(handle) or is_index(handle)
 
 
 @dataclass(frozen=True)
 class HandleForm:
-    """What a handle of a kind has to be, how docs/LINES.md names one, and what it is in words."""
+    """The condition on a handle of a kind, the kind's name in docs/LINES.md, and its name in
+    text.
+    """
 
     holds: Callable[[int], bool]
     mark: str

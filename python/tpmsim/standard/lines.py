@@ -1,6 +1,6 @@
-"""Commands in words, and what is traced of an event (docs/LINES.md).
+"""Commands in words, and traces of events (docs/LINES.md).
 
-A line is bytes, since one that is wrong may be anything.
+A line is bytes, since a wrong line may be any bytes.
 """
 
 from __future__ import annotations
@@ -29,18 +29,18 @@ RANGE, TOO_LONG = "Range", "TooLong"
 
 
 class Fault(Exception):
-    """Why a line is none: the fault's name, and with some the column of the token, from 1."""
+    """Why bytes are not a line: the fault's name, and for some faults the column of the token."""
 
     def __init__(self, name: str, column: int | None = None) -> None:
         super().__init__(name if column is None else f"{name} {column}")
 
 
 class Wrong(Exception):
-    """A token that is wrong; its one argument is BAD_FIELD or RANGE."""
+    """A wrong token; its one argument is BAD_FIELD or RANGE."""
 
 
 class NoWords(Exception):
-    """Bytes that no token spells."""
+    """No token encodes these bytes."""
 
 
 NOTHING, JOIN = b"-", b"+"
@@ -48,7 +48,7 @@ HEX = re.compile(rb"(?:[0-9A-Fa-f]{2})+")
 HANDLE = re.compile(rb"[0-9A-Fa-f]{8}")
 NUMBER = re.compile(rb"0x([0-9A-Fa-f]+)|([0-9]+)")
 
-# A number of more digits than these, its zeros in front not counted, is too large for every field.
+# A number with more digits than this, without leading zeros, is too large for every field.
 MOST_DIGITS = len(str(2**64))
 
 HANDLE_NAMES = {
@@ -105,7 +105,7 @@ def value_in(words: dict[bytes, T], token: bytes) -> T:
 
 
 def word_in(words: dict[bytes, Any], value: bytes | int, other: str | None = None) -> str:
-    """The word of a value, or another way to say it."""
+    """Returns the word for a value, or `other` if there is none."""
     for word, meant in words.items():
         if meant == value:
             return word.decode("ascii")
@@ -126,7 +126,7 @@ CIPHERS = {
 
 @dataclass(frozen=True)
 class Words:
-    """How a kind is said: its name in docs/table, a token's value, and a value's token."""
+    """The words of a kind: its name in docs/table, and conversions between tokens and values."""
 
     kind: Kind
     name: str
@@ -138,11 +138,13 @@ class Words:
         return VALUES[self.kind]
 
     def spelled(self, token: bytes) -> bytes:
-        """The bytes of a token; Wrong where it is none of this kind."""
+        """Returns the bytes that a token encodes; raises Wrong if the token is not of this kind."""
         return self.values.write(self.parsed(token))
 
     def word(self, fields: Fields) -> str:
-        """The token of what stands in front of fields; NoWords where there is none."""
+        """Returns the token for the value at the front of fields; raises NoWords if there is
+        none.
+        """
         try:
             return self.shown(self.values.read(fields))
         except KeyError:
@@ -155,14 +157,16 @@ def integer(kind: Kind, size: int, shown: str = "{}") -> Words:
 
 
 def buffer_of(token: bytes) -> bytes:
-    """One that is longer than its size can say makes the command too long in any case."""
+    """Returns a buffer, cut to 65,535 bytes; a longer one makes the command too long in any
+    case.
+    """
     return bytes_of(token)[:0xFFFF]
 
 
 def listed(
     kind: Kind, parsed: Callable[[bytes], Any], shown: Callable[..., str], is_empty: bool = True
 ) -> Words:
-    """Values with JOIN between them, which may be NOTHING where the list may be empty."""
+    """Returns the words for values separated by JOIN, or NOTHING if the list may be empty."""
 
     def all_parsed(token: bytes) -> list[Any]:
         return [] if is_empty and token == NOTHING else [parsed(it) for it in token.split(JOIN)]
@@ -174,7 +178,7 @@ def listed(
 
 
 def hash_and_rest(piece: bytes) -> tuple[int, bytes]:
-    """The hash algorithm of a piece, and what stands behind its colon."""
+    """Returns the hash algorithm of a piece, and the rest after its colon."""
     name, _, rest = piece.partition(b":")
     return value_in(HASHES, name), rest
 
@@ -198,8 +202,8 @@ def one_of(kind: Kind, words: dict[bytes, Any]) -> Words:
     )
 
 
-# The words of each kind; sets of bits, codes and handles are shown in hex. A structure that is only
-# answered has none.
+# The words of each kind. Sets of bits, codes and handles are printed in hex. A structure that
+# occurs only in responses has no words.
 WORDS: dict[Kind, Words] = {
     it.kind: it
     for it in (
@@ -227,7 +231,7 @@ WORDS: dict[Kind, Words] = {
 
 
 def form_of(code: CC) -> str:
-    """The form of a command's line, as its section in docs/table has it."""
+    """Returns the form of a command's line, as in its section of docs/table."""
     marks = ["@" * it.is_authorized + HANDLES[it.kind].mark for it in code.handles]
     return " ".join([code.name, *marks, *(it.name for it in words_of_parameters(code))])
 
@@ -262,7 +266,7 @@ def entry_of(token: bytes) -> Entry:
 
 
 def entry_word(entry: Entry) -> str:
-    """An entry of the password, in the one form that a password has, or of a session."""
+    """Returns the word for an entry, which is a password in its one form, or of a session."""
     hmac = hex_word(entry.hmac)
     if (entry.handle, entry.nonce, entry.attributes) == (RS_PW, b"", CONTINUE_SESSION):
         return f"pw:{hmac}"
@@ -271,13 +275,13 @@ def entry_word(entry: Entry) -> str:
 
 
 class Tokens:
-    """The tokens of a line, taken from the front; the first fault ends it."""
+    """The tokens of a line, taken from the front. Reading ends at the first fault."""
 
     def __init__(self, line: bytes) -> None:
         self.left, self.column = line.split(b" "), 1
 
     def take(self, spelled: Callable[[bytes], T]) -> T:
-        """What the next token spells."""
+        """Returns the value of the next token."""
         if not self.left:
             raise Fault(MISSING)
         try:
@@ -316,7 +320,7 @@ def assemble(line: bytes) -> bytes:
 
 
 def line_of(buffer: bytes) -> str | None:
-    """The line of a buffer, or None where no line assembles to it."""
+    """Returns the line for a buffer, or None if no line assembles to the buffer."""
     try:
         line = " ".join(words_of(Fields(buffer)))
         return line if assemble(line.encode("ascii")) == buffer else None
@@ -339,8 +343,9 @@ def words_of(fields: Fields) -> list[str]:
 
 
 def traced(outcome: Outcome, locality: int, elapsed: int) -> str:
-    """What is traced of a command's event: the name, the locality, the elapsed milliseconds, the
-    check and the response code. A command that was refused before it was known has no name.
+    """Returns the trace of a command's event: the name, the locality, the elapsed milliseconds, the
+    check and the response code. If a command is refused before its code is known, the name is
+    missing.
     """
     code = NUMBERED.get(outcome.row.code)
     name = code.name if code else "?"

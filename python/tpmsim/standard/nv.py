@@ -11,12 +11,12 @@ from tpmsim.standard.frames import number
 from tpmsim.standard.reading import Fields
 from tpmsim.standard.sessions import digest
 
-# The size of a counter and of bits.
+# The size of a counter and of a bit field.
 NUMBER_BYTES = 8
 
 
 class Attribute(enum.IntEnum):
-    """TPMA_NV (Part 2, section 13.4), but for the type."""
+    """TPMA_NV (Part 2, section 13.4), without the type."""
 
     PPWRITE = 1 << 0
     OWNERWRITE = 1 << 1
@@ -42,7 +42,7 @@ class Attribute(enum.IntEnum):
 
 
 class Type(enum.IntEnum):
-    """What an index is (TPM_NT), in bits 4 to 7 of its attributes."""
+    """The type of an index (TPM_NT), in bits 4 to 7 of its attributes."""
 
     ORDINARY = 0
     COUNTER = 1
@@ -63,7 +63,7 @@ def of_type(kind: int) -> int:
 
 @dataclass(frozen=True)
 class Public:
-    """TPMS_NV_PUBLIC. Its attributes change with what is done with the index, and the Name too."""
+    """TPMS_NV_PUBLIC. Commands on the index change its attributes, and with them its Name."""
 
     index: int
     name_algorithm: int
@@ -80,12 +80,12 @@ class Public:
 
     @property
     def kind(self) -> int:
-        """The number of its type, which is not that of a `Type` in every one that is asked for."""
+        """The number of its type; in a requested area `Type` may not define this number."""
         return self.attributes >> TYPE_SHIFT & TYPE_MASK
 
     @property
     def means(self) -> list[str]:
-        """The names of the attributes by which it may be read and written."""
+        """Returns the names of the attributes that allow reading and writing."""
         return [it.name for it in Attribute if it & (WRITES | READS) & self.attributes]
 
     @property
@@ -99,7 +99,9 @@ class Public:
 
     @classmethod
     def read(cls, text: bytes) -> "Public":
-        """The area that a text is; ValueError where bytes are left, Short where they lack."""
+        """Decodes a public area; raises ValueError if bytes are left over, Short if some are
+        missing.
+        """
         fields = Fields(text)
         head = fields.number(4), fields.number(2), fields.number(4)
         public = cls(*head, fields.sized(), fields.number(2))

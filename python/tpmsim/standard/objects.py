@@ -60,7 +60,9 @@ class Public:
 
     @classmethod
     def read(cls, text: bytes) -> "Public":
-        """The area that a text is; ValueError where bytes are left, Short where they lack."""
+        """Decodes a public area; raises ValueError if bytes are left over, Short if some are
+        missing.
+        """
         fields = Fields(text)
         kind, name_algorithm, attributes = fields.number(2), fields.number(2), fields.number(4)
         auth_policy, scheme = fields.sized(), ALG_NULL
@@ -75,7 +77,7 @@ class Public:
 
     @property
     def is_parent(self) -> bool:
-        """Whether it is that of a storage parent: a restricted decryption key."""
+        """Whether this is a storage parent: a restricted decryption key."""
         wanted = Attribute.RESTRICTED | Attribute.DECRYPT
         asked = wanted | Attribute.SIGN
         return self.kind == SYMCIPHER and self.attributes & asked == wanted

@@ -1,26 +1,26 @@
-"""The digest of a policy, behind each assertion (TPM 2.0 Library, Part 3, section 23)."""
+"""The digest of a policy after each assertion (TPM 2.0 Library, Part 3, section 23)."""
 
 from tpmsim.standard.commands import CC
 from tpmsim.standard.frames import number
 from tpmsim.standard.sessions import digest, digest_bytes
 
-# A bit for each of the localities 0 to 4.
+# One bit for each locality from 0 to 4.
 ALL_LOCALITIES = 0x1F
 
-# What a policy asks of the entry that it authorizes by, beside itself.
+# What a policy demands of the entry of its session, in addition to the session itself.
 PASSWORD, AUTH_VALUE = "password", "authorization value"
 
-# How many digests TPM2_PolicyOR takes.
+# The smallest and the largest number of digests in TPM2_PolicyOR.
 LEAST_BRANCHES, MOST_BRANCHES = 2, 8
 
 
 def after_pcr(algorithm: int, old: bytes, selection: bytes, values_digest: bytes) -> bytes:
-    """`selection` is the text of the selection, as it is sent."""
+    """`selection` is the encoding of the selection, as sent."""
     return digest(algorithm, old + number(CC.PolicyPCR, 4) + selection + values_digest)
 
 
 def after_or(algorithm: int, branches: list[bytes]) -> bytes:
-    """What was before is one of the branches, and no more in the digest."""
+    """The previous digest is one of the branches, and has no other influence."""
     zeros = bytes(digest_bytes(algorithm))
     return digest(algorithm, zeros + number(CC.PolicyOR, 4) + b"".join(branches))
 
@@ -47,12 +47,12 @@ def after_locality(algorithm: int, old: bytes, localities: int) -> bytes:
 
 
 def after_secret(algorithm: int, old: bytes, name: bytes, policy_ref: bytes) -> bytes:
-    """Of the Name of authHandle. Two hashes, also where policyRef is empty."""
+    """`name` is the Name of authHandle. There are two hashes, even if policyRef is empty."""
     named = digest(algorithm, old + number(CC.PolicySecret, 4) + name)
     return digest(algorithm, named + policy_ref)
 
 
 def after_nv(algorithm: int, old: bytes, arguments: bytes, name: bytes) -> bytes:
-    """`arguments` are the operand, the offset and the operation; the Name is the index's."""
+    """`arguments` are the operand, the offset and the operation; `name` is the index's Name."""
     compared = digest(algorithm, arguments)
     return digest(algorithm, old + number(CC.PolicyNV, 4) + compared + name)

@@ -1,12 +1,12 @@
-"""Bytes that are read from the front."""
+"""Reads bytes from the front."""
 
 
 class Short(Exception):
-    """Fewer bytes are left than are wanted."""
+    """Fewer bytes are left than needed."""
 
 
 class Fields:
-    """Bytes, taken from the front."""
+    """Bytes that are taken from the front."""
 
     def __init__(self, data: bytes) -> None:
         self.data = data

@@ -1,4 +1,6 @@
-"""What both ends of a session compute, over whole texts (TPM 2.0 Library, Part 1)."""
+"""What both the TPM and its caller compute for a session, over whole texts (TPM 2.0 Library, Part
+1).
+"""
 
 import functools
 import hashlib
@@ -15,7 +17,7 @@ HASH_WORDS = {SHA1: "sha1", SHA256: "sha256"}
 
 SIZES = {algorithm: made().digest_size for algorithm, made in HASHES.items()}
 
-# The most bytes of a digest, a nonce and an authorization value.
+# The largest size of a digest, a nonce and an authorization value.
 DIGEST_BYTES = 32
 
 SUCCESS = 0
@@ -34,17 +36,19 @@ def mac(algorithm: int, key: bytes, text: bytes) -> bytes:
 
 
 def trimmed(auth_value: bytes) -> bytes:
-    """An authorization value counts without its trailing zeros (19.6.4.3)."""
+    """Removes trailing zeros, which do not count in an authorization value (19.6.4.3)."""
     return auth_value.rstrip(b"\0")
 
 
 def name_of(handle: int) -> bytes:
-    """The Name of what is neither an object nor an NV index is its handle (section 16)."""
+    """Returns the Name of an entity that is neither an object nor an NV index: its handle (section
+    16).
+    """
     return number(handle, 4)
 
 
 def kdfa(algorithm: int, key: bytes, label: bytes, newer: bytes, older: bytes, size: int) -> bytes:
-    """SP 800-108 in counter mode, as the TPM uses it (11.4.9): the first bytes of its blocks."""
+    """SP 800-108 in counter mode, as the TPM uses it (11.4.9): returns the first `size` bytes."""
     given, count = b"", 0
     while len(given) < size:
         count += 1
@@ -54,18 +58,20 @@ def kdfa(algorithm: int, key: bytes, label: bytes, newer: bytes, older: bytes, s
 
 
 def session_key(algorithm: int, auth_value: bytes, nonce_tpm: bytes, nonce_caller: bytes) -> bytes:
-    """The key of a bound session, from what its entity's authorization value was (19.6.8)."""
+    """Returns a bound session's key, from its entity's authorization value at the start
+    (19.6.8).
+    """
     size = digest_bytes(algorithm)
     return kdfa(algorithm, auth_value, b"ATH", nonce_tpm, nonce_caller, size)
 
 
 def command_hash(algorithm: int, code: CC, names: Iterable[bytes], parameters: bytes) -> bytes:
-    """cpHash (18.7), of the handles' Names and of the parameters as they are sent."""
+    """Returns cpHash (18.7), over the handles' Names and the parameters as sent."""
     return digest(algorithm, number(code, 4) + b"".join(names) + parameters)
 
 
 def response_hash(algorithm: int, code: CC, parameters: bytes) -> bytes:
-    """rpHash (18.8): the parameters are those that are answered, encrypted or not."""
+    """Returns rpHash (18.8), over the response parameters as sent, encrypted or not."""
     return digest(algorithm, number(SUCCESS, 4) + number(code, 4) + parameters)
 
 
@@ -78,9 +84,9 @@ def entry_hmac(
     others: list[bytes],
     attributes: int,
 ) -> bytes:
-    """The hmac of an entry (19.6.5), from its cpHash or rpHash. In the first entry of a command,
-    where it authorizes, `others` are the nonces of other sessions that decrypt and encrypt, in this
-    order.
+    """Returns the hmac of an entry (19.6.5), computed from its cpHash or rpHash. If a command's
+    first entry authorizes, `others` are the nonces of the other sessions that decrypt and encrypt,
+    in this order.
     """
     text = parameters + newer + older + b"".join(others) + number(attributes, 1)
     return mac(algorithm, key, text)
@@ -96,14 +102,16 @@ def encrypted(
     block_cipher: aes.BlockCipher = encrypt_block,
     by_aes: Callable[..., bytes] = aes.cfb_encrypt,
 ) -> bytes:
-    """By a session's cipher: masks of the data's size (21.2), or AES (21.3), by `block_cipher`."""
+    """Encrypts with a session's cipher: XOR with masks of the data's size (21.2), or AES with
+    `block_cipher` (21.3).
+    """
     if cipher == XOR:
         return aes.xor(data, kdfa(algorithm, key, b"XOR", newer, older, len(data)))
     both = kdfa(algorithm, key, b"CFB", newer, older, 2 * aes.BLOCK)
     return by_aes(both[: aes.BLOCK], both[aes.BLOCK :], data, block_cipher)
 
 
-# The other way round, of the same arguments.
+# The inverse of `encrypted`, with the same arguments.
 decrypted = functools.partial(encrypted, by_aes=aes.cfb_decrypt)
 
 
@@ -117,7 +125,9 @@ def first_encrypted(
     block_cipher: aes.BlockCipher = encrypt_block,
     change: Callable[..., bytes] = encrypted,
 ) -> bytes:
-    """Parameters whose first is a sized buffer, with its bytes encrypted, and not its size."""
+    """Returns the parameters with the bytes of their first sized buffer encrypted, but not its
+    size.
+    """
     given = cipher, algorithm, key, newer, older
     return on_first_buffer(lambda data: change(*given, data, block_cipher), parameters)
 
@@ -126,6 +136,8 @@ first_decrypted = functools.partial(first_encrypted, change=decrypted)
 
 
 def on_first_buffer(change: Callable[[bytes], bytes], parameters: bytes) -> bytes:
-    """Parameters whose first is a sized buffer, with its bytes changed, and not its size."""
+    """Returns the parameters with the bytes of their first sized buffer changed, but not its
+    size.
+    """
     size = int.from_bytes(parameters[:2], "big")
     return parameters[:2] + change(parameters[2 : 2 + size]) + parameters[2 + size :]

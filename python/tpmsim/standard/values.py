@@ -1,4 +1,4 @@
-"""What a parameter is in Python, by its kind: a number, bytes, or a structure below."""
+"""The Python values of parameters, by kind: a number, bytes, or a structure below."""
 
 from dataclasses import dataclass
 from typing import Any, Callable, NamedTuple, Protocol
@@ -22,7 +22,7 @@ class Digest(NamedTuple):
 
 @dataclass(frozen=True)
 class Cipher:
-    """What a session encrypts by: AES, XOR with the hash algorithm of its masks, or ALG_NULL."""
+    """The cipher of a session: AES, XOR with the hash algorithm of its masks, or ALG_NULL."""
 
     algorithm: int = ALG_NULL
     mask_algorithm: int | None = None
@@ -37,7 +37,7 @@ class Ticket:
 
 @dataclass(frozen=True)
 class Time:
-    """In milliseconds since the power came on, and ever; and how often it was reset."""
+    """Milliseconds since power-on, and in total; and the counts of resets and restarts."""
 
     time: int
     clock: int
@@ -48,7 +48,7 @@ class Time:
 
 @dataclass(frozen=True)
 class Capability:
-    """What TPM2_GetCapability answers: the capability, and its elements as they are sent."""
+    """The response of TPM2_GetCapability: the capability, and its elements as sent."""
 
     capability: int
     data: bytes
@@ -74,7 +74,7 @@ def write_buffer(value: bytes | HasText) -> bytes:
 
 
 def read_list(read: Callable[[Fields], Any]) -> Callable[[Fields], list[Any]]:
-    """A list that has its count in front."""
+    """Reads a list, which starts with its count."""
     return lambda fields: [read(fields) for _ in range(fields.number(4))]
 
 
@@ -85,7 +85,7 @@ def read_bank(fields: Fields) -> Bank:
 
 
 def read_digest(fields: Fields) -> Digest:
-    """Other TPMs answer digests by SHA-384 and SHA-512 too."""
+    """Other TPMs also return SHA-384 and SHA-512 digests."""
     algorithm = fields.number(2)
     size = {0x000C: 48, 0x000D: 64}.get(algorithm) or digest_bytes(algorithm)
     return Digest(algorithm, fields.take(size))
@@ -135,13 +135,13 @@ VALUES: dict[Kind, Values] = {
 
 
 def write_in_order(code: CC, *values: Any) -> bytes:
-    """The parameters of a command, one value each, in the order of Part 3."""
+    """Returns the parameters of a command, from one value for each, in the order of Part 3."""
     pairs = zip(code.parameters, values, strict=True)
     return b"".join(VALUES[it.kind].write(value) for it, value in pairs)
 
 
 def write_all(code: CC, values: dict[str, Any]) -> bytes:
-    """Each by its name in Part 3; TypeError where one is missing, or is no parameter."""
+    """Takes each parameter by its name in Part 3; raises TypeError for a missing or unknown one."""
     names = [it.name for it in code.parameters]
     if set(values) != set(names):
         raise TypeError(f"{code.name} takes {', '.join(names) or 'no parameters'}")
@@ -149,7 +149,9 @@ def write_all(code: CC, values: dict[str, Any]) -> bytes:
 
 
 def read_all(parameters: tuple[Parameter, ...], text: bytes) -> dict[str, Any]:
-    """Parameters by their names; ValueError where bytes are left, Short where there are too few."""
+    """Returns parameters by name; raises ValueError if bytes are left over, Short if some are
+    missing.
+    """
     fields = Fields(text)
     found = {it.name: VALUES[it.kind].read(fields) for it in parameters}
     if fields.data:

@@ -1,4 +1,4 @@
-//! Commands as bytes, as the examples need them. A program has a TPM library for this.
+//! The bytes of the commands that the examples need. A program would use a TPM library.
 #![allow(dead_code)] // no example uses all of them
 
 use tpmsim::{Device, Refusal};
@@ -11,16 +11,16 @@ pub const INDEX: u32 = 0x0100_0001;
 pub const POLICY: u8 = 1;
 pub const TRIAL: u8 = 3;
 
-/// The commands that answer a handle: CreatePrimary, Load and StartAuthSession.
+/// The commands that return a handle: CreatePrimary, Load and StartAuthSession.
 const WITH_HANDLE: [u32; 3] = [0x131, 0x157, 0x176];
 
 /// What authorizes a handle.
 pub enum By<'a> {
     /// Its value, as a password.
     Password(&'a [u8]),
-    /// A policy session, and the value if its policy asks for it as a password.
+    /// A policy session, and the value if the policy requires it as a password.
     Policy(u32, &'a [u8]),
-    /// A session, by an entry that has its HMAC.
+    /// A session, with an entry that contains its HMAC.
     Entry(&'a [u8]),
 }
 
@@ -37,7 +37,7 @@ impl By<'_> {
     }
 }
 
-/// What a command answers, and the entries of its authorization area.
+/// The response to a command, and the entries of its authorization area.
 pub struct Answer {
     pub handle: u32,
     pub parameters: Vec<u8>,
@@ -58,7 +58,7 @@ impl Answer {
     }
 }
 
-/// The sized buffer at the front of bytes, and what follows it.
+/// Returns the sized buffer at the front of bytes, and the bytes after it.
 pub fn front(bytes: &[u8]) -> (&[u8], &[u8]) {
     let size = usize::from(bytes[0]) << 8 | usize::from(bytes[1]);
     bytes[2..].split_at(size)
@@ -72,7 +72,7 @@ pub fn sized(bytes: &[u8]) -> Vec<u8> {
     [&(bytes.len() as u16).to_be_bytes()[..], bytes].concat()
 }
 
-/// PCRs of the SHA-256 bank.
+/// A selection of PCRs in the SHA-256 bank.
 pub fn selection(pcrs: &[u8]) -> Vec<u8> {
     let mut bits = [0; 3];
     for pcr in pcrs {
@@ -81,7 +81,7 @@ pub fn selection(pcrs: &[u8]) -> Vec<u8> {
     [&[0, 0, 0, 1, 0, 0x0b, 3][..], &bits].concat()
 }
 
-/// The bytes of a command, whose first handle is authorized so.
+/// Returns the bytes of a command, with this authorization of the first handle.
 pub fn command(code: u32, handles: &[u32], by: Option<&By>, parameters: &[u8]) -> Vec<u8> {
     let mut body: Vec<u8> = handles.iter().flat_map(|it| number(*it)).collect();
     if let Some(by) = by {
@@ -94,7 +94,7 @@ pub fn command(code: u32, handles: &[u32], by: Option<&By>, parameters: &[u8]) -
     [&tag[..], &number(10 + body.len() as u32), &number(code), &body].concat()
 }
 
-/// Reads what follows the header of a response, with entries or without.
+/// Parses the bytes after the header of a response, with or without entries.
 pub fn answer_of(code: u32, has_entries: bool, mut rest: &[u8]) -> Answer {
     let mut take = || {
         let (front, behind) = rest.split_at(4);
@@ -107,7 +107,7 @@ pub fn answer_of(code: u32, has_entries: bool, mut rest: &[u8]) -> Answer {
     Answer { handle, parameters: parameters.to_vec(), entries: entries.to_vec() }
 }
 
-/// Sends a command, whose first handle is authorized so.
+/// Sends a command, with this authorization of the first handle.
 pub fn send(
     tpm: &mut Device,
     code: u32,
@@ -119,7 +119,7 @@ pub fn send(
     Ok(answer_of(code, by.is_some(), response.accepted()?))
 }
 
-/// Starts a session by SHA-256, neither bound nor salted.
+/// Starts a SHA-256 session, neither bound nor salted.
 pub fn start_session(tpm: &mut Device, kind: u8) -> Result<u32, Refusal> {
     let parameters = [&sized(&[0; 16])[..], &[0, 0, kind, 0, 0x10, 0, 0x0b]].concat();
     Ok(send(tpm, 0x176, &[NULL, NULL], None, &parameters)?.handle)
@@ -130,21 +130,21 @@ pub fn flush(tpm: &mut Device, handle: u32) -> Result<(), Refusal> {
     send(tpm, 0x165, &[], None, &number(handle)).map(|_| ())
 }
 
-/// The digest of a trial session, which ends.
+/// Returns the digest of a trial session, and ends the session.
 pub fn digest_of(tpm: &mut Device, trial: u32) -> Result<Vec<u8>, Refusal> {
     let digest = send(tpm, 0x189, &[trial], None, &[])?.buffers(1).remove(0);
     flush(tpm, trial)?;
     Ok(digest)
 }
 
-/// A storage key of the owner's: an AES key, which the same template makes again.
+/// Makes an AES storage key in the owner hierarchy; the same template always recreates it.
 pub fn storage_key(tpm: &mut Device, owner: &[u8]) -> Result<u32, Refusal> {
     let template = [0, 0x25, 0, 0x0b, 0, 3, 4, 0x72, 0, 0, 0, 6, 0, 0x80, 0, 0x43, 0, 0];
     let parameters = [sized(&[0; 4]), sized(&template), vec![0; 6]].concat();
     Ok(send(tpm, 0x131, &[OWNER], Some(By::Password(owner)), &parameters)?.handle)
 }
 
-/// Data that are sealed below a storage key, with a value and a policy, and are loaded.
+/// Seals data under a storage key, with an authorization value and a policy, and loads the object.
 pub fn sealed(
     tpm: &mut Device,
     parent: u32,
@@ -160,28 +160,28 @@ pub fn sealed(
     Ok(send(tpm, 0x157, &[parent], Some(By::Password(b"")), &areas)?.handle)
 }
 
-/// What an object seals.
+/// Returns the data that an object seals.
 pub fn unseal(tpm: &mut Device, handle: u32, by: By) -> Result<String, Refusal> {
     let data = send(tpm, 0x15e, &[handle], Some(by), &[])?.buffers(1).remove(0);
     Ok(String::from_utf8_lossy(&data).into_owned())
 }
 
-/// Defines the index of the examples, with these attributes.
+/// Defines the NV index of the examples, with these attributes.
 pub fn define(tpm: &mut Device, attributes: u32, value: &[u8]) -> Result<(), Refusal> {
     let area = [&number(INDEX)[..], &[0, 0x0b], &number(attributes), &[0, 0, 0, 8]].concat();
     let parameters = [sized(value), sized(&area)].concat();
     send(tpm, 0x12a, &[OWNER], Some(By::Password(b"")), &parameters).map(|_| ())
 }
 
-/// Measures data into a PCR; the digest of the SHA-256 bank.
+/// Measures data into a PCR; returns the digest for the SHA-256 bank.
 pub fn measure(tpm: &mut Device, pcr: u8, data: &[u8]) -> Result<Vec<u8>, Refusal> {
     let by = Some(By::Password(b""));
     let digests = send(tpm, 0x13c, &[pcr.into()], by, &sized(data))?.parameters;
-    // Their number, and that of SHA-1 with its algorithm, come before it.
+    // The number of digests and the SHA-1 digest with its algorithm come before it.
     Ok(digests[4 + 2 + 20 + 2..][..32].to_vec())
 }
 
-/// A line of an example: what came of it, or why it was refused.
+/// Prints a line of an example: the result, or why it was refused.
 pub fn tell(what: &str, came: Result<String, Refusal>) {
     match came {
         Ok(text) => println!("{what}: {text}"),

@@ -1,4 +1,4 @@
-//! SHA-256, HMAC, KDFa, and AES-128 in mode CFB, as a session needs them. A program has a crate for this.
+//! SHA-256, HMAC, KDFa, and AES-128 in CFB mode, as a session needs them. A program would use a crate.
 
 pub type Digest = [u8; 32];
 
@@ -57,7 +57,7 @@ pub fn sha256(text: &[u8]) -> Digest {
     digest
 }
 
-/// HMAC by SHA-256; the key has at most 64 bytes.
+/// HMAC-SHA-256; the key is at most 64 bytes long.
 pub fn hmac(key: &[u8], text: &[u8]) -> Digest {
     let mut block = [0; 64];
     block[..key.len()].copy_from_slice(key);
@@ -65,7 +65,7 @@ pub fn hmac(key: &[u8], text: &[u8]) -> Digest {
     sha256(&[&block.map(|byte| byte ^ 0x5c)[..], &inner].concat())
 }
 
-/// 256 bits of a key and two nonces.
+/// Derives 256 bits from a key and two nonces.
 pub fn kdfa(key: &[u8], label: &str, newer: &[u8], older: &[u8]) -> Digest {
     let one = 1u32.to_be_bytes();
     let bits = 256u32.to_be_bytes();
@@ -77,7 +77,7 @@ fn doubled(byte: u8) -> u8 {
     byte << 1 ^ if byte & 0x80 == 0 { 0 } else { 0x1b }
 }
 
-/// AES's table of substitutions: `power` goes through all elements but zero, and `inverse` is its inverse.
+/// The S-box of AES: `power` runs through all elements except zero, and `inverse` is its inverse.
 fn substitutions() -> [u8; 256] {
     let mut table = [0x63; 256];
     let (mut power, mut inverse) = (1u8, 1u8);
@@ -95,7 +95,7 @@ fn substitutions() -> [u8; 256] {
     }
 }
 
-/// AES-128 of one block.
+/// Encrypts one block with AES-128.
 fn encrypt_block(key: &[u8; 16], block: &[u8; 16]) -> [u8; 16] {
     let table = substitutions();
     let substituted = |byte: u8| table[usize::from(byte)];
@@ -128,7 +128,7 @@ pub enum Way {
     Decrypt,
 }
 
-/// AES-128 in mode CFB, by a key and an initial vector.
+/// AES-128 in CFB mode, with a key and an initial vector.
 pub fn cfb(both: &Digest, way: Way, data: &[u8]) -> Vec<u8> {
     let (key, start) = both.split_at(16);
     let key = key.try_into().expect("a key has 16 bytes");

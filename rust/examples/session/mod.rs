@@ -1,4 +1,4 @@
-//! A session that computes HMACs, bound to what it authorizes, and encrypts by AES-128 in mode CFB.
+//! A session that computes HMACs, is bound to the entity that it authorizes, and encrypts with AES-128-CFB.
 
 mod crypto;
 
@@ -30,7 +30,7 @@ fn new_nonce() -> io::Result<[u8; 16]> {
     Ok(nonce)
 }
 
-/// Parameters whose first is a sized buffer, with its bytes changed.
+/// Returns parameters with the bytes of the first one, a sized buffer, changed.
 fn with_first_changed(keys: &Digest, way: Way, parameters: &[u8]) -> Vec<u8> {
     let (data, rest) = front(parameters);
     [&sized(&cfb(keys, way, data))[..], rest].concat()
@@ -49,12 +49,12 @@ impl Session {
         Ok(Session { handle: answer.handle, key, nonce_tpm, nonce_caller, value })
     }
 
-    /// The keys that encrypt, of two nonces.
+    /// Returns the encryption keys for two nonces.
     fn keys(&self, newer: &[u8], older: &[u8]) -> Digest {
         kdfa(&[&self.key[..], &self.value].concat(), "CFB", newer, older)
     }
 
-    /// The entry of a command with these Names of its handles, and its parameters, of which the first is
+    /// Returns the entry of a command whose handles have these Names, and its parameters; the first one is
     /// encrypted if the attributes say so.
     pub fn entry(
         &mut self,
@@ -77,7 +77,7 @@ impl Session {
         ([&number(self.handle)[..], &nonce, &attributes, &mac].concat(), parameters)
     }
 
-    /// Checks that the device answered, and returns the parameters in plain.
+    /// Checks that the response is the device's, and returns the decrypted parameters.
     pub fn answered(&mut self, code: u32, answer: &Answer) -> Vec<u8> {
         let (nonce, rest) = front(&answer.entries);
         let attributes = &rest[..1];

@@ -1,4 +1,5 @@
--- A command is executed alike with other random bytes that agree on those that it draws.
+-- A command is executed in the same way with other random bytes, if they agree on those that it
+-- draws.
 use Rattle.std.proofs.Common.{◌≡◌, ◌≤◌, ◌-◌, ◌∙◌, ℕ, Bool, false, List, length, take, Result, Ok, Err, refl, sym, ap, subst, arith}
 use Rattle.std.specs.Prelude.{replicate}
 use Rattle.std.proofs.lemmas.List.{length-append, length-replicate, length-take-le}
@@ -16,7 +17,7 @@ use Rattle.tpm_journal.specs.draw_laws.Bytes.{AgreeOnDrawn, replayed, zeros_behi
 use Rattle.tpm_journal.proofs.draw_laws.Fronts.{front_kept}
 use Rattle.tpm_journal.proofs.draw_laws.Steps.{AcceptedAlike, accepted_alike, drawn_alike, fronts, nonces_alike, where_alike, with_other}
 
--- a success that is modest is modest with other bytes
+-- a modest success is also modest with other random bytes
 modest_alike : (a b : Result Accepted RefusedCommand) (random other : List ℕ) → length other ≡ length random → AcceptedAlike random other a b
     → take (drawn_by_command random a 0) other ≡ take (drawn_by_command random a 0) random
     → (x : Accepted) × (a ≡ Ok x) × IsModest random x → (x : Accepted) × (b ≡ Ok x) × IsModest other x
@@ -56,20 +57,21 @@ module _ (r : Record) (buffer : List ℕ) (locality elapsed : ℕ) (random other
 
 -- ---- zeros after the drawn bytes
 
--- the check that the step reports tells how many bytes are drawn, since a refusal draws none
+-- the check that the step reports determines the number of bytes drawn, since a refusal draws
+-- none
 drawn_told : (r : Record) (random : List ℕ) (a : Result Accepted RefusedCommand)
     → drawn_by_command random a (stepped_of r random a).row.check ≡ drawn_by_command random a 0
 drawn_told r random (Ok a) = refl
 drawn_told r random (Err e) = refl
 
--- no more random bytes are drawn than there are
+-- a command draws at most the random bytes that its event has
 drawn_of_those : (random : List ℕ) (a : Result Accepted RefusedCommand) → drawn_by_command random a 0 ≤ length random
 drawn_of_those random (Ok a) = omega arith
 drawn_of_those random (Err e) = omega arith
 
 module _ (r : Record) (buffer : List ℕ) (locality elapsed : ℕ) (random : List ℕ) (x : Stepped)
     (done : Executes false r (Given buffer locality elapsed random) x) where
-  -- how many bytes were drawn, as the check tells and as the step draws them
+  -- the number of bytes drawn, according to the check and according to the step
   abbrev told : ℕ
   told = drawn_by r (Given buffer locality elapsed random) x.row.check
 

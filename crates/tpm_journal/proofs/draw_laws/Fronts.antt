@@ -1,16 +1,16 @@
--- Two lists with the same fronts: what else is then the same in both.
+-- What follows if two lists have the same prefix.
 use Rattle.std.proofs.Common.{◌≡◌, ◌≤◌, ◌+◌, ◌-◌, ◌∙◌, ℕ, zero, suc, List, [], ◌∷◌, ◌++◌, length, take, drop, refl, sym, ap, arith, inl, inr}
 use Rattle.std.proofs.lemmas.Bool.{cases_lt}
 use Rattle.std.proofs.lemmas.List.{drop-take, length-drop, length-take-le, take-append-le}
 
--- a front of a front is a front of the list
+-- a prefix of a prefix is a prefix of the list
 pub take_twice : {X : Type 0} (d n : ℕ) (xs : List X) → d ≤ n → take d (take n xs) ≡ take d xs
 take_twice zero n xs le = refl
 take_twice (suc d) zero xs le = absurd (let never : ⊥ = omega (arith, le) in never)
 take_twice (suc d) (suc n) [] le = refl
 take_twice (suc d) (suc n) (x ∷ xs) le = ap (λ l. x ∷ l) (take_twice d n xs (omega (arith, le)))
 
--- the first things of a list, if they are as many as it has, are the whole list
+-- the prefix of a list that is at least as long as the list is the whole list
 take_whole : {X : Type 0} (n : ℕ) (xs : List X) → length xs ≤ n → take n xs ≡ xs
 take_whole zero [] le = refl
 take_whole zero (x ∷ xs) le = absurd (let never : ⊥ = omega (arith, le) in never)
@@ -18,27 +18,27 @@ take_whole (suc n) [] le = refl
 take_whole (suc n) (x ∷ xs) le = ap (λ l. x ∷ l) (take_whole n xs (omega (arith, le)))
 
 module _ {X : Type 0} (n : ℕ) (xs ys : List X) (same : take n ys ≡ take n xs) where
-  -- a shorter front of both lists is the same
+  -- shorter prefixes of both lists are also equal
   pub shorter : (d : ℕ) → d ≤ n → take d ys ≡ take d xs
   shorter d le = sym (take_twice d n ys le) ∙ ap (λ l. take d l) same ∙ take_twice d n xs le
 
-  -- a part of the front of both lists is the same
+  -- equal parts of a common prefix are equal
   pub part : (skipped count : ℕ) → skipped + count ≤ n → take count (drop skipped ys) ≡ take count (drop skipped xs)
   part skipped count le =
       sym (drop-take skipped count ys) ∙ ap (λ l. drop skipped l) (shorter (skipped + count) le) ∙ drop-take skipped count xs
 
-  -- both lists are the same, where the front is all of one and they are as long
+  -- both lists are equal, if they have the same length and the common prefix is all of one
   whole : length ys ≡ length xs → length xs ≤ n → ys ≡ xs
   whole as_long le = sym (take_whole n ys (omega (arith, as_long, le))) ∙ same ∙ take_whole n xs le
 
--- a front of a list stays where other things follow it
+-- the prefix of a list stays the same if other elements follow it
 pub front_kept : {X : Type 0} (n : ℕ) (xs others : List X) → n ≤ length xs → take n (take n xs ++ others) ≡ take n xs
 front_kept n xs others le =
     take-append-le n (take n xs) others (omega (arith, length-take-le n xs le)) ∙ take_twice n n xs (omega arith)
 
--- Two lists of one length, of which the first `d` things are taken, and then others, until `k` are
--- left. Where all of these are among the first `n`, on which the lists agree, the lists agree on
--- the first `d` and on the others.
+-- Two lists of the same length agree on their first `n` elements. From each, the first `d`
+-- elements are taken, and then others, until `k` are left. If all these are among the first `n`,
+-- the lists agree on the first `d` and on the others.
 pub record Behind (n d k : ℕ) (xs ys : List ℕ) : Type 0 where
   pub first : take d ys ≡ take d xs
   pub later : take (n - d) (drop d ys) ≡ take (n - d) (drop d xs)

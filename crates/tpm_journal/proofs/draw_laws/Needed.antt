@@ -1,4 +1,4 @@
--- The bytes that TPM2_GetRandom draws are those that it answers, so each of them counts.
+-- TPM2_GetRandom returns the bytes that it draws, so each of them matters.
 use Rattle.std.proofs.Common.{◌≡◌, List, [], ℕ, Result, Ok, Err, IfOk, ap, take}
 use Rattle.std.specs.Prelude.{min}
 use Rattle.std.specs.Int.{w16}
@@ -15,7 +15,7 @@ use Rattle.tpm_actions_device.specs.GetRandom.{get_random_row, random_answer}
 use Rattle.tpm_step.specs.Table.{row_of}
 use Rattle.tpm_journal.specs.draw_laws.Bytes.{with_random}
 
--- the bytes of a sized answer
+-- the bytes of a sized buffer in an answer
 abbrev sized_bytes : Body → List ℕ
 sized_bytes (Sized bytes) = bytes
 sized_bytes (SizedFirst bytes rest) = bytes

@@ -1,5 +1,5 @@
--- Five rows read the random bytes, each no more of their front than it says that it draws. The
--- others read none.
+-- Five rows read random bytes: each reads only the first ones, as many as it says it draws. The
+-- other rows read none.
 use Rattle.std.proofs.Common.{◌≡◌, ◌+◌, ℕ, List, None, Some, take, slice_set, Result, Ok, Err, refl, ap, arith}
 use Rattle.std.specs.Prelude.{min}
 use Rattle.std.specs.Int.{w16}
@@ -75,12 +75,12 @@ use Rattle.tpm_actions_device.specs.StartAuthSession.{start_auth_session_row}
 use Rattle.tpm_actions_device.specs.Startup.{startup_row}
 use Rattle.tpm_actions_object.specs.Unseal.{unseal_row}
 
--- what reads no random bytes acts alike with any
+-- a result that reads no random bytes is alike with any
 acts_same : (random other : List ℕ) (acts : Result Success Refused) → ActsAlike random other acts acts
 acts_same random other (Ok s) = λ same. refl
 acts_same random other (Err e) = refl
 
--- what acts alike still does after a step that reads no random bytes
+-- results still act alike after a step that reads no random bytes
 after : {A : Type 0} (random other : List ℕ) (x : Result A Refused) (f g : A → Result Success Refused)
     → ((a : A) → ActsAlike random other (f a) (g a)) → ActsAlike random other (x >>= f) (x >>= g)
 after random other x f g alike = alike_after random other (λ s. s.answer.drawn) (λ s. s) x f g alike
@@ -102,7 +102,7 @@ module _ (r : Record) (q : Request) (other : List ℕ) where
       ap (λ nonce. let s = session_with p (binding_of r bind) nonce in
       Ok (record { answer = start_answer p s place; after = record r { sessions = slice_set r.sessions place (Some s) } })) same))))
 
-  -- a TPM Reset reads a seed and a proof of 32 bytes
+  -- a TPM Reset reads a seed and a proof, of 32 bytes each
   started_alike : (start : Start) → ActsAlike q.random other
       (Ok (record { answer = record nothing { drawn = start_draws start }; after = started_record start r q.random }))
       (Ok (record { answer = record nothing { drawn = start_draws start }; after = started_record start r other }))
@@ -116,7 +116,7 @@ module _ (r : Record) (q : Request) (other : List ℕ) where
       after q.random other (only (startup_type_at q.parameters)) _ _ (λ type.
       after q.random other (start_of type (kind_of r.fixed.saved)) _ _ started_alike)
 
-  -- TPM2_Clear reads a seed and two proofs of 32 bytes
+  -- TPM2_Clear reads a seed and two proofs, of 32 bytes each
   cleared_alike : (h : Hierarchies) → take 96 other ≡ take 96 q.random → cleared_hierarchies h other ≡ cleared_hierarchies h q.random
   unfolding cleared_hierarchies
   cleared_alike h same =
@@ -152,7 +152,7 @@ module _ (r : Record) (q : Request) (other : List ℕ) where
       let object = drawn_by p.template p.given in
       rw (created_alike p.template p.given (shorter (object + 16) q.random other same object (omega arith)), part (object + 16) q.random other same object 16 (omega arith)) refl))))))
 
--- every row acts alike
+-- every row acts in the same way with other random bytes, if these agree on all bytes drawn
 pub row_alike : (r : Record) (c : CommandCode) (q : Request) (other : List ℕ) → ActsAlike q.random other (row_of r c q) (row_of r c (with_random q other))
 unfolding row_of assertion_row clear_control_row create_primary_row dictionary_attack_lock_reset_row dictionary_attack_parameters_row evict_control_row flush_context_row get_capability_row hierarchy_change_auth_row hmac_row load_row nv_change_auth_row nv_define_space_row nv_extend_row nv_increment_row nv_read_lock_row nv_read_public_row nv_read_row nv_set_bits_row nv_undefine_space_row nv_write_lock_row nv_write_row pcr_event_row pcr_extend_row pcr_read_row pcr_reset_row policy_get_digest_row policy_restart_row read_clock_row read_public_row self_test_row shutdown_row unseal_row
 row_alike r command.GetRandom q other = get_random_alike r q other

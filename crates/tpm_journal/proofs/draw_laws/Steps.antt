@@ -1,5 +1,5 @@
--- What acts alike with other random bytes is accepted alike, takes a like step, and draws as many
--- bytes.
+-- If a command acts alike with other random bytes, it is accepted alike, takes the same step, and
+-- draws the same number of bytes.
 use Rattle.std.proofs.Common.{◌≡◌, ◌≤◌, ◌+◌, ◌-◌, ◌∙◌, ℕ, zero, suc, Bool, true, false, List, [], ◌∷◌, length, take, drop, Option, Result, Ok, Err, refl, ap, arith}
 use Rattle.std.proofs.lemmas.List.{length-drop}
 use Rattle.std.specs.Prelude.{if◌then◌else◌}
@@ -26,7 +26,7 @@ use Rattle.tpm_journal.proofs.draw_laws.Rows.{row_alike}
 abbrev row_drawn : Accepted → ℕ
 row_drawn a = a.success.answer.drawn
 
--- with other random bytes the request alone differs
+-- with other random bytes, only the request differs
 abbrev pub with_other : List ℕ → Accepted → Accepted
 with_other other a = record a { request = record a.request { random = other } }
 
@@ -53,7 +53,7 @@ accepted_alike r buffer locality random other =
 
 -- ---- the nonces of its entries
 
--- no more bytes are left than there were
+-- at most as many bytes remain as before
 fewer_left : (r : Record) (es : List Entry) (left : List ℕ) → length (entries_rolled r es left).left ≤ length left
 unfolding entry_rolled
 fewer_left r [] left = omega arith
@@ -61,8 +61,8 @@ fewer_left r (e ∷ es) left =
     let later = fewer_left (entry_rolled r e left).after es (drop (draw_of r e) left) in
     omega (arith, later, length-drop (draw_of r e) left)
 
--- New nonces are the same where all bytes that are drawn for them are, and as many bytes are left
--- then.
+-- New nonces are the same with other random bytes, if these agree on all bytes drawn for the
+-- nonces. The number of bytes left is then also the same.
 pub record RolledAlike (r : Record) (es : List Entry) (left other : List ℕ) : Type 0 where
   pub after : (entries_rolled r es other).after ≡ (entries_rolled r es left).after
   pub as_long : length (entries_rolled r es other).left ≡ length (entries_rolled r es left).left
@@ -91,7 +91,8 @@ answer_alike : (c : Whole) (grants : List (Option Grant)) (a : Written) (effect 
 unfolding answer_to
 answer_alike c grants a effect random other same = rw same refl
 
--- What a success draws is the same: the bytes of its row, and those of the nonces after them.
+-- A success draws the same bytes with other random bytes: first those of its row, then those of
+-- the nonces.
 module _ (a : Accepted) (random other : List ℕ) (as_long : length other ≡ length random) where
   abbrev drawn : ℕ
   drawn = bytes_drawn random a.success.after a.command.entries (row_drawn a)
@@ -110,7 +111,7 @@ module _ (a : Accepted) (random other : List ℕ) (as_long : length other ≡ le
       rw (answer_alike a.command a.grants (written_of a.success.answer) a.success.after random other (nonces_alike same).after) refl
 
 module _ (r : Record) (random other : List ℕ) (as_long : length other ≡ length random) where
-  -- a step is the same with other random bytes, whether memory is refused or not
+  -- a step is the same with other random bytes, whether or not an allocation fails
   pub where_alike : (refused : Bool) (a b : Result Accepted RefusedCommand) → AcceptedAlike random other a b
       → take (drawn_by_command random a 0) other ≡ take (drawn_by_command random a 0) random
       → answer_where refused r other b ≡ answer_where refused r random a
@@ -122,7 +123,7 @@ module _ (r : Record) (random other : List ℕ) (as_long : length other ≡ leng
   where_alike false (Err e) b alike same = ap (answer_where false r other) alike
   where_alike true (Err e) b alike same = ap (answer_where true r other) alike
 
-  -- with other random bytes as many are drawn
+  -- with other random bytes, the number of bytes drawn is the same
   pub drawn_alike : (check : ℕ) (a b : Result Accepted RefusedCommand) → AcceptedAlike random other a b
       → take (drawn_by_command random a 0) other ≡ take (drawn_by_command random a 0) random
       → drawn_by_command other b check ≡ drawn_by_command random a check

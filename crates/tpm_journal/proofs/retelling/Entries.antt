@@ -1,4 +1,4 @@
--- Entries that are executed again one after another, and told.
+-- Entries that are executed again one after another, and retold.
 use Rattle.std.proofs.Common.{◌≡◌, ◌≢◌, ℕ, ◌+◌, ◌≤◌, Bool, List, [], ◌∷◌, ◌++◌, length, take, drop, Option, Some, None, refl, ap, sym, subst, ◌∙◌, append_assoc, append-nil, arith, length-append}
 use Rattle.std.specs.Prelude.{codes, flat_map}
 use Rattle.std.specs.Io.KnownBytes.{Appends}
@@ -44,9 +44,9 @@ long_enough can before old left size one after Holds p =
       mark_line_many before.sum (mark_of one.entry) (mark_many one.entry),
     )
 
--- ---- what was told so far, and one entry more
+-- ---- what was retold so far, and one more entry
 
--- What is told of a performance was written.
+-- A performance was retold.
 abbrev pub Tells : Telling → (size : ℕ) (left : List ℕ) → Performance → (at holds : Option (List ℕ)) → Type 0
 Tells form size left one at holds = Appends at holds (retold_by form (comment_of one) one.seen.step.response (take size left))
 

@@ -1,4 +1,4 @@
--- What an event does when other bytes stand after the random bytes that it draws.
+-- An event's effect does not change if other bytes follow the random bytes that it draws.
 use Rattle.std.specs.Prelude.{◌≡◌, ◌-◌, ℕ, List, ◌++◌, length, replicate, take, Result, Ok, Err}
 use Rattle.tpm_record.specs.rows.Request.{Request}
 use Rattle.tpm_record.specs.rows.Rows.{Success}
@@ -11,26 +11,27 @@ use Rattle.tpm_types.specs.declared.refused.Refused.{Refused}
 abbrev pub with_random : Request → List ℕ → Request
 with_random q other = record q { random = other }
 
--- A row acts with other random bytes as with these: its success is the same where the bytes that it
--- says it draws are, and a refusal draws none.
+-- A row acts in the same way with other random bytes: its success is the same if these agree on
+-- all bytes that the row says it draws. A refusal draws none.
 abbrev pub ActsAlike : (random other : List ℕ) → (acts acts_other : Result Success Refused) → Type 0
 ActsAlike random other (Ok s) acts_other =
     take s.answer.drawn other ≡ take s.answer.drawn random → acts_other ≡ Ok s
 ActsAlike random other (Err e) acts_other = acts_other ≡ Err e
 
--- Other random bytes are as many as these, and the same as far as a command draws them.
+-- There is an equal number of these other random bytes, and they agree on all bytes that the
+-- command draws.
 abbrev pub AgreeOnDrawn : Record → (buffer : List ℕ) → (locality elapsed : ℕ)
     → (random other : List ℕ) → Type 0
 AgreeOnDrawn r buffer locality elapsed random other =
     let drawn = drawn_by r (Given buffer locality elapsed random) 0 in
     (length other ≡ length random) × (take drawn other ≡ take drawn random)
 
--- 256 random bytes, of which the first are those that were drawn of these, and the others are 0
+-- 256 random bytes: those of the given bytes that were drawn, followed by zeros
 abbrev pub zeros_behind : (drawn : ℕ) → (random : List ℕ) → List ℕ
 zeros_behind drawn random = take drawn random ++ replicate (256 - drawn) 0
 
--- an event with the random bytes that it drew, as is told by the check that it reported, and zeros
--- after them; power has no random bytes
+-- the event with only the random bytes that it drew, according to the reported check, followed by
+-- zeros; a power cycle has no random bytes
 abbrev pub replayed : Record → PlainEvent → (check : ℕ) → PlainEvent
 replayed r (Given buffer locality elapsed random) check =
     let drawn = drawn_by r (Given buffer locality elapsed random) check in

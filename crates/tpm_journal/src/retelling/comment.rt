@@ -1,4 +1,4 @@
-//! The comment that tells how the command of an entry was answered.
+//! The comment that says how the command of an entry was answered.
 
 ghost use Rattle.std.specs.Prelude.{◌≡◌, codes};
 ghost use Rattle.tpm_journal.specs.Command.{event_of};
@@ -15,8 +15,8 @@ use tpm_types::Locality;
 /// The text of a comment.
 pub type Comment = ArrayString<64>;
 
-/// The words that tell how an entry was answered: `completed` where the completing layer was on,
-/// and otherwise the trace of its command.
+/// The words that say how an entry was answered: `completed` if the completing layer was on,
+/// otherwise the trace of its command.
 pub fn comment_of(entry: &Entry, outcome: &Outcome) -> Comment
     requires entry { IsEntry (plain_entry entry.now) }
     requires told { CanBeTold entry.now.completes (event_of (plain_entry entry.now)) outcome.now.row
@@ -39,7 +39,7 @@ fn completed() -> Comment
     words
 }
 
-/// The trace of an entry's command, which does not depend on its random bytes.
+/// The trace of an entry's command. It does not depend on the command's random bytes.
 fn trace_of(entry: &Entry, outcome: &Outcome) -> Comment
     requires entry { IsEntry (plain_entry entry.now) }
     requires row { IsRow outcome.now.row }

@@ -1,4 +1,4 @@
-//! Writing the lines that tell a head or an entry.
+//! Writes the lines that retell a head or an entry.
 
 ghost use Rattle.std.specs.Prelude.{◌≡◌, ◌≤◌, ◌*◌, ◌++◌, ◌∷◌, [], OnErr, OnOk, codes, drop, length, take, true};
 ghost use Rattle.std.specs.Io.KnownBytes.{Appends};
@@ -15,13 +15,13 @@ use tpm_hex::encode;
 use tpm_journal_text::Entry;
 use tpm_step::Outcome;
 
-/// How many bytes the first line of an entry has, which holds its sums.
+/// The size of the first line of an entry, which contains its sums.
 const MARK_LINE_SIZE: usize = 72;
 
-/// The most digits of a response.
+/// The largest number of hex digits in a response.
 const DIGITS_LIMIT: usize = 8_192;
 
-/// Tells a head, which only a script has.
+/// Retells a head. Only a script contains it.
 pub fn put_head<W: Write>(writer: &mut Tap<W>, form: Telling, head: &[u8]) -> Result<(), Failed>
     ensures written { OnOk result (Appends (W.contents (device_of writer.old))
         (W.contents (device_of writer.new)) (retold_head form head.now)) }
@@ -33,8 +33,8 @@ pub fn put_head<W: Write>(writer: &mut Tap<W>, form: Telling, head: &[u8]) -> Re
     }
 }
 
-/// Tells an entry that was answered with this outcome, and whose own text is the first `size` bytes
-/// of a text.
+/// Retells an entry that was answered with this outcome. The first `size` bytes of `text` are the
+/// entry's own text.
 pub fn put_entry<W: Write>(
     writer: &mut Tap<W>,
     form: Telling,
@@ -63,7 +63,7 @@ pub fn put_entry<W: Write>(
     }
 }
 
-/// Writes a comment, and the lines of an entry's text that execute its command.
+/// Writes a comment, and then the lines of an entry's text that execute its command.
 #[tactic(auto, using(crate::proofs::retelling::Words::put_together))]
 fn put_lines<W: Write>(writer: &mut Tap<W>, comment: &Comment, text: &[u8]) -> Result<(), Failed>
     requires { MARK_LINE_SIZE ≤ length text.now }
@@ -79,7 +79,7 @@ fn put_lines<W: Write>(writer: &mut Tap<W>, comment: &Comment, text: &[u8]) -> R
     writer.write_all(lines)
 }
 
-/// Writes what is told of an answer: the comment's words, and the response in hex.
+/// Writes the answer to an entry: the words of the comment, and the response in hex.
 #[tactic(auto, using(crate::proofs::retelling::Words::put_together))]
 fn put_answer<W: Write>(
     writer: &mut Tap<W>,

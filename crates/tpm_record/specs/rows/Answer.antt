@@ -1,11 +1,11 @@
--- What a command answers. TPM 2.0 Library, Part 1, section 18 (response structures).
+-- The answers of commands. TPM 2.0 Library, Part 1, section 18 (response structures).
 use Rattle.std.specs.Prelude.{◌≡◌, ℕ, Bool, true, false, List, [], ◌++◌, Option, None}
 use Rattle.tpm_bytes.specs.Writing.{sized_text}
 use Rattle.tpm_types.specs.declared.handle.Handle.{Handle}
 use Rattle.tpm_record.specs.declared.rows.answer.Answer.{Answer}
 
--- the parameters of an answer: a sized buffer, which a session can encrypt, alone or with what
--- stands after it; or parameters with no such buffer at their front
+-- the parameters of an answer: either they begin with a sized buffer, which a session can encrypt,
+-- and which other parameters may follow; or they do not
 pub data Body : Type 0 where
   Sized : (bytes : List ℕ) → Body
   SizedFirst : (bytes rest : List ℕ) → Body
@@ -21,22 +21,22 @@ begins_sized (Sized bytes) = true
 begins_sized (SizedFirst bytes rest) = true
 begins_sized (Plain text) = false
 
--- an answer: the handle of what was made, if there is one, the parameters, and how many of the
--- event's random bytes were drawn from their front
+-- an answer: the handle of what the command created, if anything; the parameters; and the number
+-- of random bytes drawn from the front of the event's random bytes
 pub record AnswerParts : Type 0 where
   pub handle : Option Handle
   pub body : Body
   pub drawn : ℕ
 
--- an answer that is parameters alone: no handle, and no random bytes are drawn
+-- an answer that consists only of parameters: it has no handle, and no random bytes are drawn
 abbrev pub answer_of : Body → AnswerParts
 answer_of body = record { handle = None; body = body; drawn = 0 }
 
--- the answer of a command that answers no parameters
+-- the answer of a command that returns no parameters
 abbrev pub nothing : AnswerParts
 nothing = answer_of (Plain [])
 
--- The code's answer is this one.
+-- The code's answer equals this answer.
 abbrev pub IsAnswer : AnswerParts → Answer → Type 0
 IsAnswer parts a =
     (a.handle ≡ parts.handle) × (a.parameters ≡ answer_body_text parts.body)

@@ -1,7 +1,7 @@
--- What a command draws of an event's random bytes. TPM 2.0 Library, Part 3, section 24.6:
--- TPM2_Clear, which draws the most, replaces a seed and two proofs of 32 bytes.
+-- The random bytes of an event that a command draws. TPM 2.0 Library, Part 3, section 24.6:
+-- TPM2_Clear draws the most, since it replaces a seed and two proofs of 32 bytes each.
 use Rattle.std.specs.Prelude.{ℕ}
 
--- the most random bytes that a command draws
+-- the largest number of random bytes that a command draws
 abbrev pub draw_limit : ℕ
 draw_limit = 96

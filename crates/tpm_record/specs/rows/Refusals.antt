@@ -1,5 +1,5 @@
--- The refusals by which a row answers, those of parameters apart (Rows). TPM 2.0 Library, Part 3:
--- the response codes of each command.
+-- The refusals of rows, except those because of parameters, which are in Rows. TPM 2.0 Library,
+-- Part 3: the response codes of each command.
 use Rattle.std.specs.Prelude.{ℕ, Result, Ok, Err}
 use Rattle.tpm_types.specs.declared.action_check.ActionCheck.{ActionCheck}
 use Rattle.tpm_types.specs.declared.action_fault.ActionFault.{ActionFault}
@@ -12,8 +12,8 @@ use Rattle.tpm_types.specs.declared.rc.ResponseCode.{ResponseCode}
 use Rattle.tpm_types.specs.declared.rc.ResponseCode.TheVariants as code
 use Rattle.tpm_types.specs.declared.refused.Refused.{Refused}
 
--- the refusal where a handle does not name what the general checks have found that it names, so
--- that no row acts. It does not occur (later_handle_laws of tpm_step)
+-- the refusal of a handle that does not name what the general checks found, so that no row acts on
+-- it. It never occurs (later_handle_laws of tpm_step)
 abbrev pub handle_refusal : Refused
 handle_refusal = refusal check.Handles (plain code.Failure)
 
@@ -21,19 +21,19 @@ handle_refusal = refusal check.Handles (plain code.Failure)
 abbrev pub action_refusal : ActionCheck → Rc → Refused
 action_refusal action rc = refusal (check.Action action) rc
 
--- the refusal by one of the command's own checks, for one of its parameters
+-- the refusal by one of the command's own checks because of one of its parameters
 abbrev pub parameter_refusal : ActionCheck → (parameter : ℕ) → ResponseCode → Refused
 parameter_refusal action parameter fault = action_refusal action (at (place.Parameter parameter) (plain fault))
 
--- the refusal by the command's own check that found this fault
+-- the refusal for a fault that one of the command's own checks found
 abbrev pub fault_refusal : ActionFault → Refused
 fault_refusal fault = action_refusal fault.check fault.rc
 
--- the refusal where memory was refused, by check M
+-- the refusal because memory ran out, by check M
 abbrev pub memory_refusal : Refused
 memory_refusal = refusal check.Memory (plain code.Memory)
 
--- the result of a part of the device, with this command's refusal in place of the part's fault
+-- the result of a call to a part of the device, in which its fault becomes this command's refusal
 abbrev pub or_refusal : {X F : Type 0} → (F → Refused) → Result X F → Result X Refused
 or_refusal refusal (Ok x) = Ok x
 or_refusal refusal (Err fault) = Err (refusal fault)

@@ -1,5 +1,5 @@
--- What a command on an NV index names: what authorizes it, the index, whether that may write the
--- index, and whether it may read it. TPM 2.0 Library, Part 3, section 31 (non-volatile storage),
+-- The NV index that a command acts on, the entity that authorizes the command, and whether this
+-- entity may write or read the index. TPM 2.0 Library, Part 3, section 31 (non-volatile storage),
 -- and Part 2, section 13.4 (TPMA_NV).
 use Rattle.std.specs.Prelude.{◌==◌, not, Bool, Result, Ok, ok_or, if◌then◌else◌}
 use Rattle.tpm_bytes.specs.Reading.{◌>>=◌, refused_if}
@@ -20,11 +20,11 @@ use Rattle.tpm_record.specs.rows.Refusals.{handle_refusal}
 use Rattle.tpm_record.specs.rows.Request.{Request, first_handle, second_handle}
 use Rattle.tpm_record.specs.declared.rows.target.Target.{Target}
 
--- the NV index of a handle; the general checks have found that it is there
+-- the NV index with this handle, which the general checks found to exist
 abbrev pub index_or_refusal : Record → Handle → Result NvIndex Refused
 index_or_refusal r handle = ok_or (index_at r.nv handle) handle_refusal
 
--- the attributes of the NV index of a handle
+-- the attributes of the NV index with this handle
 abbrev pub attributes_of : Record → Handle → Result NvAttributes Refused
 attributes_of r handle = do
   index ← index_or_refusal r handle
@@ -38,8 +38,8 @@ target_of r q = do
   attributes ← attributes_of r handle
   Ok (record { auth_handle = auth_handle; handle = handle; attributes = attributes })
 
--- whether authHandle may do something with the index: the owner and the platform may where the
--- index has the attribute that lets them, and otherwise the index itself alone may
+-- whether authHandle may use the index in some way: the owner and the platform may if the index
+-- has the attribute that allows them to; any other authHandle must be the index itself
 abbrev pub may : (owner platform : NvAttribute) → Target → Bool
 may owner platform target =
     if target.auth_handle.number == owner_handle.number then has target.attributes owner
@@ -52,11 +52,11 @@ may_write target = may attribute.OwnerWrite attribute.PpWrite target
 abbrev pub may_read : Target → Bool
 may_read target = may attribute.OwnerRead attribute.PpRead target
 
--- ---- what is read of an index, and by whom
+-- ---- who may read an index, and what is read
 
--- the checks of its own that come first in each command that reads an NV index (Part 3, sections
--- 23.9 and 31.13). A1: authHandle may not read the index; A2: the index is locked against reading;
--- A3: it is not written
+-- the checks A1 to A3 of each command that reads an NV index (Part 3, sections 23.9 and 31.13).
+-- A1: authHandle may not read the index. A2: the index is locked against reading. A3: the index is
+-- not written
 abbrev pub reading_passes : Target → Result (Unit {0}) ActionFault
 reading_passes target = do
   a1 ← refused_if (not (may_read target)) (plain_fault action.First code.NvAuthorization)

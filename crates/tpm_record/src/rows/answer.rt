@@ -1,5 +1,5 @@
-//! What a command that succeeds answers: a handle, parameters, and how many random bytes it drew.
-//! One answer is lent to all commands.
+//! The answer of a successful command: a handle, parameters, and the number of random bytes that
+//! it drew. All commands share one answer.
 
 ghost use Rattle.std.specs.Prelude.{◌≤◌};
 ghost use Rattle.tpm_record.specs.rows.Draws.{draw_limit};
@@ -7,17 +7,18 @@ ghost use Rattle.tpm_record.specs.rows.Draws.{draw_limit};
 use tpm_bytes::Sink;
 use tpm_types::{ANSWER_LIMIT, Handle};
 
-/// The room for a response's parameters. An answer is made once and lent to each command, so that
-/// no command pays for the room.
+/// The buffer for a response's parameters. One answer is created and passed to every command, so
+/// that no command has to initialize a new buffer.
 pub type Parameters = Sink<ANSWER_LIMIT>;
 
-/// What a command that succeeds answers.
+/// The answer of a successful command.
 #[derive(Drop)]
 pub struct Answer {
-    /// The handle of what the command made, if it answers one.
+    /// The handle of the session or object that the command created, if it returns one.
     pub handle: Option<Handle>,
     pub parameters: Parameters,
-    /// How many random bytes the command drew, from the front of the event's.
+    /// The number of random bytes that the command drew, from the front of the event's random
+    /// bytes.
     pub drawn: usize,
     ghost few: { drawn ≤ draw_limit },
 }
@@ -25,7 +26,7 @@ pub struct Answer {
 impl Answer {
     ghost use Rattle.tpm_record.specs.rows.Answer.{IsEmpty};
 
-    /// An answer with no handle, no parameters, and no random bytes drawn.
+    /// An answer without a handle or parameters, for which no random bytes were drawn.
     pub fn empty() -> Answer
         ensures { IsEmpty result }
     {
@@ -36,7 +37,7 @@ impl Answer {
         }
     }
 
-    /// Drops what the command before answered.
+    /// Empties the answer, which may still contain that of an earlier command.
     pub fn clear(&mut self)
         ensures { IsEmpty self.new }
     {

@@ -1,4 +1,4 @@
-//! What a command's row is called with, once the general checks and the authorization have passed:
+//! The input of a command's row, after the general checks and the authorization have passed:
 //! handles, locality, parameters and random bytes.
 
 ghost use Rattle.std.specs.Prelude.{◌≡◌};
@@ -6,13 +6,13 @@ ghost use Rattle.std.specs.Prelude.{◌≡◌};
 use crate::rows::refusals::handle_refusal;
 use tpm_types::{Handle, Locality, Refused};
 
-/// What a command is called with, once the general checks and the authorization have passed.
+/// The input of a command's row, after the general checks and the authorization have passed.
 #[derive(Clone, Copy)]
 pub struct Call<'a> {
-    /// The command's handles, as many as its shape has.
+    /// The command's handles, as many as its shape requires.
     pub handles: &'a [Handle],
     pub locality: Locality,
-    /// The command's parameters, decrypted.
+    /// The command's parameters, after decryption.
     pub parameters: &'a [u8],
     /// The event's random bytes.
     pub random: &'a [u8; 256],
@@ -21,7 +21,7 @@ pub struct Call<'a> {
 impl Call<'_> {
     ghost use Rattle.tpm_record.specs.rows.Request.{first_handle, second_handle, third_handle};
 
-    /// The first handle of a command that has one.
+    /// The first handle, for commands that have one.
     pub fn first_handle(&self) -> Result<Handle, Refused>
         ensures { result ≡ first_handle self.now.handles.now }
     {
@@ -31,7 +31,7 @@ impl Call<'_> {
         }
     }
 
-    /// The second handle of a command that has two.
+    /// The second handle, for commands that have two.
     pub fn second_handle(&self) -> Result<Handle, Refused>
         ensures { result ≡ second_handle self.now.handles.now }
     {
@@ -40,7 +40,7 @@ impl Call<'_> {
             _ => Err(handle_refusal()),
         }
     }
-    /// The third handle of a command that has three.
+    /// The third handle, for commands that have three.
     pub fn third_handle(&self) -> Result<Handle, Refused>
         ensures { result ≡ third_handle self.now.handles.now }
     {

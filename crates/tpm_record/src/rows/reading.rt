@@ -1,5 +1,4 @@
-//! The reading of a command's parameters, so that each fault tells the number of the parameter it
-//! is in.
+//! Reads a command's parameters. Each fault gets the number of its parameter.
 
 ghost use Rattle.std.specs.Prelude.{◌≡◌};
 ghost use Rattle.tpm_bytes.specs.Reading.{or_fault};
@@ -10,14 +9,15 @@ ghost use Rattle.tpm_record.specs.rows.Rows.{all_read, parameter, parameter_refu
 use tpm_bytes::{Cursor, Short};
 use tpm_types::{Check, Rc, Refused, ResponseCode};
 
-/// The refusal of the parameter of this number.
+/// The refusal because of the parameter with this number.
 fn at_parameter(number: u8, rc: Rc) -> Refused
     ensures { result ≡ parameter_refusal number rc }
 {
     Refused::by(Check::Parameters, rc.at_parameter(number))
 }
 
-/// The value of a parameter that was read, or the refusal of the parameter in this place.
+/// The value that was read for a parameter, or the refusal because of the parameter at this
+/// position.
 pub fn parameter<T>(place: u8, read: Result<T, Rc>) -> Result<T, Refused>
     ensures { result ≡ parameter place read }
 {
@@ -27,8 +27,8 @@ pub fn parameter<T>(place: u8, read: Result<T, Rc>) -> Result<T, Refused>
     }
 }
 
-/// The value of a number that was read, or the refusal of the parameter in this place: its only
-/// fault is that it is cut.
+/// The value that was read for a number, or the refusal because of the parameter at this position.
+/// Reading a number fails only if it is truncated.
 pub fn number<T>(place: u8, read: Result<T, Short>) -> Result<T, Refused>
     ensures { result ≡ parameter place (or_fault read (plain code.Insufficient)) }
 {
@@ -38,7 +38,7 @@ pub fn number<T>(place: u8, read: Result<T, Short>) -> Result<T, Refused>
     }
 }
 
-/// Refuses bytes that are left over after the parameters.
+/// Refuses a command with bytes after its last parameter.
 pub fn end(parameters: &Cursor) -> Result<(), Refused>
     ensures { result ≡ all_read parameters.now }
 {

@@ -1,12 +1,12 @@
-//! The refusals that the rows of commands share: by one of a command's own checks, by a handle, or
-//! by refused memory.
+//! The refusals that the rows of commands share: by one of a command's own checks, because of a
+//! handle, or because memory ran out.
 
 ghost use Rattle.std.specs.Prelude.{◌≡◌};
 ghost use Rattle.tpm_record.specs.rows.Refusals.{action_refusal, fault_refusal, handle_refusal, memory_refusal, parameter_refusal};
 
 use tpm_types::{ActionCheck, ActionFault, Check, Rc, Refused, ResponseCode};
 
-/// The refusal where a handle does not name what the general checks have found.
+/// The refusal of a handle that does not name what the general checks found.
 pub fn handle_refusal() -> Refused
     ensures { result ≡ handle_refusal }
 {
@@ -20,21 +20,21 @@ pub fn action_refusal(check: ActionCheck, rc: Rc) -> Refused
     Refused::by(Check::Action(check), rc)
 }
 
-/// The refusal by one of a command's own checks, with this code for a parameter.
+/// The refusal by one of the command's own checks, with this code for a parameter.
 pub fn parameter_refusal(check: ActionCheck, parameter: u8, code: ResponseCode) -> Refused
     ensures { result ≡ parameter_refusal check parameter code }
 {
     action_refusal(check, code.anywhere().at_parameter(parameter))
 }
 
-/// The refusal by what one of a command's own checks found at fault.
+/// The refusal for a fault that one of the command's own checks found.
 pub fn fault_refusal(fault: ActionFault) -> Refused
     ensures { result ≡ fault_refusal fault }
 {
     action_refusal(fault.check, fault.rc)
 }
 
-/// The refusal where memory was refused.
+/// The refusal because memory ran out.
 pub fn memory_refusal() -> Refused
     ensures { result ≡ memory_refusal }
 {

@@ -1,5 +1,5 @@
-//! The NV index that a command names, what authorizes it there, and whether that may write or read
-//! the index.
+//! The NV index that a command acts on, the entity that authorizes the command, and whether this
+//! entity may write or read the index.
 
 ghost use Rattle.std.specs.Prelude.{◌≡◌, ℕ, IfErr, IfOk, Ok};
 ghost use Rattle.tpm_nv.specs.Access.{read_at};
@@ -16,7 +16,7 @@ use tpm_nv::Indices;
 use tpm_types::{ActionCheck, ActionFault, Handle, Refused, ResponseCode};
 use tpm_types_nv::{NvAttribute, NvAttributes};
 
-/// What authorizes a command on an NV index, the index, and its attributes.
+/// An NV index, its attributes, and the entity that authorizes the command on it.
 #[derive(Clone, Copy)]
 pub struct Target {
     pub auth_handle: Handle,
@@ -34,7 +34,7 @@ fn attributes_of<K: Keep>(keep: &K, handle: Handle) -> Result<NvAttributes, Refu
     }
 }
 
-/// The target that a command's first two handles name.
+/// The target named by the command's first two handles.
 pub fn target_of<K: Keep>(keep: &K, call: &Call) -> Result<Target, Refused>
     ensures { result ≡ target_of (K.record_of keep.now) (request_of call.now) }
 {
@@ -49,8 +49,8 @@ pub fn target_of<K: Keep>(keep: &K, call: &Call) -> Result<Target, Refused>
 }
 
 impl Target {
-    /// Whether authHandle may do with the index what these attributes let the owner and the
-    /// platform do.
+    /// Whether authHandle may use the index, if these are the attributes that allow the use to the
+    /// owner and to the platform.
     fn may(&self, owner: NvAttribute, platform: NvAttribute) -> bool
         ensures { result ≡ may owner platform self.now }
     {
@@ -77,8 +77,8 @@ impl Target {
         self.may(NvAttribute::OwnerRead, NvAttribute::PpRead)
     }
 
-    /// Refuses to read the index where authHandle may not, where it is locked, or where it is not
-    /// written.
+    /// Refuses a read of the index if authHandle may not read it, if the index is locked, or if it
+    /// is not written.
     pub fn check_reading(&self) -> Result<(), ActionFault>
         ensures { result ≡ reading_passes self.now }
     {
@@ -95,8 +95,8 @@ impl Target {
     }
 }
 
-/// The reading of an index that a command names, and that these checks let it read, is refused only
-/// where it goes past the data. The function does nothing.
+/// Once these checks have passed, a read of the command's index is refused only if it goes past
+/// the end of the data. A proof only: it has no effect at run time.
 #[inline(always)]
 #[tactic(auto, using(crate::proofs::rows::TargetLaws::reading_within))]
 pub fn reading_laws()

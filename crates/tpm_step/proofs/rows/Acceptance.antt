@@ -1,4 +1,4 @@
--- A command that is accepted is due, fits its shape, is authorized, and its row succeeds.
+-- An accepted command is due, fits its shape and is authorized, and its row succeeds.
 use Rattle.std.proofs.Common.{◌≡◌, ℕ, Bool, true, false, List, [], Result, Ok, Err, IfOk, refl}
 use Rattle.tpm_bytes.proofs.Fields.{passed}
 use Rattle.tpm_bytes.specs.Reading.{refused_if}

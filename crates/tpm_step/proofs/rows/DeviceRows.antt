@@ -87,7 +87,7 @@ use Rattle.tpm_row_secrecy.proofs.SessionRows as session_secrets
 
 -- ---- a startup and a shutdown
 
--- a startup touches only what it begins
+-- a startup touches only what it sets
 start_touches : (r : Record) (start : Start) (random : List ℕ)
     → Touches Beginning r (started_record start r random)
 unfolding with_hierarchy_auth
@@ -201,7 +201,7 @@ pcr_reset_laws = record {
   tells = λ s covers r q free. device_secrets.pcr_reset_tells s r q;
 }
 
--- ---- hierarchies, and what protects against dictionary attacks
+-- ---- hierarchies, and protection against dictionary attacks
 
 pub clear_control_laws : RowLaws command.ClearControl clear_control_row
 unfolding clear_control_row shape_of
@@ -212,7 +212,7 @@ clear_control_laws = record {
   tells = λ s covers r q free. device_secrets.clear_control_tells s r q;
 }
 
--- another authorization value changes no seed and no proof
+-- a new authorization value changes no seed and no proof
 with_auth_keeps : (h : Hierarchies) (auth : HierarchyAuth) (value : List ℕ)
     → KeepsSecrets h (with_hierarchy_auth h auth value)
 unfolding with_hierarchy_auth
@@ -257,7 +257,7 @@ more_sessions : (r : Record) (place : ℕ) (s : Session) → session_place r.ses
     → taken_in (record r { sessions = slice_set r.sessions place (Some s) }) ≡ taken_in r + 1
 more_sessions r place s is = let more = put_taken session_byte r.sessions place s (some_is _ _ place is) in omega (arith, more)
 
--- where the parameters pass, nonceCaller has a size that it may have
+-- if the parameters pass, nonceCaller has an allowed size
 caller_sized : (p : Parameters) (x : Unit {0}) → parameters_pass p ≡ Ok x
     → is_nonce_size p.hash (length p.nonce_caller) ≡ true
 unfolding parameters_pass

@@ -1,4 +1,4 @@
--- What the entries of a command are granted.
+-- Which handles the entries of a command authorize.
 use Rattle.std.proofs.Common.{rules, ◌≡◌, ◌⊎◌, ℕ, ◌+◌, arith, true, List, [], ◌∷◌, ◌++◌, length, get_or, slice_get, Option, Some, None, option_and_then, option_map, Result, Ok, IfOk, is_some, refl, ap, ◌∙◌, inl, inr}
 use Rattle.std.proofs.lemmas.Bool.{false≢true}
 use Rattle.std.proofs.lemmas.List.{length-take}
@@ -31,7 +31,7 @@ use Rattle.tpm_step.specs.rows.Sessions.{HasSession, HaveSessions}
 use Rattle.tpm_step.proofs.Binding.{err_bind, err_checked, err_if, ok_at, ok_bind, ok_weaker}
 use Rattle.tpm_step.proofs.rows.Sessions.{entries_have}
 
--- ---- by which checks entries are refused
+-- ---- the checks that refuse entries
 
 abbrev IsAuthorization : Refused → Type 0
 IsAuthorization e = (e.check ≡ check.Authorization) ⊎ (e.check ≡ check.Others)
@@ -52,7 +52,7 @@ unfolding session_grant demanded
 session_refuses r c locality n None e s = search (rules, err_bind, err_if, failure_is)
 session_refuses r c locality n (Some handle) e s = search (rules, err_bind, err_if, failure_is, demand_refuses)
 
--- an entry whose session is there is refused by G9 or G10, if it is
+-- if the session of an entry exists, only G9 or G10 refuses the entry
 there_refuses : (r : Record) (c : Whole) (locality n : ℕ) (used : Option Handle) (e : Entry) (o : Option Session) → is_some o ≡ true → RefusesAuthorization (session_grant_if r c locality n used e o)
 there_refuses r c locality n used e None there = absurd (false≢true there)
 there_refuses r c locality n used e (Some s) there = session_refuses r c locality n used e s
@@ -66,7 +66,7 @@ grant_refuses : (r : Record) (c : Whole) (locality n : ℕ) (used : Option Handl
 unfolding grant
 grant_refuses r c locality n used e has = kind_refuses (session_kind e.session) r c locality n used e has
 
--- the walk over entries whose sessions are there refuses by G9 or G10
+-- if the sessions of all entries exist, only G9 or G10 refuses them
 walk_refuses : (r : Record) (c : Whole) (locality : ℕ) (before : List (Option Grant)) (es : List Entry) → HaveSessions r es → RefusesAuthorization (grants_pass r c locality before es)
 walk_refuses r c locality before [] have = tt
 walk_refuses r c locality before (e ∷ es) have =
@@ -77,9 +77,9 @@ walk_refuses r c locality before (e ∷ es) have =
 pub grants_refuse : (r : Record) (c : Whole) (locality : ℕ) → entries_pass r c.code [] c.entries ≡ Ok tt → RefusesAuthorization (grants_pass r c locality [] c.entries)
 grants_refuse r c locality is = walk_refuses r c locality [] c.entries (entries_have r c.code [] c.entries tt is)
 
--- ---- what an entry is granted
+-- ---- the grant of an entry
 
--- An entry is granted the handle that it is to authorize, or none.
+-- An entry is granted the handle that it has to authorize, or none.
 abbrev Grants : Option Handle → Result (Option Grant) Refused → Type 0
 Grants used result = IfOk result (λ granted. handle_in granted ≡ used)
 
@@ -108,10 +108,10 @@ grant_grants : (r : Record) (c : Whole) (locality n : ℕ) (used : Option Handle
 unfolding grant
 grant_grants r c locality n used e = kind_grants (session_kind e.session) r c locality n used e
 
--- ---- what all entries are granted
+-- ---- the grants of all entries
 
--- The handles that need authorization are no more than the entries, so after the entries there is
--- neither a grant nor such a handle.
+-- There are at most as many handles that need authorization as entries. So after the entries
+-- there is neither a grant nor such a handle.
 all_fit : (r : Record) (c : Whole) (locality : ℕ) (grants : List (Option Grant)) → IsGranting r c locality grants → GrantsFit c grants
 all_fit r c locality grants all = record { entries = all.as_many; handles = fit_at }
   where

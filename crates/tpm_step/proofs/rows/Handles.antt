@@ -1,5 +1,5 @@
--- After the general checks the handles of a command fit its shape, and the command is not refused
--- for a handle any more.
+-- After the general checks the handles of a command fit its shape, and no handle of it is refused
+-- any more.
 use Rattle.std.proofs.Common.{arith, rules, ◌≡◌, ◌⊎◌, ◌+◌, ℕ, true, List, [], ◌∷◌, Ok, IfOk}
 use Rattle.std.proofs.lemmas.Result.{IfErr-weaker, IfOk-at_ok}
 use Rattle.std.specs.Prelude.{not}
@@ -29,9 +29,9 @@ use Rattle.tpm_step.proofs.Binding.{asked, checked_ok, err_bind, err_bind_is, er
 use Rattle.tpm_step.proofs.rows.Grants.{grants_refuse}
 use Rattle.tpm_step.proofs.rows.Table.{row_passes}
 
--- ---- handles that the general checks let through
+-- ---- handles that pass the general checks
 
--- a handle that its rule allows, and one that is present too, fits the rule
+-- a handle that its rule allows has the rule's kind; if it is also present, it fits the rule
 allowed_fits : (n : ℕ) (rule : HandleRule) (text : List ℕ) → IfOk (allowed_handle_at n rule text) (λ x. is_of_kind rule.kind x.0 ≡ true)
 unfolding allowed_handle_at
 allowed_fits n rule text =
@@ -68,7 +68,7 @@ general_fits r buffer =
 
 -- ---- refusals after the general checks
 
--- an authorization never refuses by the check of handles
+-- no authorization refuses by the check of handles
 authorize_passes : (r : Record) (c : Whole) (locality : ℕ) → Passes check.Handles (authorize r c locality)
 unfolding authorize
 authorize_passes r c locality =

@@ -46,7 +46,7 @@ use Rattle.tpm_step.proofs.rows.Parts.{SameCount}
 
 -- ---- an index is written or locked
 
--- an index that a command may write has the command's type
+-- an index that a command may write has the type of the command
 pub writable_type : (t : NvType) (index : NvIndex) → writable t index ≡ Ok tt
     → index_type index.public.attributes ≡ Some t
 writable_type type.Ordinary index may = rw (eqb-true _ 0 (type_of_writable type.Ordinary index may)) refl
@@ -54,7 +54,7 @@ writable_type type.Counter index may = rw (eqb-true _ 1 (type_of_writable type.C
 writable_type type.Bits index may = rw (eqb-true _ 2 (type_of_writable type.Bits index may)) refl
 writable_type type.Extend index may = rw (eqb-true _ 4 (type_of_writable type.Extend index may)) refl
 
--- a write of data to an index that is no counter
+-- a write of data to an index that is not a counter
 writes_data : (contents : NvContents) (handle : Handle) (index : NvIndex) (t : NvType)
     (bytes : List ℕ) → index_or_fault contents handle write_fault.Undefined ≡ Ok index
     → writable t index ≡ Ok tt
@@ -70,7 +70,7 @@ writes_data contents handle index t bytes is may other = record {
   is = refl;
 }
 
--- an attribute is set that has nothing to do with the count
+-- setting an attribute that does not concern the count
 marks : (contents : NvContents) (handle : Handle) (index : NvIndex) (one : NvAttribute)
     → index_or_fault contents handle lock_fault.Undefined ≡ Ok index
     → attribute_bit attribute.Written ≢ attribute_bit one
@@ -135,7 +135,7 @@ read_locked_writes contents handle =
     ok_bind _ (refused_if (not (index_has index attribute.ReadStClear)) lock_fault.Attributes) _ (λ lockable.
     marks contents handle index attribute.ReadLocked is (λ same. omega arith) (λ same. omega arith)))
 
--- ---- a counter counts, and an index has another authorization value
+-- ---- a counter is incremented, and the authorization value of an index changes
 
 pub counts_so : (q : Request) (contents : NvContents) (handle : Handle)
     → second_handle q.handles ≡ Ok handle → IfOk (incremented contents handle) (Increments q contents)
@@ -154,14 +154,14 @@ auth_changes contents handle value =
 
 -- ---- the number of indices
 
--- whether there are as many indices after a change of this part
+-- whether a change of this part keeps the number of indices
 abbrev pub keeps_count : Part → Bool
 keeps_count NvData = true
 keeps_count NvCounter = true
 keeps_count NvAuthValue = true
 keeps_count _ = false
 
--- there are as many indices as there were, however one is changed
+-- changing an index keeps the number of indices
 changed_count : (old new : NvContents) (handle : Handle) (index : NvIndex)
     → new ≡ changed_index old handle index → SameCount old new
 changed_count old new handle index is =
@@ -181,7 +181,7 @@ same_count NvAuthValue q old new keeps changes =
     changed_count old new changes.handle (record changes.index { auth_value = changes.value }) changes.is
 same_count _ q old new keeps changes = absurd (false≢true keeps)
 
--- ---- an index comes or goes
+-- ---- an index is defined or removed
 
 -- the index that a row names
 pub target_names : (r : Record) (q : Request)
@@ -191,7 +191,7 @@ target_names r q =
     ok_bind_is _ (second_handle q.handles) _ (λ handle is.
     ok_bind _ (attributes_of r handle) _ (λ attributes. is)))
 
--- a refusal in place of a part's fault changes no success
+-- a refusal instead of a part's fault changes no success
 ok_or_refusal : {X F : Type 0} (P : X → Type 0) (refusal : F → Refused) (x : Result X F) → IfOk x P
     → IfOk (or_refusal refusal x) P
 ok_or_refusal P refusal (Ok x) holds = holds

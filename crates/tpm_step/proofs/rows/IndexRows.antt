@@ -75,7 +75,7 @@ use Rattle.tpm_row_secrecy.proofs.IndexRows as index_secrets
 
 -- ---- how the rows of NV indices refuse
 
--- a step of a change whose faults are late refusals
+-- a step of a change whose faults are all late refusals
 late_step : {A B F : Type 0} (Fit : Type 0) (refusal : F → Refused) (x : Result A F)
     (f : A → Result B F) → Late Fit (or_refusal refusal x)
     → ((a : A) → Late Fit (or_refusal refusal (f a))) → Late Fit (or_refusal refusal (x >>= f))
@@ -87,7 +87,7 @@ late_if : {F : Type 0} (Fit : Type 0) (refusal : F → Refused) (b : Bool) (faul
 late_if Fit refusal true fault late = late
 late_if Fit refusal false fault late = tt
 
--- the index that is changed is there where the handles fit
+-- the index that is changed exists if the handles fit
 late_index : {X F : Type 0} (Fit : Type 0) (refusal : F → Refused) (nv : NvContents) (h : Handle)
     (absence : F) (f : NvIndex → Result X F) → refusal absence ≡ handle_refusal
     → (Fit → is_some (index_at nv h) ≡ true) → ((i : NvIndex) → Late Fit (or_refusal refusal (f i)))
@@ -136,7 +136,7 @@ late_read_locked : (Fit : Type 0) (nv : NvContents) (h : Handle)
 unfolding read_locked
 late_read_locked Fit nv h there = search changes
 
--- the change of the authorization value of the index that is a command's only handle
+-- a new authorization value for the index that is a command's only handle
 late_auth_value : (Fit : Type 0) (r : Record) (role : Option Role) (h : Handle) (value : List ℕ)
     → (Fit → FitsRule r (record { kind = handle_kind.NvIndex; role = role }) h)
     → Late Fit (or_refusal (λ absence. handle_refusal) (with_auth_value r.nv h value))
@@ -173,8 +173,8 @@ defined_grows : (r : Record) (h : Handle) (i : NvIndex)
     → Grows true r (record r { nv = with_index r.nv h i })
 defined_grows r h i = let more = put_length r.nv.indices h.number i in omega (arith, more)
 
--- TPM2_NV_DefineSpace reads its parameters as spelled: an authorization value without trailing
--- zeros is read where a buffer is
+-- TPM2_NV_DefineSpace reads parameters of these kinds: its authorization value is a buffer, of
+-- which trailing zeros are then removed
 define_reads : (text : List ℕ)
     → outcome (parameters_in text) ≡ spelled 1 (kind.Buffer 32 ∷ kind.NvPublic ∷ []) text
 unfolding parameters_in
@@ -229,7 +229,7 @@ nv_undefine_space_laws = record {
 
 -- ---- an index is changed
 
--- a change that leaves the number of indices, or is refused
+-- a change that keeps the number of indices, or is refused
 changed_success : {F : Type 0} (c : CommandCode) (r : Record) (q : Request)
     (refusal : F → Refused) (x : Result NvContents F) → leaves_sessions (part_of c) ≡ true
     → keeps_count (part_of c) ≡ true

@@ -1,4 +1,4 @@
--- Where no memory is refused, nothing is refused for want of it.
+-- If no memory is refused, no check reports MEMORY.
 use Rattle.std.proofs.Common.{arith, rules, ◌≡◌, ◌≢◌, ◌⊎◌, ℕ, ◌<◌, Bool, false, List, [], Result, Ok, Err, IfErr, refl, subst, sym}
 use Rattle.std.proofs.lemmas.Result.{IfErr-weaker}
 use Rattle.tpm_bytes.specs.Reading.{refused_if}
@@ -88,9 +88,9 @@ accepted_wants r buffer locality random =
     err_bind _ (general r buffer) _ (general_wants r buffer) (λ c.
     command_wants c.code (acceptance r c locality random) (acceptance_wants r c locality random))
 
--- ---- the check that is reported
+-- ---- the reported check
 
--- no check but M has the number 255
+-- only check M has the number 255
 below : (c : Check) → c ≢ check.Memory → check_number c < 255
 below check.Length other = omega arith
 below check.Tag other = omega arith

@@ -1,4 +1,4 @@
--- A row refuses in order: its steps, and what follows from the order.
+-- The steps of a row that refuses in order, and what follows from the order.
 use Rattle.std.specs.Option.{option_map_or}
 use Rattle.std.specs.Prelude.{◌==◌, ◌||◌, if◌then◌else◌, is_some, not, ok_or}
 use Rattle.std.proofs.Common.{◌+◌, ◌∙◌, ◌∷◌, ◌≡◌, ◌⊎◌, Bool, Err, IfErr, List, None, Ok, Option}
@@ -40,7 +40,7 @@ use Rattle.tpm_step.proofs.rows.Readings.{read_one, trimmed_read}
 
 -- ---- what follows from the order
 
--- a row that refuses in order reads its parameters as they are spelled
+-- a row that refuses in order reads its parameters as their kinds say
 pub in_order_reads : {X : Type 0} (Fit : Type 0) (s : Result (Unit {0}) Refused)
     (row : Result X Refused) → InOrder Fit s row → ReadsParameters s row
 in_order_reads Fit (Ok u) (Ok x) order = tt
@@ -52,7 +52,7 @@ in_order_reads Fit (Err fault) (Err e) (inl handle) = inr handle.0
 in_order_reads Fit (Err fault) (Err e) (inr (inl same)) = inl (sym cc)
 in_order_reads Fit (Err fault) (Err e) (inr (inr late)) = let never = late.0 in absurd cc
 
--- a row that refuses in order refuses no handle where the handles fit
+-- a row that refuses in order refuses no handle if the handles fit
 pub in_order_passes : {X : Type 0} (Fit : Type 0) (s : Result (Unit {0}) Refused)
     (row : Result X Refused) → IfErr s (λ e. e.check ≡ check.Parameters) → InOrder Fit s row → Fit
     → Passes check.Handles row
@@ -64,7 +64,7 @@ in_order_passes Fit s (Err e) faults (inr (inl fault)) fit = λ same.
     absurd cc
 in_order_passes Fit s (Err e) faults (inr (inr late)) fit = λ same. subst (IsLate Fit) same late.1 fit
 
--- a row that refuses in order refuses nothing for want of memory
+-- a row that refuses in order never refuses with MEMORY
 pub in_order_wants : {X : Type 0} (Fit : Type 0) (s : Result (Unit {0}) Refused)
     (row : Result X Refused) → IfErr s (λ e. e.check ≡ check.Parameters) → InOrder Fit s row
     → Passes check.Memory row
@@ -81,7 +81,7 @@ parameter_fault : {X : Type 0} (n : ℕ) (x : Result X Rc)
 parameter_fault n (Ok x) = tt
 parameter_fault n (Err rc) = refl
 
--- where parameters are not spelled as they should be, the fault is a parameter's
+-- if parameters are not of their kinds, the fault is a parameter's
 pub spelled_faults : (n : ℕ) (kinds : List ParameterKind) (text : List ℕ)
     → IfErr (spelled n kinds text) (λ e. e.check ≡ check.Parameters)
 spelled_faults n [] text = err_if (λ e. e.check ≡ check.Parameters) _ _ refl
@@ -97,7 +97,7 @@ target_at r handles = do
   attributes ← attributes_of r handle
   Ok (record { auth_handle = auth_handle; handle = handle; attributes = attributes })
 
--- the step that takes the first handle, and then a row in order
+-- the step that takes the first handle, before a row in order
 pub behind_first : {X : Type 0} (r : Record) (rule : HandleRule) (rules : List HandleRule)
     (handles : List Handle) (kinds : List ParameterKind) (text : List ℕ)
     (f : Handle → Result X Refused)
@@ -107,7 +107,7 @@ pub behind_first : {X : Type 0} (r : Record) (rule : HandleRule) (rules : List H
 behind_first r rule rules [] kinds text f more = record { order = inl (refl, λ fit. fit) }
 behind_first r rule rules (h ∷ hs) kinds text f more = more h (λ fit. fit.0)
 
--- the step that takes the second handle, and then a row in order
+-- the step that takes the second handle, before a row in order
 pub behind_second : {X : Type 0} (r : Record) (first rule : HandleRule) (rules : List HandleRule)
     (handles : List Handle) (kinds : List ParameterKind) (text : List ℕ)
     (f : Handle → Result X Refused)
@@ -118,7 +118,7 @@ behind_second r first rule rules [] kinds text f more = record { order = inl (re
 behind_second r first rule rules (h ∷ []) kinds text f more = record { order = inl (refl, λ fit. fit.1) }
 behind_second r first rule rules (h ∷ k ∷ hs) kinds text f more = more k (λ fit. fit.1.0)
 
--- the step that takes the third handle, and then a row in order
+-- the step that takes the third handle, before a row in order
 pub behind_third : {X : Type 0} (r : Record) (first second rule : HandleRule)
     (rules : List HandleRule) (handles : List Handle) (kinds : List ParameterKind) (text : List ℕ)
     (f : Handle → Result X Refused)
@@ -130,7 +130,7 @@ behind_third r first second rule rules (h ∷ []) kinds text f more = record { o
 behind_third r first second rule rules (h ∷ k ∷ []) kinds text f more = record { order = inl (refl, λ fit. fit.1.1) }
 behind_third r first second rule rules (h ∷ k ∷ l ∷ hs) kinds text f more = more l (λ fit. fit.1.1.0)
 
--- the step that takes the first handle of TPM2_PolicySecret, where its assertion is read
+-- the step that takes the first handle of TPM2_PolicySecret, when its assertion is read
 pub behind_entity : {A X : Type 0} (r : Record) (rule : HandleRule) (rules : List HandleRule)
     (handles : List Handle) (kinds : List ParameterKind) (text : List ℕ)
     (g : Handle → Result A Refused) (f : A → Result X Refused)
@@ -139,7 +139,7 @@ pub behind_entity : {A X : Type 0} (r : Record) (rule : HandleRule) (rules : Lis
 behind_entity r rule rules [] kinds text g f more = record { order = inl (refl, λ fit. fit) }
 behind_entity r rule rules (h ∷ hs) kinds text g f more = more h
 
--- the step that takes what a handle names, which is there where the handles fit
+-- the step that takes the entity of a handle, which exists if the handles fit
 pub behind_found : {A X : Type 0} (r : Record) (rules : List HandleRule) (handles : List Handle)
     (o : Option A) (kinds : List ParameterKind) (text : List ℕ) (f : A → Result X Refused)
     → (HandlesFit r rules handles → is_some o ≡ true)
@@ -153,12 +153,12 @@ pub late_found : {A : Type 0} (Fit : Type 0) (o : Option A) → (Fit → is_some
 late_found Fit (Some a) there = tt
 late_found Fit None there = λ fit. false≢true (there fit)
 
--- where one of two tests has to pass, the first or the second does
+-- if one of two tests has to pass, the first or the second does
 pub either : (a b : Bool) → (a || b) ≡ true → (a ≡ true) ⊎ (b ≡ true)
 either true b is = inl refl
 either false b is = inr is
 
--- By the type of its handle, a session or another entity is present.
+-- A session or another entity exists, by the type of its handle.
 abbrev pub IsThere : ℕ → Bool → Entity → Type 0
 IsThere type session entity =
     (if (type == 0x02 || type == 0x03) then session
@@ -189,7 +189,7 @@ pub behind_index : {X : Type 0} (r : Record) (rules : List HandleRule) (handles 
     → Orders r rules handles kinds text (index_or_refusal r h >>= f)
 behind_index r rules handles role h kinds text f fits more = behind_found r rules handles (index_at r.nv h) kinds text f (λ fit. index_there r role h (fits fit)) more
 
--- the step that takes authHandle, nvIndex and the index's attributes, and then a row in order
+-- the step that takes authHandle, nvIndex and the index's attributes, before a row in order
 pub behind_target : {X : Type 0} (r : Record) (first : HandleRule) (others : List HandleRule)
     (handles : List Handle) (kinds : List ParameterKind) (text : List ℕ)
     (f : Target → Result X Refused)
@@ -216,7 +216,7 @@ behind_target r first others (h ∷ k ∷ hs) kinds text f more =
     found (Some i) there next = next i.public.attributes there
     found None there next = record { order = inl (refl, λ fit. false≢true (there fit)) }
 
--- the step that takes authHandle, nvIndex and the index's attributes, where an assertion is read
+-- the step that takes authHandle, nvIndex and the index's attributes, when an assertion is read
 pub behind_target_asserted : {A X : Type 0} (r : Record) (first : HandleRule)
     (others : List HandleRule) (handles : List Handle) (kinds : List ParameterKind) (text : List ℕ)
     (g : Target → Result A Refused) (f : A → Result X Refused)
@@ -230,13 +230,13 @@ behind_target_asserted {X = X} r first others handles kinds text g f more =
 
 -- ---- steps that read parameters
 
--- a row that read its parameters, and refuses by late checks alone
+-- a row that read its parameters and then refuses only by late checks
 late_after : {X : Type 0} (Fit : Type 0) (s : Result (Unit {0}) Refused)
     (row : Result X Refused) → s ≡ Ok tt → Late Fit row → InOrder Fit s row
 late_after Fit s (Ok x) is late = is
 late_after Fit s (Err e) is late = inr (inr (is, late))
 
--- the step that reads all parameters, and then late checks
+-- the step that reads all parameters, before late checks
 pub behind_reading : {P X : Type 0} (r : Record) (rules : List HandleRule) (handles : List Handle)
     (kinds : List ParameterKind) (text : List ℕ) (read : Result P Refused)
     (f : P → Result X Refused) → outcome read ≡ spelled 1 kinds text
@@ -245,7 +245,7 @@ pub behind_reading : {P X : Type 0} (r : Record) (rules : List HandleRule) (hand
 behind_reading r rules handles kinds text (Ok p) f is late = record { order = late_after _ _ (f p) (sym is) (late p) }
 behind_reading r rules handles kinds text (Err e) f is late = record { order = inr (inl (sym is)) }
 
--- the step that reads all parameters, and hands them on as something else, such as an assertion
+-- the step that reads all parameters and passes them on as something else, such as an assertion
 pub behind_handed : {P A X : Type 0} (r : Record) (rules : List HandleRule) (handles : List Handle)
     (kinds : List ParameterKind) (text : List ℕ) (read : Result P Refused) (g : P → A)
     (f : A → Result X Refused) → outcome read ≡ spelled 1 kinds text
@@ -262,7 +262,7 @@ pub late_own_fault : {X : Type 0} (Fit : Type 0) (x : Result X ActionFault)
 late_own_fault Fit (Ok u) = tt
 late_own_fault Fit (Err fault) = tt
 
--- the handles of a row, the reading of its parameters, and the steps after that
+-- the steps that take handles, that read parameters, and those after them
 pub ruleset handle_steps = (behind_first, behind_second, behind_third, behind_entity, behind_index, behind_target, behind_target_asserted)
 
 pub ruleset reading_steps = (behind_reading, behind_handed, all_read_outcome, only_read, read_one, read_all, trimmed_read)

@@ -1,5 +1,5 @@
--- The part of the state that a success touches says which places it takes, and what it does to
--- sessions.
+-- The part of the state that a success touches determines which places the success takes, and
+-- what it does to sessions.
 use Rattle.std.specs.Prelude.{is_some}
 use Rattle.std.proofs.Common.{◌∙◌, ◌≡◌, ◌≤◌, Bool, List, Option, ap, arith, false, inl, inr, length}
 use Rattle.std.proofs.Common.{true}
@@ -21,7 +21,7 @@ use Rattle.tpm_commands.specs.Part.{Saved, Sessions, SessionsAndObjects}
 use Rattle.tpm_step.specs.rows.Sessions.{SessionsStay}
 use Rattle.tpm_step.specs.rows.Shapes.{Grows, taken_in}
 
--- ---- places that are taken
+-- ---- taken places
 
 -- There are as many indices as before.
 abbrev pub SameCount : NvContents → NvContents → Type 0
@@ -48,8 +48,8 @@ pub same_sessions : (r : Record) (sessions : List (Option Session))
     → Grows false r (record r { sessions = sessions })
 same_sessions r sessions same = omega (arith, same)
 
--- whether a success that touches this part takes no place more of the sessions, the objects,
--- transient or persistent, and the NV indices, whatever it makes of the part
+-- whether a success that touches this part takes no more places of the sessions, the objects
+-- (transient or persistent) and the NV indices, however it changes the part
 abbrev pub keeps_places : Part → Bool
 keeps_places Nothing = true
 keeps_places AuthValues = true
@@ -61,7 +61,7 @@ keeps_places DisableClear = true
 keeps_places Cleared = true
 keeps_places _ = false
 
--- a record with as many places taken has no place more taken
+-- if as many places are taken as before, no more are taken
 same_places : (old new : Record) → taken_in new ≡ taken_in old → Grows false old new
 same_places old new same = omega (arith, same)
 
@@ -87,7 +87,7 @@ touched_grows _ old new keeps touches = absurd (false≢true keeps)
 
 -- ---- sessions
 
--- whether a part leaves the sessions alone
+-- whether a change of this part keeps the sessions as they are
 abbrev pub leaves_sessions : Part → Bool
 leaves_sessions Sessions = false
 leaves_sessions SessionsAndObjects = false

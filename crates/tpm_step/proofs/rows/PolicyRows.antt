@@ -79,7 +79,8 @@ checked_assertion hash trial assertion policy = by (asserted hash trial assertio
     by (Ok new) is = is
     by (Err fault) is = tt
 
--- There are as many sessions as before, each that was there is there, and all have their sizes.
+-- There are as many sessions as before, each session that existed still exists, and all have
+-- their sizes.
 record KeepsSessions (r : Record) (sessions : List (Option Session)) : Type 0 where
   count : taken_count sessions ≡ taken_count r.sessions
   stay : SessionsStay r (record r { sessions = sessions })
@@ -113,7 +114,7 @@ keeping_success c r q answer sessions part nothing answers draws keeps =
 
 -- ---- the row of all assertions
 
--- the success of a command that asserts something, before it changes its session
+-- the success of a command that asserts, before it changes its session
 abbrev made : CommandCode → Record → Success
 made c r = record { answer = answer_of (body_of c); after = r }
 

@@ -1,4 +1,4 @@
--- A row reads the parameters whose kinds the shape of its command lists.
+-- A row reads parameters of the kinds that its command's shape lists.
 use Rattle.std.proofs.Common.{◌≡◌, ℕ, List, [], ◌∷◌, Result, Ok, Err, refl, ap, ◌∙◌}
 use Rattle.tpm_bytes.specs.Reading.{◌>>=◌}
 use Rattle.tpm_types.specs.declared.rc.Rc.{Rc}

@@ -1,4 +1,4 @@
--- Sessions stay, with their sizes, where one starts, changes its policy, or is flushed.
+-- Sessions stay, with their sizes, when one starts, changes its policy, or is flushed.
 use Rattle.std.specs.Prelude.{IfSome, is_some, option_and_then}
 use Rattle.std.proofs.Common.{◌∙◌, ◌≡◌, List, None, Option, Some, ap, inl, inr, length, refl}
 use Rattle.std.proofs.Common.{slice_set, subst, sym, true, ℕ}
@@ -18,9 +18,9 @@ use Rattle.tpm_step.specs.rows.Sessions.{SessionsStay}
 use Rattle.tpm_step.specs.rows.Sizes.{IsSized}
 use Rattle.tpm_step.proofs.rows.AllPlaces.{all_changed, all_found, all_without}
 
--- ---- the sessions that there are
+-- ---- the existing sessions
 
--- a session that was there is in another place than the one that was free
+-- an existing session is not in the place that was free
 pub stays_put : (sessions : List (Option Session)) (place : ℕ) (s : Session) (h : Handle)
     → lowest_free sessions ≡ Some place → is_some (session_at sessions h) ≡ true
     → is_some (session_at (slice_set sessions place (Some s)) h) ≡ true
@@ -65,7 +65,7 @@ policy_same sessions handle policy = changed_taken session_byte (λ s. with_poli
 
 -- ---- the sizes of sessions
 
--- a session with another policy, whose digest has its size, keeps its sizes
+-- a session with a new policy keeps its sizes, if the policy's digest has its size
 policy_sized : (s : Session) (policy : Policy) → length policy.digest ≡ digest_size s.hash
     → IsSized s → IsSized (with_policy s policy)
 policy_sized s policy digest sized = record { digest = digest; key = sized.key; nonce_tpm = sized.nonce_tpm }

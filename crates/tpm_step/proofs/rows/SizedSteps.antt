@@ -45,7 +45,7 @@ use Rattle.tpm_step.proofs.rows.SizedParts.{nonce_few, nonce_taken}
 use Rattle.tpm_step.proofs.rows.SessionPlaces.{flushed_all, policy_all}
 use Rattle.tpm_step.proofs.rows.Table.{row_draws, row_sized}
 
--- ---- where there is no session
+-- ---- without a session
 
 pub manufactured_sized : (random : List ℕ) → AreSized (manufactured random)
 manufactured_sized random = all_free IsSized 16
@@ -59,7 +59,7 @@ nonce_sized : (s : Session) (left : List ℕ) → 32 ≤ length left → IsSized
 nonce_sized s left enough sized =
     record { digest = sized.digest; key = sized.key; nonce_tpm = nonce_taken s.hash (length s.nonce_tpm) left sized.nonce_tpm enough }
 
--- how long the nonce of a session is
+-- the size of a session's nonce
 abbrev nonce_length : Option Session → ℕ
 nonce_length o = option_map_or (λ (s : Session). length s.nonce_tpm) o 0
 
@@ -81,7 +81,7 @@ entry_rolled_sized r e left enough sized =
     all_changed IsSized session_byte (λ s. with_nonce s _) r.sessions e.session.number
     (found_rolled (session_of r e) left enough (session_found r e sized)) sized
 
--- an entry draws no more than 32 bytes
+-- an entry draws at most 32 bytes
 entry_left : (r : Record) (e : Entry) (left : List ℕ) → AreSized r → length left ≤ length (entry_rolled r e left).left + 32
 unfolding entry_rolled draw_of
 entry_left r e left sized = omega (arith, found_few (session_of r e) (session_found r e sized), length-drop (nonce_length (session_of r e)) left)
@@ -92,7 +92,7 @@ entries_rolled_sized r (e ∷ es) left enough sized =
     entries_rolled_sized (entry_rolled r e left).after es (entry_rolled r e left).left
     (omega (arith, enough, entry_left r e left sized)) (entry_rolled_sized r e left (omega (arith, enough)) sized)
 
--- ---- policies start over, and sessions end
+-- ---- policies start again, and sessions end
 
 restarted_sized : (kind : SessionType) (r : Record) (e : Entry) (s : Session) → session_of r e ≡ Some s → AreSized r → AreSized (restarted_by kind r e s.hash)
 restarted_sized type.Hmac r e s is sized = sized
@@ -154,7 +154,7 @@ accepted_fits r buffer locality random enough sized =
     ok_then _ _ (general r buffer) _ (general_few r buffer) (λ c few.
     ok_in_command Fits c.code (acceptance r c locality random) (acceptance_fits r c locality random few enough sized))
 
--- sessions keep their sizes where a success cancels what was saved
+-- sessions keep their sizes when a success cancels what was saved
 settled_sized : (keeps : Bool) (r : Record) → AreSized r → AreSized (cond keeps r (with_saved r Nothing))
 settled_sized true r sized = sized
 settled_sized false r sized = sized

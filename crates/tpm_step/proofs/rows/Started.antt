@@ -1,4 +1,4 @@
--- After an accepted command a device is started.
+-- A device is started after an accepted command.
 use Rattle.std.proofs.Common.{◌≡◌, ℕ, Bool, true, false, List, IfOk, refl, ap, ◌∙◌}
 use Rattle.tpm_types.specs.StartupType.{startup_type_at}
 use Rattle.tpm_commands.specs.declared.command_code.CommandCode.{CommandCode}

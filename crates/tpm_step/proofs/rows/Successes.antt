@@ -17,14 +17,14 @@ use Rattle.tpm_step.proofs.Binding.{ok_bind}
 use Rattle.tpm_step.proofs.rows.Parts.{keeps_places, leaves_sessions, sessions_same}
 use Rattle.tpm_step.proofs.rows.Parts.{touched_grows, touched_same}
 
--- A command grows as its shape says, if its successes take no place more, or one.
+-- The command grows as its shape says, if its successes take no more places, or one more.
 abbrev pub GrowsNothing : CommandCode → Type 0
 GrowsNothing c = (old new : Record) → Grows false old new → GrowsAsShaped c old new
 
 abbrev pub GrowsByOne : CommandCode → Type 0
 GrowsByOne c = (old new : Record) → Grows true old new → GrowsAsShaped c old new
 
--- the laws of a success that leaves the sessions alone
+-- the laws of a success that keeps the sessions as they are
 pub beside_sessions : (c : CommandCode) (r : Record) (q : Request) (s : Success)
     → leaves_sessions (part_of c) ≡ true → Touches (part_of c) r s.after → GrowsAsShaped c r s.after
     → ChangesIndices (part_of c) q r.nv s.after.nv → AnswersItsShape c s → DrawsAsSaid c q s → SuccessLaws c r q s
@@ -41,7 +41,7 @@ beside_sessions c r q s leaves touches grows changes answers draws = record {
     same : s.after.sessions ≡ r.sessions
     same = touched_same (part_of c) r s.after leaves touches
 
--- the laws of a success whose part takes no place more
+-- the laws of a success whose part takes no more places
 pub in_place : (c : CommandCode) (r : Record) (q : Request) (s : Success)
     → leaves_sessions (part_of c) ≡ true → keeps_places (part_of c) ≡ true → GrowsNothing c
     → Touches (part_of c) r s.after → ChangesIndices (part_of c) q r.nv s.after.nv
@@ -49,14 +49,14 @@ pub in_place : (c : CommandCode) (r : Record) (q : Request) (s : Success)
 in_place c r q s leaves keeps nothing touches changes answers draws =
     beside_sessions c r q s leaves touches (nothing r s.after (touched_grows (part_of c) r s.after keeps touches)) changes answers draws
 
--- a success that draws no random bytes draws no more than the limit
+-- a success that draws no random bytes stays within the limit
 pub none_drawn : 0 ≤ 96
 none_drawn = omega arith
 
--- where a command draws what its parameters say, it draws as is said of it
+-- if a command draws what its parameters say, it draws what its definition says
 pub drawn_as_read : {P : Type 0} (count : P → ℕ) (x : Result P Refused) (p : P)
     → x ≡ Ok p → count p ≡ read_or_none count x
 drawn_as_read count x p is = sym (ap (read_or_none count) is)
 
--- the steps of a row whose part takes no place more
+-- the steps of a row whose part takes no more places
 pub ruleset in_place_steps = (rules, ok_bind, in_place, none_drawn)

@@ -1,4 +1,4 @@
--- Every command has the laws of its row, and so each law holds of all commands.
+-- Every command has the laws of its row. So each law holds of all commands.
 use Rattle.std.proofs.Common.{◌≡◌, ◌≤◌, IfOk, false, length, true}
 use Rattle.tpm_types.specs.declared.check.Check.TheVariants as check
 use Rattle.tpm_commands.specs.CommandCode.{part_of, shape_of}
@@ -93,7 +93,7 @@ pub row_touches : (r : Record) (c : CommandCode) (q : Request)
     → IfOk (row_of r c q) (λ s. Touches (part_of c) r s.after)
 row_touches r c q = of_success _ r c q (λ s laws. laws.touches)
 
--- a success makes of the NV indices what is said of its command's part
+-- a success changes the NV indices as its command's part says
 pub row_changes : (r : Record) (c : CommandCode) (q : Request)
     → IfOk (row_of r c q) (λ s. ChangesIndices (part_of c) q r.nv s.after.nv)
 row_changes r c q = of_success _ r c q (λ s laws. laws.changes)
@@ -122,7 +122,7 @@ pub row_sized : (r : Record) (c : CommandCode) (q : Request) → 32 ≤ length q
     → IfOk (row_of r c q) (λ s. AreSized s.after)
 row_sized r c q enough sized = of_success _ r c q (λ s laws. laws.sized enough sized)
 
--- after a success that touches a part without sessions, the sessions are as they were
+-- a success that touches a part without sessions keeps the sessions as they were
 pub row_same : (r : Record) (c : CommandCode) (q : Request) → leaves_sessions (part_of c) ≡ true
     → IfOk (row_of r c q) (λ s. s.after.sessions ≡ r.sessions)
 row_same r c q leaves =
@@ -146,7 +146,7 @@ pub row_wants : (r : Record) (c : CommandCode) (q : Request) → Passes check.Me
 row_wants r c q =
     in_order_wants _ _ _ (spelled_faults 1 (shape_of c).parameters q.parameters) ((laws_of c).order r q).order
 
--- ---- what each row tells
+-- ---- what each row reveals
 
 pub row_tells : (s : Secrecy) → CoversKeys s → (r : Record) (c : CommandCode) (q : Request)
     → reads_secret s r c q ≡ false → Same s (row_of (without_secrets s r) c q) (row_of r c q)

@@ -1,4 +1,4 @@
--- What an accepted command is, and what happens to sessions after its row.
+-- What holds of an accepted command, and what happens to sessions after its row.
 use Rattle.std.specs.Prelude.{◌≡◌, ℕ, true, false, List, [], Ok}
 use Rattle.tpm_commands.specs.CommandCode.{shape_of}
 use Rattle.tpm_commands.specs.declared.command_code.CommandCode.{CommandCode}
@@ -9,15 +9,15 @@ use Rattle.tpm_step.specs.Step.{Accepted, request_in}
 use Rattle.tpm_step.specs.Table.{row_of}
 use Rattle.tpm_step.specs.rows.Handles.{HandlesFit}
 
--- A command is due: TPM2_Startup on a device that is not started, and every other command on one
--- that is.
+-- The command is due: TPM2_Startup on a device that is not started, any other command on one that
+-- is.
 abbrev pub IsDue : CommandCode → Record → Type 0
 IsDue command.Startup r = r.fixed.started ≡ false
 IsDue _ r = r.fixed.started ≡ true
 
--- A command that is accepted is due, its handles fit its shape, it has no entries where its shape
--- forbids sessions, its entries authorize what they are granted, and its row, asked with its
--- parameters in plain, succeeds.
+-- An accepted command is due, and its handles fit its shape. It has no entries if its shape
+-- forbids sessions. Its entries authorize what they are granted. Its row succeeds on its
+-- decrypted parameters.
 pub record IsAcceptance (r : Record) (locality : ℕ) (random : List ℕ) (a : Accepted) : Type 0 where
   pub due : IsDue a.command.code r
   pub fits : HandlesFit r (shape_of a.command.code).handles a.command.handles
@@ -26,11 +26,11 @@ pub record IsAcceptance (r : Record) (locality : ℕ) (random : List ℕ) (a : A
   pub requested : a.request ≡ request_in r a.command a.grants locality random
   pub row : row_of r a.command.code a.request ≡ Ok a.success
 
--- Nothing of a record changes but its sessions.
+-- Only the sessions of the record change.
 abbrev pub OnlySessions : Record → Record → Type 0
 OnlySessions old new = new ≡ record old { sessions = new.sessions }
 
--- Nothing of a record changes but its sessions and what a shutdown saved.
+-- Only the sessions of the record, and what a shutdown saved, change.
 abbrev pub LeavesEffect : Record → Record → Type 0
 LeavesEffect old new =
     new ≡ record old {

@@ -17,21 +17,21 @@ use Rattle.tpm_actions_device.specs.StartAuthSession.{parameters_in as session_p
 use Rattle.tpm_actions_object.specs.Creation.{parameters_in as creation_parameters}
 use Rattle.tpm_step.specs.General.{is_startup}
 
--- the count that the parameters give where they were read, and 0 where they were not
+-- the count that parameters ask for, or 0 if they could not be read
 abbrev pub read_or_none : {P : Type 0} → (P → ℕ) → Result P Refused → ℕ
 read_or_none count (Ok p) = count p
 read_or_none count (Err e) = 0
 
--- how many bytes TPM2_GetRandom is asked for
+-- bytesRequested of TPM2_GetRandom
 abbrev pub bytes_requested : List ℕ → Result ℕ Refused
 bytes_requested parameters =
     only (or_fault (number_at w16 parameters) (plain code.Insufficient))
 
 -- how many random bytes a command draws. TPM2_GetRandom draws the bytes that it answers, at most
--- 32; TPM2_StartAuthSession a nonceTPM as long as nonceCaller; TPM2_Create a key and a seedValue,
--- and the 16 bytes of an initial vector; TPM2_Clear a seed and two proofs of 32 bytes.
--- TPM2_Startup, which may draw a seed and a proof, is said to draw none, since it has no entries
--- for whose nonces that would count
+-- 32; TPM2_StartAuthSession a nonceTPM of the size of nonceCaller; TPM2_Create a key and a
+-- seedValue, and the 16 bytes of an initial vector; TPM2_Clear a seed and two proofs of 32 bytes.
+-- TPM2_Startup may draw a seed and a proof. It counts as 0 here, since it has no entries, whose
+-- nonces would come after these bytes
 abbrev pub draws_of : CommandCode → Request → ℕ
 draws_of command.GetRandom q =
     read_or_none (λ requested. min requested 32) (bytes_requested q.parameters)
@@ -42,8 +42,8 @@ draws_of command.Create q =
 draws_of command.Clear q = 3 * 32
 draws_of _ q = 0
 
--- A success draws no more than 96, the limit, of the event's 256 random bytes, and as many as are
--- said of its command, but for TPM2_Startup.
+-- A success draws at most 96 of the event's 256 random bytes (the limit), and exactly `draws_of`
+-- its command unless that is TPM2_Startup.
 abbrev pub DrawsAsSaid : CommandCode → Request → Success → Type 0
 DrawsAsSaid c q s =
     (s.answer.drawn ≤ draw_limit) × (is_startup c ≡ false → s.answer.drawn ≡ draws_of c q)

@@ -1,4 +1,5 @@
--- What of a record is touched by a success that changes one part of the device's state.
+-- Which fields of a record a success may touch, if its command changes one part of the device's
+-- state.
 use Rattle.std.specs.Prelude.{◌≡◌, ◌⊎◌, ◌+◌, []}
 use Rattle.tpm_types.specs.declared.handle.HierarchyHandle.{HierarchyHandle}
 use Rattle.tpm_actions_device.specs.Clear.{cleared_lockout}
@@ -14,13 +15,13 @@ use Rattle.tpm_commands.specs.Part.{Part, Nothing, Sessions, Objects, SessionsAn
 use Rattle.tpm_commands.specs.Part.{NvCounter, NvAuthValue, NvDefined, NvUndefined, AuthValues, Lockout, Banks}
 use Rattle.tpm_commands.specs.Part.{Beginning, Saved, DisableClear, Cleared}
 
--- Every hierarchy has the seed and the proof that it had.
+-- Each hierarchy keeps its seed and its proof.
 abbrev pub KeepsSecrets : Hierarchies → Hierarchies → Type 0
 KeepsSecrets old new = (h : HierarchyHandle) → secrets_of new h ≡ secrets_of old h
 
--- the fixed part f with the fields that a startup sets as they are after it: whether it is started,
--- the counts, platformAuth and the null hierarchy, whether lockoutAuth is closed, and the PCRs, of
--- which no changes are counted yet
+-- the fixed part f, with the fields that a startup sets as they are after it: whether the device
+-- is started, the counts, platformAuth and the null hierarchy, whether lockoutAuth is closed, and
+-- the PCRs, of which no update is counted yet
 abbrev pub begun : Fixed → Fixed → Fixed
 begun f after = record f {
   started = after.started;
@@ -38,13 +39,13 @@ begun f after = record f {
   restart_count = after.restart_count;
 }
 
--- A startup has its effects on all NV indices, or none.
+-- A startup has its effect on all NV indices, or on none.
 abbrev pub StartsNv : NvContents → NvContents → Type 0
 StartsNv old new = (new ≡ old) ⊎ (new ≡ started old)
 
--- the fixed part f as TPM2_Clear leaves it: the owner's new seed and proof and the endorsement
--- hierarchy's new proof are as they are after it; no authorization value is set but platformAuth;
--- lockout is cleared, the PCRs count an update, and Clock and the counts begin at 0
+-- the fixed part f as TPM2_Clear leaves it. The owner's new seed and proof, and the endorsement
+-- hierarchy's new proof, are as they are after it. No authorization value is set except
+-- platformAuth. Lockout is cleared, the PCRs count an update, and Clock and the counts begin at 0
 abbrev pub emptied : Fixed → Fixed → Fixed
 emptied f after = record f {
   hierarchies = record f.hierarchies {
@@ -64,7 +65,7 @@ emptied f after = record f {
   restart_count = 0;
 }
 
--- A record differs from an older one in this part of the device's state alone.
+-- The new record differs from the old one in this part of the device's state alone.
 abbrev pub Touches : Part → Record → Record → Type 0
 Touches Nothing old new = new ≡ old
 Touches Sessions old new = new ≡ record old { sessions = new.sessions }

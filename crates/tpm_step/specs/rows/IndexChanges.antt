@@ -1,5 +1,5 @@
--- What a success makes of the NV indices, by the part that it touches. TPM 2.0 Library, Part 3,
--- section 31 (non-volatile storage), and Part 1, section 37.
+-- How a success changes the NV indices, by the part of the state that it touches. TPM 2.0
+-- Library, Part 3, section 31 (non-volatile storage), and Part 1, section 37.
 use Rattle.std.specs.Prelude.{◌≡◌, ℕ, Bool, false, List, Option, Some, None, Ok, if◌then◌else◌}
 use Rattle.std.specs.Int.{w64, from_be_bytes}
 use Rattle.std.specs.List.{list_any}
@@ -22,13 +22,13 @@ use Rattle.tpm_commands.specs.Part.{Cleared}
 abbrev pub IsCounter : NvIndex → Type 0
 IsCounter index = index_type index.public.attributes ≡ Some type.Counter
 
--- the value of a counter, from its first increment on
+-- the value of a counter, which it has from its first increment
 abbrev pub stored_count : NvIndex → Option ℕ
 stored_count index =
     if index_has index attribute.Written then Some (from_be_bytes w64 index.bytes) else None
 
--- An index has become another. If that is a counter, the index was one before, with the same value,
--- and a startup takes the value away, or does not, as before.
+-- If the index is a counter after the change, it was one before, with the same value, and
+-- TPMA_NV_CLEAR_STCLEAR is as it was.
 abbrev pub KeepsCount : NvIndex → NvIndex → Type 0
 KeepsCount old new =
     IsCounter new
@@ -36,8 +36,8 @@ KeepsCount old new =
     × (stored_count new ≡ stored_count old)
     × (index_has new attribute.ClearStClear ≡ index_has old attribute.ClearStClear)
 
--- An index is locked, or one that is no counter is written: it keeps its value as a counter, and
--- its authorization value.
+-- An index is locked, or an index that is not a counter is written. The index keeps its value as
+-- a counter, and its authorization value.
 pub record Writes (old new : NvContents) : Type 0 where
   pub handle : Handle
   pub before : NvIndex
@@ -53,7 +53,7 @@ pub record Increments (q : Request) (old new : NvContents) : Type 0 where
   pub named : second_handle q.handles ≡ Ok handle
   pub is : incremented old handle ≡ Ok new
 
--- An index has another authorization value, and is as it was but for that.
+-- The authorization value of an index changes, and nothing else.
 pub record ChangesAuth (old new : NvContents) : Type 0 where
   pub handle : Handle
   pub index : NvIndex
@@ -61,14 +61,14 @@ pub record ChangesAuth (old new : NvContents) : Type 0 where
   pub found : index_at old handle ≡ Some index
   pub is : new ≡ changed_index old handle (record index { auth_value = value })
 
--- None of the attributes that an index is to have is wrong, where the platform, or else the owner,
+-- None of the attributes of a new index is wrong, if the platform (true) or the owner (false)
 -- defines it.
 abbrev pub HasNoConflict : (by_platform : Bool) → NvPublic → Type 0
 HasNoConflict by_platform p =
     list_any (λ wrong. wrong) (index_attribute_conflicts by_platform p.attributes) ≡ false
 
--- The index that the parameters define comes where no index was, and none of its attributes is
--- wrong.
+-- The index that the parameters define is added at a handle that had none, and none of its
+-- attributes is wrong.
 pub record Defines (q : Request) (old new : NvContents) : Type 0 where
   pub by_platform : Bool
   pub parameters : Parameters
@@ -79,13 +79,13 @@ pub record Defines (q : Request) (old new : NvContents) : Type 0 where
       ≡ with_index old parameters.public.nv_index
       (defined_index parameters.public parameters.auth_value)
 
--- The index that the second handle names goes.
+-- The index that the second handle names is removed.
 pub record Undefines (q : Request) (old new : NvContents) : Type 0 where
   pub handle : Handle
   pub named : second_handle q.handles ≡ Ok handle
   pub is : new ≡ without_index old handle
 
--- what a success that touches this part makes of the NV indices; every other success leaves them as
+-- how a success changes the NV indices if it touches this part; other successes leave them as
 -- they were
 abbrev pub ChangesIndices : Part → Request → NvContents → NvContents → Type 0
 ChangesIndices NvData q = Writes

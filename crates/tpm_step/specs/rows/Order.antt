@@ -1,4 +1,4 @@
--- The order in which a row refuses, and what its refusals count.
+-- The order of a row's refusals, and what they count.
 use Rattle.std.specs.Prelude.{◌≡◌, ◌⊎◌, ℕ, List, Result, Ok, Err, IfErr}
 use Rattle.tpm_types.specs.declared.check.Check.{Check}
 use Rattle.tpm_types.specs.declared.check.Check.TheVariants as check
@@ -11,39 +11,39 @@ use Rattle.tpm_record.specs.Record.{Record}
 use Rattle.tpm_step.specs.rows.Handles.{HandlesFit}
 use Rattle.tpm_step.specs.rows.Shapes.{spelled}
 
--- A check comes after a row's parameters: it is one of the command's own, or, unless the handles
--- fit, the check of handles.
+-- The check comes after the row's parameters: it is one of the command's own, or the check of
+-- handles if the handles do not fit.
 abbrev pub IsLate : Type 0 → Check → Type 0
 IsLate Fit (check.Action own) = Unit {0}
 IsLate Fit check.Handles = Fit → ⊥
 IsLate Fit _ = ⊥
 
--- If a row refuses, a late check refuses.
+-- If the row refuses, a late check refuses.
 abbrev pub Late : {X : Type 0} → Type 0 → Result X Refused → Type 0
 Late Fit row = IfErr row (λ e. IsLate Fit e.check)
 
--- A refusal comes in its place: that of a handle first, unless the handles fit; then the first
--- fault of the parameters; then one of a late check, after parameters that were read.
+-- The refusal is in its place. A handle is refused first, unless the handles fit. The first fault
+-- of the parameters comes next, then a late check, if the parameters were read.
 abbrev pub IsInPlace : Type 0 → Result (Unit {0}) Refused → Refused → Type 0
 IsInPlace Fit spelling e =
     ((e.check ≡ check.Handles) × (Fit → ⊥))
     ⊎ ((spelling ≡ Err e) ⊎ ((spelling ≡ Ok tt) × IsLate Fit e.check))
 
--- A row succeeds only where its parameters were read, and refuses in the order of its checks.
+-- A row succeeds only if its parameters were read, and refuses in the order of its checks.
 abbrev pub InOrder : {X : Type 0} → Type 0 → Result (Unit {0}) Refused → Result X Refused → Type 0
 InOrder Fit spelling (Ok x) = spelling ≡ Ok tt
 InOrder Fit spelling (Err e) = IsInPlace Fit spelling e
 
--- The row of a command whose shape has these rules and these kinds of parameters refuses in order;
--- and so does what is left of the row after some of its steps.
+-- The row of a command with these rules and these kinds of parameters in its shape refuses in
+-- order. So does the rest of the row after some of its steps.
 pub record Orders {X : Type 0} (r : Record) (rules : List HandleRule) (handles : List Handle)
     (kinds : List ParameterKind) (text : List ℕ) (row : Result X Refused) : Type 0 where
   pub order : InOrder (HandlesFit r rules handles) (spelled 1 kinds text) row
 
--- A refusal counts nothing against dictionary attacks.
+-- The refusal counts nothing against dictionary attacks.
 abbrev pub IsPlain : Refused → Type 0
 IsPlain e = e.counted ≡ counted.None
 
--- If something is refused, the refusal counts nothing against dictionary attacks.
+-- If there is a refusal, it counts nothing against dictionary attacks.
 abbrev pub Plain : {X : Type 0} → Result X Refused → Type 0
 Plain result = IfErr result IsPlain

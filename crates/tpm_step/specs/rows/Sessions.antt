@@ -9,18 +9,18 @@ use Rattle.tpm_types.specs.Handle.{session_kind}
 use Rattle.tpm_record.specs.Record.{Record}
 use Rattle.tpm_auth.specs.Entries.{session_of}
 
--- An entry of this kind is a password, or the session that it names is there.
+-- An entry of this kind is a password, or the session that it names exists.
 abbrev pub HasSession : SessionKind → Record → Entry → Type 0
 HasSession kind.Password r e = Unit {0}
 HasSession kind.Session r e = is_some (session_of r e) ≡ true
 HasSession kind.Other r e = ⊥
 
--- Each of these entries is a password, or its session is there.
+-- Each of these entries is a password, or its session exists.
 abbrev pub HaveSessions : Record → List Entry → Type 0
 HaveSessions r [] = Unit {0}
 HaveSessions r (e ∷ es) = HasSession (session_kind e.session) r e × HaveSessions r es
 
--- Each session that was there is there still.
+-- Each session that existed still exists.
 abbrev pub SessionsStay : Record → Record → Type 0
 SessionsStay old new =
     (handle : Handle) → is_some (session_at old.sessions handle) ≡ true

@@ -1,4 +1,4 @@
-//! The reader of a whole command, from its header to its parameters.
+//! Reads a whole command, from its header to its parameters.
 
 ghost use Rattle.std.specs.Prelude.{◌≡◌, ◌≤◌, [], length, map, Ok, IfOk};
 ghost use Rattle.tpm_bytes.specs.Reading.{AreBytes, Reads};
@@ -16,15 +16,16 @@ use tpm_bytes::Cursor;
 use tpm_types::{Handle, Rc, ResponseCode};
 
 impl<'a> Command<'a> {
-    /// Reads a command that is the whole rest of the text, within the limit of a buffer: its
-    /// header's first fault, INSUFFICIENT at the first handle that is cut, or AUTHSIZE.
+    /// Reads a command, which must be the whole rest of the text and fit in a buffer. The fault is
+    /// the first fault of its header, INSUFFICIENT for the first truncated handle, or AUTHSIZE.
     pub fn read(text: &mut Cursor<'a>) -> Result<Command<'a>, Rc>
-        // Says which command is read, or the first fault.
+        // The result is the decoded command, or the first fault.
         ensures exact { Reads whole_of (command_at text.old) text.old result text.new }
-        // A command is read only from a text that is its own as a whole.
+        // Decoding succeeds only on the encoding of the command that it returns, with nothing
+        // after it.
         ensures found { IfOk result (λ command. IsCommand (whole_of command)
             × (text.old ≡ command_text (whole_of command)) × (text.new ≡ [])) }
-        // Every text of a command is read as that command.
+        // The encoding of a command decodes to that command.
         ensures only { (command : Whole) → IsCommand command → text.old ≡ command_text command
             → Reads whole_of (Ok (command, [])) text.old result text.new }
     {
@@ -72,8 +73,7 @@ fn read_handles(text: &mut Cursor, count: usize) -> Result<ArrayVec<Handle, 3>, 
     Ok(handles)
 }
 
-/// Reads the entries of the authorization area, which is there where the tag says that there are
-/// sessions.
+/// Reads the entries of the authorization area, which is present if the tag is TPM_ST_SESSIONS.
 pub fn read_sessions<'a>(text: &mut Cursor<'a>, tag: Tag) -> Result<ArrayVec<AuthEntry<'a>, 3>, Rc>
     ensures { Reads (λ entries. map entry_of entries.items) (sessions_at tag text.old)
         text.old result text.new }

@@ -1,5 +1,5 @@
-//! The writer of a whole command, which computes commandSize and refuses what has no text or does
-//! not fit.
+//! Writes a whole command. Computes commandSize, and refuses a command that cannot be encoded or
+//! does not fit.
 
 ghost use Rattle.std.specs.Prelude.{◌≡◌, ◌+◌, ◌*◌, ◌≤◌, ◌++◌, length, map, IfSome};
 ghost use Rattle.std.specs.List.{AllByRecursion};
@@ -19,7 +19,8 @@ use tpm_commands::CommandCode;
 use tpm_types::Handle;
 
 impl Command<'_> {
-    /// The tag of the command: it has sessions where it has entries.
+    /// The tag of the command: TPM_ST_SESSIONS if the command has entries, TPM_ST_NO_SESSIONS if
+    /// not.
     pub fn tag(&self) -> Tag
         ensures { result ≡ tag_for (map entry_of self.now.entries.items) }
     {
@@ -30,7 +31,7 @@ impl Command<'_> {
         }
     }
 
-    /// How many bytes the command's text has, if the command has a text: commandSize.
+    /// The size of the command's encoding, which is commandSize, or None if it cannot be encoded.
     pub fn text_len(&self) -> Option<usize>
         ensures { SomeIff result (HasText (whole_of self.now)) (command_size (whole_of self.now)) }
     {
@@ -43,8 +44,8 @@ impl Command<'_> {
         Some(size)
     }
 
-    /// Writes the command at the end, or nothing where it does not fit or has no text: where a size
-    /// does not fit its two bytes, or the whole length its four.
+    /// Appends the command. If it does not fit, if a size does not fit in two bytes, or if the
+    /// total length does not fit in four bytes, writes nothing and returns an error.
     pub fn write<const N: usize>(&self, sink: &mut Sink<N>) -> Result<(), Full>
         ensures { PutsCommand N (whole_of self.now) sink.old result sink.new }
     {
@@ -62,7 +63,7 @@ impl Command<'_> {
     }
 }
 
-/// How many bytes the entries' texts have, if each entry has a text.
+/// The total size of the entries' encodings, or None if an entry cannot be encoded.
 fn entries_len(entries: &[AuthEntry]) -> Option<usize>
     requires { length entries.now ≤ 3 }
     ensures value { SomeIff result (AllByRecursion HasSizes (map entry_of entries.now))
@@ -76,7 +77,7 @@ fn entries_len(entries: &[AuthEntry]) -> Option<usize>
     Some(bytes)
 }
 
-/// How many bytes the authorization area's text has, which is there only where there are entries.
+/// The size of the encoded authorization area, which is present only if there are entries.
 fn sessions_len(entries: &[AuthEntry]) -> Option<usize>
     requires { length entries.now ≤ 3 }
     ensures value { SomeIff result (AllByRecursion HasSizes (map entry_of entries.now))

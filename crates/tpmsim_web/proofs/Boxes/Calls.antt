@@ -1,5 +1,5 @@
--- The calls between the box of a device and the pointer to it: what each requires, and what it
--- gives.
+-- The calls that convert between the box of a device and the pointer to it: what each requires,
+-- and what it returns.
 use mathlib.Core.List.{List, [], ◌∷◌}
 use mathlib.Core.Path.{◌≡◌, refl, ap, ◌∙◌}
 use mir.Syntax.{Args, Dict, Dicts, a_type, impl, tnil, tcons, dnil, dcons}
@@ -50,11 +50,11 @@ use Rattle.tpmsim_web.specs.Held.{held}
 use Rattle.tpmsim_web.specs.contracts.device.Device as device
 use Rattle.tpmsim_web.specs.declared.device.Device.{Device}
 
--- the drop of a type that has nothing to free
+-- dropping a type that has nothing to free
 abbrev pub plain_drop : RattleType → Dict
 plain_drop R = impl ("tpmsim_web::Destruct++none::drop" ∷ []) (tcons (layout R) tnil) dnil
 
--- the two types of a call, beside the tables that come with them
+-- the two type arguments of a call, and the tables that accompany them
 abbrev types_of : Dicts → Args
 types_of = bounded (a_type ∷ a_type ∷ []) (Content, (Source, tt))
 
@@ -65,7 +65,7 @@ BoxRow = box.the_row device.the_row lent.the_row ghosts
 module _ {M : Type 1} {𝓤 : Ura M} (𝓛 : Logic 𝓤) where
   open 𝓛 use {H, A}
 
-  -- the two types of a call outlive 'static
+  -- the two type arguments of a call outlive 'static
   abbrev Alive : SProp 𝓤
   Alive = sep 𝓤 (A.lft [] full_share) (sep 𝓤 (A.lft [] full_share) (emp 𝓤))
 
@@ -132,7 +132,7 @@ module _ {M : Type 1} {𝓤 : Ura M} (𝓛 : Logic 𝓤) where
           now ! $ show ! (λ (d : BoxRow.Denot). guard 𝓤 ((d.value ≡ value) × (u ≡ word d.ptr d.alloc)) (sem 𝓛 (BoxRow.own_val d (u ∷ [])))) boxed $
           check ! (same, ap only (word_told boxed.ptr boxed.alloc (u ∷ []) is.0)) $ done !))))
 
--- what a program that calls them has to be linked with
+-- the code that a program must link to make these calls
 pub record Linked (γ : Env) : Type 0 where
   pub allocate : Wired γ allocate.code
   pub deallocate : Wired γ deallocate.code

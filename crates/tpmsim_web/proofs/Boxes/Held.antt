@@ -1,5 +1,5 @@
--- A holder owns nothing at null, or else the box of its device. Walks over holders open and make
--- them by these lemmas.
+-- A holder owns nothing if it is null, and otherwise the box of its device. Proofs about holders
+-- use these lemmas to open and to make them.
 use mathlib.Core.List.{List, [], ◌∷◌}
 use mathlib.Core.Path.{◌≡◌, refl}
 use Prim.Native.Nat.{ℕ}
@@ -42,7 +42,7 @@ module _ {M : Type 1} {𝓤 : Ura M} (𝓛 : Logic 𝓤) where
     abbrev Boxed : SProp 𝓤
     Boxed = sem 𝓛 (held device.the_row alloc at (Some value))
 
-    -- no box lies at null
+    -- a box is never at null
     boxed_in_block : ent 𝓤 Boxed (guard 𝓤 (InBlock at) Boxed)
     boxed_in_block = fact_use 𝓤 (InBlock at) (qed 𝓛 (‵ (held device.the_row alloc at (Some value)) ∷ []) ∵ fsplit ! $ keep ! (0 ∷ []) $
         by ! (lies_in_block 𝓛 device.the_row full_share at value)) (guard_i 𝓤 (InBlock at) Boxed)
@@ -52,8 +52,8 @@ module _ {M : Type 1} {𝓤 : Ura M} (𝓛 : Logic 𝓤) where
     boxed_testable = fact_use 𝓤 (Testable at) (qed 𝓛 (‵ (held device.the_row alloc at (Some value)) ∷ []) ∵ fsplit ! $ drop ! $
         by ! (token_compares 𝓛 alloc (bare (layout device.the_row)) at)) (guard_i 𝓤 (Testable at) Boxed)
 
--- Either there is no device, and the pointer is null; or there is one, in a box, and its pointer
--- may be compared with null.
+-- Either there is no device, and the pointer is null; or there is a device in a box, and the
+-- pointer may be compared with null.
 module _ {M : Type 1} {𝓤 : Ura M} {𝓛 : Logic 𝓤} {K : Type 0} {Γ : List (Item 𝓤)} {G : Goal 𝓤 𝓛.H} where
   pub by_device : K → (alloc : Lent) (at : Ptr) (held_device : Option Device)
       → (held_device ≡ None → at ≡ null_ptr → Seq K 𝓛 Γ G)

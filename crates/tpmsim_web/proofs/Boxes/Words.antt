@@ -1,6 +1,6 @@
--- A pointer beside an allocator. A box, a holder and a pair have these two fields, so one word of
--- the machine stands for each of them. Neither an allocator nor a pointer owns anything, so these
--- fields own nothing.
+-- A pointer and an allocator as two fields. A box, a holder and a pair consist of these fields,
+-- so each is one machine word. Neither an allocator nor a pointer owns anything, so these fields
+-- own nothing.
 use mathlib.Core.List.{List, [], ◌∷◌}
 use mathlib.Core.Path.{◌≡◌, refl}
 use lib.Dec.{T, lit<}
@@ -24,7 +24,7 @@ use Rattle.tpmsim_web.specs.declared.lent.Lent.{Lent}
 use Rattle.tpmsim_web.proofs.device.Device.TheLaws as device_laws
 use Rattle.tpmsim_web.specs.contracts.device.Device as device
 
--- the allocator and the device, as a generic function takes them
+-- the allocator and the device, as the arguments of a generic function
 abbrev pub Source : RattleType
 Source = arg (bare (layout lent.the_row)) no lent.the_row
 
@@ -37,14 +37,14 @@ source_laws = arg_laws (bare (layout lent.the_row)) no lent.the_row lent_laws.th
 pub content_laws : Laws Content
 content_laws = arg_laws (bare (layout device.the_row)) no device.the_row device_laws.the_row_laws refl
 
--- the word of an allocator, and of a pointer beside one
+-- the word of an allocator; and the word of a pointer together with an allocator
 abbrev pub source_word : Lent → Val
 source_word alloc = lent_laws.lowered alloc
 
 abbrev pub word : Ptr → Lent → Val
 word at alloc = vstruct (vcons (ptr_val at) (vcons (source_word alloc) vnil))
 
--- an allocator owns that its word is this one, and no other word is an allocator's
+-- an allocator owns only the fact that its word is this one, and no allocator has another word
 pub source_is : (alloc : Lent) → Is Source alloc (source_word alloc ∷ [])
 source_is alloc = (tt, (refl, tt))
 
@@ -54,17 +54,17 @@ source_told alloc words is = lent_laws.the_told.tells alloc words is
 pub source_typed : (alloc : Lent) → T (has_ty (layout Source) (source_word alloc)) × WT (source_word alloc)
 source_typed alloc = (tt, tt)
 
--- a pointer is of its type, null or not
+-- a pointer has its type, whether it is null or not
 pub pointer_typed : (at : Ptr) → T (has_ty ty_ptr (ptr_val at)) × WT (ptr_val at)
 pointer_typed (block_ptr b o) = (tt, tt)
 pointer_typed null_ptr = (tt, record { fits = lit< tt })
 
--- a word is of the type of each struct that has these two fields, since no name is read
+-- a word has the type of any struct with these two fields, because names are ignored
 pub word_typed : (at : Ptr) (alloc : Lent) → T (has_ty (ty_struct [] (tcons ty_ptr (tcons (layout Source) tnil))) (word at alloc)) × WT (word at alloc)
 word_typed (block_ptr b o) alloc = (tt, (tt, ((source_typed alloc).1, tt)))
 word_typed null_ptr alloc = (tt, (record { fits = lit< tt }, ((source_typed alloc).1, tt)))
 
--- the two fields in the form of a struct without a name
+-- the two fields as a struct without a name
 abbrev pub Fields : Shape
 Fields = record { name = []; args = []; types = []; fields = RawPtr ∷ Source ∷ [] }
 

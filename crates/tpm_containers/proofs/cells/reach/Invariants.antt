@@ -2,7 +2,7 @@ use Rattle.std.proofs.Common.{◌≡◌, ◌≤◌, length}
 use Rattle.tpm_containers.specs.Slots.{padded_to}
 use Rattle.tpm_containers.proofs.cells.reach.Given as goal
 
--- The places are the same, and there are as many cells as were counted.
+-- The slots are unchanged, and the number of cells equals the count.
 abbrev pub invariant-loop-count : goal.invariant-loop-count
 invariant-loop-count g l = record {
   same : padded_to g.row.N (g.C.Items.items l.cells) ≡ padded_to g.row.N (g.C.Items.items l.fn.cells);

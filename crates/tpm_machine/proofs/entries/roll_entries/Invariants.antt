@@ -3,7 +3,7 @@ use Rattle.tpm_types_command.specs.AuthEntry.{entry_of}
 use Rattle.tpm_step.specs.Entries.{entries_rolled}
 use Rattle.tpm_machine.proofs.entries.roll_entries.Given as goal
 
--- Rolling the entries that are left, from here on, leads to what rolling all of them does.
+-- Rolling the remaining entries from here leads to the same as rolling all of them.
 abbrev pub invariant-loop-entry : goal.invariant-loop-entry
 invariant-loop-entry g l =
     let record_of = g.K.Keep.record_of in

@@ -2,6 +2,6 @@ use Rattle.std.proofs.Common.{◌≡◌, ◌+◌, drop}
 use Rattle.tpm_nv.specs.Head.{start_of}
 use Rattle.tpm_nv.proofs.heads.start_of.Given as goal
 
--- The heads that are left decide where the bytes of the key begin.
+-- The remaining heads determine the offset of the key's bytes.
 abbrev pub invariant-loop-other : goal.invariant-loop-other
 invariant-loop-other l = l.start + start_of (drop l.other-index l.heads) l.key ≡ start_of l.heads l.key

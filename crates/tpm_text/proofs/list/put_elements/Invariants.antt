@@ -4,7 +4,7 @@ use Rattle.tpm_text.specs.Pieces.{pieces_of, plus}
 use Rattle.tpm_text.proofs.Lists.{elements_left}
 use Rattle.tpm_text.proofs.list.put_elements.Given as goal
 
--- The draft so far, with the elements that are left, is the draft with all.
+-- Adding the remaining elements to the draft so far yields the draft with all elements.
 abbrev pub invariant-loop-text : goal.invariant-loop-text
 invariant-loop-text l = elements_left l.element (drafted l.draft) (pieces_of plus l.left) ≡ elements_left l.element (drafted l.fn.draft) (pieces_of plus l.token)
 

@@ -4,13 +4,13 @@ use Rattle.tpmsim_web.specs.State.{record_of}
 use Rattle.tpmsim_web.proofs.Opening.{fault_alike}
 use Rattle.tpmsim_web.proofs.calls.device_open.Goals as goal
 
--- the device that is put back is the one of the image
+-- the device that is put back is that of the image
 pub returns-in-Ok-clause-opens : goal.returns-in-Ok-clause-opens
 returns-in-Ok-clause-opens c =
     let was : c.args.holder.now.device ≡ Some c.deref_mut.result.now = c.in-Some.ensures.taken ∙ ap Some (sym c.deref_mut.ensures.value) in
     rw was (Ok c.open-opened.new.self, c.in-Ok.ensures.exact, (refl, c.put.ensures))
 
--- after a fault it is the one that was taken
+-- on error, the device that is put back is the one that was taken out
 pub returns-in-Err-clause-opens : goal.returns-in-Err-clause-opens
 returns-in-Err-clause-opens c =
     let was : c.args.holder.now.device ≡ Some c.deref_mut.result.now = c.in-Some.ensures.taken ∙ ap Some (sym c.deref_mut.ensures.value) in

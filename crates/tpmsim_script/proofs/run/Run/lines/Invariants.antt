@@ -9,8 +9,8 @@ use Rattle.tpmsim_script.specs.Keeping.{kept}
 use Rattle.tpmsim_script.proofs.Keeping.{SoFar}
 use Rattle.tpmsim_script.proofs.run.Run.lines.Given as goal
 
--- The lines that are left to be played decide about the whole, and so far the device was kept,
--- where no memory can be refused.
+-- If allocations never fail, the remaining lines determine the result of the run, and the device
+-- was kept so far.
 abbrev pub invariant-loop-number : goal.invariant-loop-number
 invariant-loop-number g l =
     let remaining = g.R.Read.remaining in

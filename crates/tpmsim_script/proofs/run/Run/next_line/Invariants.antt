@@ -6,8 +6,7 @@ use Rattle.tpmsim_script.specs.Lines.{Agrees, IsUnbroken, line_of, rest_of, text
 use Rattle.tpmsim_script.specs.Player.{playing_of}
 use Rattle.tpmsim_script.proofs.run.Run.next_line.Given as goal
 
--- The line so far, and what is left of the text, are what was left before, and nothing that was
--- printed is lost.
+-- The line so far and the rest of the text make up what remained before, and no output is lost.
 abbrev pub invariant-loop-self : goal.invariant-loop-self
 invariant-loop-self g l =
     record {
@@ -18,7 +17,7 @@ invariant-loop-self g l =
       printed : Keeps (printout (g.W.Write.contents (device_of l.fn.writer)) l.fn.self.player.answers) (printout (g.W.Write.contents (device_of l.writer)) l.self.player.answers);
     }
 
--- A read makes the line longer, but for the first one, or is the last.
+-- Each read after the first one makes the line longer, or is the last.
 abbrev pub decreases-loop-self : goal.decreases-loop-self
 decreases-loop-self g l =
     cond l.self.lines.ended 0 (1 + (2 * (65536 - length (line_of l.self.lines)) + (1 - length (rest_of l.self.lines))))

@@ -1,4 +1,4 @@
--- `empty` makes a holder of null, which owns nothing.
+-- `empty` makes a holder with a null pointer, which owns nothing.
 use mathlib.Core.List.{[], ◌∷◌}
 use mathlib.Core.Path.{refl}
 use types.ByLocal.{alloc_all, pass_all, free_all, look_at, get, sets}
@@ -20,7 +20,7 @@ use Rattle.tpmsim_web.proofs.holder.Holder.empty.Code as code
 use Rattle.tpmsim_web.proofs.holder.Holder.empty.Statement.{statement}
 use Rattle.tpmsim_web.specs.contracts.holder.Holder.empty as promise
 
--- nothing is left of the allocator that was passed
+-- nothing remains of the allocator that was passed
 abbrev stays : Stays promise.ended.signature.params promise.ended.kept
 stays = (stay_dropped (plain (λ _. lent.the_row)) yes, tt)
 

@@ -1,5 +1,4 @@
--- `into_box` tests the pointer, and makes a box of what the holder owned where the pointer is not
--- null.
+-- `into_box` tests the pointer. If it is not null, the call makes a box of what the holder owned.
 use mathlib.Core.List.{[], ◌∷◌}
 use mathlib.Core.Path.{◌≡◌, ◌∙◌, refl, sym, ap, subst}
 use lib.Dec.{T, lit<}
@@ -35,7 +34,7 @@ use Rattle.tpmsim_web.specs.Held.{held}
 use Rattle.tpmsim_web.specs.contracts.device.Device as device
 use Rattle.tpmsim_web.specs.contracts.holder.Holder.into_box as promise
 
--- nothing is left of the holder that was passed
+-- nothing remains of the holder that was passed
 abbrev stays : Stays promise.ended.signature.params promise.ended.kept
 stays = (stay_dropped (plain (λ _. HolderRow)) yes, tt)
 

@@ -42,17 +42,17 @@ DeviceRow = device.the_row
 abbrev PlaceRow : RattleType
 PlaceRow = place.the_row
 
--- nothing is left of the place and of the device that were passed
+-- nothing remains of the place and the device that were passed
 abbrev stays : Stays promise.ended.signature.params promise.ended.kept
 stays = (stay_dropped (plain (λ _. PlaceRow)) yes, (stay_dropped (plain (λ _. DeviceRow)) yes, tt))
 
--- one word stands for a device
+-- a device is one machine word
 one_word : (words : List Val) → Lone words → words ≡ only words ∷ []
 one_word [] lone = absurd lone
 one_word (v ∷ []) lone = refl
 one_word (v ∷ u ∷ us) lone = absurd lone
 
--- the one field of a place, in the form of a struct without a name, and the word of a place
+-- the only field of a place, as a struct without a name, and the machine word of a place
 abbrev Fields : Shape
 Fields = record { name = []; args = []; types = []; fields = RawPtr ∷ [] }
 
@@ -67,7 +67,7 @@ new_spec 𝓤 𝓛 𝓜 𝓡 wired =
     let a = y.0.3 in let at : Ptr = a.0.at in let device = a.1.0 in
     let At : List Val → List Val → W.Ghost = λ us vs. ((y.0.0, y.0.1, y.0.2, a, (us, (vs, tt))), y.1) in
     let Goes : List Val → List Val → Type 1 = λ us vs. ent 𝓤 (W.pre (At us vs)) (WpFn 𝓤 𝓛.H 𝓣.C 𝓣.Λ code.function (us ++ (vs ++ [])) (W.post (At us vs))) in
-    -- the words of what was passed
+    -- the machine words of the arguments
     let place_is : y.0.4.0 ≡ place_words at = Struct-Tells Fields ((λ p. ptr_val p ∷ []), tt) (rawptr_Tells, tt) (at, tt) y.0.4.0 are.0.0 in
     let w : Val = only y.0.4.1.0 in
     let device_is : y.0.4.1.0 ≡ w ∷ [] = one_word y.0.4.1.0 (content_laws.single device y.0.4.1.0 are.1.0) in

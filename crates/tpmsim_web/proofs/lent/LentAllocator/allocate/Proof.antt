@@ -1,4 +1,4 @@
--- There is no block to give.
+-- There is no block to return.
 use mathlib.Core.Bool.{false}
 use mathlib.Core.List.{[], ◌∷◌}
 use mathlib.Core.Path.{refl}
@@ -25,11 +25,11 @@ use Rattle.tpmsim_web.proofs.lent.LentAllocator.allocate.Statement.{statement}
 use Rattle.tpmsim_web.specs.contracts.lent.Lent as lent
 use Rattle.tpmsim_web.specs.contracts.lent.LentAllocator.allocate as promise
 
--- the allocator, as the call has it
+-- the allocator as the call sees it
 abbrev self : Slot 1
 self = RefOf (0 ∷ []) tt (plain (λ _. lent.the_row)) (λ _. tt)
 
--- nothing is left of what was passed
+-- nothing remains of what was passed
 abbrev stays : Stays promise.ended.signature.params promise.ended.kept
 stays = (
   stay_dropped self yes,

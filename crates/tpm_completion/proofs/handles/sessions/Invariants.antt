@@ -1,8 +1,8 @@
 use Rattle.tpm_bytes.specs.Numbers.{numbers_below}
 use Rattle.std.proofs.Common.{◌≡◌, ◌≤◌, length}
 use Rattle.std.specs.List.{flat_map}
-use Rattle.tpm_completion.specs.Capability.{session_shown}
-use Rattle.tpm_completion.proofs.capability.sessions.Given as goal
+use Rattle.tpm_completion.specs.Handles.{session_shown}
+use Rattle.tpm_completion.proofs.handles.sessions.Given as goal
 
 abbrev pub invariant-loop-place : goal.invariant-loop-place
 invariant-loop-place g l = record {

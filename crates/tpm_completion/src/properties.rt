@@ -1,0 +1,254 @@
+//! The properties that the layer lists.
+
+ghost use Rattle.std.specs.Prelude.{◌≡◌, ◌≤◌, ◌+◌, ◌++◌, [], count_by, length};
+ghost use Rattle.tpm_nv.specs.Head.{heads_of};
+ghost use Rattle.tpm_completion.specs.Properties.{active_count, attribute_if, command_count, count_elements, counter_count, identity_elements, index_count, is_counter, is_set, limit_elements, lockout_elements, object_count, permanent_attributes, property_elements, session_count, startup_attributes, values_set};
+
+use crate::completion::Completion;
+use crate::context::CONTEXT_SIZE;
+use crate::handles::{objects, sessions};
+use crate::listing::{Elements, element};
+use arrayvec::ArrayVec;
+use tpm_actions_capability::element::Element;
+use tpm_commands::CommandCode;
+use tpm_lockout::Lockout;
+use tpm_nv::{Head, Indices};
+use tpm_record::{Fixed, Hierarchies, Keep, PersistentObjects};
+use tpm_types::{
+    AuthValue, BUFFER_LIMIT, DATA_LIMIT, NV_DATA_LIMIT, NV_INDEX_LIMIT, OBJECT_LIMIT,
+    PERSISTENT_LIMIT, SESSION_LIMIT,
+};
+use tpm_types_nv::NvType;
+
+/// How many commands the layer adds to those of the device.
+const OWN_COUNT: u32 = 7;
+
+/// The number of all commands.
+fn command_count() -> u32
+    ensures { result ≡ command_count }
+{
+    CommandCode::ALL.len() as u32 + OWN_COUNT
+}
+
+/// Who made the device, and by which specification.
+#[tactic(auto, unfolding(crate::specs::Properties::identity_elements))]
+fn identity() -> [Element; 13]
+    ensures { result ≡ identity_elements }
+{
+    [
+        element(0x100, u32::from_be_bytes(*b"2.0\0")),
+        element(0x101, 0),
+        element(0x102, 138),
+        element(0x103, 273),
+        element(0x104, 2016),
+        element(0x105, u32::from_be_bytes(*b"TSIM")),
+        element(0x106, u32::from_be_bytes(*b"tpms")),
+        element(0x107, u32::from_be_bytes(*b"im\0\0")),
+        element(0x108, 0),
+        element(0x109, 0),
+        element(0x10a, 1),
+        element(0x10b, 1),
+        element(0x10c, 0),
+    ]
+}
+
+/// How much the device holds and takes.
+#[tactic(auto, unfolding(crate::specs::Properties::limit_elements))]
+fn limits() -> [Element; 22]
+    ensures { result ≡ limit_elements }
+{
+    [
+        element(0x10d, DATA_LIMIT as u32),
+        element(0x10e, OBJECT_LIMIT as u32),
+        element(0x10f, PERSISTENT_LIMIT as u32),
+        element(0x110, SESSION_LIMIT as u32),
+        element(0x111, SESSION_LIMIT as u32),
+        element(0x112, 24),
+        element(0x113, 3),
+        element(0x114, u32::MAX),
+        element(0x116, NV_INDEX_LIMIT as u32),
+        element(0x117, NV_DATA_LIMIT as u32),
+        element(0x118, 0),
+        element(0x11e, BUFFER_LIMIT as u32),
+        element(0x11f, BUFFER_LIMIT as u32),
+        element(0x120, 32),
+        element(0x121, CONTEXT_SIZE as u32),
+        element(0x122, CONTEXT_SIZE as u32),
+        element(0x128, 0),
+        element(0x129, command_count()),
+        element(0x12a, command_count()),
+        element(0x12b, 0),
+        element(0x12c, DATA_LIMIT as u32),
+        element(0x12d, 0),
+    ]
+}
+
+/// An attribute of this value, if it is set.
+fn attribute_if(set: bool, value: u32) -> u32
+    ensures value { result ≡ attribute_if set value }
+    ensures small { result ≤ value }
+{
+    if set { value } else { 0 }
+}
+
+/// Whether an authorization value is set.
+fn is_set(value: &AuthValue) -> bool
+    ensures { result ≡ is_set value.now }
+{
+    !value.as_slice().is_empty()
+}
+
+/// The attributes that say which authorization values are set.
+fn values_set(hierarchies: &Hierarchies) -> u32
+    ensures value { result ≡ values_set hierarchies.now }
+    ensures small { result ≤ 7 }
+{
+    attribute_if(is_set(&hierarchies.owner.auth_value), 1)
+        + attribute_if(is_set(&hierarchies.endorsement.auth_value), 2)
+        + attribute_if(is_set(&hierarchies.lockout_auth), 4)
+}
+
+/// TPMA_PERMANENT.
+fn permanent_attributes(fixed: &Fixed) -> u32
+    ensures { result ≡ permanent_attributes fixed.now }
+{
+    values_set(&fixed.hierarchies)
+        + attribute_if(fixed.disable_clear, 0x100)
+        + attribute_if(fixed.lockout.is_locked(), 0x200)
+        + 0x400
+}
+
+/// TPMA_STARTUP_CLEAR.
+fn startup_attributes(fixed: &Fixed) -> u32
+    ensures { result ≡ startup_attributes fixed.now }
+{
+    0xf + attribute_if(fixed.restart_count != 0, 0x8000_0000)
+}
+
+/// How many sessions are loaded (false) or saved (true).
+fn session_count<K: Keep>(layer: &Completion, keep: &K, saved: bool) -> u32
+    ensures value { result ≡ session_count (K.record_of keep.now) layer.now saved }
+    ensures small { result ≤ 64 }
+{
+    let mut elements = ArrayVec::new();
+    sessions(layer, keep, saved, &mut elements);
+    elements.len() as u32
+}
+
+/// How many sessions there are.
+fn active_count<K: Keep>(layer: &Completion, keep: &K) -> u32
+    ensures { result ≡ active_count (K.record_of keep.now) layer.now }
+{
+    session_count(layer, keep, false) + session_count(layer, keep, true)
+}
+
+/// How many transient objects do not wait.
+fn object_count<K: Keep>(layer: &Completion, keep: &K) -> u32
+    ensures { result ≡ object_count (K.record_of keep.now) layer.now }
+{
+    let mut elements = ArrayVec::new();
+    objects(layer, keep, &mut elements);
+    elements.len() as u32
+}
+
+fn is_counter(entry: &(u32, Head)) -> bool
+    ensures { result ≡ is_counter entry.now }
+{
+    entry.1.public.attributes.is_of(NvType::Counter)
+}
+
+/// How many NV indices there are.
+fn index_count<K: Keep>(keep: &K) -> u32
+    ensures { result ≡ index_count (K.record_of keep.now).nv }
+{
+    keep.nv().read_sizes();
+    keep.nv().heads().len() as u32
+}
+
+/// How many of these NV indices are counters.
+#[tactic(auto, using(crate::proofs::Counters::few_counters))]
+fn counters_among(heads: &[(u32, Head)]) -> usize
+    ensures value { result ≡ count_by is_counter heads.now }
+    ensures small { result ≤ length heads.now }
+{
+    heads.iter().filter(|e| is_counter(e)).count()
+}
+
+/// How many NV indices are counters.
+fn counter_count<K: Keep>(keep: &K) -> u32
+    ensures { result ≡ counter_count (K.record_of keep.now).nv }
+{
+    keep.nv().read_sizes();
+    counters_among(keep.nv().heads()) as u32
+}
+
+/// How many persistent objects there are.
+fn persistent_count<K: Keep>(keep: &K) -> u32
+    ensures { result ≡ length (K.record_of keep.now).persistent }
+{
+    keep.persistent().read_sizes();
+    keep.persistent().len() as u32
+}
+
+/// The attributes, and the counts of the device.
+#[tactic(auto, unfolding(crate::specs::Properties::count_elements))]
+fn counts<K: Keep>(layer: &Completion, keep: &K) -> [Element; 11]
+    ensures { result ≡ count_elements (K.record_of keep.now) layer.now }
+{
+    let loaded = session_count(layer, keep, false);
+    let active = active_count(layer, keep);
+    let objects = object_count(layer, keep);
+    let persistent = persistent_count(keep);
+    [
+        element(0x200, permanent_attributes(keep.fixed())),
+        element(0x201, startup_attributes(keep.fixed())),
+        element(0x202, index_count(keep)),
+        element(0x203, loaded),
+        element(0x204, (SESSION_LIMIT as u32).saturating_sub(loaded)),
+        element(0x205, active),
+        element(0x206, (SESSION_LIMIT as u32).saturating_sub(active)),
+        element(0x207, (OBJECT_LIMIT as u32).saturating_sub(objects)),
+        element(0x208, persistent),
+        element(0x209, (PERSISTENT_LIMIT as u32).saturating_sub(persistent)),
+        element(0x20a, counter_count(keep)),
+    ]
+}
+
+/// What the device has none of, and the parameters of lockout.
+fn lockout_parts(lockout: &Lockout) -> [Element; 9]
+    ensures { result ≡ lockout_elements lockout.now }
+{
+    let fields = lockout.fields();
+    [
+        element(0x20c, 0),
+        element(0x20d, 0),
+        element(0x20e, fields.failed_tries),
+        element(0x20f, fields.max_tries),
+        element(0x210, fields.recovery_time),
+        element(0x211, fields.lockout_recovery),
+        element(0x212, 0),
+        element(0x213, 0),
+        element(0x214, 0),
+    ]
+}
+
+/// Lists these elements after those before.
+fn add(part: &[Element], elements: &mut Elements)
+    requires { length elements.old.items + length part.now ≤ 64 }
+    ensures added { elements.new.items ≡ elements.old.items ++ part.now }
+    ensures size { length elements.new.items ≡ length elements.old.items + length part.now }
+{
+    let _ = elements.try_extend_from_slice(part);
+}
+
+/// Lists all properties.
+#[tactic(auto, unfolding(crate::specs::Properties::property_elements))]
+pub fn properties<K: Keep>(layer: &Completion, keep: &K, elements: &mut Elements)
+    requires { elements.old.items ≡ [] }
+    ensures { elements.new.items ≡ property_elements (K.record_of keep.now) layer.now }
+{
+    add(&identity(), elements);
+    add(&limits(), elements);
+    add(&counts(layer, keep), elements);
+    add(&lockout_parts(&keep.fixed().lockout), elements);
+}

@@ -1,0 +1,145 @@
+-- What the layer lists and serves.
+use Rattle.std.proofs.Common.{◌≡◌, ℕ, ◌+◌, ◌≤◌, ◌==◌, ◌||◌, Bool, true, false, List, [], ◌∷◌, length, Option, Some, None, refl, sym, ◌∙◌, arith}
+use Rattle.std.proofs.lemmas.Bool.{false≢true}
+use Rattle.std.proofs.lemmas.List.{length-append}
+use Rattle.std.specs.List.{flat_map}
+use Rattle.std.specs.Option.{option_map_or}
+use Rattle.std.specs.Prelude.{not, if◌then◌else◌}
+use Rattle.tpm_actions_capability.specs.Element.{if_there}
+use Rattle.tpm_actions_capability.specs.Elements.{object_element, session_element}
+use Rattle.tpm_actions_capability.specs.declared.element.Element.{Element}
+use Rattle.tpm_bytes.specs.Numbers.{numbers_below}
+use Rattle.tpm_containers.specs.Slots.{at_place}
+use Rattle.tpm_record.specs.Record.{Record}
+use Rattle.tpm_session.specs.Sessions.{handle_of}
+use Rattle.tpm_session.specs.declared.session.Session.{Session}
+use Rattle.tpm_types.specs.Limits.{object_limit, session_limit}
+use Rattle.tpm_completion.specs.Capability.{commands_by}
+use Rattle.tpm_completion.specs.Completion.{object_held, session_context}
+use Rattle.tpm_completion.specs.Handles.{object_shown, session_shown}
+use Rattle.tpm_completion.specs.Properties.{active_count, count_elements, identity_elements, limit_elements, object_count, property_elements}
+use Rattle.tpm_completion.specs.Reply.{stands}
+use Rattle.tpm_completion.specs.declared.completion.Completion.{Completion}
+use Rattle.tpm_completion_laws.specs.Listed.{CommandsAscend, CountsAddUp, CountsAll, ListsItsOwn, PcrPropertiesHold, PropertiesAscend, ServesItsOwn}
+
+-- ---- commands
+
+or_false : (a b : Bool) → (a || b) ≡ false → (a ≡ false) × (b ≡ false)
+or_false true b e = absurd (false≢true (sym e))
+or_false false b e = (refl, e)
+
+if_false : {X : Type 0} (b : Bool) (x y : X) → b ≡ false → (if b then x else y) ≡ y
+if_false false x y e = refl
+if_false true x y e = absurd (false≢true (sym e))
+
+pub serves_its_own : ServesItsOwn
+serves_its_own r c command response none =
+    let one = or_false (command.code == 0x142) _ none in
+    let two = or_false (command.code == 0x146) _ one.1 in
+    let three = or_false (command.code == 0x161) _ two.1 in
+    let four = or_false (command.code == 0x162) _ three.1 in
+    let five = or_false (command.code == 0x17c) _ four.1 in
+    let six = or_false (command.code == 0x17d) (command.code == 0x18a) five.1 in
+    if_false (command.code == 0x146) _ _ two.0
+    ∙ if_false (command.code == 0x161) _ _ three.0
+    ∙ if_false (command.code == 0x162) _ _ four.0
+    ∙ if_false (command.code == 0x142) _ _ one.0
+    ∙ if_false (command.code == 0x17c) _ _ five.0
+    ∙ if_false (command.code == 0x17d) _ _ six.0
+    ∙ if_false (command.code == 0x18a) _ (stands c response) six.1
+
+pub lists_its_own : ListsItsOwn
+unfolding commands_by
+lists_its_own = refl
+
+pub counts_all : CountsAll
+unfolding commands_by
+counts_all = refl
+
+-- ---- order
+
+pub commands_ascend : CommandsAscend
+unfolding commands_by
+commands_ascend = refl
+
+pub properties_ascend : PropertiesAscend
+unfolding property_elements identity_elements limit_elements count_elements
+properties_ascend r c = refl
+
+-- ---- PCRs
+
+pub pcr_properties_hold : PcrPropertiesHold
+pcr_properties_hold = refl
+
+-- ---- counts
+
+both_parts : (f g h : ℕ → List Element) → ((n : ℕ) → length (f n) + length (g n) ≡ length (h n)) → (ns : List ℕ)
+    → length (flat_map f ns) + length (flat_map g ns) ≡ length (flat_map h ns)
+both_parts f g h same [] = refl
+both_parts f g h same (n ∷ ns) =
+    let one = length-append (f n) (flat_map f ns) in
+    let two = length-append (g n) (flat_map g ns) in
+    let three = length-append (h n) (flat_map h ns) in
+    let here = same n in
+    let rest = both_parts f g h same ns in
+    omega (arith, one, two, three, here, rest)
+
+one_each : (f : ℕ → List Element) → ((n : ℕ) → length (f n) ≤ 1) → (ns : List ℕ) → length (flat_map f ns) ≤ length ns
+one_each f few [] = omega arith
+one_each f few (n ∷ ns) =
+    let one = length-append (f n) (flat_map f ns) in
+    let here = few n in
+    let rest = one_each f few ns in
+    omega (arith, one, here, rest)
+
+of_either : (b : Bool) (xs : List Element) → length (if b then xs else []) + length (if not b then xs else []) ≡ length xs
+of_either true xs = omega arith
+of_either false xs = omega arith
+
+shorter : (b : Bool) (xs : List Element) → length xs ≤ 1 → length (if b then xs else []) ≤ 1
+shorter true xs few = few
+shorter false xs few = omega arith
+
+there : (b : Bool) (e : Element) → length (if_there b e) ≤ 1
+there true e = omega arith
+there false e = omega arith
+
+module _ (r : Record) (c : Completion) where
+  session_one : (place : ℕ) → length (session_element r place) ≤ 1
+  session_one place = by (at_place r.sessions place)
+    where
+      listed : Option Session → List Element
+      listed found = option_map_or (λ (s : Session). record { number = place; told = (handle_of s.kind place).number } ∷ []) found []
+
+      by : (found : Option Session) → length (listed found) ≤ 1
+      by None = omega arith
+      by (Some s) = omega arith
+
+  session_either : (place : ℕ) → length (session_shown r c false place) + length (session_shown r c true place) ≡ length (session_element r place)
+  unfolding session_shown
+  session_either place = of_either (session_context c place == 0) (session_element r place)
+
+  object_one : (place : ℕ) → length (object_shown r c place) ≤ 1
+  unfolding object_shown
+  object_one place = shorter ((object_held c place).waits == 0) (object_element r place) (there _ _)
+
+  all_sessions : active_count r c ≡ length (flat_map (session_element r) (numbers_below session_limit))
+  all_sessions = both_parts (session_shown r c false) (session_shown r c true) (session_element r) session_either (numbers_below session_limit)
+
+  few_sessions : length (flat_map (session_element r) (numbers_below session_limit)) ≤ 16
+  few_sessions = one_each (session_element r) session_one (numbers_below session_limit)
+
+  few_objects : object_count r c ≤ 8
+  few_objects = one_each (object_shown r c) object_one (numbers_below object_limit)
+
+pub counts_add_up : CountsAddUp
+counts_add_up r c =
+    let all = all_sessions r c in
+    let few = few_sessions r c in
+    let objects = few_objects r c in
+    record {
+      all = all;
+      loaded = omega (arith, all, few);
+      active = omega (arith, all, few);
+      objects = omega (arith, objects);
+    }

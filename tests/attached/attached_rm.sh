@@ -1,0 +1,10 @@
+# The word `rm` of the module: at its end a process flushes what it loaded. attached/rm.c is the caller,
+# with the module's sources.
+tests=$(cd "$(dirname "$0")/.." && pwd -P)
+. "$tests/common/cases.sh"
+. "$tests/common/library.sh"
+needs tss2/tss2_tcti.h
+. "$tests/common/attached.sh"
+
+attach_both rm "$hosts/tcti/tcti.c" "$hosts/tcti/loaded.c"
+both rm

@@ -1,0 +1,46 @@
+# tpm2-tools with the word `rm` of the module: a day's steps without tpm2_flushcontext leave nothing
+# loaded, and fill no place.
+tests=$(cd "$(dirname "$0")/.." && pwd -P)
+. "$tests/common/cases.sh"
+. "$tests/common/library.sh"
+needs tss2/tss2_tcti.h tpm2_startup
+. "$tests/common/attached.sh"
+
+TPMSIM_ARCHIVE=$archive "$hosts/build.sh" tcti "$room/made" || exit 1
+export LD_LIBRARY_PATH="$room/made" TPM2TOOLS_TCTI="tpmsim:state=$room/state,rm"
+
+# tool WORDS..: runs a tool, and says how it ended.
+tool() {
+    tpm2 "$@" >output 2>error
+    echo "tpm2 $1: status $?"
+}
+
+# left: prints what is loaded.
+left() {
+    for kind in transient loaded-session; do
+        tpm2_getcap "handles-$kind" | sed "s/^- .*/left: $kind/"
+    done
+}
+
+echo secret >secret
+tool startup -c
+tool createprimary -C o -G aes128cfb -g sha256 -c primary.context
+for number in 1 2 3 4 5 6 7 8 9; do
+    tool create -C primary.context -i secret -p word -u public -r private
+    tool load -C primary.context -u public -r private -c "sealed$number.context"
+    tool startauthsession --policy-session -S "session$number.context"
+    tool policypcr -S "session$number.context" -l sha256:10
+done
+tool unseal -c sealed9.context -p word
+cmp output secret
+left
+echo 'a tool that fails:'
+tool unseal -c sealed9.context -p other
+left
+echo 'a saved session goes on:'
+tool policypcr -S session1.context -l sha256:10
+left
+echo 'without the word:'
+TPM2TOOLS_TCTI=tpmsim:state=$room/state
+tool createprimary -C o -G aes128cfb -g sha256 -c primary.context
+left

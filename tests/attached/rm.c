@@ -1,0 +1,227 @@
+/* The word `rm` of the module for libtss2: what a process loaded and did not flush is flushed when its
+ * context is finalized, and nothing else is. Contexts of the module are one client each; a device in a
+ * folder is shared by all of them. */
+#include "common.h"
+#include <signal.h>
+#include <sys/wait.h>
+#include <tss2/tss2_tcti.h>
+
+TSS2_RC Tss2_Tcti_Tpmsim_Init(TSS2_TCTI_CONTEXT *context, size_t *size, const char *words);
+
+static const char RM[] = "state=state,force=never,rm", NO_RM[] = "state=state,force=never";
+
+/* TPM2_CreatePrimary of an HMAC key whose policy is that of a session without an assertion. */
+static const uint8_t CREATE_PRIMARY[] = {
+    0x80, 2, 0, 0, 0, 89, 0, 0, 1, 0x31, 0x40, 0, 0, 1, 0, 0, 0, 9, 0x40, 0, 0, 9, 0, 0, 0, 0, 0,
+    /* The sensitive area and the public one. */
+    0, 4, 0, 0, 0, 0, 0, 48, 0, 8, 0, 11, 0, 4, 0, 0x72, 0, 32, 0, 0, 0, 0, 0, 0, 0, 0, 0, 0, 0, 0,
+    0, 0, 0, 0, 0, 0, 0, 0, 0, 0, 0, 0, 0, 0, 0, 0, 0, 0, 0, 0, 0, 5, 0, 11, 0, 0, 0, 0, 0, 0, 0, 0};
+
+/* TPM2_StartAuthSession of a policy session. */
+static const uint8_t START_SESSION[] = {
+    0x80, 1, 0, 0, 0, 43, 0, 0, 1, 0x76, 0x40, 0, 0, 7, 0x40, 0, 0, 7, 0, 16, 0, 0, 0, 0, 0,
+    0,    0, 0, 0, 0, 0,  0, 0, 0, 0,    0,    0, 0, 1, 0,    16, 0, 11};
+
+static TSS2_TCTI_CONTEXT *begun(const char *words) {
+    size_t size;
+    must(Tss2_Tcti_Tpmsim_Init(NULL, &size, NULL) == TSS2_RC_SUCCESS, "no size");
+    TSS2_TCTI_CONTEXT *context = malloc(size);
+    must(context && Tss2_Tcti_Tpmsim_Init(context, &size, words) == TSS2_RC_SUCCESS, "no context");
+    return context;
+}
+
+static void ended(TSS2_TCTI_CONTEXT *context) {
+    Tss2_Tcti_Finalize(context);
+    free(context);
+}
+
+static uint32_t number_at(const uint8_t *bytes) {
+    return (uint32_t)bytes[0] << 24 | (uint32_t)bytes[1] << 16 | (uint32_t)bytes[2] << 8 | bytes[3];
+}
+
+static void put_number(uint8_t *bytes, uint32_t number) {
+    for (int i = 0; i < 4; i++) bytes[i] = (uint8_t)(number >> (24 - 8 * i));
+}
+
+/* Has the device accept a command; returns the size of its response. */
+static size_t done(TSS2_TCTI_CONTEXT *context, const uint8_t *command, size_t size,
+                   uint8_t response[RESPONSE_BYTES]) {
+    size_t all = RESPONSE_BYTES;
+    must(Tss2_Tcti_Transmit(context, size, command) == TSS2_RC_SUCCESS, "transmit fails");
+    must(Tss2_Tcti_Receive(context, &all, response, -1) == TSS2_RC_SUCCESS, "receive fails");
+    if (number_at(response + 6) != 0) fprintf(stderr, "%x: ", number_at(response + 6));
+    must(number_at(response + 6) == 0, "the device refused a command");
+    return all;
+}
+
+static uint32_t loaded_by(TSS2_TCTI_CONTEXT *context, const uint8_t *command, size_t size) {
+    uint8_t response[RESPONSE_BYTES];
+    done(context, command, size, response);
+    return number_at(response + 10);
+}
+
+static uint32_t object(TSS2_TCTI_CONTEXT *context) {
+    return loaded_by(context, CREATE_PRIMARY, sizeof CREATE_PRIMARY);
+}
+
+static uint32_t session(TSS2_TCTI_CONTEXT *context) {
+    return loaded_by(context, START_SESSION, sizeof START_SESSION);
+}
+
+static void flush(TSS2_TCTI_CONTEXT *context, uint32_t handle) {
+    uint8_t command[14] = {0x80, 1, 0, 0, 0, 14, 0, 0, 1, 0x65}, response[RESPONSE_BYTES];
+    put_number(command + 10, handle);
+    done(context, command, sizeof command, response);
+}
+
+/* Saves a context, and makes the command that loads it, whose size is returned. */
+static size_t saved(TSS2_TCTI_CONTEXT *context, uint32_t handle, uint8_t load[RESPONSE_BYTES]) {
+    static const uint8_t head[] = {0x80, 1, 0, 0, 0, 0, 0, 0, 1, 0x61};
+    uint8_t command[14] = {0x80, 1, 0, 0, 0, 14, 0, 0, 1, 0x62};
+    put_number(command + 10, handle);
+    size_t size = done(context, command, sizeof command, load);
+    memcpy(load, head, sizeof head);
+    put_number(load + 2, (uint32_t)size);
+    return size;
+}
+
+/* TPM2_HMAC by a key and a policy session, which ends with it. */
+static void use(TSS2_TCTI_CONTEXT *context, uint32_t key, uint32_t by) {
+    uint8_t command[32] = {0x80, 2, 0, 0, 0, 32, 0, 0, 1, 0x55, [17] = 9, [28] = 1, [31] = 16};
+    uint8_t response[RESPONSE_BYTES];
+    put_number(command + 10, key);
+    put_number(command + 18, by);
+    done(context, command, sizeof command, response);
+}
+
+/* Prints the handles of one kind that are loaded. */
+static void print_kind(TSS2_TCTI_CONTEXT *context, uint32_t first) {
+    uint8_t command[22] = {0x80, 1, 0, 0, 0, 22, 0, 0, 1, 0x7a, 0, 0, 0, 1}, response[RESPONSE_BYTES];
+    put_number(command + 14, first);
+    put_number(command + 18, 254);
+    done(context, command, sizeof command, response);
+    for (uint32_t i = 0; i < number_at(response + 15); i++)
+        printf(" %08x", number_at(response + 19 + 4 * i));
+}
+
+/* Power-cycles the device. */
+static void restart(void) {
+    struct kept *kept = opened("state");
+    struct reason reason;
+    must(kept_power(kept, &reason), "no power cycle");
+    start(kept);
+    kept_close(kept);
+}
+
+/* Prints what is loaded, and power-cycles the device for the next case. */
+static void show(const char *label) {
+    TSS2_TCTI_CONTEXT *context = begun(NO_RM);
+    printf("%s:", label);
+    print_kind(context, 0x80000000);
+    print_kind(context, 0x02000000);
+    puts("");
+    fflush(stdout);
+    ended(context);
+    restart();
+}
+
+static void leave(const char *label, const char *words) {
+    TSS2_TCTI_CONTEXT *context = begun(words);
+    object(context);
+    object(context);
+    session(context);
+    ended(context);
+    show(label);
+}
+
+/* Handles that were flushed, or freed by the end of their session, are another client's then. */
+static void leave_to_others(void) {
+    TSS2_TCTI_CONTEXT *context = begun(RM), *other = begun(NO_RM);
+    flush(context, object(context));
+    object(other);
+    use(context, object(context), session(context));
+    session(other);
+    ended(context);
+    ended(other);
+    show("an object and a session of another client, under handles that were freed");
+}
+
+/* A saved session stays, a saved object is flushed; both contexts can be loaded. */
+static void save(void) {
+    uint8_t load_session[RESPONSE_BYTES], load_object[RESPONSE_BYTES], response[RESPONSE_BYTES];
+    TSS2_TCTI_CONTEXT *context = begun(RM);
+    size_t object_size = saved(context, object(context), load_object);
+    size_t session_size = saved(context, session(context), load_session);
+    ended(context);
+    context = begun(RM);
+    done(context, load_object, object_size, response);
+    uint32_t key = number_at(response + 10);
+    done(context, load_session, session_size, response);
+    use(context, key, number_at(response + 10));
+    ended(context);
+    show("after contexts of an object and a session, which were loaded and used");
+    context = begun(RM);
+    object_size = saved(context, object(context), load_object);
+    session_size = saved(context, session(context), load_session);
+    done(context, load_object, object_size, response);
+    done(context, load_session, session_size, response);
+    ended(context);
+    show("after contexts that were loaded and not used");
+}
+
+/* A forked child flushes what it loaded itself. */
+static void forked(bool loads) {
+    TSS2_TCTI_CONTEXT *context = begun(RM);
+    object(context);
+    pid_t child = fork();
+    must(child >= 0, "there is no process");
+    if (child == 0) {
+        if (loads) session(context);
+        Tss2_Tcti_Finalize(context);
+        _exit(0);
+    }
+    must(waitpid(child, NULL, 0) == child, "no child ended");
+    printf("after a forked child that loaded %s:", loads ? "a session" : "nothing");
+    print_kind(context, 0x80000000);
+    print_kind(context, 0x03000000);
+    puts("");
+    ended(context);
+    show("and after its parent's end");
+}
+
+/* A process that is killed flushes nothing. */
+static void killed(void) {
+    fflush(stdout);
+    pid_t child = fork();
+    must(child >= 0, "there is no process");
+    if (child == 0) {
+        TSS2_TCTI_CONTEXT *context = begun(RM);
+        object(context);
+        raise(SIGKILL);
+    }
+    must(waitpid(child, NULL, 0) == child, "no child ended");
+    show("a process that was killed");
+}
+
+/* What is gone at the end is not flushed, and that is no fault. */
+static void gone(void) {
+    TSS2_TCTI_CONTEXT *context = begun(RM);
+    object(context);
+    session(context);
+    show("before a power cycle");
+    ended(context);
+    show("an end after it");
+}
+
+int main(void) {
+    restart();
+    leave("without the word", NO_RM);
+    leave("with it", RM);
+    leave_to_others();
+    save();
+    forked(false);
+    forked(true);
+    killed();
+    gone();
+    return 0;
+}

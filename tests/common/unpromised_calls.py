@@ -1,0 +1,92 @@
+"""Compares the public functions that promise nothing with the list of them in docs/THEOREMS.md:
+
+    python3 tests/common/unpromised_calls.py DOCUMENT FOLDER
+
+FOLDER contains the crates. A public function promises something if its signature has an `ensures` clause.
+The list is the table after the words "These public functions promise nothing": a row names a crate, the
+files of its src/ that contain such functions, and the reason. Each difference is a line, and the last line
+counts the functions. Then a file is left out of the list, and one is added to it, and both have to be
+found. The status is 1 if there is a difference, or one is not found.
+"""
+
+import collections
+import pathlib
+import re
+import sys
+
+BEGIN = "These public functions promise nothing"
+PUBLIC = re.compile(r"^\s*pub fn (\w+)", re.M)
+# A signature with clauses ends at a line that is only a brace, and one without clauses at a brace that ends
+# its last line.
+BODY = re.compile(r"^\s*\{\}?$", re.M)
+LAST_BRACE = re.compile(r" \{\}?$", re.M)
+CLAUSE = re.compile(r"^\s*ensures\b", re.M)
+Found = dict[str, dict[str, list[str]]]
+CODE = re.compile(r"`([^`]+)`")
+
+
+def signatures(text: str) -> list[tuple[str, str]]:
+    """The name of each public function, and its signature with the clauses, up to the body."""
+    found = []
+    for start in PUBLIC.finditer(text):
+        rest = text[start.end() :]
+        following = PUBLIC.search(rest)
+        body = BODY.search(rest)
+        clause = CLAUSE.search(rest, 0, following.start() if following else len(rest))
+        plain = LAST_BRACE.search(rest)
+        ends_plainly = plain is not None and (clause is None or plain.start() < clause.start())
+        end = plain.start() if ends_plainly and plain else (body.start() if body else len(rest))
+        found.append((start[1], rest[:end]))
+    return found
+
+
+def without_promise(crates: pathlib.Path) -> Found:
+    """The names of the public functions without a clause, by crate and by file of its src/."""
+    found: Found = collections.defaultdict(dict)
+    for path in sorted(crates.glob("*/src/**/*.rt")):
+        crate, _, *parts = path.relative_to(crates).parts
+        names = [it for it, text in signatures(path.read_text("utf-8")) if not CLAUSE.search(text)]
+        if names:
+            found[crate]["/".join(parts)] = names
+    return found
+
+
+def listed(document: str) -> dict[str, set[str]]:
+    """The files that each row of the table names, by its crate."""
+    section = document.partition(BEGIN)[2].partition("\n## ")[0]
+    rows = (line.strip("|").split("|") for line in section.splitlines() if line.startswith("| `"))
+    return {CODE.findall(row[0])[0]: set(CODE.findall(row[1])) for row in rows}
+
+
+def differences(found: Found, rows: dict[str, set[str]]) -> list[str]:
+    """What the list lacks, and what it has too many."""
+    faults = []
+    for crate in sorted({*found, *rows}):
+        files, named = found.get(crate, {}), rows.get(crate, set())
+        for name in sorted({*files} - named):
+            faults.append(f"{crate}/src/{name} is not listed: {', '.join(files[name])}")
+        faults += [f"{crate}/src/{name} is listed, and has none" for name in sorted(named - {*files})]
+    return faults
+
+
+def are_found(found: Found, rows: dict[str, set[str]]) -> bool:
+    """Whether a file that the list lacks, and one that it has too many, are found."""
+    lacking = {crate: set(sorted(files)[1:]) for crate, files in rows.items()}
+    longer = {crate: files | {"another.rt"} for crate, files in rows.items()}
+    known = len(differences(found, rows))
+    return all(len(differences(found, it)) == known + len(rows) for it in (lacking, longer))
+
+
+def main(words: list[str]) -> int:
+    document, folder = map(pathlib.Path, words)
+    found, rows = without_promise(folder), listed(document.read_text("utf-8"))
+    faults = differences(found, rows)
+    if not rows or not are_found(found, rows):
+        faults.append("a file that the list lacks, or has too many, is not found")
+    print(*faults, sep="\n", end="\n" if faults else "")
+    print(sum(len(names) for files in found.values() for names in files.values()), "functions")
+    return 1 if faults else 0
+
+
+if __name__ == "__main__":
+    sys.exit(main(sys.argv[1:]))

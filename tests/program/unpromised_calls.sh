@@ -1,0 +1,9 @@
+# The public functions without an `ensures` are those that docs/THEOREMS.md lists, each file with its reason.
+tests=$(cd "$(dirname "$0")/.." && pwd -P)
+. "$tests/common/cases.sh"
+needs python3
+top=${tests%/*}
+
+echo '== docs/THEOREMS.md'
+python3 "$tests/common/unpromised_calls.py" "$top/docs/THEOREMS.md" "$top/crates"
+echo "status $?"

@@ -1,0 +1,152 @@
+#!/usr/bin/env python3
+"""Runs each tool of Debian's tpm2-tools, with the steps of day.steps and rest.steps, on a tpmsim through
+the module for libtss2, on a served tpmsim and on swtpm, and compares the outcomes with the list of tools
+in docs/USING.md. Not part of the gate. It installs nothing, and leaves no files.
+
+    tools/interop/tool_table.py           reports if the document differs from the outcomes
+    tools/interop/tool_table.py --write   writes the list into the document
+
+Needs what day.py needs, and socat. The status is 1 if the document differs, if a tool has no step, or if a
+step is WRONG in the sense of day.py.
+"""
+
+from __future__ import annotations
+
+import dataclasses
+import difflib
+import subprocess
+import sys
+import tempfile
+import textwrap
+from collections.abc import Iterator
+from pathlib import Path
+
+from day import HERE, NEEDED, Maker, build_module, is_less, need, play_all, wrong_steps
+from devices import TOP, Module, Served, Swtpm
+from reasons import REASONS
+from steps import Outcome, read_steps
+
+DOCUMENT = TOP / "docs" / "USING.md"
+BEGIN, END = "<!-- tools -->\n", "<!-- end of tools -->\n"
+COLUMNS = 118
+
+
+@dataclasses.dataclass
+class Results:
+    """The outcomes of all steps on each device, in the same order. The steps of the day come
+    first.
+    """
+
+    of_day: int = 0
+    swtpm: list[Outcome] = dataclasses.field(default_factory=list)
+    tpmsim: list[Outcome] = dataclasses.field(default_factory=list)
+    served: list[Outcome] = dataclasses.field(default_factory=list)
+
+    def reasons_of(self, tool: str) -> set[str]:
+        """Returns why steps of a tool pass only on swtpm."""
+        pairs = zip(self.swtpm, self.tpmsim, strict=True)
+        return {ours.step.reason for theirs, ours in pairs if is_less(theirs, ours) and tool in ours.step.tools}
+
+
+def does(tool: str, outcomes: list[Outcome]) -> bool:
+    """Whether a step of the tool passes."""
+    return any(outcome.passed for outcome in outcomes if tool in outcome.step.tools)
+
+
+def all_tools() -> list[str]:
+    """Returns the tools of the package."""
+    listed = subprocess.run(["dpkg", "-L", "tpm2-tools"], check=True, capture_output=True, text=True)
+    names = (Path(line).name for line in listed.stdout.splitlines() if "/bin/tpm2_" in line)
+    return sorted(name.removeprefix("tpm2_") for name in names)
+
+
+def play_files(work: Path) -> Results:
+    results = Results()
+    made = build_module(work / "made")
+    for name in ("day", "rest"):
+        folder = work / name
+        folder.mkdir()
+        makers: list[Maker] = [
+            lambda: Swtpm(folder / "swtpm"),
+            lambda: Module(folder / "tpmsim", made),
+            lambda: Served(folder / "served"),
+        ]
+        swtpm, tpmsim, served = play_all(makers, read_steps(HERE / f"{name}.steps"))
+        results.of_day = results.of_day or len(swtpm)
+        results.swtpm += swtpm
+        results.tpmsim += tpmsim
+        results.served += served
+    return results
+
+
+def passed(outcomes: list[Outcome]) -> int:
+    return sum(outcome.passed for outcome in outcomes)
+
+
+def listed(tools: list[str]) -> str:
+    return ", ".join(tools) or "-"
+
+
+def rows(tools: list[str], results: Results) -> Iterator[str]:
+    """Yields a row of the table for each reason."""
+    for reason, sentence in REASONS.items():
+        less = [tool for tool in tools if reason in results.reasons_of(tool)]
+        if less:
+            not_at_all = [tool for tool in less if not does(tool, results.tpmsim)]
+            in_part = [tool for tool in less if does(tool, results.tpmsim)]
+            yield f"| {sentence} | {listed(not_at_all)} | {listed(in_part)} |"
+
+
+def paragraph(text: str) -> str:
+    return textwrap.fill(text, COLUMNS, break_long_words=False, break_on_hyphens=False) + "\n"
+
+
+def block(tools: list[str], results: Results) -> str:
+    """Returns what the document contains between its marks."""
+    whole = [tool for tool in tools if does(tool, results.tpmsim) and not results.reasons_of(tool)]
+    served = [tool for tool in tools if does(tool, results.served)]
+    nowhere = [tool for tool in tools if not does(tool, results.swtpm) and not does(tool, results.tpmsim)]
+    theirs, ours = (passed(each[: results.of_day]) for each in (results.swtpm, results.tpmsim))
+    parts = [
+        f"Of the {results.of_day} steps of a working day swtpm passes {theirs}, and a device in a folder {ours}. There "
+        f"{len(whole)} of the {len(tools)} tools do all that they did on swtpm: {listed(whole)}.",
+        "The others do less, each for a reason:",
+        f"Not by swtpm either: {listed(nowhere)}.",
+        f"On a served device {len(served)} tools do something: {listed(served)}.",
+    ]
+    paragraphs = [paragraph(part) for part in parts]
+    table = "| why | these do nothing | these do the rest |\n|---|---|---|\n" + "\n".join(rows(tools, results)) + "\n"
+    return "\n".join([*paragraphs[:2], table, *paragraphs[2:]])
+
+
+def put(text: str, new: str) -> str:
+    """Returns the document with another block between the marks."""
+    front, _, rest = text.partition(BEGIN)
+    _, _, back = rest.partition(END)
+    return front + BEGIN + new + END + back
+
+
+def main() -> int:
+    need((*NEEDED, "socat"))
+    with tempfile.TemporaryDirectory() as name:
+        results = play_files(Path(name))
+    tools = all_tools()
+    wrong = list(wrong_steps(results.swtpm, results.tpmsim))
+    tried = {tool for outcome in results.swtpm for tool in outcome.step.tools}
+    wrong += [f"no step uses tpm2_{tool}" for tool in tools if tool not in tried]
+    for line in wrong:
+        print(f"WRONG: {line}")
+    text = DOCUMENT.read_text()
+    new = put(text, block(tools, results))
+    if "--write" in sys.argv[1:]:
+        DOCUMENT.write_text(new)
+    elif new != text:
+        wrong.append("the document")
+        lines = difflib.unified_diff(text.splitlines(), new.splitlines(), str(DOCUMENT), "found", lineterm="")
+        print(*lines, sep="\n")
+    print(f"{len(tools)} tools were tried, {len(wrong)} wrong")
+    return 1 if wrong else 0
+
+
+if __name__ == "__main__":
+    sys.exit(main())
