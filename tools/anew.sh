@@ -1,6 +1,6 @@
 #!/bin/sh
-# Writes all scripts of tests/ and examples/ again by their programs, in a copy, and their outputs by
-# the device in Python; and compares the files with those of the repository, byte for byte. Needs
+# Writes all stored scripts of tests/ and examples/ again by their programs, in a copy, and their outputs
+# by the device in Python; and compares the files with those of the repository, byte for byte. Needs
 # python3; takes half a minute on four processors. JOBS is the number of programs that run at a time.
 #
 #   tools/anew.sh           compares

@@ -1,6 +1,7 @@
 #!/bin/sh
 # Plays the scripts of tests/ and examples/, and the shell tests of tests/, and compares the results with
-# the expected files next to them. It uses each of the two programs that `rt ci` leaves, and the one in
+# the expected files next to them. Exhaustive scripts are not stored: tests/common/made.py makes them first,
+# with the responses and traces of the device in Python. It uses each of the two programs that `rt ci` leaves, and the one in
 # dist/ if that has other bytes. Then tpmsim_lists, which keeps the device's state in lists and not in
 # fixed places, plays the scripts that are to end well, and has to print the same bytes. At last come the
 # shell tests of that program, and those of the library in dist/ and of what attaches it. If nothing was
@@ -43,7 +44,8 @@ work=
 [ -n "${TMPDIR:-}" ] || work=$(folder_in_memory 1 2>&1) || work=
 [ -n "$work" ] || work=$(mktemp -d) || exit 1
 trap 'rm -rf "$work"' EXIT
-mkdir "$work/told" "$work/rooms" "$work/queue" || exit 1
+made_in=$work/made
+mkdir "$work/told" "$work/rooms" "$work/queue" "$made_in" || exit 1
 # A test may run as another user, who has to reach its folder.
 chmod a+x "$work" "$work/rooms"
 export TMPDIR="$work/rooms"
@@ -87,11 +89,36 @@ skip() {
     say "skipped: $1: $2"
 }
 
+# check_made TEST PROGRAM: queues a script that was made; its trace has the responses too.
+check_made() {
+    if [ "${TPMSIM_PYTHON:-}" = whole ]; then
+        check "$1" "$2" "${1%.tpm}.trace" --trace
+    else
+        skip "${1#"$work/"}" 'there is no python3 (Debian: python3)'
+    fi
+}
+
 # is_test PATH: whether it is a test; the files of tests/common are not.
 is_test() {
     case $1 in
     "$top/tests/common/"*) false ;;
     *) [ -f "$1" ] ;;
+    esac
+}
+
+# The programs that make a script when it is played, one in each line.
+programs_of_made=$(grep -lE '^"""Makes [a-z_0-9]+[.]tpm' "$top"/tests/*/*.py)
+
+# makes PROGRAM: whether it is one of them.
+makes() {
+    echo "$programs_of_made" | grep -qxF -- "$1"
+}
+
+# is_made TEST: whether it is a script that a program makes.
+is_made() {
+    case $1 in
+    "$made_in/"*) true ;;
+    *) false ;;
     esac
 }
 
@@ -116,8 +143,34 @@ for name do
             found=yes
         fi
     done
+    # shellcheck disable=SC2086,SC2231 # a name may be a pattern
+    for written_by in "$top/tests/"$name.py "$top/tests/"*/$name.py; do
+        if makes "$written_by"; then
+            test=${written_by#"$top/tests/"}
+            set -- "$@" "$made_in/${test%.py}.tpm"
+            found=yes
+        fi
+    done
     [ -n "$found" ] || say "FAILED: $name: there is no such test"
 done
+
+# make_scripts TEST..: makes the scripts among these tests that are not stored. If they are all that there
+# are, tests that play all scripts need not make them again.
+make_scripts() {
+    for test do
+        shift
+        ! is_made "$test" || set -- "$@" "$(basename "$test" .tpm)"
+    done
+    [ "$#" -gt 0 ] || return 0
+    JOBS=$jobs "$top/tools/python.sh" "$top/tests/common/made.py" "$made_in" "$@" 2>"$work/fault" || {
+        say "FAILED: scripts that are made: $(tail -n 1 "$work/fault")"
+        return
+    }
+    [ "$#" -lt "$(echo "$programs_of_made" | wc -l)" ] || export TPMSIM_MADE="$made_in"
+}
+
+unset TPMSIM_MADE
+[ "${TPMSIM_PYTHON:-}" != whole ] || make_scripts "$@"
 
 # is_of_library TEST: whether it tests the library, what attaches it, or the module for web pages.
 is_of_library() {
@@ -168,6 +221,10 @@ for program in "$out/tpmsim" "$out/tpmsim.by-rattle" "$in_dist"; do
         */lists_*.sh) continue ;;
         esac
         ! is_of_library "$test" || continue
+        if is_made "$test"; then
+            check_made "$test" "$program"
+            continue
+        fi
         check "$test" "$program" "${test%.*}.out"
         case $test in
         *.tpm) [ ! -f "${test%.*}.trace" ] || check "$test" "$program" "${test%.*}.trace" --trace ;;
@@ -191,6 +248,9 @@ for test do
         else
             skip "${test#"$top/"}" 'tpmsim_lists was not built here'
         fi
+        ;;
+    "$made_in/"*)
+        [ ! -x "$lists" ] || [ ! -f "$test" ] || check "$test" "$lists" "${test%.*}.out"
         ;;
     *.tpm)
         [ ! -x "$lists" ] || ! ends_well "$test" || check "$test" "$lists" "${test%.*}.out"

@@ -44,6 +44,14 @@ skip() {
 
 . "$tests/common/needs.sh"
 
+# make_scripts: makes the scripts that are not stored, in TPMSIM_MADE, if tools/scripts.sh has not done so.
+make_scripts() {
+    [ -z "${TPMSIM_MADE:-}" ] || return 0
+    TPMSIM_MADE=$room/made
+    export TPMSIM_MADE
+    python3 "$tests/common/made.py" "$TPMSIM_MADE"
+}
+
 # script NAME: the path of a script of tests/.
 script() {
     name_of_script=$1

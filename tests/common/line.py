@@ -18,6 +18,7 @@ from tpmsim.model import general
 from tpmsim.standard import Fields, frames, lines
 from tests.common import places
 from tests.common.expected import line_told
+from tests.common.script import MADE_THIS, WROTE_THIS
 from tests.common.shims import Shim, Turns
 
 EACH = 20
@@ -58,7 +59,8 @@ def is_right(line):
 
 def faults(text):
     """The numbers of the lines at which a script is wrong."""
-    is_written = "next to it, wrote this." in text.replace("\n# ", " ") and AS_BYTES not in text
+    told = text.replace("\n# ", " ")
+    is_written = (WROTE_THIS in told or MADE_THIS in told) and AS_BYTES not in told
     for number, line in enumerate(text.splitlines(), 1):
         word, _, argument = line.partition(" ")
         if word == "do" and not is_right(argument.encode("ascii")):

@@ -16,6 +16,9 @@ COLUMNS = 100
 # The size of each command's `entropy` line, in bytes: no two nonces of a command are then the same.
 SEED_BYTES = 7
 
+# The end of a script's first comment, which begins with the name of its program.
+WROTE_THIS, MADE_THIS = ", next to it, wrote this.", " made this."
+
 # An outcome in words: after a colon, and before a comma or the end.
 SUCCESS = "SUCCESS"
 OUTCOME = re.compile(r"(?:^|: )([A-Z][A-Z0-9_]+)(/[hps][1-9])?(?=,|$)")
@@ -32,19 +35,26 @@ def told_outcome(words: str) -> tuple[str, str, str]:
     return words[: found.start()], found[1] + (found[2] or ""), words[found.end() :]
 
 
+def told_head(told: str) -> str:
+    """What the first paragraph of a program says of its script, after the script's name."""
+    return " ".join(told.split("\n\n")[0].partition(".tpm. ")[2].split())
+
+
 class Script:
-    """Lines, and a device that executes them as they are written. The script is next to its
-    program, and has the program's name unless it has its own.
+    """Lines, and a device that executes them as they are written. The script has the name of its
+    program unless it has its own. It is stored next to the program, or made when it is played.
     """
 
-    def __init__(self, program: str | os.PathLike[str], head: str, name: str = "") -> None:
+    def __init__(
+        self, program: str | os.PathLike[str], head: str, name: str = "", is_made: bool = False
+    ) -> None:
         written_by = pathlib.Path(program)
         self.path = written_by.with_name(f"{name or written_by.stem}.tpm")
         self.lines: list[str] = []
         self.played: list[Played] = []
         self.device, self.locality, self.random = Model(), 0, bytes(RANDOM_BYTES)
         self.seeds, self.elapsed, self.pause = 0, 0, 0
-        self.write_comment(f"{head} {written_by.stem}.py, next to it, wrote this.")
+        self.write_comment(f"{head} {written_by.stem}.py{MADE_THIS if is_made else WROTE_THIS}")
 
     @property
     def last(self) -> Outcome:
@@ -137,6 +147,15 @@ class Script:
             "each command from here on."
         )
         self.pause = 1000
+
+    def write_below(self, folder: pathlib.Path) -> None:
+        """Writes the script with its responses and its trace, in FOLDER/GROUP. GROUP is the folder
+        of its program.
+        """
+        self.path = folder / self.path.parent.name / self.path.name
+        self.path.parent.mkdir(parents=True, exist_ok=True)
+        self.path.with_suffix(".trace").touch()
+        self.write()
 
     def write(self) -> None:
         self.path.write_text("\n".join(self.lines) + "\n", "ascii")

@@ -18,7 +18,7 @@ from typing import Any, Callable
 from tpmsim.caller import flipped, Prepared, Session, storage_key
 from tpmsim.model.machine import Outcome
 from tpmsim.standard import frames, RH_OWNER
-from tests.common.script import OUTCOME, Script, SUCCESS
+from tests.common.script import OUTCOME, Script, SUCCESS, told_head
 from tests.common.script_caller import ScriptCaller
 
 
@@ -43,7 +43,7 @@ class Teller(ScriptCaller):
     """A caller with the script of a program. `name` is that of the program's module, and `told` its
     first words: the name of the script, a full stop, and what the script says of itself. If it
     `starts`, the script begins with TPM2_Startup(CLEAR). If `tries` are allowed, no wrong one locks
-    anything. `tests/anew.py` writes the script.
+    anything. `tests/anew.py` writes the script, or tests/common/made.py if it begins with "Makes".
     """
 
     written_by = ".tpm"
@@ -51,8 +51,9 @@ class Teller(ScriptCaller):
     def __init__(self, name: str, told: str, tries: bool = False, starts: bool = True) -> None:
         if name == "__main__":
             sys.exit("a program of a script is run by tests/anew.py")
-        head = " ".join(told.split("\n\n")[0].partition(".tpm. ")[2].split())
-        super().__init__(Script(name.replace(".", "/") + self.written_by, head))
+        program = name.replace(".", "/") + self.written_by
+        is_made = told.startswith("Makes ")
+        super().__init__(Script(program, told_head(told), is_made=is_made))
         if starts:
             self.startup()
         if tries:

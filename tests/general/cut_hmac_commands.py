@@ -1,4 +1,4 @@
-"""Writes cut_hmac_commands.tpm. Commands that an HMAC authorizes, cut after their authorization
+"""Makes cut_hmac_commands.tpm. Commands that an HMAC authorizes, cut after their authorization
 area to each shorter length, with the right commandSize. The HMAC is that of the whole parameters,
 so it is wrong; it is compared before the parameters are read. At a protected NV index or object
 that is a try: TPM_PT_LOCKOUT_COUNTER (20E) shows that it counts. TPM2_DictionaryAttackLockReset

@@ -1,4 +1,4 @@
-"""Writes get_capability.tpm. TPM2_GetCapability lists handles (1), commands (2), PCRs (5) and
+"""Makes get_capability.tpm. TPM2_GetCapability lists handles (1), commands (2), PCRs (5) and
 properties (6). It returns the elements from the requested one on, up to the requested number, and
 says whether more of them follow.
 """

@@ -3,12 +3,19 @@ look at the state of the device, which must be unchanged.
 """
 
 import copy
+from collections.abc import Callable, Iterable, Iterator, Sequence
 
 from tpmsim.model import capability
+from tpmsim.model.machine import Model
+from tpmsim.model.nv_commands import Index
 from tpmsim.standard import CC, command, frames, handle_kinds, HMAC_SESSION, number, NV, on_handles
 from tpmsim.standard import PERSISTENT, RH_OWNER, SHA1, SHA256, TRANSIENT
 from tpmsim.standard.nv import Attribute
-from tests.common.script import Script
+from tests.common.examples import CHAPTERS, Example
+from tests.common.script import Script, SUCCESS, told_head
+
+# Words, an outcome, and the buffers that have it.
+Row = tuple[str, str, list[bytes]]
 
 AS_BYTES = (
     "All commands are in bytes, whole ones too, for comparison with the others; only those "
@@ -27,20 +34,20 @@ LISTED = {
 PCRS = (10, 16)
 
 
-def capabilities(kind, first, count=capability.MOST_ELEMENTS):
+def capabilities(kind: int, first: int, count: int = capability.MOST_ELEMENTS) -> bytes:
     return command(CC.GetCapability, number(kind, 4) + number(first, 4) + number(count, 4))
 
 
-def at_pcrs():
+def at_pcrs() -> bytes:
     """These PCRs in both banks, and the update counter, which each change of a PCR raises."""
     return command(CC.PCR_Read, frames.selection((SHA1, PCRS), (SHA256, PCRS)))
 
 
-def at_handles(kind):
+def at_handles(kind: int) -> bytes:
     return capabilities(capability.HANDLES, kind << 24)
 
 
-def at_index(index, owner_auth):
+def at_index(index: Index, owner_auth: bytes) -> Iterator[bytes]:
     """The public area of an index, and its data if the owner can read them."""
     public = index.public
     yield command(CC.NV_ReadPublic, number(public.index, 4))
@@ -54,7 +61,7 @@ def at_index(index, owner_auth):
         )
 
 
-def at_all(device):
+def at_all(device: Model) -> Iterator[bytes]:
     """All commands that look at the state of a device."""
     yield at_pcrs()
     for kind in LISTED:
@@ -71,54 +78,67 @@ def at_all(device):
 
 class LookingScript(Script):
     """A script that looks at the PCRs and at the handles of a kind after each refusal, and at
-    everything that can be seen after the last one of a command.
+    everything that can be seen after the last one of a command. `name` is that of its program's
+    module, and `told` what the program says of it.
     """
 
-    def __init__(self, program, head, kind, name=""):
+    def __init__(self, name: str, told: str) -> None:
         super().__init__(
-            program,
-            f"{head} After each refusal, or a row of equal ones, TPM2_PCR_Read of PCRs 10 and 16, "
-            "which answers the update counter too, and TPM2_GetCapability of the "
-            f"{LISTED[kind]} show that nothing changed. After the last one of a command all "
+            name.replace(".", "/") + ".tpm",
+            f"{told_head(told)} After each refusal, or a row of equal ones, TPM2_PCR_Read of PCRs "
+            "10 and 16, which answers the update counter too, and TPM2_GetCapability of the "
+            "chapter's handles show that nothing changed. After the last one of a command all "
             "that look do so: at the handles of each kind, at the failed tries, at the clock, at "
             "the digest of a policy session, and at the NV indices.",
-            name,
+            is_made=True,
         )
         self.write_comment(AS_BYTES)
-        self.kind, self.seen = kind, {}
+        self.kind, self.seen, self.probe = HMAC_SESSION, dict[bytes, bytes](), self.device
 
-    def look(self, what, looks):
+    def look(self, what: str, looks: Iterable[bytes]) -> None:
         """The answers must be those of before, since the last whole command."""
-        outcome = "SUCCESS" if self.device.started else "INITIALIZE"
-        number = "" if outcome == "SUCCESS" else f" ({frames.code_of(outcome):03X})"
+        outcome = SUCCESS if self.device.started else "INITIALIZE"
+        number = "" if outcome == SUCCESS else f" ({frames.code_of(outcome):03X})"
         self.write_comment(f"{what}: {outcome}{number}.")
         for buffer in looks:
             answer = self.command(outcome, buffer)
             if self.seen.setdefault(buffer, answer) != answer:
                 raise ValueError(f"{self.path.name}: a refusal changed what {buffer.hex()} sees")
 
-    def look_at_all(self, what):
+    def look_at_all(self, what: str) -> None:
         self.look(what, list(at_all(self.device)))
 
-    def refusal_of(self, buffer):
-        """The code with which a command is refused now, or None."""
-        return copy.deepcopy(self.device).execute(buffer, self.locality, self.random).refused
+    def outcome_now(self, buffer: bytes) -> str:
+        """The outcome that a command would have now. Only a copy of the device executes it."""
+        refused = self.probe.execute(buffer, self.locality, self.random).refused
+        if refused is None or refused.startswith("AUTH_FAIL"):
+            self.probe = copy.deepcopy(self.device)
+        return refused or SUCCESS
 
-    def refusals(self, name, whole, outcome, refused):
-        """A command: its refused buffers, in rows of a comment, a code and the buffers; and then
-        the whole one.
+    def refuses_each(self, refused_of: Callable[[Example], Iterable[Row]]) -> None:
+        """Plays the examples of each command. Before each one come the refused buffers that are
+        made of it: in rows of words, an outcome, and buffers.
         """
-        self.seen = {}
-        rows = list(refused)
+        for at, chapter in enumerate(CHAPTERS):
+            self.kind = chapter.kind
+            self.chapter(f"{chapter.name}: TPM2_GetCapability lists {LISTED[chapter.kind]}.")
+            if at:
+                self.power()
+            for example in chapter.examples:
+                self.seen, self.probe = {}, copy.deepcopy(self.device)
+                self.refuses(example, list(refused_of(example)))
+
+    def refuses(self, example: Example, rows: Sequence[Row]) -> None:
+        """The rows of refused buffers, and then the whole command."""
         if not rows:
-            self.command(f"{name}: {outcome}", whole, as_bytes=True)
+            self.command(f"{example.name}: {example.outcome}", example.whole, as_bytes=True)
             return
         self.lines.append("")
-        self.look_at_all(f"{name}. What is seen before it")
-        for what, code, buffers in rows:
-            self.command(f"{what}: {code}", *buffers, as_bytes=True)
+        self.look_at_all(f"{example.name}. What is seen before it")
+        for what, outcome, buffers in rows:
+            self.command(f"{what}: {outcome}", *buffers, as_bytes=True)
             self.look("As before", [at_pcrs(), at_handles(self.kind)])
         self.look_at_all("All as before")
-        self.command(f"Whole: {outcome}", whole, as_bytes=True)
-        if outcome != "SUCCESS":
+        self.command(f"Whole: {example.outcome}", example.whole, as_bytes=True)
+        if example.outcome != SUCCESS:
             self.look_at_all("All as before")

@@ -1,8 +1,8 @@
-# The program for ARM64, in qemu: every third script of tests/, or with EVERY=1 each, prints the responses and
-# traces of its files. Both machines read each other's device in a folder and image.
+# The program for ARM64, in qemu: every third script, stored or made, or with EVERY=1 each, prints the responses
+# and traces of its files. Both machines read each other's device in a folder and image.
 tests=$(cd "$(dirname "$0")/.." && pwd -P)
 . "$tests/common/cases.sh"
-needs qemu-aarch64
+needs qemu-aarch64 python3
 top=${tests%/*}
 arm=$top/dist/aarch64/tpmsim
 (cd "$top" && . tools/lib/proved.sh && ship aarch64 && is_proved sources "$(sources_checksum tpmsim)") ||
@@ -27,9 +27,10 @@ compare() {
     fi
 }
 
+make_scripts
 number=0
 played=0
-for script in "$tests"/*/*.tpm; do
+for script in "$tests"/*/*.tpm "$TPMSIM_MADE"/*/*.tpm; do
     number=$((number + 1))
     if [ $((number % ${EVERY:-3})) -eq 0 ] && [ -f "${script%.tpm}.out" ]; then
         compare "$script"

@@ -1,4 +1,4 @@
-"""Writes nv_define_space.tpm. TPM2_NV_DefineSpace: which public areas an index can have, and how
+"""Makes nv_define_space.tpm. TPM2_NV_DefineSpace: which public areas an index can have, and how
 many indices there can be.
 """
 

@@ -1,4 +1,4 @@
-"""Writes order_of_nv_refusals.tpm. The order of refusals in the commands on NV indices: a buffer
+"""Makes order_of_nv_refusals.tpm. The order of refusals in the commands on NV indices: a buffer
 has many faults, which are repaired one after the other. The answer is always the first fault that
 is left.
 """

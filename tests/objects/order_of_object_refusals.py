@@ -1,4 +1,4 @@
-"""Writes order_of_object_refusals.tpm. The order of refusals in the commands of objects: a buffer
+"""Makes order_of_object_refusals.tpm. The order of refusals in the commands of objects: a buffer
 has many faults, which are repaired one after the other. The answer is always the first fault that
 is left.
 """

@@ -1,4 +1,4 @@
-"""Writes template_refusals.tpm. What TPM2_CreatePrimary, TPM2_Create and TPM2_Load refuse of
+"""Makes template_refusals.tpm. What TPM2_CreatePrimary, TPM2_Create and TPM2_Load refuse of
 inSensitive and inPublic: first what cannot be read, in reading order; then what is wrong in any
 public area; and then what is wrong in an area of a new object.
 """

@@ -1,4 +1,4 @@
-"""Writes policy_handles.tpm. The commands of policies have the handle of a policy or trial session,
+"""Makes policy_handles.tpm. The commands of policies have the handle of a policy or trial session,
 which needs no authorization. In TPM2_PolicySecret it is the second.
 """
 

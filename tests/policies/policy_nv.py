@@ -1,4 +1,4 @@
-"""Writes policy_nv.tpm. TPM2_PolicyNV: the policy holds while the content of an index compares with
+"""Makes policy_nv.tpm. TPM2_PolicyNV: the policy holds while the content of an index compares with
 a value. Its parameters are operandB, offset and operation; the index is on the left of the
 comparison.
 """

@@ -1,4 +1,4 @@
-"""Writes policy_or.tpm. TPM2_PolicyOR: the digest is one of two to eight in a list; then it becomes
+"""Makes policy_or.tpm. TPM2_PolicyOR: the digest is one of two to eight in a list; then it becomes
 that of the list.
 """
 

@@ -1,4 +1,4 @@
-"""Writes policy_pcr.tpm. TPM2_PolicyPCR: the policy is for PCRs with their present values. Its
+"""Makes policy_pcr.tpm. TPM2_PolicyPCR: the policy is for PCRs with their present values. Its
 parameters are the digest that they should have, if any, and the selection.
 """
 

@@ -1,11 +1,12 @@
-# The module for web pages, in node: it imports nothing, and plays each script of tests/ and examples/ as the
-# program does: the responses, the traces, and the first bad line.
+# The module for web pages, in node: it imports nothing, and plays each script as the program does: the
+# responses, the traces, and the first bad line.
 tests=$(cd "$(dirname "$0")/.." && pwd -P)
 . "$tests/common/cases.sh"
-needs node
+needs node python3
 top=${tests%/*}
+make_scripts
 
-node "$top/web/play.mjs" "$top/dist/tpmsim.wasm" compare "$tests" "$top/examples" >told
+node "$top/web/play.mjs" "$top/dist/tpmsim.wasm" compare "$tests" "$top/examples" "$TPMSIM_MADE" >told
 echo "status $?"
 sed '/ scripts, /d' told
 sed -n 's/ scripts, .*//p' told | while read -r scripts; do

@@ -2,7 +2,7 @@
 # says, byte for byte.
 tests=$(cd "$(dirname "$0")/.." && pwd -P)
 . "$tests/common/cases.sh"
-needs node
+needs node python3
 top=${tests%/*}
 module=$top/dist/tpmsim.wasm
 codes='0 1e 100 12f 14a 901 921 922 98e 9a2 18b 28b 1c4 2d5 4d4 a95 b84 1000 ffff'
@@ -35,4 +35,5 @@ done >program.codes
 words codes $codes >module.codes
 same codes
 
-words spelled "$tests" "$top/examples"
+make_scripts
+words spelled "$tests" "$top/examples" "$TPMSIM_MADE"

@@ -8,9 +8,15 @@ import pathlib
 
 from tpmsim.explain import dissection
 from tpmsim.records.reader import Command, steps_of
+from tests.common import places
 
-TOP = pathlib.Path(__file__).resolve().parents[2]
-MOST_BYTES = 200_000
+MOST_BYTES = 500_000
+
+
+def scripts() -> list[pathlib.Path]:
+    """All scripts of tests/ and examples/, and those that are made."""
+    found = [*places.TESTS.glob("**/*.tpm"), *places.EXAMPLES.glob("*.tpm")]
+    return [*sorted(found), *sorted(places.folder_of_made().glob("*/*.tpm"))]
 
 
 def values(fields):
@@ -27,7 +33,7 @@ def responses_of(path):
 
 def main():
     seen = set()
-    for script in sorted([*TOP.glob("tests/**/*.tpm"), *TOP.glob("examples/*.tpm")]):
+    for script in scripts():
         answers = script.with_suffix(".out")
         if not answers.exists() or script.stat().st_size > MOST_BYTES:
             continue

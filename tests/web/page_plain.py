@@ -9,9 +9,15 @@ import pathlib
 from tpmsim.model.machine import Model
 from tpmsim.records.reader import Command, Power, steps_of
 from tpmsim.standard import DECRYPT, ENCRYPT, Fields
+from tests.common import places
 
-TOP = pathlib.Path(__file__).resolve().parents[2]
-MOST_BYTES = 200_000
+MOST_BYTES = 500_000
+
+
+def scripts() -> list[pathlib.Path]:
+    """All scripts of tests/ and examples/, and those that are made."""
+    found = [*places.TESTS.glob("**/*.tpm"), *places.EXAMPLES.glob("*.tpm")]
+    return [*sorted(found), *sorted(places.folder_of_made().glob("*/*.tpm"))]
 
 
 class Watched(Model):
@@ -52,7 +58,7 @@ def plain_of(script):
 
 
 def main():
-    for path in sorted([*TOP.glob("tests/**/*.tpm"), *TOP.glob("examples/*.tpm")]):
+    for path in scripts():
         script = path.read_bytes()
         if not path.with_suffix(".out").exists() or len(script) > MOST_BYTES or b" s:0" not in script:
             continue

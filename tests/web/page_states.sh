@@ -8,7 +8,8 @@ top=${tests%/*}
 python3 "$top/web/build.py" --facts >facts.json || exit 1
 mkdir -p web js && cp -R "$top/web/page" web/page && cp -R "$top/js/src" js/src || exit 1
 echo '{ "type": "module" }' >package.json
-find "$tests" "$top/examples" -name '*.tpm' -size -100k | sort >names
+make_scripts
+find "$tests" "$top/examples" "$TPMSIM_MADE" -name '*.tpm' -size -450k | sort >names
 while read -r name; do
     # The program ends a script with a bad line there, and the page goes on.
     [ ! -f "${name%.tpm}.out" ] || [ -f "${name%.tpm}.status" ] || echo "$name"

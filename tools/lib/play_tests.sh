@@ -13,11 +13,17 @@ lists=$top/crates/tpmsim_lists/out/tpmsim_lists
 work=$1
 shift
 
+# name_of FILE: its path in the repository, or among the scripts that were made.
+name_of() {
+    name=${1#"$top/"}
+    echo "${name#"$work/"}"
+}
+
 # first_difference TEST WANTED: the first line of standard output that differs from the expected one
 # and, for a script, the line of the script that printed it. Each cmd and do line prints a line, with a
 # trace two; with a trace `power` prints one.
 first_difference() {
-    awk -v test="${1#"$top/"}" -v out="${2#"$top/"}" '
+    awk -v test="$(name_of "$1")" -v out="$(name_of "$2")" '
         BEGIN { traces = out ~ /trace$/ }
         FILENAME == ARGV[1] {
             prints = 0
@@ -86,10 +92,10 @@ tell_difference() {
 # check TEST PROGRAM WANTED [OPTION]: plays a test, and says what differs from the expected files.
 check() {
     name_program "$2"
-    named="${1#"$top/"} with $program_name${4:+ $4}"
+    named="$(name_of "$1") with $program_name${4:+ $4}"
     base=${1%.*}
     if [ ! -f "$3" ]; then
-        echo "FAILED: $named: ${3#"$top/"} is not there"
+        echo "FAILED: $named: $(name_of "$3") is not there"
         return
     fi
     status=0

@@ -1,0 +1,52 @@
+"""Makes the scripts that are not stored, with their responses and traces by the Python device:
+
+    tools/python.sh tests/common/made.py FOLDER          all of them
+    tools/python.sh tests/common/made.py FOLDER NAME..   these, such as cut_commands
+
+The programs of these scripts begin with `Makes NAME.tpm`. For tests/nv/NAME.py it writes NAME.tpm,
+NAME.out and NAME.trace in FOLDER/nv. JOBS is the number of programs that run at a time.
+"""
+
+import importlib
+import multiprocessing
+import os
+import pathlib
+import re
+import sys
+
+TOP = pathlib.Path(__file__).resolve().parents[2]
+MAKES = re.compile(r'"""Makes (\w+)\.tpm\b')
+
+
+def programs() -> dict[str, pathlib.Path]:
+    """The programs of made scripts by their names; the largest programs take longest."""
+    found = {}
+    for path in sorted(TOP.glob("tests/*/*.py"), key=lambda it: -it.stat().st_size):
+        told = MAKES.match(path.read_text("utf-8"))
+        if told:
+            assert told[1] == path.stem, f"{path} makes {told[1]}.tpm"
+            found[path.stem] = path
+    return found
+
+
+def make(program: pathlib.Path, folder: pathlib.Path) -> None:
+    """Makes the script of a program, which has a `script`, or a caller `tpm` that has it."""
+    name = ".".join(program.relative_to(TOP).with_suffix("").parts)
+    found = importlib.import_module(name)
+    script = found.script if hasattr(found, "script") else found.tpm.script
+    script.write_below(folder)
+
+
+def make_all(folder: pathlib.Path, *names: str) -> None:
+    """Makes the scripts of these names, or all of them."""
+    known = programs()
+    asked = [(known[it], folder) for it in names or known]
+    jobs = int(os.environ.get("JOBS") or os.cpu_count() or 1)
+    with multiprocessing.Pool(min(jobs, len(asked))) as pool:
+        pool.starmap(make, asked, chunksize=1)
+
+
+if __name__ == "__main__":
+    if len(sys.argv) < 2:
+        sys.exit(__doc__)
+    make_all(pathlib.Path(sys.argv[1]), *sys.argv[2:])
