@@ -3,9 +3,11 @@ faults that name the field.
 """
 
 import builtins
+import contextlib
 import functools
 import importlib
 import inspect
+import io
 import pathlib
 import pkgutil
 import sys
@@ -206,7 +208,17 @@ class Faults(unittest.TestCase):
 
 
 class Documented(unittest.TestCase):
-    """What an editor shows."""
+    """What an editor and the README show."""
+
+    def test_readme(self):
+        """The example of words runs, and prints what it says."""
+        code, printed = (PACKAGE / "README.md").read_text("utf-8").split("```")[7], io.StringIO()
+        with contextlib.redirect_stdout(printed):
+            exec(code.removeprefix("python"), {})
+        public, pcr, is_found, wrong = printed.getvalue().splitlines()
+        self.assertEqual(public, "ownerwrite|ownerread|nt=counter 8")
+        self.assertEqual((pcr, is_found), ("00" * 32, "True"))
+        self.assertTrue(wrong.startswith("bytesRequested takes an integer from 0 to 65535"))
 
     def test_stub(self):
         """calls.pyi is made from the table of commands; to make it again, run call_types.py."""

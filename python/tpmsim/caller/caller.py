@@ -1,7 +1,7 @@
 """A caller of a device, which sends commands and learns from each response."""
 
 import secrets
-from typing import Any, Callable, Protocol, Sequence
+from typing import Any, Callable, Protocol
 
 from tpmsim.caller.calls import Calls, RESPONSES
 from tpmsim.caller.entries import Made, Means, Prepared, Refused, Response, Session, Use
