@@ -4,7 +4,10 @@ second implementation of the device, in Python.
 `tpmsim.caller` makes commands and reads responses, `tpmsim.device` contains devices that execute
 them, `tpmsim.model` is a device in plain Python, and `tpmsim.audit` audits the log of a device.
 They use `tpmsim.standard`, which contains the numbers, the structures and the computations of the
-standard.
+standard. Every exception of the package is a `TpmsimError`.
 """
 
+from tpmsim.faults import BadValue, TpmsimError
+
+__all__ = ["BadValue", "TpmsimError"]
 __version__ = "0.1.0"

@@ -2,10 +2,12 @@
 
 from typing import Iterable, Iterator
 
+from tpmsim.faults import TpmsimError
+
 SHOWN, BEFORE = 96, 24
 
 
-class Disagreement(Exception):
+class Disagreement(TpmsimError):
     """How a log differs from the expected one, as text."""
 
 

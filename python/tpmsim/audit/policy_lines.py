@@ -12,6 +12,7 @@ from tpmsim.audit.log import section
 from tpmsim.audit.session_lines import Asserted
 from tpmsim.audit.watch import Entities, Entity
 from tpmsim.explain.words import command_words
+from tpmsim.faults import TpmsimError
 from tpmsim.model.parameters import Parameters
 from tpmsim.policies.pcr_values import PcrValues
 from tpmsim.policies.policy_file import PolicyFile
@@ -29,7 +30,7 @@ class Told:
     before: bytes = b""
 
 
-class NotMet(Exception):
+class NotMet(TpmsimError):
     """The part of a policy that a session did not assert, as text."""
 
 

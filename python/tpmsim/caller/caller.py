@@ -1,14 +1,15 @@
 """A caller of a device, which sends commands and learns from each response."""
 
 import secrets
-from typing import Any, Callable, Protocol, Sequence
+from typing import Any, Callable, Protocol
 
+from tpmsim.caller.calls import Calls, RESPONSES
 from tpmsim.caller.entries import Made, Means, Prepared, Refused, Response, Session, Use
 from tpmsim.caller.knowledge import CLEAR, NONCE_BYTES
 from tpmsim.caller.prepared_commands import PreparedCommands
 from tpmsim.policies.policy_file import policy_of, Step, steps_of
-from tpmsim.standard import ALG_NULL, CC, nv, objects, policy, RH_NULL, RH_OWNER, SE_HMAC, SE_POLICY
-from tpmsim.standard import SE_TRIAL, SHA256, trimmed, XOR
+from tpmsim.standard import ALG_NULL, CC, given, nv, objects, policy, RH_NULL, RH_OWNER, SE_HMAC
+from tpmsim.standard import SE_POLICY, SE_TRIAL, SHA256, trimmed, XOR
 from tpmsim.standard.values import Cipher
 
 
@@ -17,10 +18,12 @@ class Answered(Protocol):
 
     @property
     def response(self) -> bytes:
+        """The bytes of the response."""
         ...
 
     @property
     def check(self) -> str | None:
+        """`ok`, the check that refused the command, or None."""
         ...
 
 
@@ -28,10 +31,10 @@ class Executes(Protocol):
     """The part of a device that a caller needs."""
 
     def execute(self, buffer: bytes) -> Answered:
-        ...
+        """Returns the response to a command."""
 
 
-class Caller(PreparedCommands):
+class Caller(Calls, PreparedCommands):
     """Sends commands to a device. `nonce` returns the requested number of bytes."""
 
     def __init__(
@@ -48,39 +51,38 @@ class Caller(PreparedCommands):
         code = int.from_bytes(answered.response[6:10], "big")
         if code:
             raise Refused(prepared, code, answered.check)
-        return Response(prepared.code, *self.received(prepared, answered.response))
-
-    def call(
-        self, name: str | CC, *those: int | Session, uses: Sequence[Means] = (), **arguments: Any
-    ) -> Response:
-        """Sends any command, such as `call("NV_Read", index, index, size=8, offset=0)`."""
-        return self.send(self.command(name, *those, uses=uses, **arguments))
+        return RESPONSES[prepared.code](prepared.code, *self.received(prepared, answered.response))
 
     def start_up(self, kind: int = CLEAR) -> None:
+        """Sends TPM2_Startup; the other kind is STATE."""
         self.send(self.starting(kind))
 
     def session(
         self,
-        bind: int = RH_NULL,
+        bind: int | str = RH_NULL,
         *uses: Means,
         kind: int = SE_HMAC,
-        algorithm: int = SHA256,
-        cipher: int = ALG_NULL,
+        algorithm: int | str = SHA256,
+        cipher: int | str = ALG_NULL,
         size: int = NONCE_BYTES,
     ) -> Session:
         """Starts a session. `cipher` is AES or XOR if the session is to encrypt; `size` is the size
-        of its nonces, in bytes.
+        of its nonces, in bytes. The entity, the algorithm and the cipher may be words: `OWNER`,
+        `sha256`, `aes`.
         """
-        nonce, mask = self.nonce(size), algorithm if cipher == XOR else None
-        given = nonce, b"", kind, Cipher(cipher, mask), algorithm
-        response = self.send(self.asked(CC.StartAuthSession, [RH_NULL, bind], uses, *given))
+        bound, hashing = given.handle("bind", bind), given.algorithm(algorithm)
+        nonce, encrypting = self.nonce(size), given.cipher(cipher)
+        symmetric = Cipher(encrypting, hashing if encrypting == XOR else None)
+        parameters = nonce, b"", kind, symmetric, hashing
+        response = self.send(self.asked(CC.StartAuthSession, [RH_NULL, bound], uses, *parameters))
         answer = response.handle, response.parameters
-        return self.started(answer, nonce, bind, algorithm, kind, cipher)
+        return self.started(answer, nonce, bound, hashing, kind, encrypting)
 
-    def trial(self, algorithm: int = SHA256) -> Session:
+    def trial(self, algorithm: int | str = SHA256) -> Session:
+        """Starts a trial session, which computes a policy's digest."""
         return self.session(kind=SE_TRIAL, algorithm=algorithm)
 
-    def policy(self, words: str, algorithm: int = SHA256, **choices: Any) -> Use:
+    def policy(self, words: str, algorithm: int | str = SHA256, **choices: Any) -> Use:
         """Starts a policy session, executes a policy in words (docs/USING.md) in it, and returns
         the session, ready for use in a command. Tries the branches of an `either` in order until
         the device accepts one. Raises Refused if it refuses them all.
@@ -89,12 +91,14 @@ class Caller(PreparedCommands):
         return self.tell(session, words)
 
     def tell(self, session: Session, words: str) -> Use:
+        """Executes a policy in words in a session, and returns the session's use."""
         use = Use(session)
         for step in steps_of(policy_of(words), session.algorithm):
             self.tell_step(use, step)
         return use
 
     def tell_step(self, use: Use, step: Step) -> None:
+        """Sends the command of one assertion."""
         session = use.session
         if step.branches:
             self.tell_branch(use, step)
@@ -111,6 +115,7 @@ class Caller(PreparedCommands):
         use.demand = demands.get(step.code, use.demand)
 
     def tell_branch(self, use: Use, step: Step) -> None:
+        """Executes the first branch that the device accepts; raises the last refusal."""
         refused: Refused | None = None
         for branch in step.branches:
             try:
@@ -137,16 +142,21 @@ class Caller(PreparedCommands):
     def create(
         self, parent: int, public: objects.Public, *uses: Means, user_auth: bytes = b"", **more: Any
     ) -> Made:
+        """Creates an object below a parent, which `load` then loads. Optional arguments: `data`,
+        `outside_info` and `pcrs`.
+        """
         response = self.send(self.child(parent, public, *uses, user_auth=user_auth, **more))
         area = objects.Public.read(response["outPublic"])
         return Made(response["outPrivate"], area, trimmed(user_auth))
 
     def load(self, parent: int, made: Made, *uses: Means) -> int:
+        """Loads an object below the parent that created it, and returns its handle."""
         handle = self.send(self.loading(parent, made, *uses)).handle
         assert handle is not None
         self.auth_values[handle] = made.auth_value
         return handle
 
     def define(self, public: nv.Public, *uses: Means, auth: bytes = b"", by: int = RH_OWNER) -> int:
+        """Defines an index with the authorization value `auth`, and returns its handle."""
         self.send(self.defining(public, *uses, auth=auth, by=by))
         return public.index

@@ -6,6 +6,7 @@ from dataclasses import dataclass, replace
 from functools import cached_property
 from typing import Any, Union
 
+from tpmsim.faults import TpmsimError
 from tpmsim.standard import ALG_NULL, CC, CONTINUE_SESSION, DECRYPT, ENCRYPT, Entry, frames, SE_HMAC
 from tpmsim.standard.frames import spelled_code
 from tpmsim.standard.objects import Public
@@ -75,6 +76,7 @@ class Prepared:
     entries: list[Entry]
 
     def buffer(self) -> bytes:
+        """Returns the bytes of the command."""
         return frames.buffer_of(self.code, self.handles, self.entries, self.parameters)
 
     def authorized(self, place: int) -> int | None:
@@ -86,6 +88,7 @@ class Prepared:
         return replace(self, **changes)
 
     def but_entry(self, place: int, **changes: Any) -> Prepared:
+        """Returns the command with other fields of one entry, counted from 1."""
         entries = list(self.entries)
         entries[place - 1] = replace(entries[place - 1], **changes)
         return replace(self, entries=entries)
@@ -110,7 +113,8 @@ def wrong(prepared: Prepared, place: int = 1) -> Prepared:
 class Response:
     """A success with its parameters, decrypted, by their names in Part 3, as in
     `response["randomBytes"]`; docs/table describes each one. A wrong name raises KeyError, which
-    lists the right names.
+    lists the right names. In the class of each command, such as GetRandomResponse, they are
+    attributes too: `response.randomBytes`.
     """
 
     code: CC
@@ -119,6 +123,7 @@ class Response:
 
     @cached_property
     def fields(self) -> dict[str, Any]:
+        """All parameters by name."""
         return read_all(self.code.answered_parameters, self.parameters)
 
     def __getitem__(self, name: str) -> Any:
@@ -127,7 +132,7 @@ class Response:
         return self.fields[name]
 
 
-class Refused(Exception):
+class Refused(TpmsimError):
     """A command that the device refuses: the number of the response code, its name (empty if it is
     unknown here), its place, such as p1, h2 or s1, or empty, and the check that refuses, such as G9
     or A1, if a trace reports it.

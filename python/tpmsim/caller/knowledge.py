@@ -11,6 +11,7 @@ import secrets
 from typing import Any, Callable, Iterator, Sequence
 
 from tpmsim.caller.entries import Means, Prepared, Session, Use
+from tpmsim.faults import TpmsimError
 from tpmsim.standard import CC, CONTINUE_SESSION, DECRYPT, ENCRYPT, Entry, Fields, frames
 from tpmsim.standard import handle_kinds, nv, policy, RH_ENDORSEMENT, RH_LOCKOUT, RH_NULL, RH_OWNER
 from tpmsim.standard import RH_PLATFORM, RS_PW, sessions, TRANSIENT, trimmed, values
@@ -31,11 +32,12 @@ MARKS = {
 }
 
 
-class WrongResponse(Exception):
+class WrongResponse(TpmsimError):
     """A response that no device with the keys of the sessions would send; the message says why."""
 
 
 def expect(holds: bool, words: str) -> None:
+    """Raises WrongResponse unless the condition holds."""
     if not holds:
         raise WrongResponse(words)
 
@@ -56,15 +58,19 @@ class Knowledge:
         return b"" if handle is None else self.auth_values.get(handle, b"")
 
     def name(self, handle: int) -> bytes:
+        """Returns the known Name of a handle; if none is known, the handle itself."""
         return self.names.get(handle) or sessions.name_of(handle)
 
     def note(self, handle: int, name: bytes, auth_value: bytes) -> None:
+        """Learns the Name and the authorization value of an entity."""
         self.names[handle], self.auth_values[handle] = name, auth_value
 
     def note_public(self, public: nv.Public) -> None:
+        """Learns the public area of an index, and with it the Name."""
         self.publics[public.index], self.names[public.index] = public, public.name
 
     def forget(self, *those: int) -> None:
+        """Forgets what is known of these handles."""
         for handle in those:
             self.names.pop(handle, None)
             self.auth_values.pop(handle, None)
@@ -116,6 +122,7 @@ class Knowledge:
         return session.key + (auth_value if is_in_key else b"")
 
     def encrypted(self, use: Use, handle: int | None, parameters: bytes) -> bytes:
+        """Encrypts the first parameter of a command for a session that decrypts it."""
         session, key = use.session, use.session.key + self.auth_value(handle)
         given = session.cipher, session.algorithm, key, use.nonce or b"", session.nonce_tpm
         return sessions.first_encrypted(*given, parameters)
@@ -130,6 +137,7 @@ class Knowledge:
         return sessions.first_decrypted(*given, parameters)
 
     def entry(self, prepared: Prepared, place: int) -> Entry:
+        """Returns the entry for one of a command's uses, counted from 1."""
         use = prepared.uses[place - 1]
         if isinstance(use, bytes):
             return Entry(RS_PW, b"", CONTINUE_SESSION, use)
@@ -283,6 +291,7 @@ class Knowledge:
         expect(hmac == wanted_hmac, f"entry {place} is answered by a wrong hmac")
 
     def plain_answer(self, prepared: Prepared, parameters: bytes) -> bytes:
+        """Returns the parameters of a response, decrypted."""
         for place, use in enumerate(prepared.uses, 1):
             if isinstance(use, Use) and use.attributes & ENCRYPT:
                 return self.decrypted(use, prepared.authorized(place), parameters, True)

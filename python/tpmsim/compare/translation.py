@@ -6,6 +6,7 @@ from tpmsim.caller.entries import flipped, Prepared, Session, Use
 from tpmsim.caller.knowledge import Knowledge, WrongResponse
 from tpmsim.compare.contexts import Contexts
 from tpmsim.compare.reference import parsed, Received, Reference
+from tpmsim.faults import TpmsimError
 from tpmsim.model.general import Command
 from tpmsim.standard import ALG_NULL, CC, CONTINUE_SESSION, DECRYPT, Entry, Fields, first_byte
 from tpmsim.standard import frames, is_policy, is_session, Kind, nv, RS_PW, sessions, Short
@@ -17,7 +18,7 @@ LEAST_VALUE = 8
 TIED = "a Name of an object is in its policy"
 
 
-class NotComparable(Exception):
+class NotComparable(TpmsimError):
     """Why a command cannot be rebuilt, as text, and the line of the script that causes this."""
 
     def __init__(self, words: str, line: int) -> None:

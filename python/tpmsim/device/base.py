@@ -5,24 +5,25 @@ from dataclasses import dataclass
 from types import TracebackType
 from typing import Self, Sequence
 
+from tpmsim.faults import TpmsimError
 from tpmsim.standard import lines, NUMBERED
 
 
-class Unsupported(Exception):
+class Unsupported(TpmsimError):
     """An action that this device or its connection does not support; the message says which."""
 
 
-class DeviceEnded(Exception):
+class DeviceEnded(TpmsimError):
     """The device has ended; the message says how."""
 
 
-class BadImage(Exception):
+class BadImage(TpmsimError):
     """Bytes that are not an image; the message is their first fault, named as in
     docs/table/image.md.
     """
 
 
-class BadState(Exception):
+class BadState(TpmsimError):
     """Bytes that are not a state text; the message is their first fault, named as in
     docs/table/state_text.md.
     """
@@ -74,6 +75,7 @@ def line(buffer: bytes) -> str:
 
 
 def lines_told(event: str | Executed) -> list[str]:
+    """Returns the lines of a trace for one event."""
     if isinstance(event, str):
         return [event]
     entropy = [f"entropy {event.random.hex()}"] if event.random else []
@@ -198,6 +200,7 @@ class Transport(ABC):
 
 
 def checked_locality(number: int) -> int:
+    """Returns the locality; raises ValueError unless it is 0 to 4."""
     if number not in range(5):
         raise ValueError(f"a locality is 0 to 4, and not {number}")
     return number

@@ -62,6 +62,7 @@ class ChildDevice(InStep, Device):
         self.process = self.started()
 
     def started(self) -> subprocess.Popen[bytes]:
+        """Starts the program."""
         words = [self.program, "run", "--trace"]
         if self.image is None:
             words += ["--state", self.within("state")]
@@ -81,12 +82,14 @@ class ChildDevice(InStep, Device):
         self.start_anew()
 
     def start_anew(self) -> None:
+        """Ends the program, and starts it again."""
         self.why_closed = NOT_ENDED
         self.end()
         self.told_locality, self.process = 0, self.started()
         self.why_closed = ""
 
     def say(self, *lines: str) -> None:
+        """Writes lines to the program."""
         assert self.process.stdin is not None
         try:
             self.process.stdin.write("".join(f"{it}\n" for it in lines).encode("ascii"))
@@ -95,6 +98,7 @@ class ChildDevice(InStep, Device):
             raise self.ended() from None
 
     def heard(self) -> str:
+        """Returns the next line that the program prints."""
         assert self.process.stdout is not None
         text = self.process.stdout.readline()
         if not text.endswith(b"\n"):
@@ -102,14 +106,17 @@ class ChildDevice(InStep, Device):
         return text.decode("ascii").rstrip("\n")
 
     def ended(self) -> DeviceEnded:
+        """Returns the fault that says how the program ended."""
         assert self.process.stderr is not None
         words = self.process.stderr.read().decode("utf-8", "replace").strip()
         return DeviceEnded(f"status {self.process.wait()}: {words}")
 
     def answer(self, buffer: bytes, locality: int, elapsed: int, random: bytes) -> Executed:
+        """Executes a command as one exchange, which is not left halfway."""
         return self.whole(lambda: self.told(buffer, locality, elapsed, random))
 
     def told(self, buffer: bytes, locality: int, elapsed: int, random: bytes) -> Executed:
+        """Sends a command with its circumstances, and reads its trace and response."""
         before = [f"wait {elapsed}"] if elapsed else []
         if locality != self.told_locality:
             before.append(f"loc {locality}")
@@ -120,9 +127,11 @@ class ChildDevice(InStep, Device):
         return Executed(buffer, response, locality, elapsed, random, check, code)
 
     def cycle(self) -> None:
+        """Power-cycles the device as one exchange."""
         self.whole(self.told_power)
 
     def told_power(self) -> None:
+        """Sends a power cycle, and reads the line that confirms it."""
         self.say("power")
         self.heard()
 
@@ -174,6 +183,7 @@ class ChildDevice(InStep, Device):
         raise DeviceEnded(f"status {done.returncode}: {said}")
 
     def end(self) -> None:
+        """Closes the pipes, and waits until the program has ended."""
         for pipe in (self.process.stdin, self.process.stdout, self.process.stderr):
             assert pipe is not None
             try:

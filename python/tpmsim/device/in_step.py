@@ -21,6 +21,7 @@ class InStep(Transport):
     why_closed = ""
 
     def whole(self, exchange: Callable[[], Done]) -> Done:
+        """Returns the result of an exchange; if it is interrupted, the connection is closed."""
         if self.why_closed:
             self.hang_up()  # again, as an interrupt may have come before
             raise DeviceEnded(self.why_closed)

@@ -115,6 +115,7 @@ class KeptDevice(LocatedDevice):
         return told, reason
 
     def ask(self, call: Callable[..., int], *given: object) -> None:
+        """Calls the C host for this device; raises the fault that it reports."""
         if not self.holder:
             raise ValueError("the device is closed")
         check(*self.told(call, *given))
@@ -153,6 +154,7 @@ class KeptDevice(LocatedDevice):
         return Snapshot(self.state(), self.at, events=self.events)
 
     def state(self) -> bytes:
+        """Returns the device's state text."""
         text, size = ctypes.create_string_buffer(TEXT_BYTES), ctypes.c_size_t()
         self.ask(self.host.tpmsim_kept_snapshot, text, ctypes.byref(size))
         return ctypes.string_at(text, size.value)
@@ -195,6 +197,7 @@ def stop_calls() -> None:
 
 
 def go_on() -> None:
+    """Lets the other threads go on after a fork."""
     for device in stopped.pop():
         device.turn.release()
     FORKS.release()

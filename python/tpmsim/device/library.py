@@ -33,6 +33,7 @@ def opened(path: str, flags: int) -> io.FileIO:
 
 
 def but_clock(image: bytes) -> bytes:
+    """Returns an image without its clock and its digest."""
     at = BODY_AT
     for _ in HIERARCHIES:
         at += 2 + int.from_bytes(image[at : at + 2], "big") + SECRETS_BYTES
@@ -63,6 +64,7 @@ class ImageFile:
 
     @property
     def is_here(self) -> bool:
+        """Whether this process writes the file."""
         return not self.is_left and self.process == os.getpid()
 
     def read(self) -> bytes:
@@ -203,6 +205,7 @@ def library() -> ctypes.CDLL:
 
 
 def is_there() -> bool:
+    """Returns whether the library is found; raises OSError if $TPMSIM_LIBRARY cannot be loaded."""
     try:
         library()
     except OSError:
@@ -264,6 +267,7 @@ class LibraryDevice(Device):
         self.begun = kept or self.save()
 
     def manufacture(self, given: bytes | None) -> None:
+        """Makes the device from random bytes, or from those of its seed."""
         if given is None and self.seed is not None:
             given = hashlib.shake_256(self.seed).digest(RANDOM_BYTES)
         random = os.urandom(RANDOM_BYTES) if given is None else given
@@ -311,6 +315,7 @@ class LibraryDevice(Device):
         self.keep()
 
     def answer(self, buffer: bytes, locality: int, elapsed: int, random: bytes) -> Executed:
+        """Executes a command, and returns it with its response and its check."""
         self.look_open()
         event = locality, elapsed, random, self.room, self.at_answered
         self.to_its_end(lambda: self.executed(buffer, event))
@@ -320,6 +325,7 @@ class LibraryDevice(Device):
         return Executed(buffer, response, locality, elapsed, *told)
 
     def executed(self, buffer: bytes, event: tuple[object, ...]) -> None:
+        """Executes a command in the library, and keeps the image."""
         self.library.tpmsim_execute(self.handle, buffer, len(buffer), *event)
         self.keep()
 
@@ -334,10 +340,12 @@ class LibraryDevice(Device):
                 raise DeviceEnded(f"the image is not written: {fault}") from None
 
     def cycle(self) -> None:
+        """Power-cycles the device, without leaving it halfway."""
         self.look_open()
         self.to_its_end(self.cycled)
 
     def cycled(self) -> None:
+        """Power-cycles the device in the library, and keeps the image."""
         self.library.tpmsim_power_cycle(self.handle)
         self.keep()
 

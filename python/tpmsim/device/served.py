@@ -53,13 +53,16 @@ class Connection:
         return text
 
     def number(self) -> int:
+        """Receives a number of four bytes."""
         return int.from_bytes(self.receive(4), "big")
 
     def response(self) -> bytes:
+        """Receives a response, whose header says its size."""
         header = self.receive(10)
         return header + self.receive(max(int.from_bytes(header[2:6], "big") - 10, 0))
 
     def close(self) -> None:
+        """Closes the connection."""
         self.socket.close()
 
 
@@ -83,6 +86,7 @@ class OtherDevice(Transport):
         return Answered(response)
 
     def exchange(self, buffer: bytes) -> bytes:
+        """Sends a command, and returns the response."""
         raise NotImplementedError
 
 
@@ -117,6 +121,7 @@ class ServedDevice(InStep, OtherDevice):
         self.data = Connection(os.fspath(path), seconds)
 
     def exchange(self, buffer: bytes) -> bytes:
+        """Sends a command, and returns the response."""
         return self.whole(lambda: self.data.send(buffer).response())
 
     def hang_up(self) -> None:
@@ -138,9 +143,11 @@ class FileDevice(InStep, OtherDevice):
         self.file = io.FileIO(os.fspath(path), "r+")
 
     def exchange(self, buffer: bytes) -> bytes:
+        """Sends a command, and returns the response."""
         return self.whole(lambda: self.answer(buffer))
 
     def answer(self, buffer: bytes) -> bytes:
+        """Writes a command to the file, and reads the response."""
         os.write(self.file.fileno(), buffer)
         return os.read(self.file.fileno(), RESPONSE_BYTES)
 
@@ -173,6 +180,7 @@ class SimulatorDevice(InStep, LocatedDevice):
         self.whole(lambda: self.tell(POWER_ON, NV_ON))
 
     def tell(self, *requests: int) -> None:
+        """Sends requests to the platform; raises DeviceEnded if it refuses one."""
         for request in requests:
             told = self.platform.send(number(request, 4)).number()
             if told:
@@ -183,9 +191,11 @@ class SimulatorDevice(InStep, LocatedDevice):
         self.events.append("power")
 
     def exchange(self, buffer: bytes) -> bytes:
+        """Sends a command, and returns the response."""
         return self.whole(lambda: self.answer(buffer))
 
     def answer(self, buffer: bytes) -> bytes:
+        """Sends a command with its locality, and returns the response."""
         head = number(SEND_COMMAND, 4) + number(self.locality, 1) + number(len(buffer), 4)
         response = self.data.send(head + buffer).receive(self.data.number())
         if self.data.number():

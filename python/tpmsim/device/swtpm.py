@@ -46,17 +46,21 @@ class SwtpmDevice(InStep, LocatedDevice):
             raise
 
     def asked(self, request: int, argument: bytes) -> int:
+        """Sends a request on the control channel, and returns its result code."""
         return self.control.send(number(request, 4) + argument).number()
 
     def tell(self, request: int, argument: bytes = b"") -> None:
+        """Sends a request on the control channel; raises DeviceEnded if it is refused."""
         told = self.asked(request, argument)
         if told:
             raise DeviceEnded(f"the control channel refuses request {request} with {told:#x}")
 
     def exchange(self, buffer: bytes) -> bytes:
+        """Sends a command, and returns the response."""
         return self.whole(lambda: self.answer(buffer))
 
     def answer(self, buffer: bytes) -> bytes:
+        """Sends the locality if it changed, then a command; returns the response."""
         if self.locality != self.told_locality:
             self.tell(SET_LOCALITY, number(self.locality, 1))
             self.told_locality = self.locality
@@ -80,6 +84,7 @@ class SwtpmDevice(InStep, LocatedDevice):
         return self.whole(lambda: self.blob(PERMANENT))
 
     def blob(self, kind: int) -> bytes:
+        """Returns a part of swtpm's state."""
         text, size = b"", 1
         while size:
             told = self.asked(GET_BLOB, number(0, 4) + number(kind, 4) + number(len(text), 4))
@@ -130,6 +135,7 @@ class StartedSwtpm(SwtpmDevice):
                 self.end()
 
     def begin(self, data: str, control: str, seconds: float) -> None:
+        """Waits until swtpm serves, at most this many seconds."""
         until = time.monotonic() + seconds
         while not self.is_connected(data, control, seconds):
             if self.process.poll() is not None or time.monotonic() > until:
@@ -138,6 +144,7 @@ class StartedSwtpm(SwtpmDevice):
         self.allocate()
 
     def is_connected(self, data: str, control: str, seconds: float) -> bool:
+        """Returns whether a connection to swtpm could be made."""
         try:
             super().__init__(data, control, seconds)
         except (FileNotFoundError, ConnectionRefusedError, BlockingIOError):
@@ -158,6 +165,7 @@ class StartedSwtpm(SwtpmDevice):
         self.events.clear()
 
     def end(self) -> None:
+        """Ends swtpm, and removes its folder."""
         self.process.terminate()
         self.process.wait()
         self.folder.cleanup()

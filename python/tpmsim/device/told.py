@@ -9,6 +9,7 @@ from typing import Callable, cast, ClassVar, Self, TypeVar
 
 from tpmsim.device.base import Answered, BadImage, BadState, checked_locality, DeviceEnded
 from tpmsim.device.base import Executed, Snapshot, Transport, Unsupported
+from tpmsim.faults import TpmsimError
 from tpmsim.model import image as images, state_text
 from tpmsim.model.machine import MANUFACTURED, Model
 from tpmsim.model.state_text import Layer
@@ -21,7 +22,7 @@ Path = str | os.PathLike[str]
 Done = TypeVar("Done")
 
 
-class NothingReplaced(MemoryError):
+class NothingReplaced(TpmsimError, MemoryError):
     """Memory for the device of a state text is missing; the previous device is unchanged."""
 
 
@@ -82,6 +83,7 @@ class Device(Transport):
         return begun + super().trace
 
     def look_whole(self) -> None:
+        """Raises DeviceEnded if an interrupted call left the device halfway."""
         if not self.is_whole:
             raise DeviceEnded("a call did not end, and left the device halfway; `restore` mends it")
 
@@ -107,12 +109,15 @@ class Device(Transport):
         raise NotImplementedError
 
     def answer(self, buffer: bytes, locality: int, elapsed: int, random: bytes) -> Executed:
+        """Executes a command with its circumstances."""
         raise NotImplementedError
 
     def cycle(self) -> None:
+        """Power-cycles the device."""
         raise NotImplementedError
 
     def drawn(self) -> bytes:
+        """Returns random bytes for the next command, which are repeatable with a seed."""
         self.drawings += 1
         if self.seed is None:
             return os.urandom(RANDOM_BYTES)
@@ -271,11 +276,13 @@ class ModelDevice(Device):
         self.layer = layer or Layer()
 
     def answer(self, buffer: bytes, locality: int, elapsed: int, random: bytes) -> Executed:
+        """Executes a command on the model."""
         outcome = self.to_its_end(lambda: self.model.execute(buffer, locality, random, elapsed))
         row = outcome.row
         return Executed(buffer, outcome.response, locality, elapsed, random, row.check, row.code)
 
     def cycle(self) -> None:
+        """Power-cycles the model."""
         self.to_its_end(self.model.power_cycle)
 
     def save(self) -> bytes:

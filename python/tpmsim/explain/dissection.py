@@ -10,6 +10,7 @@ from typing import Callable, Iterator
 from tpmsim.explain import words
 from tpmsim.explain.words import algorithm_words, ATTRIBUTES, bit_words, command_words, handle_words
 from tpmsim.explain.words import kind_words, OPERATIONS, size_words
+from tpmsim.faults import TpmsimError
 from tpmsim.standard import CC, digest_bytes, frames, HASHES, Kind, NUMBERED, nv, objects, Parameter
 from tpmsim.standard import RS_PW
 
@@ -17,7 +18,7 @@ from tpmsim.standard import RS_PW
 HEADER, HANDLE, ENTRY, PARAMETER, REST = "header", "handle", "entry", "parameter", "rest"
 
 
-class Cut(Exception):
+class Cut(TpmsimError):
     """The bytes end within a field."""
 
 

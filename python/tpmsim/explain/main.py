@@ -33,6 +33,7 @@ from dataclasses import dataclass
 
 from tpmsim.explain import page, text
 from tpmsim.explain.play import Event, Play
+from tpmsim.faults import TpmsimError
 from tpmsim.model.image import Fault
 from tpmsim.records import is_state_text
 
@@ -49,7 +50,7 @@ USAGE = f"usage: {NAME} LOG [ANSWERS] [--image START] [--at LINE] [--try VALUE].
 HELP = (__doc__ or "").strip().replace("tpmsim-explain", NAME)
 
 
-class Usage(Exception):
+class Usage(TpmsimError):
     """Nothing can be explained; the message says why."""
 
 

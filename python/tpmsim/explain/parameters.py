@@ -6,6 +6,7 @@ from tpmsim.explain import dissection, ingredients
 from tpmsim.explain.dissection import Field
 from tpmsim.explain.reason import Reason, RULES, Scene
 from tpmsim.explain.words import algorithm_words, size_words
+from tpmsim.faults import TpmsimError
 from tpmsim.model.general import Refusal
 from tpmsim.model.machine import ROWS
 from tpmsim.model.parameters import Parameters, Request
@@ -30,7 +31,7 @@ class Trace:
             self.ends_structure = ends_structure
 
 
-class Whole(Exception):
+class Whole(TpmsimError):
     """All parameters were parsed, and none is wrong."""
 
 

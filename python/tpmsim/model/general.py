@@ -6,6 +6,7 @@ from dataclasses import dataclass
 from functools import cached_property
 from typing import TYPE_CHECKING
 
+from tpmsim.faults import TpmsimError
 from tpmsim.standard import CC, COMMAND_BYTES, DECRYPT, ENCRYPT, Entry, Fact, Fields, first_byte
 from tpmsim.standard import frames, Handle, HEADER_BYTES, is_index, is_policy, is_session
 from tpmsim.standard import MOST_ENTRIES, NUMBERED, PERSISTENT, RS_PW, Short, TRANSIENT
@@ -22,7 +23,7 @@ LEAST_AREA, MOST_NONCE_OR_HMAC = 9, 32
 HEADER_CHECKS = "G1", "G2", "G3", "G4"
 
 
-class Refusal(Exception):
+class Refusal(TpmsimError):
     """A refusal of a command: a code such as HASH/p1, and a check such as G11 or A1. `touched` is
     what it counts against in dictionary attack protection, if anything.
     """

@@ -9,6 +9,7 @@ read.
 from dataclasses import dataclass
 from typing import Container
 
+from tpmsim.faults import TpmsimError
 from tpmsim.model import nv_commands, object_rules, persistent, protection, state
 from tpmsim.model.general import Refusal
 from tpmsim.model.machine import Model
@@ -28,7 +29,7 @@ WITH_PERSISTENT = RH_OWNER, RH_ENDORSEMENT, RH_PLATFORM
 BANKS = SHA1, SHA256
 
 
-class Fault(Exception):
+class Fault(TpmsimError):
     """Why bytes are not an image: Short, Magic, Version, Length, Digest or Body."""
 
 

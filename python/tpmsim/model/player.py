@@ -3,6 +3,7 @@
 import re
 from typing import Iterable
 
+from tpmsim.faults import TpmsimError
 from tpmsim.model.machine import Model
 from tpmsim.standard import lines
 
@@ -13,7 +14,7 @@ LAST_LOCALITY, MOST_MILLISECONDS = 4, 2**32 - 1
 DECIMAL, HEX = re.compile(rb"0*([0-9]{1,19})"), re.compile(rb"(?:[0-9A-Fa-f]{2})*")
 
 
-class BadLine(Exception):
+class BadLine(TpmsimError):
     """A line that is not a line of a script."""
 
 

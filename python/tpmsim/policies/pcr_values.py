@@ -21,19 +21,23 @@ class PcrValues:
 
     @property
     def selection(self) -> bytes:
+        """The encoding of the selection."""
         return frames.selection(*((it, [pcr for pcr, _ in pairs]) for it, pairs in self.banks))
 
     def digest(self, algorithm: int) -> bytes:
+        """Returns the digest of the values, joined in the order of the selection."""
         values = [value for _, pairs in self.banks for _, value in pairs]
         return digest(algorithm, b"".join(values))
 
     @property
     def word(self) -> str:
+        """The word of the values, as in a policy's text."""
         banks = [f"{HASH_WORDS[it]}:{','.join(map(pair_word, pairs))}" for it, pairs in self.banks]
         return JOIN.decode("ascii").join(banks)
 
 
 def pair_word(pair: tuple[int, bytes]) -> str:
+    """Returns the word of a PCR with its value."""
     return f"{pair[0]}={hex_word(pair[1])}"
 
 
@@ -43,6 +47,7 @@ def read_values(word: bytes) -> PcrValues:
 
 
 def read_bank(piece: bytes) -> tuple[int, Pairs]:
+    """Reads the PCRs of a bank, with their values."""
     name, _, rest = piece.partition(b":")
     if name not in HASHES:
         raise Wrong
@@ -52,6 +57,7 @@ def read_bank(piece: bytes) -> tuple[int, Pairs]:
 
 
 def read_pair(algorithm: int, piece: bytes) -> tuple[int, bytes]:
+    """Reads a PCR with its value."""
     number, _, value = piece.partition(b"=")
     found = bytes_of(value)
     if len(found) != digest_bytes(algorithm):

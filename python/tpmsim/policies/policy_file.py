@@ -5,6 +5,7 @@ from __future__ import annotations
 from dataclasses import dataclass
 from typing import Iterator
 
+from tpmsim.faults import TpmsimError
 from tpmsim.policies.policy_texts import Policy, policy_digest, Written
 from tpmsim.policies.written import read_assertion, Unsaid
 from tpmsim.standard import CC, digest_bytes, frames, HASH_WORDS, nv, objects, SHA1, SHA256
@@ -20,7 +21,7 @@ NO_DEMAND = "one that asks for nothing is the word nothing"
 STEP = 4
 
 
-class Fault(Exception):
+class Fault(TpmsimError):
     """Why a file is not a policy: the line, and the reason as text."""
 
     def __init__(self, line: int, words: object) -> None:
@@ -37,6 +38,7 @@ class Row:
 
 
 def row_of(number: int, line: bytes) -> Row:
+    """Parses a line of a policy's text."""
     text = line.lstrip(b" ")
     spaces = len(line) - len(text)
     if spaces % STEP:
@@ -79,13 +81,16 @@ class Reader:
 
     @property
     def next(self) -> Row | None:
+        """The next row, or None at the end."""
         return self.rows[self.at] if self.at < len(self.rows) else None
 
     @property
     def text(self) -> bytes:
+        """The text of the next row; empty at the end."""
         return self.next.text if self.next else b""
 
     def take(self) -> Row:
+        """Returns the next row, and goes past it."""
         self.at += 1
         return self.rows[self.at - 1]
 
@@ -113,6 +118,7 @@ class Reader:
         return Policy(line, branches, tuple(assertions))
 
     def branches(self, depth: int) -> tuple[int, tuple[Policy, ...]]:
+        """Reads an `either` with its branches; returns its line and the branches."""
         opener = self.take().number
         if depth == MOST_STEPS:
             raise Fault(opener, f"its branches stand more than {MOST_STEPS * STEP} spaces in")
@@ -127,6 +133,7 @@ class Reader:
         return opener, tuple(found)
 
     def assertion(self, row: Row) -> Written:
+        """Reads the assertion of a row."""
         if row.text in OUT_OF_PLACE:
             raise Fault(row.number, OUT_OF_PLACE[row.text])
         try:
@@ -144,6 +151,8 @@ class Reader:
 
 
 class PolicyFile:
+    """A policy in words, with its digests."""
+
     def __init__(self, name: str, text: bytes) -> None:
         self.name, self.rows = name, rows_of(text)
         reader = Reader(self.rows)
@@ -154,10 +163,12 @@ class PolicyFile:
         self.digests = {it: policy_digest(it, self.policy) for it in those}
 
     def is_of(self, public: nv.Public | objects.Public) -> bool:
+        """Returns whether an entity has this policy."""
         found = self.digests.get(public.name_algorithm)
         return found is not None and found == public.auth_policy
 
     def report(self) -> Iterator[str]:
+        """Yields the lines of the policy, and its digests."""
         yield f"Policy {self.name}"
         width = len(str(self.rows[-1].number))
         for row in self.rows:
@@ -185,6 +196,7 @@ def policy_of(words: str) -> Policy:
 
 
 def digest_of(words: str, algorithm: int = SHA256) -> bytes:
+    """Returns the digest of a policy in words."""
     return policy_digest(algorithm, policy_of(words))
 
 

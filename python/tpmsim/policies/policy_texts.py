@@ -26,6 +26,7 @@ class Policy:
 
 
 def zeros(algorithm: int) -> bytes:
+    """Returns the digest with which a policy begins."""
     return bytes(digest_bytes(algorithm))
 
 
@@ -45,6 +46,7 @@ def digest_after(algorithm: int, texts: list[bytes]) -> bytes:
 
 
 def policy_texts(algorithm: int, policy: Policy) -> list[bytes]:
+    """Returns the texts that are hashed for a policy's digest."""
     texts: list[bytes] = []
     if policy.branches:
         of_branches = [policy_texts(algorithm, it) for it in policy.branches]
@@ -58,4 +60,5 @@ def policy_texts(algorithm: int, policy: Policy) -> list[bytes]:
 
 
 def policy_digest(algorithm: int, policy: Policy) -> bytes:
+    """Returns the digest of a policy under a hash algorithm."""
     return digest_after(algorithm, policy_texts(algorithm, policy))

@@ -7,14 +7,14 @@ from __future__ import annotations
 from dataclasses import dataclass
 from typing import Any, Callable, Sequence
 
+from tpmsim.faults import TpmsimError
 from tpmsim.policies.pcr_values import PcrValues, read_values
 from tpmsim.standard import CC, digest, DIGEST_BYTES, digest_bytes, Fields, frames, HIERARCHIES
 from tpmsim.standard import Kind, name_of, number, NUMBERED, PCRS, SHA1, SHA256, sized, values
+from tpmsim.standard.given import OPERATIONS, write_in_order
 from tpmsim.standard.lines import bytes_of, HANDLE_NAMES, handle_word, hex_word, number_up_to, WORDS
 from tpmsim.standard.lines import Wrong
 
-# The comparisons of TPM2_PolicyNV, indexed by operation number.
-OPERATIONS = "eq neq sgt ugt slt ult sge uge sle ule bs bc".split()
 LOCALITIES = {b"0", b"1", b"2", b"3", b"4"}
 
 # The first bytes of the Name of an object or an index, and the size of that Name.
@@ -35,11 +35,12 @@ class Update:
     forgets: bool = False
 
 
-class Unsaid(Exception):
+class Unsaid(TpmsimError):
     """Why words are not an assertion."""
 
 
 def shown(word: bytes) -> str:
+    """Returns a word in quotes, with `?` for what is not ASCII."""
     plain = "".join(chr(it) if 0x20 < it < 0x7F else "?" for it in word)
     return f'"{plain}"'
 
@@ -48,11 +49,13 @@ def shown(word: bytes) -> str:
 
 
 def held_to(holds: bool) -> None:
+    """Raises Wrong unless the condition holds."""
     if not holds:
         raise Wrong
 
 
 def read_index_name(word: bytes) -> bytes:
+    """Reads the Name of an object or an index."""
     name = bytes_of(word)
     held_to(HASHED_NAMES.get(name[:2]) == len(name))
     return name
@@ -68,28 +71,33 @@ def read_name(word: bytes) -> bytes:
 
 
 def name_word(name: bytes) -> str:
+    """Returns the word of a Name, such as OWNER; hex for others."""
     hierarchies = {name_of(it): handle_word(it) for it in HIERARCHIES}
     return hierarchies.get(name) or hex_word(name)
 
 
 def read_buffer(word: bytes) -> bytes:
+    """Reads a buffer that is no longer than a digest."""
     data = bytes_of(word)
     held_to(len(data) <= DIGEST_BYTES)
     return data
 
 
 def read_digest(word: bytes) -> bytes:
+    """Reads a digest."""
     found = bytes_of(word)
     held_to(len(found) in (digest_bytes(SHA1), digest_bytes(SHA256)))
     return found
 
 
 def read_code(word: bytes) -> int:
+    """Reads a command's name or its number."""
     name = word.decode("latin-1")
     return int(CC[name]) if name in CC.__members__ else number_up_to(2**32 - 1, word)
 
 
 def code_word(code: int) -> str:
+    """Returns the name of a command, or its number in hex if it is not served."""
     return CC(code).name if code in NUMBERED else hex(code)
 
 
@@ -101,10 +109,12 @@ def read_localities(word: bytes) -> int:
 
 
 def localities_word(bits: int) -> str:
+    """Returns the localities, each as a number."""
     return ",".join(str(it) for it in range(8) if bits >> it & 1)
 
 
 def read_operation(word: bytes) -> int:
+    """Reads a comparison."""
     name = word.decode("latin-1")
     held_to(name in OPERATIONS)
     return OPERATIONS.index(name)
@@ -179,6 +189,7 @@ class Said:
 
     @property
     def words(self) -> str:
+        """The assertion in words."""
         pairs = zip(form_of(self.code, len(self.values)), self.values)
         return " ".join([str(self.code.name), *(word.written(it) for word, it in pairs)])
 
@@ -192,6 +203,7 @@ class Said:
         return self
 
     def update(self, algorithm: int) -> Update:
+        """Returns what the assertion adds to the digest."""
         match self.code, *self.by(algorithm).values:
             case CC.PolicyOR, *digests:
                 return Update(self.code, b"".join(digests), forgets=True)
@@ -218,10 +230,10 @@ class Said:
             case CC.PolicyPCR, selection, values_digest:
                 return sized(values_digest) + bytes(selection)
             case CC.PolicySecret, _, reference:
-                return values.write_in_order(self.code, b"", b"", reference, 0)
+                return write_in_order(self.code, b"", b"", reference, 0)
             case CC.PolicyNV, _, *compared:
-                return values.write_in_order(self.code, *compared)
-        return values.write_in_order(self.code, *self.values)
+                return write_in_order(self.code, *compared)
+        return write_in_order(self.code, *self.values)
 
     @property
     def name(self) -> bytes:
@@ -253,6 +265,7 @@ def said_of(
 
 
 def read_word(word: Word, given: bytes) -> Any:
+    """Reads a word of an assertion; raises Unsaid if it is not of its kind."""
     try:
         return word.read(given)
     except Wrong:

@@ -20,6 +20,7 @@ def drawn_of(buffer: bytes, response: bytes, size: int) -> bytes:
 
 
 def shown_in(code: CC | None, fields: Fields) -> bytes:
+    """Returns the random bytes that a response shows."""
     tag = fields.number(2)
     fields.take(HEADER_BYTES - 2)
     if code is None or not fields.data:

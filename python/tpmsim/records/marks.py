@@ -26,12 +26,14 @@ WAIT_BYTES, LOC_BYTES, ENTROPY_BYTES = 16, 6, 9
 
 
 def sum_from(total: int, data: bytes) -> int:
+    """Continues a sum over more bytes."""
     for byte in data:
         total = (total ^ byte) * PRIME & SUM_BITS
     return total
 
 
 def sum_of(data: bytes) -> int:
+    """Returns the sum of bytes."""
     return sum_from(OFFSET_BASIS, data)
 
 
@@ -50,6 +52,7 @@ class HeadMark:
 
     @classmethod
     def read(cls, line: bytes) -> HeadMark | None:
+        """Reads a line, or returns None if it is not such a mark."""
         found = HEAD.fullmatch(line)
         if found is None:
             return None
@@ -60,6 +63,7 @@ class HeadMark:
         return cls(kind == STATE, *numbers, text, int.from_bytes(said, "big"))
 
     def is_of(self, content: bytes) -> bool:
+        """Returns whether the mark belongs to this content, undamaged."""
         own = sum_of(self.text) == self.said
         return own and len(content) == self.size and sum_of(content) == self.content
 
@@ -80,6 +84,7 @@ class Mark:
 
     @classmethod
     def read(cls, line: bytes) -> Mark | None:
+        """Reads a line, or returns None if it is not such a mark."""
         found = MARK.fullmatch(line)
         if found is None:
             return None
@@ -92,6 +97,7 @@ class Mark:
 
     @property
     def entry_bytes(self) -> int:
+        """The size of the whole entry in the journal."""
         return MARK_LINE_BYTES + LINES_BYTES + 2 * max(1, self.drawn) + 2 * self.size
 
     @property
@@ -101,6 +107,7 @@ class Mark:
         return {end - 1 for end in accumulate(lines)}
 
     def is_of(self, buffer: bytes, locality: int, elapsed: int, drawn: bytes) -> bool:
+        """Returns whether the mark belongs to this command and its circumstances."""
         told = self.locality, self.elapsed, self.drawn, self.size
         if told != (locality, elapsed, len(drawn), len(buffer)):
             return False

@@ -21,6 +21,7 @@ class Opened:
 
 
 def is_state_text(text: bytes) -> bool:
+    """Returns whether the text begins as a state text does."""
     return text.startswith(state_text.MAGIC)
 
 

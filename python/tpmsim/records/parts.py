@@ -31,6 +31,7 @@ class Part:
 
     @property
     def is_journal(self) -> bool:
+        """Whether the part is a journal."""
         return HEAD.match(self.text) is not None
 
     @property
@@ -40,6 +41,7 @@ class Part:
 
 
 def parts_of(text: bytes) -> Iterator[Part]:
+    """Yields the parts of a text, each of which begins with a journal's head."""
     starts = [it.start() for it in HEADS.finditer(text)]
     at, line = 0, 1
     for end in [*(it for it in starts if it), len(text)]:

@@ -100,6 +100,7 @@ Step = Begin | Power | Command | Comment | Cut | Bad
 
 
 def steps_of(text: bytes) -> Iterator[Step]:
+    """Yields the steps of scripts, journals and logs; a bad line is the last step."""
     for part in parts_of(text):
         for step in Reading(part).whole_steps():
             yield step
@@ -146,6 +147,7 @@ class Reading:
         return step
 
     def steps(self) -> Iterator[Step]:
+        """Yields the steps of this part."""
         yield from self.head()
         for text in self.lines:
             self.line += 1
@@ -178,6 +180,7 @@ class Reading:
             yield Begin(self.line - 1, content, self.sum, damage_of(mark, content))
 
     def step(self, text: bytes) -> Iterator[Step]:
+        """Yields the steps of one line."""
         if len(text) > LINE_BYTES:
             raise BadLine
         if text == b"power":
@@ -191,6 +194,7 @@ class Reading:
                 yield self.command(text, buffer)
 
     def comment(self, text: bytes) -> Iterator[Step]:
+        """Yields the steps of a comment, which may be a mark of a journal."""
         mark, given = Mark.read(text), GIVEN.fullmatch(text.decode("latin-1"))
         if mark is not None:
             total = sum_from(self.sum, mark.text)
@@ -206,6 +210,7 @@ class Reading:
             self.after.append(given[2])
 
     def command(self, text: bytes, buffer: bytes) -> Command:
+        """Returns a command with its circumstances, and with its mark's damage."""
         words, mark = self.words, self.mark
         given = buffer, words.locality, words.elapsed
         found = Command(self.line, text, *given, words.random, self.is_completed, self.said)
@@ -233,6 +238,7 @@ def answers_come_first(lines: list[bytes]) -> bool:
 
 
 def hex_of(text: bytes) -> bytes | None:
+    """Returns the bytes that are written in hex, or None."""
     try:
         return bytes.fromhex(text.decode("ascii"))
     except ValueError:
@@ -240,6 +246,7 @@ def hex_of(text: bytes) -> bytes | None:
 
 
 def damage_of(mark: HeadMark, content: bytes) -> str:
+    """Returns how the head of a journal is damaged; empty if it is not."""
     if not mark.is_of(content):
         return DAMAGED_HEAD
     if mark.is_state == is_state_text(content):

@@ -22,6 +22,7 @@ DEMANDS = {CC.PolicyAuthValue: policy.AUTH_VALUE, CC.PolicyPassword: policy.PASS
 
 
 def in_bytes(text: str) -> bytes:
+    """Returns the bytes of a text as they were read."""
     return text.encode("utf-8", "surrogateescape")
 
 
@@ -98,6 +99,7 @@ class Assembler:
         return self.knowledge.prepare(asked.code, asked.handles, asked.parameters, *means)
 
     def means(self, asked: Prepared, place: int, token: Token) -> bytes | Use:
+        """Returns what authorizes by one entry: a password, or the use of a session."""
         entry = asked.entries[place - 1]
         if entry.handle == RS_PW:
             return entry.hmac
@@ -115,6 +117,7 @@ class Assembler:
         return Use(session, attributes, demand=self.demands.get(session.handle))
 
     def tell_value(self, asked: Prepared, place: int, token: Token, word: str) -> None:
+        """Sets the authorization value of the handle that an entry authorizes."""
         handle = asked.authorized(place)
         if handle is None:
             raise Bad(token.column, f"entry {place} authorizes nothing, and takes no pin")
@@ -122,6 +125,7 @@ class Assembler:
 
     @staticmethod
     def with_word(attributes: int, word: str, code: CC, session: Session, token: Token) -> int:
+        """Returns an entry's attributes, changed as one word says."""
         takes = {DECRYPTS: code.takes_sized, ENCRYPTS: code.answers_sized, ENDS: True}
         if word not in takes:
             raise Bad(token.column, f"an entry has pin=, {', '.join(WORDS)}, and not {word}")
@@ -165,6 +169,7 @@ class Assembler:
         return handle, parameters
 
     def learn_sessions(self, prepared: Prepared, request: bytes, answer: Response) -> None:
+        """Learns which sessions started or ended, and what their policies demand."""
         code = prepared.code
         for entry in prepared.entries:
             if is_policy(entry.handle):
@@ -179,6 +184,7 @@ class Assembler:
             self.demands.pop(prepared.handles[0], None)
 
     def start(self, prepared: Prepared, request: bytes, answer: Response) -> None:
+        """Learns a new session."""
         given = read_all(prepared.code.parameters, request)
         answered = answer.handle, answer.parameters
         nonce, bind = given["nonceCaller"], prepared.handles[1]

@@ -7,6 +7,7 @@ from typing import Iterator
 from tpmsim.caller import Knowledge, Prepared, Refused, Response, WrongResponse
 from tpmsim.device import DeviceEnded, Transport, Unsupported
 from tpmsim.device.base import Executed, line_in_bytes
+from tpmsim.faults import TpmsimError
 from tpmsim.model.player import BadLine, hex_bytes, LINE_BYTES, Words
 from tpmsim.script.assembler import Assembler, in_bytes, is_computed, value_of
 from tpmsim.script.names import Bad, Names, Token, tokens_of
@@ -21,7 +22,7 @@ COMMAND = "command"
 LET_WANTED = 'NAME = COMMAND.FIELD, or NAME = "TEXT"'
 
 
-class BadScript(Exception):
+class BadScript(TpmsimError):
     """A wrong line: its number, the column, and the reason as text."""
 
     def __init__(self, line: int, column: int, words: str) -> None:
@@ -39,6 +40,7 @@ class Layer:
         self.buffers: dict[CC, bytes] = {}
 
     def nonce(self, size: int) -> bytes:
+        """Returns a nonce; the script's own device gets the same ones in each run."""
         if not isinstance(self.device, OwnDevice):
             return secrets.token_bytes(size)
         self.nonces += 1
@@ -57,6 +59,7 @@ class Layer:
                 raise BadScript(number, 1, "the response is cut off") from None
 
     def play(self, line: str) -> list[str]:
+        """Plays a line, and returns the lines of the plain script."""
         if not line or line.startswith("#"):
             return [line]
         word, space, rest = line.partition(" ")
@@ -81,6 +84,7 @@ class Layer:
     # Commands.
 
     def do(self, rest: str, column: int) -> list[str]:
+        """Plays a command."""
         tokens = [self.names.put(it) for it in tokens_of(rest, column)]
         prepared = self.assembler.prepared(tokens)
         line = " ".join(it.text for it in tokens)
@@ -101,6 +105,7 @@ class Layer:
         return self.execute(prepared, line_in_bytes(buffer))
 
     def execute(self, prepared: Prepared, line: str) -> list[str]:
+        """Sends a command, learns from its response, and returns the lines for it."""
         executed = self.sent(prepared.buffer())
         self.buffers[prepared.code] = executed.buffer
         code = int.from_bytes(executed.response[6:10], "big")
@@ -113,6 +118,7 @@ class Layer:
         return self.told(executed, line)
 
     def sent(self, buffer: bytes) -> Executed:
+        """Sends a command, and returns what happened."""
         self.device.execute(buffer)
         event = self.device.events[-1]
         assert isinstance(event, Executed)
@@ -146,6 +152,7 @@ class Layer:
         return f"{word} {given.text}"
 
     def wait(self, milliseconds: int, column: int) -> None:
+        """Lets time pass."""
         try:
             self.device.wait(milliseconds)
         except ValueError as fault:
@@ -166,6 +173,7 @@ class Layer:
         return f"# auth {tokens[0].text} {tokens[1].text}"
 
     def let(self, rest: str, column: int) -> str:
+        """Plays a `let`, which names a value."""
         name, equals, value = rest.partition(" = ")
         if not equals:
             raise Bad(column, f"let takes {LET_WANTED}")

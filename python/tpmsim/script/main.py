@@ -23,11 +23,13 @@ FAULT = 2
 
 
 def read(path: str) -> str:
+    """Reads a script from a file, or from standard input."""
     data = sys.stdin.buffer.read() if path == "-" else pathlib.Path(path).read_bytes()
     return data.decode("utf-8", "surrogateescape")
 
 
 def written(lines: list[str], path: str) -> None:
+    """Writes lines to a file, or to standard output."""
     data = "".join(f"{it}\n" for it in lines).encode("utf-8", "surrogateescape")
     if path == "-":
         sys.stdout.buffer.write(data)
@@ -36,10 +38,12 @@ def written(lines: list[str], path: str) -> None:
 
 
 def device_of(socket: str | None) -> Transport:
+    """Returns the script's own device, or the one that a socket serves."""
     return own_device() if socket is None else ServedDevice(socket)
 
 
 def run() -> int:
+    """Runs the program, and returns its status."""
     words = argparse.ArgumentParser(
         prog="tpmsim-script",
         description=__doc__,

@@ -3,6 +3,8 @@
 import re
 from typing import Callable, Iterator, NamedTuple
 
+from tpmsim.faults import TpmsimError
+
 NAME = re.compile(r"[A-Za-z_][A-Za-z0-9_]*")
 REFERENCE = re.compile(rf"\$(?:\{{({NAME.pattern})\}}|({NAME.pattern}))?")
 
@@ -10,7 +12,7 @@ REFERENCE = re.compile(rf"\$(?:\{{({NAME.pattern})\}}|({NAME.pattern}))?")
 NONCE, NONCE_BYTES = "nonce", 16
 
 
-class Bad(Exception):
+class Bad(TpmsimError):
     """What is wrong with a line, as text, and the column where it starts, counted from 1."""
 
     def __init__(self, column: int, words: str) -> None:
@@ -42,6 +44,7 @@ class Names:
         self.values: dict[str, str] = {}
 
     def value(self, name: str) -> str | None:
+        """Returns the value of a name, or None if it has none."""
         return self.nonce(NONCE_BYTES).hex() if name == NONCE else self.values.get(name)
 
     def put(self, token: Token) -> Token:

@@ -13,6 +13,7 @@ class OwnDevice(Device):
     said: bytes | None = None
 
     def drawn(self) -> bytes:
+        """Returns the random bytes that the script gives, or else those of the seed."""
         return super().drawn() if self.said is None else self.said
 
 
@@ -27,4 +28,5 @@ class OwnModelDevice(OwnDevice, ModelDevice):
 
 
 def own_device() -> OwnDevice:
+    """Returns a fresh device, in the library if there is one."""
     return OwnLibraryDevice() if is_there() else OwnModelDevice()

@@ -69,6 +69,7 @@ def shift_rows(state: bytes) -> bytes:
 
 
 def mix_columns(state: bytes) -> bytes:
+    """Returns the state after MixColumns."""
     mixed = []
     for column in (state[at : at + 4] for at in range(0, BLOCK, 4)):
         for row in range(4):
@@ -78,6 +79,7 @@ def mix_columns(state: bytes) -> bytes:
 
 
 def encrypt_block(key: bytes, block: bytes) -> bytes:
+    """Encrypts a block with AES-128."""
     first, *middle, last = round_keys(key)
     state = xor(block, first)
     for round_key in middle:
@@ -100,6 +102,7 @@ def cfb_encrypt(
 def cfb_decrypt(
     key: bytes, iv: bytes, text: bytes, block_cipher: BlockCipher = encrypt_block
 ) -> bytes:
+    """Decrypts a text in CFB mode."""
     done, before = b"", iv
     for at in range(0, len(text), BLOCK):
         block = text[at : at + BLOCK]

@@ -32,6 +32,7 @@ def key_words(key: bytes) -> tuple[int, ...]:
 
 
 def encrypt_block(key: bytes, block: bytes) -> bytes:
+    """Encrypts a block with AES-128, by tables."""
     words, r0, r1, r2, r3 = key_words(key), *ROWS
     a, b, c, d = (it ^ word for it, word in zip(struct.unpack(">4I", block), words))
     for at in range(4, 4 * aes.ROUNDS, 4):

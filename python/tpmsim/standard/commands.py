@@ -241,14 +241,17 @@ class CC(enum.IntEnum):
     # What follows from an entry.
 
     def has(self, fact: Fact) -> bool:
+        """Returns whether a fact holds for the command."""
         return fact in self.facts
 
     @property
     def authorized(self) -> int:
+        """The number of handles that need authorization."""
         return sum(it.is_authorized for it in self.handles)
 
     @property
     def answers_handle(self) -> bool:
+        """Whether a successful response has a handle."""
         return bool(self.answered_handles)
 
     @property
@@ -268,6 +271,7 @@ class CC(enum.IntEnum):
 
 
 def begins_with_buffer(parameters: tuple[Parameter, ...]) -> bool:
+    """Returns whether the first parameter is a sized buffer."""
     return bool(parameters) and parameters[0].kind == Kind.BUFFER
 
 

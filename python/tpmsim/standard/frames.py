@@ -5,6 +5,7 @@ import struct
 from dataclasses import dataclass
 from typing import Iterable, Iterator
 
+from tpmsim.faults import BadValue
 from tpmsim.standard.reading import Fields
 
 # PCRs of banks: for each bank its hash algorithm and the numbers of the PCRs.
@@ -53,11 +54,30 @@ PLACES = {"h": 0, "p": 0x040, "s": 0x800}
 
 
 def number(value: int, size: int) -> bytes:
+    """Returns a number in big-endian order, `size` bytes long."""
     return value.to_bytes(size, "big")
 
 
 def sized(data: bytes) -> bytes:
+    """Returns a buffer with its size in front, two bytes long."""
     return number(len(data), 2) + data
+
+
+def field(name: str, value: int, size: int) -> bytes:
+    """Returns the encoding of a structure's number; raises BadValue if it does not fit."""
+    try:
+        return number(value, size)
+    except (AttributeError, OverflowError):
+        most = 2 ** (8 * size) - 1
+        raise BadValue(name, value, f"an integer from 0 to {most}") from None
+
+
+def sized_field(name: str, data: bytes) -> bytes:
+    """Returns the encoding of a structure's buffer; raises BadValue for anything but bytes."""
+    try:
+        return sized(data)
+    except (OverflowError, TypeError):
+        raise BadValue(name, data, "at most 65535 bytes") from None
 
 
 # The header of a command and of a response: a tag, the total size, and a code.
@@ -131,6 +151,7 @@ def on_handles(
 def on_handle(
     code: int, handle: int, parameters: bytes = b"", entries: list[bytes] | None = None
 ) -> bytes:
+    """Returns a command with one handle; see `on_handles`."""
     return on_handles(code, [handle], parameters, entries)
 
 
@@ -168,6 +189,7 @@ def selection(*banks: tuple[int, Iterable[int]]) -> bytes:
 
 
 def digests(*values: tuple[int, bytes]) -> bytes:
+    """Returns a list of digests, each with its hash algorithm."""
     return number(len(values), 4) + b"".join(number(alg, 2) + digest for alg, digest in values)
 
 
@@ -179,14 +201,17 @@ def sized_list(*values: bytes, count: int | None = None) -> bytes:
 def policy_secret(
     nonce_tpm: bytes = b"", cp_hash: bytes = b"", policy_ref: bytes = b"", expiration: int = 0
 ) -> bytes:
+    """Returns the parameters of TPM2_PolicySecret."""
     return sized(nonce_tpm) + sized(cp_hash) + sized(policy_ref) + number(expiration, 4)
 
 
 def attack_parameters(max_tries: int, recovery_time: int, lockout_recovery: int) -> bytes:
+    """Returns the parameters of TPM2_DictionaryAttackParameters."""
     return b"".join(number(it, 4) for it in (max_tries, recovery_time, lockout_recovery))
 
 
 def policy_nv(operand: bytes = b"", offset: int = 0, operation: int = 0) -> bytes:
+    """Returns the parameters of TPM2_PolicyNV."""
     return sized(operand) + number(offset, 2) + number(operation, 2)
 
 
@@ -194,8 +219,9 @@ def nv_public_area(
     index: int, name_algorithm: int, attributes: int, auth_policy: bytes, data_size: int
 ) -> bytes:
     """Returns a TPMS_NV_PUBLIC."""
-    head = number(index, 4) + number(name_algorithm, 2) + number(attributes, 4)
-    return head + sized(auth_policy) + number(data_size, 2)
+    head = field("index", index, 4) + field("name_algorithm", name_algorithm, 2)
+    head += field("attributes", attributes, 4)
+    return head + sized_field("auth_policy", auth_policy) + field("data_size", data_size, 2)
 
 
 def nv_define_space(public: bytes, auth: bytes = b"") -> bytes:
@@ -204,10 +230,12 @@ def nv_define_space(public: bytes, auth: bytes = b"") -> bytes:
 
 
 def nv_write(data: bytes, offset: int = 0) -> bytes:
+    """Returns the parameters of TPM2_NV_Write."""
     return sized(data) + number(offset, 2)
 
 
 def nv_read(size: int, offset: int = 0) -> bytes:
+    """Returns the parameters of TPM2_NV_Read."""
     return number(size, 2) + number(offset, 2)
 
 
@@ -234,8 +262,9 @@ def public_area(
     """Returns a TPMT_PUBLIC; `details` are the scheme of a KEYEDHASH or the cipher of a
     SYMCIPHER.
     """
-    head = number(kind, 2) + number(name_algorithm, 2) + number(attributes, 4)
-    return head + sized(auth_policy) + details + sized(unique)
+    head = field("kind", kind, 2) + field("name_algorithm", name_algorithm, 2)
+    head += field("attributes", attributes, 4)
+    return head + sized_field("auth_policy", auth_policy) + details + sized_field("unique", unique)
 
 
 def creation(sensitive: bytes, public: bytes, outside_info: bytes = b"", pcrs: Banks = ()) -> bytes:
@@ -250,6 +279,7 @@ ST_CREATION, ST_AUTH_SECRET = 0x8021, 0x8023
 
 
 def ticket(tag: int, hierarchy: int, digest: bytes) -> bytes:
+    """Returns a ticket."""
     return number(tag, 2) + number(hierarchy, 4) + sized(digest)
 
 

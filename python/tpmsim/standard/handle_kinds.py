@@ -17,10 +17,12 @@ PROVISIONERS, CLEARERS = (RH_OWNER, RH_PLATFORM), (RH_LOCKOUT, RH_PLATFORM)
 
 
 def first_byte(handle: int) -> int:
+    """Returns the first byte of a handle, which says the type of its entity."""
     return handle >> 24
 
 
 def is_pcr(handle: int) -> bool:
+    """Returns whether a handle is that of a PCR."""
     return handle in PCRS
 
 
@@ -28,18 +30,22 @@ def is_pcr(handle: int) -> bool:
 
 
 def is_object(handle: int) -> bool:
+    """Returns whether a handle is that of an object."""
     return first_byte(handle) in (TRANSIENT, PERSISTENT)
 
 
 def is_policy(handle: int) -> bool:
+    """Returns whether a handle is that of a policy or trial session."""
     return first_byte(handle) == POLICY_SESSION
 
 
 def is_index(handle: int) -> bool:
+    """Returns whether a handle is that of an NV index."""
     return first_byte(handle) == NV
 
 
 def is_session(handle: int) -> bool:
+    """Returns whether a handle is that of a session."""
     return first_byte(handle) in (HMAC_SESSION, POLICY_SESSION)
 
 

@@ -10,6 +10,7 @@ from dataclasses import dataclass
 from functools import cached_property
 from typing import Any, Callable, Iterable, TYPE_CHECKING, TypeVar
 
+from tpmsim.faults import TpmsimError
 from tpmsim.standard import frames
 from tpmsim.standard.commands import CC, Kind, NUMBERED
 from tpmsim.standard.frames import AES, ALG_NULL, CONTINUE_SESSION, Entry, RS_PW, SESSIONS, SHA1
@@ -28,18 +29,18 @@ BAD_NAME, BAD_FIELD, MISSING = "BadName", "BadField", "Missing"
 RANGE, TOO_LONG = "Range", "TooLong"
 
 
-class Fault(Exception):
+class Fault(TpmsimError):
     """Why bytes are not a line: the fault's name, and for some faults the column of the token."""
 
     def __init__(self, name: str, column: int | None = None) -> None:
         super().__init__(name if column is None else f"{name} {column}")
 
 
-class Wrong(Exception):
+class Wrong(TpmsimError):
     """A wrong token; its one argument is BAD_FIELD or RANGE."""
 
 
-class NoWords(Exception):
+class NoWords(TpmsimError):
     """No token encodes these bytes."""
 
 
@@ -61,6 +62,7 @@ HANDLE_NAMES = {
 
 
 def of_form(form: re.Pattern[bytes], token: bytes) -> re.Match[bytes]:
+    """Returns the match of a whole token; raises Wrong if there is none."""
     found = form.fullmatch(token)
     if not found:
         raise Wrong(BAD_FIELD)
@@ -68,6 +70,7 @@ def of_form(form: re.Pattern[bytes], token: bytes) -> re.Match[bytes]:
 
 
 def number_up_to(most: int, token: bytes) -> int:
+    """Reads a number, in decimal or in hex; a larger one raises Wrong."""
     in_hex, in_decimal = of_form(NUMBER, token).groups()
     digits = (in_hex or in_decimal).lstrip(b"0") or b"0"
     if len(digits) > MOST_DIGITS:
@@ -79,26 +82,31 @@ def number_up_to(most: int, token: bytes) -> int:
 
 
 def bytes_of(token: bytes) -> bytes:
+    """Reads hex, or `-` for no bytes."""
     if token == NOTHING:
         return b""
     return bytes.fromhex(of_form(HEX, token)[0].decode("ascii"))
 
 
 def handle_of(token: bytes) -> int:
+    """Reads a handle: eight digits in hex, or a name such as OWNER."""
     if token in HANDLE_NAMES:
         return HANDLE_NAMES[token]
     return int(of_form(HANDLE, token)[0], 16)
 
 
 def hex_word(data: bytes) -> str:
+    """Returns bytes in hex, or `-` for no bytes."""
     return data.hex() or NOTHING.decode("ascii")
 
 
 def handle_word(handle: int) -> str:
+    """Returns the word of a handle."""
     return word_in(HANDLE_NAMES, handle, f"{handle:08x}")
 
 
 def value_in(words: dict[bytes, T], token: bytes) -> T:
+    """Returns the value of a token; raises Wrong if it is not in the table."""
     if token not in words:
         raise Wrong(BAD_FIELD)
     return words[token]
@@ -135,6 +143,7 @@ class Words:
 
     @cached_property
     def values(self) -> Values:
+        """The conversions between values and bytes."""
         return VALUES[self.kind]
 
     def spelled(self, token: bytes) -> bytes:
@@ -152,6 +161,7 @@ class Words:
 
 
 def integer(kind: Kind, size: int, shown: str = "{}") -> Words:
+    """Returns the words of integers of this size, in bytes."""
     most = 2 ** (8 * size) - 1
     return Words(kind, f"u{8 * size}", lambda token: number_up_to(most, token), shown.format)
 
@@ -184,11 +194,13 @@ def hash_and_rest(piece: bytes) -> tuple[int, bytes]:
 
 
 def bank_of(piece: bytes) -> Bank:
+    """Reads a bank of a selection."""
     algorithm, rest = hash_and_rest(piece)
     return Bank(algorithm, tuple(number_up_to(PCRS[-1], it) for it in rest.split(b",")))
 
 
 def digest_of(piece: bytes) -> Digest:
+    """Reads a digest with its hash algorithm."""
     algorithm, rest = hash_and_rest(piece)
     digest = bytes_of(rest)
     if len(digest) != digest_bytes(algorithm):
@@ -197,6 +209,7 @@ def digest_of(piece: bytes) -> Digest:
 
 
 def one_of(kind: Kind, words: dict[bytes, Any]) -> Words:
+    """Returns the words of a kind that has only these values."""
     return Words(
         kind, kind.value, lambda token: value_in(words, token), lambda it: word_in(words, it)
     )
@@ -237,10 +250,12 @@ def form_of(code: CC) -> str:
 
 
 def words_of_parameters(code: CC) -> list[Words]:
+    """Returns the words of each parameter's kind."""
     return [WORDS[it.kind] for it in code.parameters]
 
 
 def parameter_words(code: CC, fields: Fields) -> list[str]:
+    """Returns a token for each parameter of a command."""
     return [it.word(fields) for it in words_of_parameters(code)]
 
 
@@ -248,10 +263,12 @@ PASSWORD_PREFIX, SESSION_PREFIX = b"pw:", b"s:"
 
 
 def is_entry(token: bytes) -> bool:
+    """Returns whether a token begins as an entry does."""
     return token.startswith((PASSWORD_PREFIX, SESSION_PREFIX))
 
 
 def entry_of(token: bytes) -> Entry:
+    """Reads an entry: a password, or the fields of a session's entry."""
     if token.startswith(PASSWORD_PREFIX):
         password = buffer_of(token.removeprefix(PASSWORD_PREFIX))
         return Entry(RS_PW, b"", CONTINUE_SESSION, password)
@@ -293,11 +310,13 @@ class Tokens:
         return value
 
     def end(self) -> None:
+        """Raises Fault if a token is left over."""
         if self.left:
             raise Fault(BAD_FIELD, self.column)
 
 
 def code_of(token: bytes) -> CC:
+    """Reads the name of a command."""
     name = token.decode("ascii", "replace")
     if name not in CC.__members__:
         raise Fault(BAD_NAME)
@@ -305,6 +324,7 @@ def code_of(token: bytes) -> CC:
 
 
 def assemble(line: bytes) -> bytes:
+    """Returns the buffer that a line encodes; raises Fault if it is not a line."""
     tokens = Tokens(line)
     code = tokens.take(code_of)
     handles = [tokens.take(handle_of) for _ in code.handles]
@@ -329,6 +349,7 @@ def line_of(buffer: bytes) -> str | None:
 
 
 def words_of(fields: Fields) -> list[str]:
+    """Returns the tokens of a buffer; raises NoWords if it has none."""
     tag = fields.number(2)
     fields.take(4)
     code = NUMBERED.get(fields.number(4))

@@ -6,7 +6,7 @@ import enum
 from dataclasses import dataclass, replace
 from functools import cached_property
 
-from tpmsim.standard import frames
+from tpmsim.standard import attribute_words, frames
 from tpmsim.standard.frames import number
 from tpmsim.standard.reading import Fields
 from tpmsim.standard.sessions import digest
@@ -58,7 +58,18 @@ READS = Attribute.PPREAD | Attribute.OWNERREAD | Attribute.AUTHREAD | Attribute.
 
 
 def of_type(kind: int) -> int:
+    """Returns the attributes that only say the type."""
     return kind << TYPE_SHIFT
+
+
+TYPE_WORDS = {f"nt={it.name.lower()}": of_type(it) for it in Type}
+
+
+def attributes_of(given: int | str) -> int:
+    """Returns attributes, which may be words such as `ownerwrite|authread|nt=counter`."""
+    if isinstance(given, str):
+        return attribute_words.bits_of(Attribute, given, TYPE_WORDS)
+    return given
 
 
 @dataclass(frozen=True)
@@ -72,10 +83,12 @@ class Public:
     data_size: int = NUMBER_BYTES
 
     def has(self, attributes: int) -> bool:
+        """Returns whether one of these attributes is set."""
         return bool(self.attributes & attributes)
 
     @property
     def is_free(self) -> bool:
+        """Whether failed authorizations do not count as tries."""
         return self.has(Attribute.NO_DA)
 
     @property
@@ -89,16 +102,24 @@ class Public:
         return [it.name for it in Attribute if it & (WRITES | READS) & self.attributes]
 
     @property
+    def words(self) -> str:
+        """Its attributes in words, such as `ownerwrite|ownerread|nt=counter`."""
+        types = [word for word, bits in TYPE_WORDS.items() if bits and bits == of_type(self.kind)]
+        return "|".join([attribute_words.words_of(Attribute, self.attributes), *types])
+
+    @property
     def text(self) -> bytes:
+        """Its encoding. Raises BadValue if a field does not fit."""
         head = self.index, self.name_algorithm, self.attributes
         return frames.nv_public_area(*head, self.auth_policy, self.data_size)
 
     @cached_property
     def name(self) -> bytes:
+        """The Name of the index."""
         return number(self.name_algorithm, 2) + digest(self.name_algorithm, self.text)
 
     @classmethod
-    def read(cls, text: bytes) -> "Public":
+    def read(cls, text: bytes) -> Public:
         """Decodes a public area; raises ValueError if bytes are left over, Short if some are
         missing.
         """
@@ -110,4 +131,5 @@ class Public:
         return public
 
     def but(self, added: int = 0, cleared: int = 0) -> Public:
+        """Returns the area with some attributes added and others cleared."""
         return replace(self, attributes=self.attributes & ~cleared | added)

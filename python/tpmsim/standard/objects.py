@@ -4,7 +4,7 @@ import enum
 from dataclasses import dataclass
 from functools import cached_property
 
-from tpmsim.standard import frames
+from tpmsim.standard import attribute_words, frames
 from tpmsim.standard.frames import ALG_NULL, KEYEDHASH, number, SYMCIPHER
 from tpmsim.standard.reading import Fields
 from tpmsim.standard.sessions import digest
@@ -29,6 +29,27 @@ class Attribute(enum.IntEnum):
 NAMED = sum(Attribute)
 
 
+def attributes_of(given: int | str) -> int:
+    """Returns attributes, which may be words such as `fixedtpm|fixedparent|userwithauth`."""
+    return attribute_words.bits_of(Attribute, given) if isinstance(given, str) else given
+
+
+@dataclass(frozen=True)
+class Sensitive:
+    """TPMS_SENSITIVE_CREATE: the authorization value of a new object, and its key or sealed
+    data.
+    """
+
+    user_auth: bytes = b""
+    data: bytes = b""
+
+    @property
+    def text(self) -> bytes:
+        """Its encoding. Raises BadValue if a field does not fit."""
+        user_auth = frames.sized_field("user_auth", self.user_auth)
+        return user_auth + frames.sized_field("data", self.data)
+
+
 @dataclass(frozen=True)
 class Public:
     """TPMT_PUBLIC; the scheme of a KEYEDHASH is a hash or NULL, and a cipher is AES-128 CFB."""
@@ -41,14 +62,22 @@ class Public:
     unique: bytes = b""
 
     def has(self, attributes: int) -> bool:
+        """Returns whether one of these attributes is set."""
         return bool(self.attributes & attributes)
 
     @property
     def is_free(self) -> bool:
+        """Whether failed authorizations do not count as tries."""
         return self.has(Attribute.NO_DA)
 
     @property
+    def words(self) -> str:
+        """Its attributes in words, such as `fixedtpm|userwithauth`."""
+        return attribute_words.words_of(Attribute, self.attributes)
+
+    @property
     def text(self) -> bytes:
+        """Its encoding. Raises BadValue if a field does not fit."""
         is_keyed_hash = self.kind == KEYEDHASH
         details = frames.scheme(self.scheme) if is_keyed_hash else frames.symmetric(aes=True)
         head = self.kind, self.name_algorithm, self.attributes
@@ -56,6 +85,7 @@ class Public:
 
     @cached_property
     def name(self) -> bytes:
+        """The Name of the object."""
         return number(self.name_algorithm, 2) + digest(self.name_algorithm, self.text)
 
     @classmethod

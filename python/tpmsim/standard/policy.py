@@ -31,18 +31,22 @@ def after_auth_value(algorithm: int, old: bytes) -> bytes:
 
 
 def after_command_code(algorithm: int, old: bytes, code: int) -> bytes:
+    """`code` is the number of the command."""
     return digest(algorithm, old + number(CC.PolicyCommandCode, 4) + number(code, 4))
 
 
 def after_cp_hash(algorithm: int, old: bytes, cp_hash: bytes) -> bytes:
+    """`cp_hash` is the hash of the command's parameters and Names."""
     return digest(algorithm, old + number(CC.PolicyCpHash, 4) + cp_hash)
 
 
 def after_nv_written(algorithm: int, old: bytes, is_written: bool) -> bytes:
+    """`is_written` says whether the index must be written."""
     return digest(algorithm, old + number(CC.PolicyNvWritten, 4) + number(is_written, 1))
 
 
 def after_locality(algorithm: int, old: bytes, localities: int) -> bytes:
+    """Bit n of `localities` stands for locality n."""
     return digest(algorithm, old + number(CC.PolicyLocality, 4) + number(localities, 1))
 
 

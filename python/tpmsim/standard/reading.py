@@ -1,7 +1,9 @@
 """Reads bytes from the front."""
 
+from tpmsim.faults import TpmsimError
 
-class Short(Exception):
+
+class Short(TpmsimError):
     """Fewer bytes are left than needed."""
 
 
@@ -12,12 +14,14 @@ class Fields:
         self.data = data
 
     def take(self, count: int) -> bytes:
+        """Returns the next bytes; raises Short if there are fewer."""
         if count > len(self.data):
             raise Short
         taken, self.data = self.data[:count], self.data[count:]
         return taken
 
     def number(self, size: int) -> int:
+        """Returns the next number, in big-endian order."""
         data = self.data
         if size > len(data):
             raise Short
@@ -25,4 +29,5 @@ class Fields:
         return int.from_bytes(data[:size], "big")
 
     def sized(self) -> bytes:
+        """Returns the next buffer, whose size comes first."""
         return self.take(self.number(2))

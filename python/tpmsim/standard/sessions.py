@@ -24,14 +24,17 @@ SUCCESS = 0
 
 
 def digest_bytes(algorithm: int) -> int:
+    """Returns the size of a digest, in bytes."""
     return SIZES[algorithm]
 
 
 def digest(algorithm: int, text: bytes) -> bytes:
+    """Returns the digest of a text."""
     return HASHES[algorithm](text).digest()
 
 
 def mac(algorithm: int, key: bytes, text: bytes) -> bytes:
+    """Returns the HMAC of a text."""
     return hmac.digest(key, text, HASH_WORDS[algorithm])
 
 

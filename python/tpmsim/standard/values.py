@@ -1,10 +1,12 @@
 """The Python values of parameters, by kind: a number, bytes, or a structure below."""
 
+from __future__ import annotations
+
 from dataclasses import dataclass
-from typing import Any, Callable, NamedTuple, Protocol
+from typing import Any, Callable, NamedTuple, Protocol, TypeVar
 
 from tpmsim.standard import frames
-from tpmsim.standard.commands import CC, Kind, Parameter
+from tpmsim.standard.commands import Kind, Parameter
 from tpmsim.standard.frames import AES, ALG_NULL, number, sized, XOR
 from tpmsim.standard.reading import Fields
 from tpmsim.standard.sessions import digest_bytes
@@ -48,15 +50,58 @@ class Time:
 
 @dataclass(frozen=True)
 class Capability:
-    """The response of TPM2_GetCapability: the capability, and its elements as sent."""
+    """The response of TPM2_GetCapability: the capability, and its elements as sent. The properties
+    below read the elements; one that is for another capability raises ValueError.
+    """
 
     capability: int
     data: bytes
+
+    def read(self, capability: int, read: Callable[[Fields], Item]) -> list[Item]:
+        """Returns the elements, which must be those of this capability."""
+        if self.capability != capability:
+            raise ValueError(f"these are elements of capability {self.capability}")
+        fields = Fields(self.data)
+        found = [read(fields) for _ in range(fields.number(4))]
+        if fields.data:
+            raise ValueError(f"{len(fields.data)} bytes are left behind the elements")
+        return found
+
+    @property
+    def algorithms(self) -> dict[int, int]:
+        """The attributes of each algorithm, by its number."""
+        return dict(self.read(0, lambda fields: (fields.number(2), fields.number(4))))
+
+    @property
+    def handles(self) -> list[int]:
+        """The handles in use."""
+        return self.read(1, lambda fields: fields.number(4))
+
+    @property
+    def commands(self) -> list[int]:
+        """The attributes (TPMA_CC) of each command; the lowest 16 bits are its number."""
+        return self.read(2, lambda fields: fields.number(4))
+
+    @property
+    def pcrs(self) -> list[Bank]:
+        """The banks, with the PCRs of each."""
+        return self.read(5, read_bank)
+
+    @property
+    def properties(self) -> dict[int, int]:
+        """The value of each property, by its number."""
+        return dict(self.read(6, lambda fields: (fields.number(4), fields.number(4))))
+
+
+# What may be passed as the contents of a buffer, in addition to a structure.
+BYTES = bytes, bytearray, memoryview
+Item = TypeVar("Item")
 
 
 class HasText(Protocol):
     @property
     def text(self) -> bytes:
+        """The encoding."""
         ...
 
 
@@ -66,11 +111,13 @@ class Values(NamedTuple):
 
 
 def numbers(size: int) -> Values:
+    """Returns the conversions for numbers of this size, in bytes."""
     return Values(lambda value: number(value, size), lambda fields: fields.number(size))
 
 
-def write_buffer(value: bytes | HasText) -> bytes:
-    return sized(value if isinstance(value, bytes) else value.text)
+def write_buffer(value: bytes | bytearray | memoryview | HasText) -> bytes:
+    """Returns a sized buffer: of bytes, or of a structure's encoding."""
+    return sized(bytes(value) if isinstance(value, BYTES) else value.text)
 
 
 def read_list(read: Callable[[Fields], Any]) -> Callable[[Fields], list[Any]]:
@@ -79,6 +126,7 @@ def read_list(read: Callable[[Fields], Any]) -> Callable[[Fields], list[Any]]:
 
 
 def read_bank(fields: Fields) -> Bank:
+    """Reads a bank of a selection."""
     algorithm = fields.number(2)
     bits = int.from_bytes(fields.take(fields.number(1)), "little")
     return Bank(algorithm, tuple(it for it in range(bits.bit_length()) if bits >> it & 1))
@@ -92,6 +140,7 @@ def read_digest(fields: Fields) -> Digest:
 
 
 def read_cipher(fields: Fields) -> Cipher:
+    """Reads the cipher of a session."""
     algorithm = fields.number(2)
     if algorithm == AES:
         fields.take(4)
@@ -99,11 +148,13 @@ def read_cipher(fields: Fields) -> Cipher:
 
 
 def read_time(fields: Fields) -> Time:
+    """Reads what TPM2_ReadClock returns."""
     times = fields.number(8), fields.number(8)
     return Time(*times, fields.number(4), fields.number(4), bool(fields.number(1)))
 
 
 def answered_alone(value: Any) -> bytes:
+    """Raises TypeError: no command has such a parameter."""
     raise TypeError("it is answered alone")
 
 
@@ -132,20 +183,6 @@ VALUES: dict[Kind, Values] = {
         answered_alone, lambda fields: Capability(fields.number(4), fields.take(len(fields.data)))
     ),
 }
-
-
-def write_in_order(code: CC, *values: Any) -> bytes:
-    """Returns the parameters of a command, from one value for each, in the order of Part 3."""
-    pairs = zip(code.parameters, values, strict=True)
-    return b"".join(VALUES[it.kind].write(value) for it, value in pairs)
-
-
-def write_all(code: CC, values: dict[str, Any]) -> bytes:
-    """Takes each parameter by its name in Part 3; raises TypeError for a missing or unknown one."""
-    names = [it.name for it in code.parameters]
-    if set(values) != set(names):
-        raise TypeError(f"{code.name} takes {', '.join(names) or 'no parameters'}")
-    return write_in_order(code, *(values[it] for it in names))
 
 
 def read_all(parameters: tuple[Parameter, ...], text: bytes) -> dict[str, Any]:

@@ -1,0 +1,253 @@
+"""Commands by their names: an example of each, the types of its response, words as values, and
+faults that name the field.
+"""
+
+import builtins
+import contextlib
+import functools
+import importlib
+import inspect
+import io
+import pathlib
+import pkgutil
+import sys
+import unittest
+
+import tpmsim
+from tpmsim import BadValue, TpmsimError
+from tpmsim.caller import area, Caller, calls, sealed, storage_key
+from tpmsim.caller.examples import EXAMPLES, INDEX, Scene
+from tpmsim.device import Device, ModelDevice
+from tpmsim.explain.dissection import fields_of_command
+from tpmsim.standard import CC, given, lines, nv, objects, RH_OWNER, SHA1, SHA256, sized, values
+
+PACKAGE = pathlib.Path(__file__).resolve().parents[1]
+sys.path.append(str(PACKAGE / "packing"))
+import call_types
+
+# The packages for people, whose functions all have a docstring.
+FOR_PEOPLE = "caller", "device", "policies", "records", "script", "standard", "faults"
+
+
+def modules(*packages):
+    """The modules of these packages, or all that need no other package."""
+    for it in pkgutil.walk_packages(tpmsim.__path__, "tpmsim."):
+        if it.name != "tpmsim.pytest_plugin" and (
+            not packages or it.name.split(".")[1] in packages
+        ):
+            yield importlib.import_module(it.name)
+
+
+def defined(module, is_wanted):
+    """What a module defines and does not import."""
+    for _, it in inspect.getmembers(module, is_wanted):
+        if it.__module__ == module.__name__:
+            yield it
+
+
+def played(kind):
+    """Each example on a device of this kind: the command and its response."""
+    with kind(seed=b"seed") as device:
+        scene = Scene.on(device)
+        before = device.snapshot()
+        known = {name: dict(it) for name, it in vars(scene.tpm).items() if isinstance(it, dict)}
+        for example in EXAMPLES.values():
+            prepared = example(scene)
+            yield prepared, scene.tpm.send(prepared)
+            device.restore(before)
+            vars(scene.tpm).update({name: dict(it) for name, it in known.items()})
+
+
+class Examples(unittest.TestCase):
+    """An example of each command."""
+
+    def test_each(self):
+        """Two devices accept each example, and each field has the type of the stub."""
+        self.assertEqual(list(EXAMPLES), list(CC))
+        for (prepared, here), (_, there) in zip(played(Device), played(ModelDevice)):
+            with self.subTest(prepared.code.name):
+                self.check_answer(prepared.code, here)
+                self.assertEqual(len(here.parameters), len(there.parameters))
+
+    def check_answer(self, code, response):
+        self.assertEqual(type(response).__name__, f"{code.name}Response")
+        for it in code.answered_handles:
+            self.assertEqual(getattr(response, it.name), response.handle)
+        for it in code.answered_parameters:
+            self.check_field(response, it)
+
+    def check_field(self, response, parameter):
+        name = parameter.name
+        item, value = response[name], getattr(response, name)
+        wanted = call_types.answered(parameter).partition("[")[0]
+        self.assertIs(type(item), getattr(builtins, wanted, getattr(values, wanted, None)))
+        if name in calls.STRUCTURES:
+            self.assertIn(type(value), (objects.Public, nv.Public))
+            self.assertEqual(value.text, item)
+        else:
+            self.assertEqual(value, item)
+
+    def test_lines(self):
+        """Each example has a line, which assembles to the same bytes, and fields of all of them."""
+        for prepared, _ in played(ModelDevice):
+            with self.subTest(prepared.code.name):
+                buffer = prepared.buffer()
+                self.assertEqual(lines.assemble(lines.line_of(buffer).encode()), buffer)
+                shown = sum(it.front if it.is_group else it.size for it in fields_of_command(buffer))
+                self.assertEqual(shown, len(buffer))
+
+    def test_wrong_values(self):
+        """Each parameter and each handle with a wrong value raises ValueError with its name."""
+        for prepared, _ in played(ModelDevice):
+            code, handles = prepared.code, prepared.handles
+            arguments = values.read_all(code.parameters, prepared.parameters)
+            for name in arguments:
+                for wrong in (object(), "x", -1, 1.5, None, 2**64):
+                    self.check_fault(name, code, handles, {**arguments, name: wrong})
+            for at, handle in enumerate(code.handles):
+                others = [*handles[:at], "x", *handles[at + 1 :]]
+                self.check_fault(handle.name, code, others, arguments)
+
+    def check_fault(self, name, code, handles, arguments):
+        with self.subTest(code.name, name=name, value=arguments.get(name)):
+            with self.assertRaisesRegex(ValueError, f"^{name} takes ") as caught:
+                calls.Commands().command(code, *handles, **arguments)
+            self.assertEqual(caught.exception.field, name)
+
+
+class Words(unittest.TestCase):
+    """Words mean the same as numbers."""
+
+    def test_attributes(self):
+        public = area(attributes="ownerread|OWNER_WRITE|nt=counter|no_da", algorithm="sha1")
+        wanted = nv.Attribute.OWNERREAD | nv.Attribute.OWNERWRITE | nv.Attribute.NO_DA
+        self.assertEqual(public, area(attributes=wanted, kind=nv.Type.COUNTER, algorithm=SHA1))
+        self.assertEqual(nv.attributes_of(public.words), public.attributes)
+        data = sealed("sha256", "fixedtpm|fixedparent|userwithauth|noda")
+        self.assertEqual(data, sealed())
+        self.assertEqual(objects.attributes_of(data.words), data.attributes)
+        self.assertEqual(area(attributes=nv.of_type(5)).words.partition("|")[0], "")
+        with self.assertRaisesRegex(ValueError, "attributes takes words of ppwrite, .* not 'x'"):
+            area(attributes="ownerread|x")
+        with self.assertRaisesRegex(ValueError, "algorithm takes .* not 'sha3'"):
+            storage_key("sha3")
+
+    def test_structures(self):
+        """A field of a structure that does not fit is named too."""
+        for name, public in (
+            ("data_size", area(size=70_000)),
+            ("auth_policy", area(auth_policy="x")),
+            ("attributes", nv.Public(INDEX, SHA256, -1)),
+            ("unique", sealed(unique=bytes(2**16))),
+            ("user_auth", objects.Sensitive("x")),
+        ):
+            with self.assertRaises(BadValue) as caught:
+                public.text
+            self.assertEqual(caught.exception.field, name)
+
+    def test_calls(self):
+        """The words of handles, numbers, selections and sessions."""
+        with ModelDevice() as device:
+            tpm = Caller(device)
+            tpm.start_up()
+            words = tpm.command("PCR_Read", pcrSelectionIn="sha1:3+sha256:0,7").parameters
+            numbers = [(SHA1, [3]), (SHA256, [0, 7])]
+            self.assertEqual(words, tpm.command("PCR_Read", pcrSelectionIn=numbers).parameters)
+            session = tpm.session("OWNER", algorithm="sha1", cipher="xor")
+            self.assertEqual(session, tpm_session(session, RH_OWNER))
+            for wrong in ({"bind": "OWNR"}, {"algorithm": "md5"}, {"cipher": "des"}):
+                with self.assertRaisesRegex(BadValue, f"^{next(iter(wrong))} takes "):
+                    tpm.session(**wrong)
+            tpm.define(area(attributes="ownerread|ownerwrite"))
+            answer = tpm.call("GetCapability", capability="handles", property=2**24, propertyCount=9)
+            self.assertEqual(answer.capabilityData.handles, [INDEX])
+            self.assertRaises(ValueError, getattr, answer.capabilityData, "properties")
+
+    def test_capabilities(self):
+        with ModelDevice() as device:
+            tpm = Caller(device)
+            tpm.start_up()
+
+            def data(capability, first):
+                asked = {"property": first, "propertyCount": 99}
+                return tpm.call("GetCapability", capability=capability, **asked).capabilityData
+
+            self.assertEqual(data("properties", 0).properties[0x129], len(CC))
+            self.assertEqual(len(data("commands", 0).commands), len(CC))
+            pcrs = tuple(range(24))
+            self.assertEqual(data("pcrs", 0).pcrs, [(SHA1, pcrs), (SHA256, pcrs)])
+
+
+def tpm_session(session, bind):
+    """The session, if its facts are those of one that was started with numbers."""
+    wanted = given.algorithm("sha1"), given.cipher("xor"), given.handle("bind", "OWNER")
+    return session if wanted == (session.algorithm, session.cipher, bind) else None
+
+
+class Faults(unittest.TestCase):
+    """Every exception of the package has one base class."""
+
+    def test_base(self):
+        names = set()
+        for module in modules():
+            for it in defined(module, inspect.isclass):
+                if issubclass(it, BaseException):
+                    names.add(it.__name__)
+                    self.assertTrue(issubclass(it, TpmsimError), it)
+        self.assertLess({"Refused", "WrongResponse", "DeviceEnded", "BadImage", "Short"}, names)
+        self.assertTrue(issubclass(BadValue, ValueError))
+
+    def test_other_structures(self):
+        """The public area of a key of another TPM stays bytes."""
+        rsa = bytes.fromhex("0001 000b 00030072 0000 0006 0080 0043 0010 0800 00000000 0000")
+        text = sized(rsa) + sized(b"") + sized(b"")
+        response = calls.RESPONSES[CC.ReadPublic](CC.ReadPublic, None, text)
+        self.assertEqual(response["outPublic"], rsa)
+        with self.assertRaisesRegex(ValueError, "outPublic is a structure that is not read here"):
+            response.outPublic
+
+
+class Documented(unittest.TestCase):
+    """What an editor and the README show."""
+
+    def test_readme(self):
+        """The example of words runs, and prints what it says."""
+        code, printed = (PACKAGE / "README.md").read_text("utf-8").split("```")[7], io.StringIO()
+        with contextlib.redirect_stdout(printed):
+            exec(code.removeprefix("python"), {})
+        public, pcr, is_found, wrong = printed.getvalue().splitlines()
+        self.assertEqual(public, "ownerwrite|ownerread|nt=counter 8")
+        self.assertEqual((pcr, is_found), ("00" * 32, "True"))
+        self.assertTrue(wrong.startswith("bytesRequested takes an integer from 0 to 65535"))
+
+    def test_stub(self):
+        """calls.pyi is made from the table of commands; to make it again, run call_types.py."""
+        stub = (PACKAGE / "tpmsim/caller/calls.pyi").read_text("ascii")
+        self.assertEqual(stub, call_types.stub())
+        self.assertTrue((PACKAGE / "tpmsim/py.typed").is_file())
+        for name in ("Commands", "Calls", *(f"{it.name}Response" for it in CC)):
+            self.assertTrue(inspect.isclass(getattr(calls, name)))
+            self.assertIn(f"class {name}(", stub)
+
+    def test_docstrings(self):
+        """Each class and each function for people says what it does."""
+        found = [it for module in modules(*FOR_PEOPLE) for it in named(module)]
+        self.assertGreater(len(found), 500)
+        self.assertEqual([name for name, it in found if not inspect.getdoc(it)], [])
+
+
+def named(module):
+    """The public classes, functions, methods and properties that a module defines, by name."""
+    for it in defined(module, inspect.isfunction):
+        yield f"{module.__name__} {it.__qualname__}", it
+    for kind in defined(module, inspect.isclass):
+        yield f"{module.__name__} {kind.__qualname__}", kind
+        for name, it in vars(kind).items():
+            is_method = inspect.isfunction(it) or isinstance(it, (classmethod, staticmethod))
+            is_property = isinstance(it, (functools.cached_property, property))
+            if not name.startswith("_") and (is_method or is_property):
+                yield f"{module.__name__} {kind.__qualname__}.{name}", getattr(kind, name)
+
+
+if __name__ == "__main__":
+    unittest.main()
