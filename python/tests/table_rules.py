@@ -66,12 +66,12 @@ def items(text):
 # Sentences that several checks share: the section, how they begin, and their number.
 OTHERS = (
     ("integrity", "objects.md#integrity", "TPM2_Load refuses", 1),
-    ("tries", "lockout.md#failed-tries", "While failedTries", 1),
-    ("lockoutAuth", "lockout.md#lockoutauth", "A wrong try at", 2),
-    ("guesses", "lockout.md#guesses-that-are-not-tries", "Only comparisons count", 2),
+    ("tries", "lockout.md#failed-tries", "While failedTries", 2),
+    ("lockoutAuth", "lockout.md#lockoutauth", "A wrong authorization attempt", 3),
+    ("guesses", "lockout.md#guesses-that-are-not-tries", "Only an attempt", 3),
     ("entry", "sessions.md#an-entry-in-a-command", "If the key is empty", 2),
-    ("nonces", "sessions.md#a-refusal", "After the device has accepted", 2),
-    ("encryption", "parameter_encryption.md#parameter-encryption", "authValue is that of", 2),
+    ("nonces", "sessions.md#a-refusal", "When the device accepts", 2),
+    ("encryption", "parameter_encryption.md#parameter-encryption", "authValue is the", 2),
     ("zeros", "sessions.md#sessions-and-entries", "Trailing zeros of", 1),
     ("name of an index", "nv.md#the-name", "The public area contains", 3),
     ("random bytes", "README.md#events", "An event is", 1),
@@ -111,7 +111,8 @@ class Rules:
                 self.add("G11/INSUFFICIENT", paragraphs(text)[-1], link)
         link = "order_of_refusals.md#sized-buffers"
         self.add("buffer/SIZE", paragraphs(section_at(link))[1], link)
-        self.add("structure/SIZE", " ".join(items(section_at(link))[1:]), link)
+        later = (it.partition(" ")[2] for it in items(section_at(link))[1:])
+        self.add("structure/SIZE", " ".join(later), link)
 
     def conditions(self):
         for title, link, text in sections_of("policies.md"):

@@ -144,7 +144,7 @@ def nv_access_of(code: CC) -> str:
     return "if it has AUTHREAD" if code.has(Fact.READS_NV) else "if it has AUTHWRITE"
 
 
-UNSESSIONED = "entries (tag 8002), passwords too, on"
+UNSESSIONED = "the command has entries (tag 8002), and is"
 KEEPING = "except those of these commands"
 CHECKS: dict[str, Check] = {
     "docs/table/README.md, the list of commands": the_list,
