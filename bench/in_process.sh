@@ -12,7 +12,7 @@ dist=${DIST:-$top/dist}
 folder=$(mktemp -d)
 trap 'rm -rf "$folder"' EXIT
 
-# compile CALLER SOURCE WORDS..: compiles a caller over the archive.
+# compile CALLER SOURCE WORDS..: compiles a caller and links it with the static library.
 compile() {
     caller=$folder/$1
     source=$2
