@@ -53,7 +53,7 @@ module _ {X : Type 0} where
     -- what is in a slot is found by its number
     pub taken : (places : List (Option X)) (place : ℕ) (x : X) → place < 2 ^ 24
         → at_place places place ≡ Some x → at_number kind places (number_of (kind x) place) ≡ Some x
-    -- what is removed is gone, and all else is unchanged
+    -- a removed number finds nothing, and all else is unchanged
     pub removed_gone : (places : List (Option X)) (number : ℕ)
         → at_number kind (without_number kind places number) number ≡ None
     pub removed_others : (places : List (Option X)) (number other : ℕ) → other ≢ number

@@ -2,9 +2,9 @@
 use Rattle.std.specs.Prelude.{ℕ, ◌<◌, ◌*◌, ◌^◌, false}
 use Rattle.tpm_lockout.specs.declared.fields.LockoutFields.{LockoutFields}
 
--- the lockout state: failed tries, their parameters, and whether lockoutAuth is disabled, all of
--- which survive a power cycle; and two times in milliseconds, since the latest try was counted or
--- forgiven, and since lockoutAuth was disabled
+-- the lockout state: failedTries, the parameters of the protection, and whether lockoutAuth is
+-- disabled, all of which survive a power cycle; and two times in milliseconds, since the latest
+-- failed try was counted or forgiven, and since lockoutAuth was disabled
 pub record LockoutState : Type 0 where
   pub fields : LockoutFields
   pub forgiving_time : ℕ
