@@ -47,9 +47,10 @@ undefinable_attributes =
     attribute.Written ∷ attribute.ReadLocked ∷ attribute.WriteLocked
     ∷ attribute.PolicyDelete ∷ attribute.GlobalLock ∷ attribute.Orderly ∷ []
 
--- which of these faults the attributes of a new index have: a type that is not served; an
--- attribute that a definition may not set; nobody may write, or nobody may read; a counter that a
--- startup clears; PLATFORMCREATE set by the owner, or not set by the platform
+-- for each of these faults, whether the attributes of a new index have it: the type is not
+-- supported; an attribute is set that a definition may not set; nobody may write; nobody may read;
+-- the index is a counter that a startup clears; PLATFORMCREATE is set but the owner defines the
+-- index, or not set but the platform does
 abbrev pub index_attribute_conflicts : (by_platform : Bool) → NvAttributes → List Bool
 index_attribute_conflicts by_platform a =
     not (is_some (index_type a))
@@ -91,7 +92,7 @@ definition_passes by_platform p auth_size = do
 abbrev pub defined_index : NvPublic → List ℕ → NvIndex
 defined_index public auth_value = record { public = public; auth_value = auth_value; bytes = [] }
 
--- the result says whether there is room for an index, or why there is not
+-- The result says that there is room for an index, or why there is none.
 abbrev pub HasRoomFor : NvContents → NvPublic → Result (Unit {0}) RestoreFault → Type 0
 HasRoomFor contents public (Ok done) =
     (index_at contents public.nv_index ≡ None) × (has_room contents public.data_size ≡ true)
@@ -100,9 +101,9 @@ HasRoomFor contents public (Err Space) =
     (index_at contents public.nv_index ≡ None) × (has_room contents public.data_size ≡ false)
 HasRoomFor contents public (Err NoMemory) = ⊥
 
--- An index was added with its handle, or nothing changed. If nothing changed, the handle already
--- has an index; or there is no room for the index; or neither is the case, and an allocation
--- failed.
+-- An index was added with its handle, or nothing changed for one of three reasons. The first that
+-- applies is returned: the handle already has an index; there is no room for the index; an
+-- allocation failed.
 abbrev pub Restores : Bool → NvContents → NvIndex → Result (Unit {0}) RestoreFault → NvContents
     → Type 0
 Restores can old index (Ok done) new =
