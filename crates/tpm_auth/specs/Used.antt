@@ -15,13 +15,13 @@ use Rattle.tpm_auth.specs.declared.used.Used.{Used}
 abbrev pub used_handle : Used → Handle
 used_handle used = used.resolved.handle
 
--- What an entry has to authorize was found in the record; its Name, if computed, is the Name of
--- its handle in the record.
+-- The entity that an entry has to authorize was found in the record; its Name, if computed, is the
+-- Name of its handle in the record.
 pub record IsUsed (r : Record) (used : Used) : Type 0 where
   pub found : IsFound r used.resolved
   pub named : ForSome used.name (λ name. name.now ≡ name_of r (used_handle used))
 
--- What an entry has to authorize was found in the record.
+-- The entity that an entry authorizes was found in the record.
 pub record IsToGrant (r : Record) (granted : Granted) : Type 0 where
   pub used : IsUsed r granted.used
 

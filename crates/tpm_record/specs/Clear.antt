@@ -38,7 +38,7 @@ cleared_persistent objects = kept_entries outlasts objects
 
 -- laws about the objects found after TPM2_Clear
 pub record ClearingLaws : Type 0 where
-  -- an object in a cleared hierarchy is gone, and any other object is unchanged
+  -- an object in a cleared hierarchy is removed, and any other object is unchanged
   pub gone : (places : List (Option Object)) (number : ℕ) (object : Object)
       → at_number transient_byte places number ≡ Some object
       → is_cleared object.hierarchy ≡ true
