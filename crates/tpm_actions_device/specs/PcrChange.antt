@@ -11,8 +11,8 @@ use Rattle.tpm_record.specs.Record.{Record}
 use Rattle.tpm_types.specs.declared.refused.Refused.{Refused}
 use Rattle.tpm_record.specs.rows.Refusals.{action_refusal}
 
--- the refusal to change a PCR. A1: the PCR does not allow this change from this locality. A2: the
--- updates cannot be counted
+-- the refusal to change a PCR: by A1 if the PCR does not allow this change from this locality; by
+-- A2 if the updates cannot be counted
 abbrev pub change_refusal : ChangeFault → Refused
 change_refusal Locality = action_refusal action.First (plain code.Locality)
 change_refusal Failure = action_refusal action.Second (plain code.Failure)
