@@ -16,7 +16,7 @@ abbrev pub entry_count : CommandCode → (tokens : List (List ℕ)) → ℕ
 entry_count code tokens =
     length (take_while begins_entry (take 3 (drop (handle_count code + 1) tokens)))
 
--- the words for what follows the name of a command that has this many entries, in order
+-- the words for the parts after the name of a command that has this many entries, in order
 abbrev pub words_behind : CommandCode → (entries : ℕ) → List (List ℕ)
 words_behind code entries = map (λ rule. handle_word rule.kind) (shape_of code).handles
     ++ (replicate entries (codes "entry") ++ map parameter_word (shape_of code).parameters)
