@@ -21,8 +21,7 @@ le_false a b e = grind (arith, nat_tests)
 lt_false : (a b : ℕ) → nat_lt a b ≡ false → a < b → ⊥
 lt_false a b e below = let above : b ≤ a = grind (arith, nat_tests) in absurd (omega arith)
 
--- If there is room for one more value, it is appended to the first few; if there is none, they are
--- unchanged
+-- If one more value fits, it is appended to the first few; if none fits, they are unchanged
 take_push_room : {X : Type 0} (room : ℕ) (xs : List X) (x : X) → nat_lt (length xs) room ≡ true → take room (xs ++ x ∷ []) ≡ take room xs ++ x ∷ []
 take_push_room room xs x e =
     let below : length xs < room = grind (arith, nat_tests) in
@@ -46,13 +45,12 @@ same_test a b c d false false e f h k = refl
 same_test a b c d true false e f h k = absurd (lt_false c d f (h (lt_true a b e)))
 same_test a b c d false true e f h k = absurd (lt_false a b e (k (lt_true c d f)))
 
--- There is room for another value among eight, after `old` values and the first k others, exactly
--- if k is less than the room that `old` leaves
+-- Another value fits among eight, after `old` values and the first k others, exactly if k is less
+-- than 8 - `old`
 pub room_left : (old k : ℕ) → nat_lt (old + min (8 - old) k) 8 ≡ nat_lt k (8 - old)
 room_left old k = same_test (old + min (8 - old) k) 8 k (8 - old) _ _ refl refl (λ h. omega arith) (λ h. omega arith)
 
--- The first few chosen PCRs below n + 1 are those below n, and PCR n if it is chosen and there is
--- room
+-- The first few chosen PCRs below n + 1 are those below n, and PCR n if it is chosen and fits
 chosen_by : (p : ℕ → Bool) (n room : ℕ) (b : Bool) → p n ≡ b → take room (filter p (numbers_below (n + 1))) ≡ cond (b && nat_lt (length (filter p (numbers_below n))) room) (take room (filter p (numbers_below n)) ++ n ∷ []) (take room (filter p (numbers_below n)))
 chosen_by p n room true e =
     rw (add-one, filter-append p (numbers_below n) (n ∷ []), e) (take_push room (filter p (numbers_below n)) n _ refl)
@@ -114,12 +112,12 @@ take_by : {X : Type 0} (room : ℕ) (xs ys : List X) (b : Bool) → nat_lt (leng
 take_by room xs ys true e = let below : length xs < room = lt_true (length xs) room e in take_beyond room (room - length xs) xs ys (omega arith)
 take_by room xs ys false e = let above : room ≤ length xs = le_false (length xs) room e in take_within room xs ys above
 
--- The first few elements of two concatenated lists are those of the first list and, if there is
--- room, those of the second
+-- The first few elements of two concatenated lists are those of the first list and, if they do not
+-- fill the number, those of the second
 pub take-append : {X : Type 0} (room : ℕ) (xs ys : List X) → take room (xs ++ ys) ≡ take room xs ++ take (room - length xs) ys
 take-append room xs ys = take_by room xs ys _ refl
 
--- The room left for values decreases by the number of values read
+-- The number of values that still fit decreases by the number of values read
 pub room_after : (old new k : ℕ) → new ≡ old + min (8 - old) k → 8 - new ≡ (8 - old) - k
 room_after old new k e = omega arith
 

@@ -56,7 +56,7 @@ at_first traced device = record {
   device = device;
 }
 
--- 256 random bytes that repeat these bytes
+-- the 256 bytes of an event's randomness: these bytes, repeated
 unfoldable pub repeated : List ℕ → List ℕ
 repeated entropy =
     map (λ place. slice_index entropy (place % length entropy)) (range_with_len 0 256)

@@ -150,8 +150,8 @@ impl Lines {
         }
     }
 
-    /// Reads more bytes, with one read of the reader. No line of output may be waiting at that
-    /// time: the author of a script may need it before writing the next line.
+    /// Reads more bytes, with one read of the reader. All output must have been written by then:
+    /// the author of a script may need it before writing the next line.
     pub fn fill<R: Read>(&mut self, reader: &mut Tap<R>, _answers: &Answers) -> Result<(), Failed>
         requires rest { rest_of self.old ≡ [] }
         requires written { backlog _answers.now ≡ [] }
