@@ -1,5 +1,5 @@
--- What the commands that change PCRs have in common: they change a PCR; with TPM_RH_NULL they
--- check and change nothing.
+-- The common part of the commands that change PCRs: they change a PCR; with TPM_RH_NULL they check
+-- and change nothing.
 use Rattle.tpm_types.specs.declared.action_check.ActionCheck.TheVariants as action
 use Rattle.std.specs.Prelude.{ℕ, Option, Some, None, Result, Ok, Err}
 use Rattle.tpm_pcr.specs.Values.{BankValues}

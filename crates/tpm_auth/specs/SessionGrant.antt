@@ -161,7 +161,7 @@ use_of r c locality n handle s = record {
   entity = policy_of r handle;
 }
 
--- what an HMAC session demands of an entry in addition to its comparison: nothing. But the entry's
+-- the demand of an HMAC session on an entry, in addition to its comparison: none. But the entry's
 -- handle must allow authorization with its authorization value
 abbrev by_value : Record → Whole → (n : ℕ) → Handle → Result Demand Refused
 by_value r c n handle = do
@@ -169,7 +169,7 @@ by_value r c n handle = do
       (refusal check.Authorization (plain code.AuthUnavailable))
   Ok demand.None
 
--- what a policy session demands of the entry that authorizes a handle, if the policy allows the
+-- the demand of a policy session on the entry that authorizes a handle, if the policy allows the
 -- use; a trial session authorizes nothing
 abbrev pub by_policy : Record → Whole → (locality n : ℕ) → Handle → Session → Result Demand Refused
 by_policy r c locality n handle s =

@@ -12,7 +12,7 @@ module _ {X : Type 0} (kind : X → ℕ) where
 
   -- ---- numbers
 
-  -- what a number finds in a slot with this content: the value, if it has the number's kind
+  -- the value that a number finds in a slot with this content, if it has the number's kind
   abbrev seen : ℕ → Option X → Option X
   seen number cell = option_and_then (if_of_kind kind number) cell
 

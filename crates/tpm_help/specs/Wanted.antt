@@ -1,4 +1,4 @@
--- What is expected at the position of a fault, in words that are not a command.
+-- The word that is expected at the position of a fault, in words that are not a command.
 use Rattle.std.specs.Prelude.{ℕ, ◌+◌, ◌-◌, ◌==◌, List, [], ◌++◌, length, map, take, drop, replicate, codes, get_or}
 use Rattle.std.specs.Prelude.{Option, Some, None}
 use Rattle.std.specs.List.{count_by, take_while}
@@ -38,7 +38,7 @@ word_behind words place =
 abbrev pub space_count : List ℕ → ℕ
 space_count text = count_by (λ byte. byte == space) text
 
--- what is expected at this fault in the words: at the fault's column, or after the last token
+-- the word that is expected at this fault: at the fault's column, or after the last token
 unfoldable pub word_at : (words : List ℕ) → AsmFault → List ℕ
 word_at words fault.BadName = codes "command"
 word_at words (fault.BadField column) =

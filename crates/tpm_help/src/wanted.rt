@@ -1,4 +1,4 @@
-//! What is expected at the position of a fault, in words that are not a command.
+//! The word that is expected at the position of a fault, in words that are not a command.
 
 ghost use Rattle.std.specs.Prelude.{◌≡◌, ◌-◌, [], codes, get_or, take};
 ghost use Rattle.tpm_text.specs.Entry.{begins_entry};

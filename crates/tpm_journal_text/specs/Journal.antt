@@ -63,8 +63,8 @@ pub record IsDamaged (sum : ℕ) (text : List ℕ) : Type 0 where
   pub not_torn : IsTorn sum text → ⊥
   pub no_entry : (e : PlainEntry) (rest : List ℕ) → IsEntry e → text ≡ entry_text sum e ++ rest → ⊥
 
--- What was found at the beginning of a text: an entry, its size and the checksum after it; or the
--- text is torn; or it is damaged.
+-- One of these was found at the beginning of a text: an entry, its size and the checksum after it;
+-- or the text is torn; or it is damaged.
 abbrev pub Finds : (sum : ℕ) → List ℕ → Next → Type 0
 Finds sum text (Whole entry size after) =
     IsEntry (plain_entry entry) × (size ≤ length text)

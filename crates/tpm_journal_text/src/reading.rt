@@ -25,7 +25,7 @@ pub const BYTES_ROOM: usize = 256 + ENTRY_LIMIT;
 /// The offset of the random bytes in the text of an entry.
 const DRAWN_PLACE: usize = 102;
 
-/// What a text begins with.
+/// The beginning of a text: an entry, less than an entry, or neither.
 pub enum Next<'a> {
     /// An entry, the size of its text, and the checksum after it.
     Whole {

@@ -24,7 +24,7 @@ pub enum DefinitionFault {
 }
 
 /// Whether an attribute is set that a definition may not set, because it describes the index's
-/// state or is not served.
+/// state or is not supported.
 fn is_undefinable(attributes: NvAttributes) -> bool
     ensures { result ≡ has_one attributes undefinable_attributes }
 {

@@ -53,7 +53,7 @@ policy_chain_texts hash (PolicyOr branches) text (inr among) = absurd among
 
 -- ---- the steps of a session
 
--- what was asserted before an assertion; TPM2_PolicyOR discards everything before it
+-- the assertions before an assertion; TPM2_PolicyOR discards everything before it
 abbrev pub said_before : Assertion → List Said → List Said
 said_before (assertion.Or digests) said = []
 said_before _ said = said

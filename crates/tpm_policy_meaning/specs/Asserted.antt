@@ -89,7 +89,7 @@ AreAccepted hash (latest ∷ earlier) =
 
 -- ---- what a session hashes
 
--- what an assertion contributes to the digest
+-- the contribution of an assertion to the digest
 abbrev pub update_by : HashAlg → Assertion → PolicyUpdate
 update_by hash (assertion.Pcr parts) =
     plain_update command.PolicyPcr (parts.selection ++ parts.digest)

@@ -51,7 +51,7 @@ at_cleared [] place = refl
 at_cleared (p ∷ ps) zero = refl
 at_cleared (p ∷ ps) (suc place) = at_cleared ps place
 
--- what is found by a number, given the content of its slot
+-- the object that a number finds, given the content of its slot
 abbrev of_number : ℕ → Option Object → Option Object
 of_number number cell = option_and_then (if_of_kind transient_byte number) cell
 

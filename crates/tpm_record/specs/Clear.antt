@@ -1,4 +1,4 @@
--- What TPM2_Clear does to transient and persistent objects: it removes those in the owner and
+-- The effect of TPM2_Clear on transient and persistent objects: it removes those in the owner and
 -- endorsement hierarchies. TPM 2.0 Library, Part 3, section 24.6. Its effect on the hierarchies is
 -- defined in Hierarchy, and its effect on NV indices in tpm_nv/Clear.
 use Rattle.std.specs.Prelude.{◌≡◌, ◌≤◌, ℕ, Bool, true, false, not, List, Option, Some, None, map, if◌then◌else◌}

@@ -12,7 +12,7 @@ pub record Found : Type 0 where
 abbrev pub found_at : Record → Handle → Found
 found_at r handle = record { handle = handle; entity = entity_at r handle }
 
--- what the handles of a command name
+-- the entities that the handles of a command name
 abbrev pub entities_at : Record → List Handle → List Found
 entities_at r handles = map (found_at r) handles
 

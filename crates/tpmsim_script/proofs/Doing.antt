@@ -102,7 +102,8 @@ cycled p s old (Err Save) new after is printed cut next err = absurd (save_is_no
 
 -- ---- the saver's notifications
 
--- What holds for the saver after a notification, if only the writer can still fail
+-- If the saver was notified and only the writer can still fail, the notification counts whatever
+-- the result is
 pub told_then : {S : Type 0} (tells : S → Type 0) (old : S) (result : Result (Unit {0}) LineFault) (new : S) → OnErr result (result ≡ Err Write) → tells new → Told tells old result new
 told_then tells old (Ok done) new err told = told
 told_then tells old (Err Bad) new err told = absurd (bad_is_no_write err)

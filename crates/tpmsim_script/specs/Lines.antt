@@ -20,7 +20,7 @@ rest_of lines = slice_range lines.bytes.items lines.next lines.filled
 abbrev pub IsUnbroken : List ℕ → Type 0
 IsUnbroken bytes = All (λ byte. (byte == 10) ≡ false) bytes
 
--- what is found after the last byte that was read: that more may follow, or that the reader has
+-- the finding after the last byte that was read: that more may follow, or that the reader has
 -- ended, at the end of a line or within one
 abbrev pub next_at : Bool → List ℕ → Next
 next_at false line = Incomplete
