@@ -30,7 +30,7 @@ unfolding shift_rows
 columns_made g p q r s = refl
 
 -- If each of the words v, w, x and y is g applied to a column of the state after SubBytes and
--- ShiftRows, then together they are g applied to all its columns
+-- ShiftRows, then together they are g applied to all its columns.
 columns_words : (g : List ℕ → List ℕ) (state a b c d : List ℕ) (v w x y : ℕ) → length state ≡ 4
     → a ≡ to_le_bytes w32 (slice_index_or state 0 0) → b ≡ to_le_bytes w32 (slice_index_or state 1 0)
     → c ≡ to_le_bytes w32 (slice_index_or state 2 0) → d ≡ to_le_bytes w32 (slice_index_or state 3 0)
@@ -50,7 +50,7 @@ columns_words g state a b c d v w x y size is_a is_b is_c is_d is_v is_w is_x is
     ∙ sym (ap (λ (words : List ℕ). columns_by g (shift_rows (sub_bytes (bytes_of words))))
     (four_words state size))
 
--- The words of four mixed columns are the state after SubBytes, ShiftRows and MixColumns
+-- The words of four mixed columns are the state after SubBytes, ShiftRows and MixColumns.
 pub mixed_words : (state a b c d : List ℕ) (v w x y : ℕ) → length state ≡ 4
     → a ≡ to_le_bytes w32 (slice_index_or state 0 0) → b ≡ to_le_bytes w32 (slice_index_or state 1 0)
     → c ≡ to_le_bytes w32 (slice_index_or state 2 0) → d ≡ to_le_bytes w32 (slice_index_or state 3 0)
@@ -68,7 +68,7 @@ unfolding shift_rows
 words_shifted state = refl
 
 -- The words of four columns that are not mixed, as in the last round, are the state after SubBytes
--- and ShiftRows
+-- and ShiftRows.
 pub shifted_words : (state a b c d : List ℕ) (v w x y : ℕ) → length state ≡ 4
     → a ≡ to_le_bytes w32 (slice_index_or state 0 0) → b ≡ to_le_bytes w32 (slice_index_or state 1 0)
     → c ≡ to_le_bytes w32 (slice_index_or state 2 0) → d ≡ to_le_bytes w32 (slice_index_or state 3 0)
@@ -85,7 +85,7 @@ constant_values : ROUND_CONSTANTS ≡ map (times_power 1) (range_with_len 0 10)
 unfolding times_power
 constant_values = refl
 
--- The constant of round n is the power n - 1 of x
+-- The constant of round n is the power n - 1 of x.
 pub constant_at : (n : ℕ) → 1 ≤ n → n ≤ 10
     → slice_index_or ROUND_CONSTANTS (n - 1) 0 ≡ times_power 1 (n - 1)
 constant_at n low high =
@@ -99,7 +99,7 @@ turned bytes =
     ∷ slice_index_or bytes 0 0 ∷ [])
 
 -- If a word's rotated and substituted bytes are XORed with the round's constant, the result is the
--- scheduled word
+-- scheduled word.
 pub scheduled_sum : (n word sum constant added : ℕ) (bytes : List ℕ) → bytes ≡ to_le_bytes w32 word
     → to_le_bytes w32 sum ≡ turned bytes → added ≡ constant → constant < 256 → constant ≡ times_power 1 (n - 1)
     → to_le_bytes w32 (bit_xor sum added) ≡ scheduled_word n (to_le_bytes w32 word)
@@ -110,7 +110,7 @@ scheduled_sum n word sum constant added bytes is_bytes is_sum is_added small of_
     ∙ ap (λ (k : ℕ). k ∷ 0 ∷ 0 ∷ 0 ∷ []) of_round in
     bytes-xor sum added ∙ ap₂ xor_of (is_sum ∙ ap turned is_bytes) term
 
--- The next round key, computed from the four words of a round key, matches the standard
+-- The next round key, computed from the four words of a round key, matches the standard.
 next_of_four : (n p q r s added : ℕ) → to_le_bytes w32 added ≡ scheduled_word n (to_le_bytes w32 s)
     → let first = bit_xor p added in let second = bit_xor q first in let third = bit_xor r second in
     bytes_of (first ∷ second ∷ third ∷ bit_xor s third ∷ []) ≡ next_round_key n (bytes_of (p ∷ q ∷ r ∷ s ∷ []))
@@ -125,7 +125,7 @@ next_of_four n p q r s added is_added =
     let w3 = bytes-xor s third ∙ ap (xor_of (to_le_bytes w32 s)) w2 in
     λ i. w0 i ++ (w1 i ++ (w2 i ++ w3 i))
 
--- The next round key, computed from a list of four words, matches the standard
+-- The next round key, computed from a list of four words, matches the standard.
 pub next_words : (n added : ℕ) (key : List ℕ) → length key ≡ 4
     → to_le_bytes w32 added ≡ scheduled_word n (to_le_bytes w32 (slice_index_or key 3 0))
     → let first = bit_xor (slice_index_or key 0 0) added in

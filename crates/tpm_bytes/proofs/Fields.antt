@@ -125,7 +125,7 @@ number_again w limit wide n rest lt =
     rw (long, take_at (to_be_bytes w n) rest (byte_len w) len, drop_at (to_be_bytes w n) rest (byte_len w) len, wide.again n lt) refl
 
 -- If a number is read, its encoding was at the front of the bytes, whatever fault is chosen for
--- truncated numbers
+-- truncated numbers.
 pub number_or_takes : {F : Type 0} (w : Width) (limit : ℕ) (wide : IsWide w limit) (f : F) (bytes : List ℕ) (x : ℕ × List ℕ) → AreBytes bytes → or_fault (number_at w bytes) f ≡ Ok x → Takes bytes (to_be_bytes w x.0) x.1 × (x.0 < limit)
 number_or_takes w limit wide f bytes x fits e = number_takes w limit wide bytes x.0 x.1 fits (or_fault_ok (number_at w bytes) f x e)
 

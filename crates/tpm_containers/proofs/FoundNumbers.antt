@@ -6,7 +6,7 @@ use Rattle.tpm_containers.specs.Slots.{at_place, free}
 use Rattle.tpm_containers.proofs.NumberedLaws.{removed_gone, removed_others}
 
 module _ {X : Type 0} (kind : X → ℕ) where
-  -- After a number is removed, the value found by each number is unchanged or removed
+  -- After a number is removed, the value found by each number is unchanged or removed.
   pub removed_or_same : (places : List (Option X)) (number other : ℕ) → (at_number kind (without_number kind places number) other ≡ at_number kind places other) ⊎ (at_number kind (without_number kind places number) other ≡ None)
   removed_or_same places number other =
       elim (cases_eq other number) [

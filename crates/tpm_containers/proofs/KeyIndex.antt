@@ -70,7 +70,7 @@ module _ {X : Type 0} where
       (i < length es) × (test (get_or es i d) ≡ true) × ((k : ℕ) → k < i → test (get_or es k d) ≡ false)
 
   -- If the first index whose entry passes a test is not 0, it is also the first such index among
-  -- the rest
+  -- the rest.
   first_rest : (test : ℕ × X → Bool) (e : ℕ × X) (es : Entries X) (i : ℕ) (d : ℕ × X) → IsFirst test (e ∷ es) (suc i) d → IsFirst test es i d
   first_rest test e es i d p =
       let inside = p.0 in
@@ -142,7 +142,7 @@ module _ {X : Type 0} where
     pub written : (x : X) → slice_set es i (e.0, x) ≡ changed_key es key x
 
   -- An entry that is borrowed from a container's slice at a key's index, shared or mutable,
-  -- belongs to that key
+  -- belongs to that key.
   pub lent_at : (shown es : Entries X) (key i : ℕ) (e : ℕ × X) → shown ≡ es → e ≡ get_or es i e → ((e : ℕ × X) → get_or shown i e ≡ e → at_key shown key ≡ Some e.1) → ((e : ℕ × X) (x : X) → get_or shown i e ≡ e → slice_set shown i (e.0, x) ≡ changed_key shown key x) → Lent es key i e
   lent_at shown es key i e same read value written =
       let is : get_or shown i e ≡ e = ap (λ (l : Entries X). get_or l i e) same ∙ sym {b = get_or es i e} read in

@@ -48,7 +48,7 @@ with_parameters max_tries recovery_time lockout_recovery s = restored (record s.
 })
 
 -- The conditions that every lockout state meets: each number fits its integer type, and each time
--- is less than 2^32 seconds, counted in milliseconds
+-- is less than 2^32 seconds, counted in milliseconds.
 pub record IsLockout (s : LockoutState) : Type 0 where
   pub failed_tries : s.fields.failed_tries < 2 ^ 32
   pub max_tries : s.fields.max_tries < 2 ^ 32

@@ -13,7 +13,7 @@ use Rattle.tpm_policy_meaning.specs.PolicyDigest.{digest_after, with_reference, 
 
 -- ---- lists of texts
 
--- If two equal texts are split at the same offset, their parts are equal
+-- If two equal texts are split at the same offset, their parts are equal.
 pub same_fronts : (a b c d : List ℕ) → length a ≡ length c → a ++ b ≡ c ++ d → (a ≡ c) × (b ≡ d)
 same_fronts a b c d size is = (
   sym (take_at a b (length a) refl) ∙ ap (take (length a)) is ∙ take_at c d (length a) (sym size),
@@ -59,7 +59,7 @@ is_among_or_not t (u ∷ texts) = by (is_same_or_not t u) (is_among_or_not t tex
     by (inr apart) (inr none) = inr (none_among t u texts apart none)
 
 -- If a fact holds unless a hash is broken, and a conclusion follows from it, the conclusion holds
--- unless a hash is broken
+-- unless a hash is broken.
 pub unless_broken : {A B Broken : Type 0} → A ⊎ Broken → (A → B ⊎ Broken) → B ⊎ Broken
 unless_broken (inl a) next = next a
 unless_broken (inr broken) next = inr broken
@@ -86,7 +86,7 @@ pub record Breaking (hash : HashAlg) (Broken : Type 0) (One Other : List ℕ →
   pub of_zeros : (t : List ℕ) → One t ⊎ Other t → hash_of hash t ≡ zeros hash → Broken
 
 module _ (hash : HashAlg) (Broken : Type 0) (One Other : List ℕ → Type 0) (breaking : Breaking hash Broken One Other) where
-  -- If two texts have the same hash, they are equal, or the hash is broken
+  -- If two texts have the same hash, they are equal, or the hash is broken.
   pub same_hashed : (t u : List ℕ) → One t → Other u → hash_of hash t ≡ hash_of hash u → (t ≡ u) ⊎ Broken
   same_hashed t u one other is = by (is_same_or_not t u)
     where
@@ -160,7 +160,7 @@ latest_aligned (Some r) None t u xs ys st su ax ay is =
     let rest : t ∷ xs ≡ ys = cc in
     absurd (false≢true (sym ay ∙ ap awaits (sym rest) ∙ rw (ax, st) refl))
 
--- If two lists of assertions have the same steps, they are equal
+-- If two lists of assertions have the same steps, they are equal.
 pub aligned : (xs ys : List Said) → AllFit xs → AllFit ys → all_steps xs ≡ all_steps ys → xs ≡ ys
 aligned [] [] fx fy is = refl
 aligned [] (y ∷ ys) fx fy is = absurd (some_steps y.0 y.1 (all_steps ys) (sym is))

@@ -40,7 +40,7 @@ none_said : (x : Said) (xs : List Said) → x ∷ xs ≡ [] → ⊥
 none_said x xs is = absurd cc
 
 -- If a session's assertion asserts the same as one of a written policy, it is not a TPM2_PolicyOR,
--- and discards no earlier assertion
+-- and discards no earlier assertion.
 earlier_said : (one : Assertion) (written : PolicyAssertion) (said : List Said) → Says one written → said_before one said ≡ said
 earlier_said (assertion.Or digests) written said asserts = absurd asserts
 earlier_said _ written said asserts = refl

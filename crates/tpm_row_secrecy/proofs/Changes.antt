@@ -34,7 +34,7 @@ use Rattle.tpm_types_nv.specs.declared.nv_attributes.NvAttribute.TheVariants as 
 use Rattle.tpm_types_nv.specs.declared.nv_type.NvType.TheVariants as type
 
 -- If secret bytes are erased before new bytes are computed from them, and the new bytes are erased
--- too, the result is the same as erasing only the new bytes
+-- too, the result is the same as erasing only the new bytes.
 unless_made : (b : Bool) (make : List ℕ → List ℕ) (bytes : List ℕ) → unless b (make (unless b bytes)) ≡ unless b (make bytes)
 unless_made true make bytes = refl
 unless_made false make bytes = refl
@@ -173,7 +173,7 @@ module _ (s : Secrecy) where
         alike_step (bare_nv s) (refused_if (nat_le (2 ^ 64) (number_or n.max_count i + 1)) write_fault.Exhausted) _ _ (λ fits.
         alike_end (bare_nv s) _ _ (ap (λ (m : NvContents). counted m (number_or n.max_count i + 1)) (changed_same n handle _ _ (count_same i (to_be_bytes w64 (number_or n.max_count i + 1)))))))
 
-    -- If an index is not a counter, an increment is refused in the same way on both
+    -- If an index is not a counter, an increment is refused in the same way on both.
     no_counter : (locked counter : Bool) (f g : Unit {0} → Result NvContents WriteFault) → counter ≡ false → NvAlike ((refused_if locked write_fault.Locked >>= λ unlocked. refused_if (not counter) write_fault.Attributes) >>= f) ((refused_if locked write_fault.Locked >>= λ unlocked. refused_if (not counter) write_fault.Attributes) >>= g)
     no_counter true counter f g is = record { is = refl }
     no_counter false true f g is = absurd (false≢true (sym is))
@@ -202,7 +202,7 @@ module _ (s : Secrecy) where
         refused_if (nat_lt i.public.data_size (offset + size)) read_fault.PastData >>= λ inside.
         Ok (piece_of offset size i.bytes)
 
-    -- Whether a read is refused does not depend on the data
+    -- Whether a read is refused does not depend on the data.
     pub read_refused_alike : (offset size : ℕ) → Alike success (read_at (bare_nv s n) handle offset size) (read_at n handle offset size)
     unfolding read_at
     read_refused_alike offset size =
@@ -211,7 +211,7 @@ module _ (s : Secrecy) where
         alike_step success (refused_if (nat_lt i.public.data_size (offset + size)) read_fault.PastData) _ _ (λ inside.
         alike_end success _ _ refl)))
 
-    -- If data is not secret, a read returns the same on both
+    -- If data is not secret, a read returns the same on both.
     pub read_shown : (offset size : ℕ) → option_map_or (is_secret_index s) (index_at n handle) false ≡ false → read_at (bare_nv s n) handle offset size ≡ read_at n handle offset size
     unfolding read_at
     read_shown offset size shown = ap (λ (found : Option NvIndex). ok_or found read_fault.Undefined >>= reading offset size) (index_at_bare s n handle) ∙ by (index_at n handle) shown

@@ -7,7 +7,7 @@ use Rattle.tpm_containers.specs.Numbered.{at_number, changed_at, if_of_kind, kin
 use Rattle.tpm_containers.specs.Slots.{at_place, free, lowest_free}
 use Rattle.tpm_containers.specs.SortedMap.{Entries, at_key, changed_key, kept_entries, with_key, without_key}
 
--- Applying a function to a chosen value equals choosing between the function's values
+-- Applying a function to a chosen value equals choosing between the function's values.
 pub chosen : {A B : Type 0} (g : A → B) (b : Bool) (x y : A) → cond b (g x) (g y) ≡ g (cond b x y)
 chosen g true x y = refl
 chosen g false x y = refl
@@ -54,7 +54,7 @@ module _ {X Y : Type 0} (f : X → Y) where
   length_each (e ∷ es) = ap (λ (n : ℕ). suc n) (length_each es)
 
 -- If the composition of two functions is a third, applying the two in turn equals applying the
--- third
+-- third.
 pub each_twice : {X Y Z : Type 0} (g : Y → Z) (f : X → Y) (h : X → Z) → ((x : X) → g (f x) ≡ h x) → (es : Entries X) → each g (each f es) ≡ each h es
 each_twice g f h same [] = refl
 each_twice {Z = Z} g f h same (e ∷ es) =
@@ -101,7 +101,7 @@ module _ {X Y : Type 0} (f : X → Y) where
   free_each (suc n) = ap (λ (others : List (Option Y)). None ∷ others) (free_each n)
 
   -- If the function preserves the kind of a value, each number finds the function's value of what
-  -- it found before
+  -- it found before.
   module _ (kind : Y → ℕ) (was : X → ℕ) (kept : (x : X) → kind (f x) ≡ was x) where
     of_kind : (number : ℕ) (found : Option X) → option_and_then (if_of_kind kind number) (option_map f found) ≡ option_map f (option_and_then (if_of_kind was number) found)
     of_kind number None = refl

@@ -27,7 +27,7 @@ password_text password = by (bytes_in password)
     by (Ok bytes) = refl
     by (Err fault) = refl
 
--- Five pieces are not the entry of a session
+-- Five pieces are not the entry of a session.
 five_are_bad : (a b c d : List ℕ) (others : List (List ℕ)) → 0 < length others → session_pieces_of (a ∷ b ∷ c ∷ d ∷ others) ≡ Err Bad
 five_are_bad a b c d [] some = absurd (omega (arith, some))
 five_are_bad a b c d (e ∷ others) some = refl
@@ -62,7 +62,7 @@ unfolding session_entry
 no_session_text text fault e = rw e refl
 
 -- If the four parts of a session's entry are written one after another, the draft is extended by
--- the entry's encoding
+-- the entry's encoding.
 pub parts_drafted : (session octet : List ℕ) (nonce : List ℕ) (hmac : Result (List ℕ) TokenFault) (old one two three : Option (List ℕ)) (result : Result (Unit {0}) TokenFault) (new : Option (List ℕ))
     → one ≡ grown old session → two ≡ grown one nonce → three ≡ grown two octet → Drafts hmac three result new
     → Drafts (hmac >>= λ bytes. Ok (session ++ nonce ++ octet ++ bytes)) old result new

@@ -50,7 +50,7 @@ named_accepted r buffer locality random =
     named_on (general r buffer) (λ command. in_command command.code (acceptance r command locality random)) (named_general r buffer)
     (λ command. named_in_command command.code (acceptance r command locality random))
 
--- A response contains a header
+-- A response contains a header.
 framed_long : (tag code : ℕ) (body : List ℕ) → 10 ≤ length (framed tag code body)
 framed_long tag code body = omega arith
 

@@ -16,7 +16,7 @@ use Rattle.tpm_types.specs.Rc.{plain}
 use Rattle.tpm_types.proofs.Spelled.{Spelled}
 
 -- One link of a chain of tests. If the number is the first value's number, it names that value;
--- otherwise it names the value that the later links find
+-- otherwise it names the value that the later links find.
 pub link : {A : Type 0} (number_of : A → ℕ) (number : ℕ) (first : A) (others : Option A) (x : A) → ((o : A) → others ≡ Some o → number ≡ number_of o) → cond (number == number_of first) (Some first) others ≡ Some x → number ≡ number_of x
 link number_of number first others x after = chosen (number == number_of first) refl
   where

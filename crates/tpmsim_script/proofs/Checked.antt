@@ -59,7 +59,7 @@ some_is : (x y : ℕ) → Some x ≡ Some y → x ≡ y
 some_is x y e = cc
 
 -- The result of checking a line decides which is the first fault of that line and the lines after
--- it
+-- it.
 first_by : (p : Playing) (number : ℕ) (line : List ℕ) (lines : List (List ℕ)) (checked : Result ℕ BadLine) (effect : Option Effect) → result_ok checked ≡ option_map waited_after effect
     → ((q : Playing) → first_number (faults_of q.waited (number + 1) lines) ≡ (play q (number + 1) lines).bad)
     → first_number (fault_at checked number line ++ faults_of (waited_behind checked p.waited) (number + 1) lines) ≡ (output_with effect number (λ next. play next (number + 1) lines)).bad
