@@ -38,8 +38,8 @@ run_under() {
     callgrind_annotate --threshold=100 "$folder/calls"
 }
 
-# counts COMMAND COUNT: prints four counts of instructions: all; the device's; of the device's, those for
-# hashing and ciphers; and those for clearing and copying.
+# counts COMMAND COUNT: prints four counts of instructions: all; the device's; those of the device's that
+# hash or cipher; and those of the device's that clear or copy.
 counts() {
     script "$1" "$2" >"$folder/script"
     run_under >"$folder/all"

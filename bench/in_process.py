@@ -117,7 +117,8 @@ def in_words(name: str, count: int, *commands: str, times_each: int = 1) -> Row:
 
 
 def prepare(program: Program, target: str) -> str:
-    """Makes what the rows need; returns the line that seals, which differs between the devices."""
+    """Prepares the devices for the rows; returns the line that seals, which differs between the devices.
+    """
     program.tell(f"use {target}")
     for words in PREPARED:
         program.command(hex_of(words))

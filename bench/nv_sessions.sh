@@ -14,8 +14,8 @@ trap 'rm -rf "$folder"' EXIT
 # default it uses one repeated instruction, which callgrind counts again for each byte.
 limits=glibc.cpu.x86_rep_stosb_threshold=1000000:glibc.cpu.x86_rep_movsb_threshold=1000000
 
-# counts COMMAND BINDING COUNT: prints two counts of instructions: the device's, and of these those for
-# hashing.
+# counts COMMAND BINDING COUNT: prints two counts of instructions: the device's, and those of the device's
+# that hash.
 counts() {
     "$top/tools/python.sh" "$top/bench/commands.py" session "$@" >"$folder/script"
     GLIBC_TUNABLES=$limits valgrind --tool=callgrind --callgrind-out-file="$folder/calls" \

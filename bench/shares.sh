@@ -18,7 +18,7 @@ trap 'rm -rf "$folder"' EXIT
 limits=glibc.cpu.x86_rep_stosb_threshold=1000000:glibc.cpu.x86_rep_movsb_threshold=1000000
 
 # counts LINES: prints three counts of instructions of a script of LINES lines: all; those of
-# `Machine::execute_into` with everything it calls; and of these those that clear and copy.
+# `Machine::execute_into` with everything it calls; and the part of the latter that clears and copies.
 counts() {
     "$top/bench/script.sh" "$1" >"$folder/script"
     GLIBC_TUNABLES=$limits valgrind --tool=callgrind --callgrind-out-file="$folder/calls" \

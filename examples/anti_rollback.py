@@ -32,7 +32,9 @@ def pcr_value(version):
 
 
 def policy_of(version):
-    """Returns the policy that PCR 11 has the image's value and the counter is not above its version."""
+    """Returns the policy that requires the image's value in PCR 11, and a counter not above the image's
+    version.
+    """
     values = digest(SHA256, pcr_value(version))
     after_pcr = policy.after_pcr(SHA256, bytes(32), selection(*CHOSEN), values)
     compared = version_text(version) + number(0, 2) + number(LESS_OR_EQUAL, 2)

@@ -6,7 +6,9 @@ export type ModuleSource = BufferSource | WebAssembly.Module;
 export interface Making {
   /** The seed of the random bytes, which are the same in each run and in Python's `Device(seed=..)`. */
   seed?: string | Uint8Array;
-  /** The 256 bytes of its secrets, instead of bytes from the seed or the system. */
+  /**
+   * The 256 bytes from which the device's secrets are made, instead of bytes from the seed or the system.
+   */
   manufactured?: Uint8Array;
   /** An image to open: the device is then in the state after a power cycle. */
   image?: Uint8Array;

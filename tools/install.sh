@@ -126,7 +126,7 @@ tell_loader() {
         echo "The loader finds the libraries by LD_LIBRARY_PATH=$prefix/$libraries"
 }
 
-# tell_python: says how the user makes python3 find the package, if it does not.
+# tell_python: says how the user makes python3 find the package, unless python3 finds it already.
 tell_python() {
     (cd / && python3 -B -c '
 import sys, tpmsim

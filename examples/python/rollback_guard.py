@@ -15,7 +15,7 @@ def lowest(tpm: Caller, index: int) -> int:
 
 
 def policy_of(tpm: Caller, index: int, version: int) -> str:
-    """Returns the policy that the counter is at most this version."""
+    """Returns the policy that requires the counter to be at most this version."""
     return f"PolicyNV {tpm.names[index].hex()} {version:016x} 0 ule\n"
 
 

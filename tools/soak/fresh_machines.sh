@@ -49,7 +49,7 @@ judge() {
     grep -v -e '^ok: ' -e '^skipped: ' "$work/said" | sed 's/^/    /'
 }
 
-# named: prints the packages that the tests name, with which more of them could be played.
+# named: prints the packages that the tests name, and that would let more tests run.
 named() {
     sed -n 's/^More is played after: apt-get install //p' "$work/said"
 }

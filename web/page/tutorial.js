@@ -60,7 +60,7 @@ export class Tutorial {
   }
 
   /**
-   * Shows the lesson again that was just closed, if an image was opened.
+   * Opens the lesson that was just closed, if the user then opened an image.
    * @param {{at: number, text: string}} left
    */
   #reopen({ at, text }) {
