@@ -12,8 +12,8 @@ static const char STARTUP[] = "80010000000c000001440000";
 static const char DEFINE[] = "80020000002d0000012a40000001000000094000000900000000000000"
                              "000e01500020000b0006000600000040";
 
-/* The front of a command; the size of its filling, whose first byte differs each time; and the bytes after
- * the filling. */
+/* Each command: its name; its bytes before the filling, in hex; the size of the filling, whose first
+ * byte differs each time; and the bytes after the filling, in hex. */
 static const struct {
     const char *name, *front;
     size_t filling;
@@ -47,7 +47,8 @@ static size_t read_hex(const char *text, uint8_t *room) {
     return size;
 }
 
-/* Makes a command, and says where its filling is; that is its end if it has none. */
+/* Writes a command to `room`, and the offset of its filling to `filling`: the command's end if it has
+ * none. Returns the command's size. */
 static size_t command_of(const char *name, uint8_t *room, size_t *filling) {
     for (size_t i = 0; i < sizeof COMMANDS / sizeof *COMMANDS; i++) {
         if (strcmp(name, COMMANDS[i].name) != 0) continue;

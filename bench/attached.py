@@ -44,7 +44,7 @@ class Swtpm:
     process: subprocess.Popen[bytes] | None = None
 
     def start(self) -> str:
-        """Starts it, and returns the string by which libtss2 connects to it."""
+        """Starts swtpm, and returns the string by which libtss2 connects to it."""
         self.folder.mkdir()
         words = ["swtpm", "socket", "--tpm2", "--tpmstate", f"dir={self.folder}"]
         words += ["--server", f"type=tcp,port={self.port}", "--flags", "not-need-init"]
@@ -71,7 +71,9 @@ def run(words: list[str], transport: str) -> None:
 
 
 def tool_time(tools: list[list[str]], transport: str) -> list[float]:
-    """Returns the milliseconds of tools, each in a process of its own."""
+    """Runs tools one after another, each in its own process; returns how long they took, in
+    milliseconds.
+    """
     before = time.perf_counter()
     for words in tools:
         run(words, transport)
@@ -79,7 +81,7 @@ def tool_time(tools: list[list[str]], transport: str) -> list[float]:
 
 
 def asked(client: str, command: str, count: int, transport: str) -> list[float]:
-    """Returns the minimum and the median, in microseconds, for a command within one process."""
+    """Returns the minimum and the median time of a command in one process, in microseconds."""
     words = [client, transport, command, str(count)]
     output = subprocess.run(words, check=True, capture_output=True, text=True).stdout
     return [float(figure) for figure in output.split()]

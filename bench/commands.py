@@ -64,7 +64,7 @@ def plain(name):
 
 
 def nv_commands(name, size, indices):
-    """A read comes after a write."""
+    """Returns the preparing lines and the measured line, in hex. A read is prepared by a write."""
 
     def define(index, attributes, size):
         return f"do NV_DefineSpace OWNER pw:- - {index:08x}000b{attributes:08x}0000{size:04x}"

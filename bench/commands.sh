@@ -3,9 +3,10 @@
 # callgrind and subtracts the counts, so that start and end do not count. Needs valgrind, python3, and rt if
 # the program is not built yet. Not part of the gate.
 #
-# The device's instructions are those of `Machine::execute_into` and of everything it calls; the rest is the
-# text. Of the device's instructions, those in the hash crates, tpm_mac and tpm_aes count as hashing and
-# ciphers, and those in the C library as clearing and copying. Inlined code counts as the caller's.
+# The device's instructions are those of `Machine::execute_into` and of everything it calls; the rest reads
+# and prints the script's text. Of the device's instructions, those in the hash crates, tpm_mac and tpm_aes
+# count as hashing and ciphers, and those in the C library as clearing and copying. Inlined code counts as
+# the caller's.
 set -eu
 
 top=$(CDPATH='' cd "$(dirname "$0")/.." && pwd -P)
@@ -13,8 +14,8 @@ program=$(cd "$top" && . tools/lib/program.sh) || exit 1
 folder=$(mktemp -d)
 trap 'rm -rf "$folder"' EXIT
 
-# This makes the C library clear and copy blocks of these lengths by vectors, as it does shorter ones. By
-# default it uses one repeated instruction, which callgrind counts again for each byte.
+# Makes the C library clear and copy large blocks with vector instructions, as it does small ones. By default
+# it uses one repeated instruction, which callgrind counts again for each byte.
 limits=glibc.cpu.x86_rep_stosb_threshold=1000000:glibc.cpu.x86_rep_movsb_threshold=1000000
 
 # script COMMAND COUNT: prints the script.
@@ -26,7 +27,8 @@ script() {
     esac
 }
 
-# run_under OPTION..: runs the script under callgrind, and prints what each function took by itself.
+# run_under OPTION..: runs the script under callgrind, and prints how many instructions each function itself
+# executed.
 run_under() {
     GLIBC_TUNABLES=$limits valgrind --tool=callgrind --callgrind-out-file="$folder/calls" "$@" \
         "$program" run "$folder/script" >"$folder/answers" 2>"$folder/log" || {
@@ -36,8 +38,8 @@ run_under() {
     callgrind_annotate --threshold=100 "$folder/calls"
 }
 
-# counts COMMAND COUNT: the instructions: all, the device's, and of these those of hashing and ciphers,
-# and those of clearing and copying.
+# counts COMMAND COUNT: prints four counts of instructions: all; the device's; those of the device's that
+# hash or cipher; and those of the device's that clear or copy.
 counts() {
     script "$1" "$2" >"$folder/script"
     run_under >"$folder/all"

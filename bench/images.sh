@@ -98,13 +98,13 @@ measured=$folder/crates/measured/out/measured
     >"$folder/image"
 bytes=$((($(wc -c <"$folder/image") - 1) / 2))
 
-# input WORD LINES: the program's input.
+# input WORD LINES: prints the program's input: the image, and LINES lines with the word.
 input() {
     cat "$folder/image"
     awk -v word="$1" -v lines="$2" 'BEGIN { for (i = 0; i < lines; i++) print word }'
 }
 
-# instructions WORD LINES: the instructions for LINES lines of the word.
+# instructions WORD LINES: prints the number of instructions for LINES lines of the word.
 instructions() {
     input "$1" "$2" >"$folder/input"
     valgrind --tool=callgrind --callgrind-out-file=/dev/null "$measured" \
@@ -112,7 +112,7 @@ instructions() {
     [ "$(cat "$folder/output")" -eq $((32 * $2)) ] || echo "$0: not each $1 was done" >&2
 }
 
-# seconds WORD LINES: the fastest of ten runs.
+# seconds WORD LINES: prints the time of the fastest of ten runs.
 seconds() {
     input "$1" "$2" >"$folder/input"
     for _ in 1 2 3 4 5 6 7 8 9 10; do
@@ -130,7 +130,7 @@ for word in open save; do
         }'
 done
 
-# commands LINES: the instructions of a script with LINES lines that ask for all commands.
+# commands LINES: prints the number of instructions of a script with LINES lines that ask for all commands.
 commands() {
     awk -v lines="$1" 'BEGIN {
         print "do Startup 0"

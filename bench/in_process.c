@@ -43,7 +43,7 @@ static uint64_t now(void) {
     return (uint64_t)told.tv_sec * 1000000000u + (uint64_t)told.tv_nsec;
 }
 
-/* What libtpms keeps: the state of each name, in memory. */
+/* The states that libtpms stores by name, in memory. */
 static struct state {
     char name[32];
     unsigned char *bytes;
@@ -119,7 +119,7 @@ static void start_libtpms(void) {
         fail("libtpms does not start");
 }
 
-/* The device of libtpmsim, and what its calls take. */
+/* The device of libtpmsim, and the arguments of its calls. */
 static struct tpmsim device;
 static uint8_t random_bytes[RANDOM_BYTES], room[RESPONSE_BYTES];
 static uint64_t last_ms;
@@ -132,7 +132,8 @@ static void renew(size_t count) {
 static const unsigned char *response;
 static uint32_t response_size;
 
-/* At the first use of an algorithm libtpms tests itself, and has to be given the command once more. */
+/* Executes a command by libtpms. At the first use of an algorithm libtpms runs a self-test, and
+ * needs the command once more. */
 static void execute_by_libtpms(unsigned char *buffer, uint32_t size) {
     static unsigned char *kept;
     static uint32_t kept_room;
@@ -194,8 +195,8 @@ static void time_commands(char *words) {
     printf("%llu\n", (unsigned long long)(now() - begun));
 }
 
-/* TPM2_PCR_Reset of PCR 16, with an entry of an HMAC session with nonces of 16 bytes, whose key is
- * empty. The time that the caller takes for its HMAC does not count. */
+/* TPM2_PCR_Reset of PCR 16, authorized by an HMAC session with an empty key and nonces of 16 bytes.
+ * The time that the caller takes for its HMAC does not count. */
 enum { RESET_BYTES = 75, NONCE = 16, CALLER_NONCE_AT = 24, HMAC_AT = 43, TPM_NONCE_AT = 16 };
 
 static void authorize(unsigned char *buffer, const unsigned char *tpm_nonce) {

@@ -32,7 +32,7 @@ BOUND = f"StartAuthSession NULL OWNER {'00' * 32} - 0 null sha256"
 BY_SESSION = "PCR_Reset by an HMAC session"
 PARENT, KEY, LOADED = "80000000", "80000001", "80000002"
 
-# TPM2_PCR_Allocate that selects only the SHA-1 and SHA-256 banks, which are those of libtpmsim.
+# TPM2_PCR_Allocate that selects only the SHA-1 and SHA-256 banks, the ones that libtpmsim has.
 BANKS = "00000004000403ffffff000b03ffffff000c03000000000d03000000"
 ALLOCATE = f"8002000000370000012b4000000c00000009400000090000000000{BANKS}"
 
@@ -117,7 +117,8 @@ def in_words(name: str, count: int, *commands: str, times_each: int = 1) -> Row:
 
 
 def prepare(program: Program, target: str) -> str:
-    """Makes what the rows need; returns the line that seals, which differs between the devices."""
+    """Prepares the devices for the rows; returns the line that seals, which differs between the devices.
+    """
     program.tell(f"use {target}")
     for words in PREPARED:
         program.command(hex_of(words))
@@ -146,7 +147,7 @@ def rows(seals: dict[str, str]) -> list[Row]:
 
 
 def next_session(program: Program, target: str) -> str:
-    """Returns the line for a new HMAC session, whose nonce is known."""
+    """Starts an HMAC session, and returns the `session` line for it, with its handle and its nonce."""
     program.tell(f"use {target}")
     session = program.command(hex_of(SESSION.format(0)))
     return f"session {session[20:28]} {session[32:64]}"

@@ -10,20 +10,20 @@ program=$(cd "$top" && . tools/lib/program.sh) || exit 1
 folder=$(mktemp -d)
 trap 'rm -rf "$folder"' EXIT
 
-# seconds KIND: the time of a run of the script of this kind.
+# seconds KIND: prints the time of one run of the script of this kind.
 seconds() {
     /usr/bin/time -f '%e' -o "$folder/figure" "$program" run "$folder/$1" >"$folder/answers.$1"
     cat "$folder/figure"
 }
 
-# instructions KIND LINES: the instructions of a script of LINES lines.
+# instructions KIND LINES: prints the number of instructions of a script of LINES lines.
 instructions() {
     "$top/bench/script.sh" "$2" "$1" >"$folder/script"
     valgrind --tool=callgrind --callgrind-out-file=/dev/null \
         "$program" run "$folder/script" 2>&1 >/dev/null | sed -n 's/.*Collected : \([0-9]*\).*/\1/p'
 }
 
-# allocations KIND LINES: the allocations of a script of LINES lines.
+# allocations KIND LINES: prints the number of allocations of a script of LINES lines.
 allocations() {
     "$top/bench/script.sh" "$2" "$1" >"$folder/script"
     valgrind "$program" run "$folder/script" 2>&1 >/dev/null |

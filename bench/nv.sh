@@ -3,8 +3,8 @@
 # and with 64. It runs a short and a long script under callgrind and subtracts the counts, so that start and
 # end do not count. Needs valgrind, python3, and rt if the program is not built yet. Not part of the gate.
 #
-# The device's instructions are those of `Machine::execute_into` and of everything it calls; the rest is the
-# text.
+# The device's instructions are those of `Machine::execute_into` and of everything it calls; the rest reads
+# and prints the script's text.
 set -eu
 
 top=$(CDPATH='' cd "$(dirname "$0")/.." && pwd -P)
@@ -12,12 +12,12 @@ program=$(cd "$top" && . tools/lib/program.sh) || exit 1
 folder=$(mktemp -d)
 trap 'rm -rf "$folder"' EXIT
 
-# This makes the C library clear and copy blocks of these lengths by vectors, as it does shorter ones. By
+# Makes the C library clear and copy large blocks with vector instructions, as it does small ones. By
 # default it uses one repeated instruction, which callgrind counts again for each byte.
 limits=glibc.cpu.x86_rep_stosb_threshold=1000000:glibc.cpu.x86_rep_movsb_threshold=1000000
 
-# counts COMMAND SIZE INDICES LINES: the instructions of such a script: all, and those of
-# `Machine::execute_into` with what it calls.
+# counts COMMAND SIZE INDICES LINES: prints two counts of instructions of such a script: all, and those of
+# `Machine::execute_into` with everything it calls.
 counts() {
     "$top/tools/python.sh" "$top/bench/commands.py" nv "$@" >"$folder/script"
     GLIBC_TUNABLES=$limits valgrind --tool=callgrind --callgrind-out-file="$folder/calls" \
@@ -36,7 +36,7 @@ counts() {
         END { print all + 0, device + 0 }'
 }
 
-# measure COMMAND SIZE INDICES NAME
+# measure COMMAND SIZE INDICES NAME: prints the instructions of one command.
 measure() {
     short=$(counts "$1" "$2" "$3" 500)
     long=$(counts "$1" "$2" "$3" 1500)

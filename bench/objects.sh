@@ -8,7 +8,7 @@ program=$(cd "$top" && . tools/lib/program.sh) || exit 1
 folder=$(mktemp -d)
 trap 'rm -rf "$folder"' EXIT
 
-# The least time of five runs of a script, in seconds.
+# Prints the least time of five runs of a script, in seconds.
 least() {
     for _ in 1 2 3 4 5; do
         /usr/bin/time -f '%e' -o "$folder/time" "$program" run "$1" >"$folder/answers"

@@ -80,7 +80,7 @@ PROGRAM
     exit 1
 }
 
-# instructions WORD LINES: the program's instructions for LINES lines of the word
+# instructions WORD LINES: prints the number of instructions of the program for LINES lines of the word.
 instructions() {
     line=0
     : > "$folder/input"

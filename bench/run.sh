@@ -8,7 +8,7 @@ program=$(cd "$top" && . tools/lib/program.sh) || exit 1
 folder=$(mktemp -d)
 trap 'rm -rf "$folder"' EXIT
 
-# runs: the seconds and the resident kilobytes of ten runs of the script, one run a line.
+# runs: runs the script ten times, and prints the seconds and the resident kilobytes, one run a line.
 runs() {
     for _ in 1 2 3 4 5 6 7 8 9 10; do
         /usr/bin/time -f '%e %M' -o "$folder/figures" "$program" run "$folder/script" \
@@ -17,8 +17,8 @@ runs() {
     done
 }
 
-# measure LINES: prints the figures of a script of LINES lines: those of the fastest run, and the memory of
-# the largest.
+# measure LINES: measures a script of LINES lines; prints the time of the fastest run and the largest
+# memory of all runs.
 measure() {
     "$top/bench/script.sh" "$1" >"$folder/script"
     runs >"$folder/runs"

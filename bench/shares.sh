@@ -13,12 +13,12 @@ program=$(cd "$top" && . tools/lib/program.sh) || exit 1
 folder=$(mktemp -d)
 trap 'rm -rf "$folder"' EXIT
 
-# This makes the C library clear and copy blocks of these lengths by vectors, as it does shorter ones. By
+# Makes the C library clear and copy large blocks with vector instructions, as it does small ones. By
 # default it uses one repeated instruction, which callgrind counts again for each byte.
 limits=glibc.cpu.x86_rep_stosb_threshold=1000000:glibc.cpu.x86_rep_movsb_threshold=1000000
 
-# counts LINES: the instructions of a script of LINES lines: all, those of `Machine::execute_into` with what
-# it calls, and of these those that clear and copy.
+# counts LINES: prints three counts of instructions of a script of LINES lines: all; those of
+# `Machine::execute_into` with everything it calls; and the part of the latter that clears and copies.
 counts() {
     "$top/bench/script.sh" "$1" >"$folder/script"
     GLIBC_TUNABLES=$limits valgrind --tool=callgrind --callgrind-out-file="$folder/calls" \

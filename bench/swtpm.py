@@ -1,4 +1,4 @@
-"""Measures commands over the socket of swtpm, in turn: with its own libtpms, with a tpmsim, and with a
+"""Measures commands over the socket of swtpm, which runs in turn on its own libtpms, on tpmsim, and on a
 recorded tpmsim:
 
     python3 swtpm.py ATTACHED..

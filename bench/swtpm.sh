@@ -1,6 +1,6 @@
 #!/bin/sh
-# Measures commands over the socket of a swtpm, in turn with its own libtpms and as a tpmsim. Needs python3
-# and what hosts/build.sh needs. Not part of the gate.
+# Measures commands over the socket of swtpm, which runs in turn on its own libtpms and on tpmsim. Needs
+# python3 and what hosts/build.sh needs. Not part of the gate.
 #
 #   bench/swtpm.sh [STATES]    STATES is the folder of the states, /dev/shm by default
 #

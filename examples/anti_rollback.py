@@ -23,7 +23,7 @@ platform_auths = 0
 
 
 def version_text(version):
-    """The eight bytes with which the counter is compared."""
+    """Returns the eight bytes with which the policy compares the counter."""
     return number(version, 8)
 
 
@@ -32,7 +32,9 @@ def pcr_value(version):
 
 
 def policy_of(version):
-    """PCR 11 has the image's value, and the counter is not above its version."""
+    """Returns the policy that requires the image's value in PCR 11, and a counter not above the image's
+    version.
+    """
     values = digest(SHA256, pcr_value(version))
     after_pcr = policy.after_pcr(SHA256, bytes(32), selection(*CHOSEN), values)
     compared = version_text(version) + number(0, 2) + number(LESS_OR_EQUAL, 2)
@@ -42,14 +44,16 @@ def policy_of(version):
 
 
 def start(version):
-    """What the firmware and the boot loader do at each start."""
+    """Runs the commands of the firmware and the boot loader at each start."""
     tpm.power_cycle()
     said = tpm(f"The boot loader measures image {version} into PCR 11 and starts it")
     said.does(tpm.event(IMAGES[version], b"", pcr=11))
 
 
 def hand_over():
-    """platformAuth is empty after TPM2_Startup, until the boot loader sets it to a random value."""
+    """Sets platformAuth to a random value. It is empty after TPM2_Startup, until the boot loader sets
+    it.
+    """
     global platform_auths
     platform_auths += 1
     value = hashlib.sha256(b"platform %d" % platform_auths).digest()

@@ -24,7 +24,9 @@ def guess(words, *pins):
 
 
 def start_computer():
-    """The handle of the disk's key, which has to be loaded after each power cycle."""
+    """Starts the computer. Returns the handle of the disk's key, which has to be loaded after each power
+    cycle.
+    """
     tpm.power_cycle()
     parent = tpm.storage_root("TPM2_CreatePrimary of the storage root key: 80000000")
     return tpm.load("TPM2_Load of the disk's key: 80000001", parent, token)

@@ -22,7 +22,7 @@ tpm = Example(__name__, __doc__)
 
 
 def measured_by(measurements):
-    """The digest of the chosen PCRs' values after a start."""
+    """Returns the digest of the chosen PCRs' values after these measurements."""
     values = {
         pcr: digest(SHA256, bytes(32) + digest(SHA256, data)) for pcr, _, data in measurements
     }
@@ -35,7 +35,7 @@ def start_of(measurements):
 
 
 def for_every_branch(session, words):
-    """What the policy asks whatever the software is: the locality, the command and the PIN."""
+    """Makes the assertions that do not depend on the software: the locality, the command and the PIN."""
     locality, code, value = words
     tpm(f"TPM2_PolicyLocality{locality}").locality(session, 1)
     tpm(f"TPM2_PolicyCommandCode{code}").command_code(session, CC.Unseal)

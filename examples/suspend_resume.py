@@ -28,7 +28,7 @@ def boot():
 
 
 def load_key():
-    """The home directory's key, which is sealed to the measurements of the start."""
+    """Loads the home directory's key, which is sealed to the measurements of the start."""
     parent = tpm.storage_root("TPM2_CreatePrimary of the storage key")
     handle = tpm.load("TPM2_Load of the sealed key", parent, token)
     tpm.flush_objects("TPM2_FlushContext of the storage key", parent)
@@ -36,7 +36,7 @@ def load_key():
 
 
 def unlock(outcome, handle):
-    """By a policy session, which has to find the PCRs of the enrolment."""
+    """Unseals by a policy session; that succeeds if the PCRs are those of the enrolment."""
     session = tpm.policy("TPM2_StartAuthSession of a policy session")
     tpm("TPM2_PolicyPCR of PCR 0, 4 and 11").pcrs(session, CHOSEN)
     if outcome == "SUCCESS":
@@ -46,7 +46,7 @@ def unlock(outcome, handle):
 
 
 def sealed_key():
-    """The response of TPM2_Create, for the current PCRs."""
+    """Returns the response of TPM2_Create for the current PCRs."""
     trial = tpm.trial("A trial session, for the policy")
     tpm("TPM2_PolicyPCR of PCR 0, 4 and 11").pcrs(trial, CHOSEN)
     answer = tpm.does("TPM2_PolicyGetDigest", tpm.get_digest(trial))

@@ -12,7 +12,7 @@ from tpmsim.standard.nv import Attribute
 from tests.common.script_caller import FIRST
 from tests.common.teller import Example
 
-# What the factory writes: the serial number of a board, and the digest of its certificate.
+# The record that the factory writes: the serial number of a board, and the digest of its certificate.
 RECORD = b"board 004711 " + hashlib.sha256(b"a certificate").digest()[:19]
 
 tpm = Example(__name__, __doc__)

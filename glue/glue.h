@@ -21,10 +21,10 @@ struct tried rattle_alloc(size_t size, size_t alignment);
  * If allocation fails, the block is unchanged, and still owned. */
 struct tried rattle_realloc(void *block, size_t kept, size_t size, size_t alignment);
 
-/* Frees a block that one of the two returned. */
+/* Frees a block that rattle_alloc or rattle_realloc returned. */
 void rattle_dealloc(void *block);
 
-/* The C library's errno of this thread, and how to set it. */
+/* Return and set this thread's errno of the C library. */
 int rattle_errno(void);
 void rattle_set_errno(int error);
 

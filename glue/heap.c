@@ -1,5 +1,6 @@
-/* The heap, as proved code calls it. These three functions are not proved: they are trusted to do what the
- * contracts of Rattle's library `libc` say, as their comments do in prose. The kit has them for x86-64. */
+/* The heap, as proved code calls it. These three functions are not proved. They are trusted to meet the
+ * contracts of Rattle's library `libc`, which the comments of glue.h state in prose. The kit has them
+ * for x86-64. */
 #include "glue.h"
 #include <stdlib.h>
 

@@ -6,9 +6,11 @@ export type ModuleSource = BufferSource | WebAssembly.Module;
 export interface Making {
   /** The seed of the random bytes, which are the same in each run and in Python's `Device(seed=..)`. */
   seed?: string | Uint8Array;
-  /** The 256 bytes of its secrets, instead of bytes from the seed or the system. */
+  /**
+   * The 256 bytes from which the device's secrets are made, instead of bytes from the seed or the system.
+   */
   manufactured?: Uint8Array;
-  /** An image: the device is the image's, in the state after a power cycle. */
+  /** An image to open: the device is then in the state after a power cycle. */
   image?: Uint8Array;
   /** A state text: the device is restored from it. */
   state?: Uint8Array;
@@ -38,7 +40,7 @@ export interface Answer {
   row: Row;
   /** The number of random bytes that the command drew, from their front. */
   drawn: number;
-  /** Such as `Startup L0 +0 ok 00000000`; empty with the completing layer. */
+  /** The trace, such as `Startup L0 +0 ok 00000000`; empty with the completing layer. */
   trace: string;
 }
 
@@ -58,7 +60,7 @@ export interface PlayedPower {
 }
 
 export interface Meaning {
-  /** Such as `AUTH_FAIL`, without TPM_RC_. */
+  /** The code's name without TPM_RC_, such as `AUTH_FAIL`. */
   name: string;
   place: "" | "handle" | "parameter" | "session";
   /** The number of the handle, parameter or session, from 1; 0 for none. */
@@ -138,7 +140,7 @@ export class BadState extends Error {
 export class BadLine extends Error {
   private constructor();
   fault: string;
-  /** Counted from 1; 0 if the fault has no column. */
+  /** The column of the fault, counted from 1; 0 if it has none. */
   column: number;
   /** What is expected there, such as `u16`. */
   wanted: string;

@@ -33,7 +33,7 @@ compile_here() {
         verdict=$(grep -x "logic=proved .* target=$target .*" "$log") && echo "$1: $verdict"
 }
 
-# Compiles the six functions that the kit has for x86-64 alone.
+# Compiles the six functions that the kit has only for x86-64.
 compile_glue() {
     for source in glue/*.c; do
         # shellcheck disable=SC2086 # they are words
@@ -57,7 +57,7 @@ link_library() (
         chmod 644 ../libtpmsim.*
 ) >>"$log" 2>&1
 
-# Prints the lines of PROVED.
+# Prints the lines for PROVED.
 tell_proved() {
     echo "kit: $kit_version"
     echo "target: $target"
@@ -68,7 +68,7 @@ tell_proved() {
     echo "library shared object: $(checksum <"$folder/libtpmsim.so.0")"
 }
 
-# Moves everything to its place.
+# Moves all files to dist/aarch64.
 deliver() {
     mkdir -p "$folder" && mv "$work/tpmsim" "$work/libtpmsim.a" "$work/libtpmsim.so.0" "$folder/" &&
         cp library/tpmsim.h library/tpmsim.hpp library/tpmsim.pc "$folder/" && tell_proved >"$folder/PROVED"

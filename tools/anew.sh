@@ -1,6 +1,6 @@
 #!/bin/sh
-# Writes all stored scripts of tests/ and examples/ again by their programs, in a copy, and their outputs
-# by the device in Python; and compares the files with those of the repository, byte for byte. Needs
+# In a copy, generates all stored scripts of tests/ and examples/ again by their programs, and their outputs
+# by the device in Python. Then compares the files with those of the repository, byte for byte. Needs
 # python3; takes half a minute on four processors. JOBS is the number of programs that run at a time.
 #
 #   tools/anew.sh           compares
@@ -29,7 +29,7 @@ export PYTHONPYCACHEPREFIX="$work/compiled"
 cd "$work" || exit 1
 
 failed=0
-# A program's first line says what it writes. Files of that name are removed first.
+# A program's first line names the files that it writes. They are removed first.
 grep -lE '^"""Writes [a-z_0-9]+[.](tpm|out)' tests/*/*.py examples/*.py >programs
 while read -r program; do
     rm -f "${program%.py}.tpm" "${program%.py}.out"
@@ -37,7 +37,7 @@ done <programs
 xargs -P "$jobs" -n 6 tools/python.sh tests/anew.py <programs >said || failed=1
 tools/python.sh tests/common/expected.py || failed=1
 
-# files: those that may be written.
+# files: prints the files that a program may write.
 files() {
     find tests examples -name '*.tpm' -o -name '*.out' -o -name '*.trace' -o -name '*.lines'
 }

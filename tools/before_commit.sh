@@ -12,7 +12,7 @@ passed=0
 failed=0
 skipped=0
 
-# has TOOL: whether it is installed.
+# has TOOL: whether a tool is installed.
 has() {
     command -v "$1" >/dev/null
 }
@@ -30,7 +30,7 @@ check() {
     fi
 }
 
-# skip NAME REASON: counts a check that cannot be made here.
+# skip NAME REASON: counts a check that cannot run here.
 skip() {
     echo "skipped: $1: $2"
     skipped=$((skipped + 1))
@@ -56,7 +56,7 @@ follow_links() {
     python3 tests/common/links.py . $(git ls-files '*.md')
 }
 
-# The scripts for sh: those whose first line says so, and all *.sh.
+# Prints the scripts for sh: the files whose first line says so, and all *.sh.
 shell_scripts() {
     git ls-files '*.sh'
     git grep -lI -e '^#!/bin/sh$' -- ':!*.sh' ':!*.md' ':!*.py'

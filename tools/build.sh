@@ -18,8 +18,8 @@ out=$top/crates/tpmsim/out
 log=$out/build.log
 
 # Proves each crate that the program uses, and the program; crates that do not use each other are
-# proved at the same time. Then it builds the program, which gets the time at which the build started,
-# so that a later edit counts as newer.
+# proved at the same time. Then it builds the program. The program's file time is the time at which the
+# build started, so that a later edit counts as newer.
 build() {
     mkdir -p "$out" && : >"$log" && : >"$out/build_start" || return 1
     crates="$(crates_below tpmsim) tpmsim"

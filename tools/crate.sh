@@ -8,7 +8,7 @@
 set -u
 folder=$(realpath -m "${1:-$(dirname "$0")/../out}") && cd "$(dirname "$0")/.." || exit 1
 
-# fail REASON: ends the script, and shows what cargo said.
+# fail REASON: ends the script, and prints the end of cargo's output.
 fail() {
     [ ! -f "$work/said" ] || tail -n 20 "$work/said" >&2
     echo "$0: $1" >&2
@@ -19,8 +19,8 @@ work=$(mktemp -d) || exit 1
 trap 'rm -rf "$work"' EXIT
 PATH=$PATH:${HOME:-/root}/.cargo/bin
 command -v cargo >"$work/found" || fail 'there is no cargo'
-# Cargo writes next to the files that it reads, so it works on a copy, which has the library of each
-# machine.
+# Cargo writes next to the files that it reads, so it works on a copy, which contains the library for
+# each machine.
 mkdir -p "$work/rust/native/x86_64" "$work/rust/native/aarch64" || fail 'there is no folder for a copy'
 { (cd rust && cp -r Cargo.toml README.md build.rs examples src tests "$work/rust/") &&
     cp dist/libtpmsim.a "$work/rust/native/x86_64/" &&

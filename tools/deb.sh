@@ -5,10 +5,9 @@
 #   tools/deb.sh [--machine aarch64] [FOLDER]   in FOLDER; else in out/
 #
 # With --machine aarch64 it is tpmsim_VERSION_arm64.deb, made of dist/aarch64, and needs Debian's
-# gcc-aarch64-linux-gnu.
-# TPMSIM_MAINTAINER is the package's maintainer; else it is the author of the last commit.
-# TPMSIM_PACKING is the compression of dpkg-deb, else xz. tools/install.sh says what the package has.
-# Needs dpkg-deb and python3; nothing is proved.
+# gcc-aarch64-linux-gnu. TPMSIM_MAINTAINER is the package's maintainer; else it is the author of the last
+# commit. TPMSIM_PACKING is the compression of dpkg-deb, else xz. tools/install.sh lists the contents of
+# the package. Needs dpkg-deb and python3; nothing is proved.
 set -u
 umask 022
 unset TPMSIM_MACHINE
@@ -26,7 +25,8 @@ fail() {
     exit 1
 }
 
-# The size of the installed files in KiB, each rounded up, on whatever file system.
+# Prints the size of the installed files in KiB, each rounded up, so that it does not depend on the file
+# system.
 size() {
     find "$root/usr" -type f -printf '%s\n' | awk '{ sum += int(($1 + 1023) / 1024) } END { print sum }'
 }
@@ -37,7 +37,7 @@ control() {
         -e "s|@PURPOSE@|$purpose|" -e "s|@ARCHITECTURE@|$architecture|" packaging/control
 }
 
-# Adds what Debian requires in each package.
+# Adds the files that Debian requires in each package.
 describe() {
     documents=$root/usr/share/doc/tpmsim
     mkdir "$root/DEBIAN" || return 1
@@ -57,8 +57,8 @@ describe() {
         >"$root/DEBIAN/md5sums"
 }
 
-# for_aarch64: selects the tools for ARM64. Their compiler does not look where Debian has the headers for
-# all machines.
+# for_aarch64: selects the tools for ARM64. Their compiler does not search the folder of Debian's headers
+# for all machines.
 for_aarch64() {
     architecture=arm64
     multiarch=aarch64-linux-gnu

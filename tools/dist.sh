@@ -12,10 +12,10 @@
 set -u
 cd "$(dirname "$0")/.." || exit 1
 . tools/lib/proved.sh
-# This script makes what is for x86-64, even if a package is for another machine.
+# This script makes files for x86-64, even if a package is made for another machine.
 ship x86_64
 
-# What is wrong with dist/, one fault a line.
+# Prints the faults of dist/, one a line.
 faults() {
     faults_of_program
     faults_of_library
@@ -55,8 +55,8 @@ faults_of_library() {
     done
 }
 
-# What is for ARM64, if it is there, is not built again either: its bytes have to be those that its own
-# PROVED names, made of these sources.
+# The files for ARM64, if there are any, are not built again either. Their bytes have to be those that
+# their own PROVED names, made of these sources.
 faults_of_aarch64() (
     ship aarch64
     [ -d "$distribution" ] || return 0

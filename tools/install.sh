@@ -30,7 +30,7 @@ fail() {
     exit 1
 }
 
-# packages_of_python: the folder in PREFIX where python3 looks for packages, or nothing.
+# packages_of_python: prints the folder in PREFIX where python3 looks for packages, or nothing.
 packages_of_python() {
     python3 -c '
 import site, sys
@@ -51,7 +51,7 @@ link() {
     fi
 }
 
-# has_header HEADER: whether the compiler finds it.
+# has_header HEADER: whether the compiler finds a header.
 has_header() {
     echo "#include <$1>" | "${CC:-cc}" -E - >"$work/header" 2>&1
 }
@@ -116,7 +116,7 @@ put_modules() {
     fi
 }
 
-# tell_loader: makes the loader find the libraries, or says what finds them.
+# tell_loader: makes the loader find the libraries, or says how the user makes it find them.
 tell_loader() {
     PATH=$PATH:/usr/sbin:/sbin
     if [ "$(id -u)" -eq 0 ] && command -v ldconfig >"$work/told"; then
@@ -126,7 +126,7 @@ tell_loader() {
         echo "The loader finds the libraries by LD_LIBRARY_PATH=$prefix/$libraries"
 }
 
-# tell_python: says what finds the package, if python3 does not.
+# tell_python: says how the user makes python3 find the package, unless python3 finds it already.
 tell_python() {
     (cd / && python3 -B -c '
 import sys, tpmsim

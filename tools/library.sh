@@ -6,7 +6,7 @@
 # source is newer, the crates are first proved in a copy. Needs `rt`, git, a C compiler and Debian's
 # binutils.
 #
-#   tools/library.sh                    what is for x86-64
+# tools/library.sh                    the files for x86-64
 #   tools/library.sh --target aarch64   what is for ARM64, with the program (tools/aarch64.sh)
 set -u
 cd "$(dirname "$0")/.." && top=$(pwd -P) || exit 1
@@ -41,8 +41,8 @@ prove() {
     tail -n 1 "$log" | grep -q ' 0 failed' || fail 'not everything is proved'
 }
 
-# Makes the archive, of the compiled exports and of the kit's connection to the C library's allocator,
-# and the shared object of the same.
+# Links the archive, from the compiled exports and the kit's connection to the C library's allocator,
+# and the shared object, from the same.
 link() (
     mkdir "$work/objects" && cd "$work/objects" && ar x "$work/exports.a" &&
         ar x "$kit/c/liblibc_c.a" heap.pic.o && ar rcsD "$work/libtpmsim.a" ./*.o &&
@@ -52,7 +52,7 @@ link() (
         chmod 644 "$work"/libtpmsim.*
 ) >>"$log" 2>&1
 
-# Writes the library's lines of dist/PROVED after those of the program.
+# Appends the library's lines to dist/PROVED, after those of the program.
 tell_proved() {
     version=$(rt version) || return 1
     {
@@ -64,7 +64,7 @@ tell_proved() {
     } >"$proved.new" && mv "$proved.new" "$proved"
 }
 
-# Moves everything to its place.
+# Moves all files to dist/.
 deliver() {
     mkdir -p dist && mv "$work/libtpmsim.a" "$archive" && mv "$work/libtpmsim.so.0" "$shared" &&
         cp library/tpmsim.h library/tpmsim.hpp library/tpmsim.pc dist/ && tell_proved

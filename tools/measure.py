@@ -61,13 +61,13 @@ def use_of(pid: str) -> tuple[Process, Use] | None:
 
 
 def watch(uses: dict[Process, Use], is_over: threading.Event) -> None:
-    """Records twice a second what each process of the toolchain has used so far."""
+    """Records twice a second how much each process of the toolchain has used so far."""
     while not is_over.wait(0.5):
         for pid in filter(str.isdigit, os.listdir("/proc")):
             try:
                 found = use_of(pid)
             except (OSError, IndexError):
-                continue  # The process ended while it was looked at.
+                continue  # The process ended while its usage was read.
             if found is not None:
                 uses[found[0]] = found[1]
 

@@ -8,6 +8,6 @@ set -u
 top=$(CDPATH='' cd "$(dirname "$0")/.." && pwd -P) || exit 1
 PYTHONPATH=$top/python:$top
 export PYTHONPATH
-# The bytecode of Python is not kept in the repository.
+# No Python bytecode is written into the repository.
 [ -n "${PYTHONPYCACHEPREFIX:-}" ] || export PYTHONDONTWRITEBYTECODE=1
 exec python3 "$@"

@@ -1,7 +1,7 @@
 #!/bin/sh
-# Makes a release of the last commit, and says what it did: the tag vVERSION; and in a folder the package
-# for Debian, the sources, dist/PROVED, the version's section of CHANGELOG.md, and SHA256SUMS of these.
-# It sends nothing anywhere.
+# Makes a release of the last commit, and prints what it made: the tag vVERSION; and in a folder the
+# package for Debian, the sources, dist/PROVED, the version's section of CHANGELOG.md, and SHA256SUMS of
+# these. It sends nothing anywhere.
 #
 #   tools/release.sh [FOLDER]   in FOLDER; else in out/vVERSION
 #
@@ -18,7 +18,7 @@ fail() {
     exit 1
 }
 
-# What prevents a release, one reason a line.
+# Prints the reasons that prevent a release, one a line.
 faults() {
     [ -z "$(git status --porcelain)" ] || echo 'something differs from the last commit'
     tools/version.sh >"$work/versions" || cat "$work/versions"
@@ -32,13 +32,13 @@ faults() {
     [ ! -e "$folder" ] || echo "$folder is there"
 }
 
-# What CHANGELOG.md says of the version.
+# Prints the section of CHANGELOG.md about the version.
 notes() {
     awk -v section="## $version," 'index($0, "## ") == 1 { told = index($0, section) == 1 } told' \
         CHANGELOG.md
 }
 
-# The milliseconds until a new clone of the tag has answered a command.
+# Prints the milliseconds until a new clone of the tag has answered a command.
 answering() {
     git -c advice.detachedHead=false clone -q --branch "v$version" . "$work/clone" || return 1
     start=$(date +%s%3N)

@@ -1,11 +1,11 @@
 #!/bin/sh
-# Plays the scripts of tests/ and examples/, and the shell tests of tests/, and compares the results with
-# the expected files next to them. Exhaustive scripts are not stored: tests/common/made.py makes them first,
-# with the responses and traces of the device in Python. It uses each of the two programs that `rt ci` leaves, and the one in
-# dist/ if that has other bytes. Then tpmsim_lists, which keeps the device's state in lists and not in
-# fixed places, plays the scripts that are to end well, and has to print the same bytes. At last come the
-# shell tests of that program, and those of the library in dist/ and of what attaches it. If nothing was
-# built here, only what is in dist/ is tested; that needs no `rt`.
+# Plays the scripts of tests/ and examples/, and the shell tests of tests/, and compares the results with the
+# expected files next to them. Exhaustive scripts are not stored: tests/common/made.py makes them first, with
+# the responses and traces of the device in Python. It tests both programs that `rt ci` leaves, and the one in
+# dist/ if its bytes differ. Then tpmsim_lists, which keeps the device's state in lists and not in arrays of
+# fixed size, plays the scripts that have to succeed, and has to print the same bytes. Last come the shell
+# tests of that program, of the library in dist/, and of the hosts that attach it. If nothing was built here,
+# only the files in dist/ are tested; that needs no `rt`.
 #
 #   tools/scripts.sh                   all of them
 #   tools/scripts.sh --shipped         those of what is in dist/ alone
@@ -16,17 +16,16 @@
 #
 # The tests work in folders in memory, if there is enough, or in TMPDIR, if that is set.
 #
-# NAME.tpm is run as `PROGRAM run NAME.tpm`, or as `tpmsim_lists <NAME.tpm`, and NAME.sh as `sh
-# NAME.sh PROGRAM`. A shell test whose name begins with lists_ is run with tpmsim_lists alone, one
-# whose name begins with library_ or attached_ with dist/libtpmsim.a, and all others with the
-# other programs.
-# NAME.out is the expected standard output, NAME.err the expected standard error (no file: empty), and
-# NAME.status the expected status (no file: 0). If there is a NAME.trace, a further test runs NAME.tpm
-# as `PROGRAM run --trace NAME.tpm` and expects NAME.trace as standard output. A shell test that cannot
-# run here ends with status 77, and prints one line, its reason: it is skipped, and so counted, as is
-# a test whose program is missing. Results are printed in the order of programs and of tests, whichever
-# ends first. The last line is `N passed, M failed`, followed by `, K skipped` if a test was skipped. The
-# line before it names the packages of Debian with which the skipped tests could be played, if any.
+# NAME.tpm is run as `PROGRAM run NAME.tpm`, or as `tpmsim_lists <NAME.tpm`, and NAME.sh as `sh NAME.sh
+# PROGRAM`. A shell test whose name begins with lists_ is run only with tpmsim_lists, one whose name begins
+# with library_ or attached_ with dist/libtpmsim.a, and all others with the other programs. NAME.out is the
+# expected standard output, NAME.err the expected standard error (no file: empty), and NAME.status the
+# expected status (no file: 0). If there is a NAME.trace, a further test runs NAME.tpm as `PROGRAM run
+# --trace NAME.tpm` and expects NAME.trace as standard output. A shell test that cannot run here ends with
+# status 77, and prints one line with the reason. It is counted as skipped, like a test whose program is
+# missing. Results are printed in the order of programs and of tests, whichever ends first. The last line is
+# `N passed, M failed`, followed by `, K skipped` if a test was skipped. The line before it names the
+# packages of Debian with which the skipped tests could be played, if any.
 set -u
 
 top=$(CDPATH='' cd "$(dirname "$0")/.." && pwd -P) || exit 1
@@ -38,7 +37,7 @@ in_dist=$top/dist/tpmsim
 library=${in_dist%/*}/libtpmsim.a
 jobs=${JOBS:-$(getconf _NPROCESSORS_ONLN)}
 
-# Tests force files to the disk, so they work in memory.
+# Tests sync files to the disk, so they work in memory.
 . "$top/tools/lib/memory.sh"
 work=
 [ -n "${TMPDIR:-}" ] || work=$(folder_in_memory 1 2>&1) || work=
@@ -49,22 +48,22 @@ mkdir "$work/told" "$work/rooms" "$work/queue" "$made_in" || exit 1
 # A test may run as another user, who has to reach its folder.
 chmod a+x "$work" "$work/rooms"
 export TMPDIR="$work/rooms"
-# If python3 only starts another one, as pyenv's does, the tests start that one directly.
+# If python3 is a launcher of another python3, as pyenv's is, the tests start that other one directly.
 if found=$(command -v python3); then
     started=$(python3 -c 'import sys; print(sys.executable)')
     [ "${started:-$found}" = "$found" ] || PATH=${started%/*}:$PATH
 fi
-# This checks once whether Python is whole.
+# Checks once whether Python is whole.
 . "$top/tools/lib/python.sh"
 unset TPMSIM_PYTHON
 ! python_is_whole || export TPMSIM_PYTHON=whole
-# The tests share the bytecode of Python, which the environment may forbid it to keep, and the C programs
-# that several of them compile.
+# The tests share Python's bytecode, even if the environment forbids it, and the C programs that several of
+# them compile.
 export PYTHONPYCACHEPREFIX="$work/python" TPMSIM_BUILT="$work/built"
 unset PYTHONDONTWRITEBYTECODE
 number=0
 
-# The tests that take longest begin first, then the other shell tests, and then the scripts.
+# The longest tests start first, then the other shell tests, and then the scripts.
 longest=' audit python policy_audit images bent_lines starved library_scripts launcher torn '
 
 # say WORDS: prints a line between the results of tests.
@@ -98,7 +97,7 @@ check_made() {
     fi
 }
 
-# is_test PATH: whether it is a test; the files of tests/common are not.
+# is_test PATH: whether a path is a test; the files of tests/common are not.
 is_test() {
     case $1 in
     "$top/tests/common/"*) false ;;
@@ -172,7 +171,8 @@ make_scripts() {
 unset TPMSIM_MADE
 [ "${TPMSIM_PYTHON:-}" != whole ] || make_scripts "$@"
 
-# is_of_library TEST: whether it tests the library, what attaches it, or the module for web pages.
+# is_of_library TEST: whether a test is about the library, a host that attaches it, or the module for web
+# pages.
 is_of_library() {
     case $1 in
     */library_*.sh | */attached_*.sh | */web/*.sh) true ;;
@@ -185,8 +185,8 @@ shipped_is_of_sources() (
     cd "$top" && . tools/lib/proved.sh && is_proved sources "$(sources_checksum)"
 )
 
-# is_asked PROGRAM: whether it is one of the programs to be tested. A program that was built here counts
-# as the one in dist/ if it has the same bytes, and that was made of the current sources.
+# is_asked PROGRAM: whether a program is to be tested. A program that was built here counts as the one in
+# dist/ if the bytes are the same and dist/ was made of the current sources.
 is_asked() {
     case $asked,$1 in
     shipped,"$in_dist" | ,*) true ;;
@@ -195,7 +195,7 @@ is_asked() {
     esac
 }
 
-# missing PROGRAM: says that it is missing, if others were built here.
+# missing PROGRAM: reports that a program is missing, if others were built here.
 missing() {
     [ ! -x "$out/tpmsim" ] || say "${1#"$top/"} is not there"
 }
@@ -233,7 +233,7 @@ for program in "$out/tpmsim" "$out/tpmsim.by-rattle" "$in_dist"; do
 done
 [ "$programs" -gt 0 ] || say 'FAILED: no program was there to be run'
 
-# ends_well SCRIPT: whether its expected status is 0.
+# ends_well SCRIPT: whether the expected status of a script is 0.
 ends_well() {
     [ ! -f "${1%.*}.status" ] || [ "$(cat "${1%.*}.status")" -eq 0 ]
 }
@@ -265,7 +265,7 @@ library_is_proved() (
         is_proved 'library archive' "$(checksum <"$library")"
 )
 
-# Why no test of the library can run; nothing if they can.
+# Prints the reason why no test of the library can run; nothing if they can.
 missing_library() {
     [ -f "$library" ] || { echo "${library#"$top/"} is not there" && return; }
     library_is_proved || echo "${library#"$top/"} was proved of other sources than these"
@@ -283,7 +283,7 @@ for test do
     fi
 done
 
-# Prints the results of the next tests, as far as they are known.
+# Prints the next results, as far as they are available.
 next=1
 show() {
     while [ -f "$work/told/$next" ]; do
@@ -292,7 +292,7 @@ show() {
     done
 }
 
-# The shell tests begin first, since they take longest; a process plays several of the scripts.
+# The shell tests start first, since they take longest. One process plays several scripts.
 touch "$work/longest" "$work/long" "$work/short"
 { cat "$work/longest" "$work/long" && xargs -r -n 12 <"$work/short"; } |
     xargs -r -P "$jobs" -L 1 sh "$top/tools/lib/play_tests.sh" "$work" |
@@ -305,12 +305,13 @@ touch "$work/longest" "$work/long" "$work/short"
         done
     }
 
-# count WORD: the number of tests whose result begins with this word.
+# count WORD: prints the number of tests whose result begins with this word.
 count() {
     find "$work/told" -type f -exec cat {} + | grep -c "^$1: "
 }
 
-# packages: those that the reasons of skipped tests name, as in `there is no cc, nm (Debian: gcc, binutils)`.
+# packages: prints the packages that the reasons of skipped tests name, as in `there is no cc, nm (Debian:
+# gcc, binutils)`.
 packages() {
     find "$work/told" -type f -exec cat {} + | sed -n 's/^skipped: .* (Debian: \(.*\))$/\1/p' |
         sed 's/, */\n/g' | LC_ALL=C sort -u | tr '\n' ' '

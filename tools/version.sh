@@ -1,5 +1,6 @@
 #!/bin/sh
-# Prints the version at each place that has it, one place a line. The status is 1 if they differ.
+# Prints the version at each place that states it, one place a line. The status is 1 if they
+# differ.
 #
 #   tools/version.sh [PROGRAM]   of this program; else of dist/tpmsim
 set -u
@@ -10,14 +11,14 @@ case $program in
 esac
 cd "$(dirname "$0")/.." || exit 1
 
-# of_header FILE: the version that a header has as a number in hex.
+# of_header FILE: prints the version that a header defines as a number in hex.
 of_header() {
     number=$(sed -n 's/^#define TPMSIM_VERSION_NUMBER 0x\([0-9a-f]\{6\}\)$/\1/p' "$1")
     rest=${number#??}
     [ -z "$number" ] || echo "$((0x${number%????})).$((0x${rest%??})).$((0x${rest#??}))"
 }
 
-# Prints each version and its place.
+# Prints each version and the place where it is.
 versions() {
     echo "$("$program" --version | sed -n 's/^tpmsim //p') the program"
     echo "$(sed -n '/^## /{s/^## \(Unreleased (\)\{0,1\}\([0-9.]*\).*/\2/p;q;}' CHANGELOG.md) CHANGELOG.md"

@@ -45,14 +45,15 @@ link() {
             -o "$work/wide.wasm" "$work/exports.a" >>"$log" 2>&1
 }
 
-# Besides wide memory the module uses these features of WebAssembly, which all browsers have.
+# Lowers the module. In addition to 64-bit memory it uses these features of WebAssembly, which all browsers
+# have.
 lower() {
     wasm-opt --enable-memory64 --enable-bulk-memory --enable-sign-ext --enable-mutable-globals \
         --enable-nontrapping-float-to-int --memory64-lowering "$work/wide.wasm" -o "$work/tpmsim.wasm" \
         >>"$log" 2>&1
 }
 
-# Writes the module's lines of dist/PROVED after the others.
+# Appends the module's lines to dist/PROVED.
 tell_proved() {
     {
         [ ! -f "$proved" ] || sed '/^web /d' "$proved"
@@ -68,7 +69,7 @@ deliver() {
     mkdir -p dist && mv "$work/tpmsim.wasm" "$module" && chmod 644 "$module" && tell_proved
 }
 
-# What is wrong with dist/tpmsim.wasm, one fault a line.
+# Prints the faults of dist/tpmsim.wasm, one a line.
 faults() {
     faults_of_module
     if ! { is_proved 'web kit' "$kit" && is_proved "web lowering, which is no prover's step" "$binaryen"; }; then

@@ -23,16 +23,16 @@ from pathlib import Path
 TOP = Path(__file__).resolve().parent.parent
 STYLE = TOP / "docs" / "STYLE.md"
 LEXICON = re.compile(r"<!-- lexicon -->\n(.*)<!-- end of lexicon -->", re.DOTALL)
-# A comment of a definition or of a proof, and a comment of a shell script.
+# The comment of a definition or a proof, and the comment of a shell script.
 DASHES = re.compile(r"(?:^|\s)--\s(.*)$")
 HASH = re.compile(r"^\s*#(?!!)(.*)$")
-# the part of JSDoc that describes a type: the names in it are code
+# the part of JSDoc that describes a type; the names in it are code
 TYPE = re.compile(r"@\w+\s+\{.*\}+\s*\[?\w*|^[\s*]*\}+\s*\w+|import\(.*|\w+\?:|\{[^{}]*\}")
 COMMENT = re.compile(r"/\*.*?\*/|//[^\n]*", re.DOTALL)
 STRING = re.compile(r"\"(?:[^\"\\\n]|\\.)*\"|'(?:[^'\\\n]|\\.)'")
 CRATES, END_OF_CRATES = "<!-- crates -->", "<!-- end of crates -->"
 CODE = re.compile(r"`[^`]*`|\]\([^)]*\)|<!--.*?-->|[\w/.-]+\.(?:sh|py|out)\b|\w+/\w[\w/]*")
-# the name of a shell function, with its arguments, as its comment starts
+# the name and the arguments of a shell function, with which its comment begins
 USAGE = re.compile(r"^\s*\w+(?: [][A-Z_.]+)*: ")
 
 

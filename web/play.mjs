@@ -13,7 +13,7 @@ import { fileURLToPath } from 'node:url';
 const KINDS = ['nothing', 'hex', 'words', 'locality', 'wait', 'entropy', 'power'];
 const FAULTS = ['', 'BadName', 'BadField', 'Missing', 'Range', 'TooLong'];
 
-/** The memory that the module works on: each buffer by its name and its size. */
+/** The buffers in the module's memory, by name, with their sizes. */
 const LENT = {
     holder: 8, random: 256, response: 4096, answered: 32, trace: 64, waited: 4, report: 256, written: 32768, wanted: 64, read: 32,
     spelled: 65536, form: 256, place: 4, taken: 8, text: 65536, entry: 9216,
@@ -65,7 +65,7 @@ export class Module {
         return Number(this.view.getBigUint64(this.at[name] + offset, true));
     }
 
-    /** Has bytes in memory for one call, after all else. @param {Uint8Array} bytes */
+    /** Puts bytes into memory for one call, after the other buffers. @param {Uint8Array} bytes */
     lend(bytes) {
         this.grow(this.end + bytes.length);
         this.bytes.set(bytes, this.end);
@@ -73,7 +73,7 @@ export class Module {
     }
 }
 
-/** A script that is played from its first line on. */
+/** Plays a script from its first line on. */
 export class Player {
     /** @param {Module} module @param {boolean} traced */
     constructor(module, traced) {
@@ -88,7 +88,7 @@ export class Player {
         module.calls.device_manufacture(module.to('holder'), module.to('device'), module.to('random'));
     }
 
-    /** Performs a line. @param {Uint8Array} line @returns {string} why it is bad, empty for a good line */
+    /** Executes a line. @param {Uint8Array} line @returns {string} why it is bad, empty for a good line */
     line(line) {
         const { calls, at } = this.module;
         const { module } = this;
@@ -146,7 +146,7 @@ function check(module, file) {
     }
 }
 
-/** The lines of a text, without the 0a that ends each. @param {Uint8Array} text */
+/** Yields the lines of a text, each without the 0a that ends it. @param {Uint8Array} text */
 export function* linesOf(text) {
     let start = 0;
     while (start < text.length) {
@@ -170,7 +170,7 @@ export function play(module, file, traced) {
     return { printed: player.printed.join(''), number: fault === '' ? 0 : number, fault, commands: player.commands };
 }
 
-/** The scripts below folders. @param {string[]} folders @returns {Generator<string>} */
+/** Yields the scripts in folders and below them. @param {string[]} folders @returns {Generator<string>} */
 export function* scriptsIn(folders) {
     for (const folder of folders) {
         for (const entry of readdirSync(folder, { withFileTypes: true }).sort((a, b) => (a.name < b.name ? -1 : 1))) {
@@ -181,7 +181,10 @@ export function* scriptsIn(folders) {
     }
 }
 
-/** What differs of a script, and what was counted. @param {Module} module @param {string} file */
+/**
+ * Compares a script with its expected files. Returns the differences and the counts. @param {Module} module
+ * @param {string} file
+ */
 function compare(module, file) {
     const beside = (/** @type {string} */ end) => file.replace(/tpm$/, end);
     const read = (/** @type {string} */ end) => (existsSync(beside(end)) ? readFileSync(beside(end), 'latin1') : '');

@@ -1,4 +1,4 @@
-/* Commands as bytes, as the examples need them. A program has a TPM library for this. */
+/* Writes commands as bytes, as far as the examples need them. A program uses a TPM library for this. */
 #ifndef COMMANDS_H
 #define COMMANDS_H
 
@@ -9,7 +9,7 @@
 #include <string.h>
 #include <sys/random.h>
 
-#define NONE 0xffffffffu /* follows the last handle of a command */
+#define NONE 0xffffffffu /* ends a list of handles */
 
 enum { OWNER = 0x40000001, NULL_HANDLE = 0x40000007, PASSWORD = 0x40000009 };
 enum { LOCKOUT = 0x4000000a, INDEX = 0x01000001 };
@@ -33,8 +33,8 @@ typedef struct {
     uint32_t elapsed_ms;
 } tpm;
 
-/* What authorizes the first handle: a password, a policy session with a value as a password, or a whole
-   entry. */
+/* How the first handle is authorized: by a password, by a policy session with a value as a password,
+   or by a complete entry. */
 typedef struct {
     uint32_t session;
     const char *value;
@@ -50,7 +50,7 @@ static inline void put_number(text *to, uint64_t number, unsigned size) {
     while (size-- > 0) to->bytes[to->size++] = (uint8_t)(number >> 8 * size);
 }
 
-/* Appends a buffer with its size in front. */
+/* Appends a buffer with a size field of two bytes. */
 static inline void put_sized(text *to, const void *bytes, size_t size) {
     put_number(to, size, 2);
     put(to, bytes, size);
@@ -66,7 +66,7 @@ static inline uint32_t number_at(const uint8_t *bytes, unsigned size) {
     return number;
 }
 
-/* Ends the program if something failed that cannot fail. */
+/* Ends the program if a condition that always holds does not. */
 static inline void need(int holds, const char *what) {
     if (holds) return;
     fprintf(stderr, "%s\n", what);
@@ -102,7 +102,7 @@ static inline void put_entry(text *to, by who) {
     put_sized_area(to, &entry);
 }
 
-/* The bytes of a command with its handles, the last of which is NONE. */
+/* Returns the bytes of a command. The last of its handles is NONE. */
 static inline text command_of(uint32_t code, const uint32_t *handles, const by *who,
                               const text *parameters) {
     text body = {0}, command = {0};
@@ -125,7 +125,7 @@ static inline int send_bytes(tpm *it, const text *command, uint32_t code, int ha
     need(getrandom(it->random, it->told.drawn, 0) == (ssize_t)it->told.drawn, "no random bytes");
     it->code = number_at(it->response + 6, 4);
     it->parameters = it->response + 10;
-    if (code == 0x131 || code == 0x157 || code == 0x176) { /* these return a handle */
+    if (code == 0x131 || code == 0x157 || code == 0x176) { /* their responses contain a handle */
         it->handle = number_at(it->parameters, 4);
         it->parameters += 4;
     }
@@ -137,7 +137,7 @@ static inline int send_bytes(tpm *it, const text *command, uint32_t code, int ha
     return it->code == 0;
 }
 
-/* Sends a command with its handles, the last of which is NONE. Returns whether it is accepted. */
+/* Sends a command. The last of its handles is NONE. Returns whether it is accepted. */
 static inline int send_command(tpm *it, uint32_t code, const uint32_t *handles, const by *who,
                                const text *parameters) {
     const text command = command_of(code, handles, who, parameters);
@@ -155,7 +155,7 @@ static inline void must(tpm *it, uint32_t code, const uint32_t *handles, const b
 #define BY_PASSWORD(given)                                                                         \
     &(by) { .session = PASSWORD, .value = given }
 
-/* Takes the sized buffer at the front of the parameters. */
+/* Removes the sized buffer at the front of the parameters, and returns it. */
 static inline text take_buffer(tpm *it) {
     text buffer = {0};
     const size_t size = number_at(it->parameters, 2);
@@ -164,13 +164,13 @@ static inline text take_buffer(tpm *it) {
     return buffer;
 }
 
-/* Appends a selection of PCRs of the SHA-256 bank: bit N stands for PCR N. */
+/* Appends a selection of PCRs of the SHA-256 bank: bit N selects PCR N. */
 static inline void put_selection(text *to, uint32_t pcrs) {
     put(to, "\0\0\0\1\0\013\3", 7);
     for (unsigned at = 0; at < 3; at++) put_number(to, pcrs >> 8 * at & 0xff, 1);
 }
 
-/* Starts a session by SHA-256, neither bound nor salted. */
+/* Starts a SHA-256 session that is neither bound nor salted. */
 static inline uint32_t start_session(tpm *it, uint8_t kind) {
     text parameters = {0};
     put_number(&parameters, 16, 2);
@@ -187,7 +187,7 @@ static inline void flush(tpm *it, uint32_t handle) {
     must(it, 0x165, HANDLES(NONE), NULL, &parameters);
 }
 
-/* The digest of a trial session, which is then flushed. */
+/* Flushes a trial session, and returns its policy digest. */
 static inline text digest_of(tpm *it, uint32_t trial) {
     must(it, 0x189, HANDLES(trial), NULL, NULL);
     const text digest = take_buffer(it);
@@ -195,7 +195,7 @@ static inline text digest_of(tpm *it, uint32_t trial) {
     return digest;
 }
 
-/* A storage key of the owner's: an AES key. The same template makes it again. */
+/* Creates the owner's storage key, an AES key. The same template creates the same key again. */
 static inline uint32_t storage_key(tpm *it, const char *owner) {
     text parameters = {0};
     put_number(&parameters, 4, 2);
@@ -206,7 +206,8 @@ static inline uint32_t storage_key(tpm *it, const char *owner) {
     return it->handle;
 }
 
-/* Seals data under a storage key, with a value and a policy, and loads them. */
+/* Seals data under a storage key, with an authorization value and a policy, and loads the sealed
+   object. */
 static inline uint32_t seal(tpm *it, uint32_t parent, const char *value, text policy,
                             const char *data) {
     text sensitive = {0}, public = {0}, parameters = {0}, areas = {0};
@@ -249,7 +250,7 @@ static inline int read_index(tpm *it, const char *value) {
     return send_command(it, 0x14e, HANDLES(INDEX, INDEX), BY_PASSWORD(value), &parameters);
 }
 
-/* Measures data into a PCR: 32 bytes, the digest of the SHA-256 bank. */
+/* Measures data into a PCR. Returns the digest in the SHA-256 bank, 32 bytes. */
 static inline const uint8_t *measure(tpm *it, uint32_t pcr, const char *data) {
     text parameters = {0};
     put_sized(&parameters, data, strlen(data));

@@ -6,10 +6,10 @@ static const char disk_key[] = "the key of a disk, of 32 bytes..";
 static const char pin[] = "7391";
 static const char passphrase[] = "kept in a drawer";
 
-/* The digests of the two branches, as TPM2_PolicyOR takes them. */
+/* The digests of the two branches, as TPM2_PolicyOR needs them. */
 static text branches;
 
-/* The first branch: PCR 7 and 11 as they are now, and the PIN. */
+/* The first branch: PCRs 7 and 11 have their present values, and the caller knows the PIN. */
 static void by_pin(tpm *it, uint32_t session) {
     text pcrs = {0};
     put_zeros(&pcrs, 2);
@@ -28,7 +28,7 @@ static int either(tpm *it, uint32_t session) {
     return send_command(it, 0x171, HANDLES(session), NULL, &branches);
 }
 
-/* The digest of the policy, for the PCRs as they are now. */
+/* Returns the digest of the policy, for the present values of the PCRs. */
 static text make_policy(tpm *it) {
     put_number(&branches, 2, 4);
     uint32_t trial = start_session(it, TRIAL);
@@ -44,7 +44,8 @@ static text make_policy(tpm *it) {
     return digest_of(it, trial);
 }
 
-/* Unseals the disk's key by the first branch that holds, and prints it, or the reason why not. */
+/* Unseals the disk's key by the first branch that holds, and prints the key, or the reason for the
+   refusal. */
 static void open_disk(tpm *it, const char *what, uint32_t disk, const char *given_pin,
                       const char *given_passphrase) {
     const uint32_t session = start_session(it, POLICY);

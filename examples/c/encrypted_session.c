@@ -1,5 +1,6 @@
-/* A secret travels to the TPM encrypted, by a session that is bound to the owner, whose value is not sent
-   either. Someone who listens learns neither, and cannot send the same bytes again. */
+/* A secret travels to the TPM encrypted, by a session that is bound to the owner. The owner's
+   authorization value is not sent either. Someone who listens learns neither, and cannot send the same
+   bytes again. */
 #include "session.h"
 
 static const char secret[] = "a secret of 24 bytes, ok";
@@ -7,10 +8,11 @@ static const char owners_value[] = "the owner's value";
 
 enum { SECRET_BYTES = sizeof secret - 1 };
 
-/* An NV index that the owner writes and reads; the device adds that it is written. */
+/* The attributes of an NV index that the owner writes and reads; the device adds the attribute that it
+   is written. */
 enum { BY_OWNER = 0x00020002, WRITTEN = 0x20000000 };
 
-/* All that was sent to the TPM, the last command, and the last response in plain. */
+/* All bytes that were sent to the TPM, the last command, and the last response in plain text. */
 static text heard, last, plain;
 
 static const char *told(const char *what, size_t size) {
@@ -19,7 +21,7 @@ static const char *told(const char *what, size_t size) {
     return "not heard";
 }
 
-/* The public area of the index. */
+/* Returns the public area of the index. */
 static text area(uint32_t attributes) {
     text public = {0};
     put_number(&public, INDEX, 4);
@@ -29,7 +31,7 @@ static text area(uint32_t attributes) {
     return public;
 }
 
-/* The part of cpHash for the owner and the index. */
+/* Returns the Names of the owner and the index, as cpHash contains them. */
 static text names(uint32_t attributes) {
     text both = {0};
     put_number(&both, OWNER, 4);
@@ -38,7 +40,7 @@ static text names(uint32_t attributes) {
     return both;
 }
 
-/* Sends a command that the owner authorizes, and listens. Returns whether it is accepted. */
+/* Sends a command that the owner authorizes, and records its bytes. Returns whether it is accepted. */
 static int send_by(tpm *it, session *by_session, uint32_t code, const uint32_t *handles, text names,
                    text parameters, uint8_t attributes) {
     const text entry = entry_of(by_session, code, &names, &parameters, CONTINUES | attributes);

@@ -12,7 +12,7 @@ typedef struct {
 
 static const uint32_t pcrs[] = {0, 4, 7, 11};
 
-/* The values of the four PCRs, each with its size in front. */
+/* Returns the values of the four PCRs, each with a size field. */
 static text values_of(tpm *it) {
     text values = {0}, parameters = {0};
     put_selection(&parameters, 1u << 0 | 1u << 4 | 1u << 7 | 1u << 11);
@@ -22,7 +22,7 @@ static text values_of(tpm *it) {
     return values;
 }
 
-/* The values that the PCRs have after the measurements of a log. */
+/* Returns the values that the PCRs have after the measurements of a log. */
 static text replayed(const measurement *log, size_t count) {
     static tpm it;
     begin(&it);
@@ -37,7 +37,7 @@ static text replayed(const measurement *log, size_t count) {
     return values;
 }
 
-/* Prints the judgement of someone who replays a log. */
+/* Prints what someone who replays a log concludes. */
 static void judge(const char *what, const measurement *log, size_t count, text values) {
     const text found = replayed(log, count);
     const char *between = ": PCR ";

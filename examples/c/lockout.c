@@ -1,14 +1,14 @@
-/* The TPM counts wrong PINs. After three of them it checks none any more, until an hour of device time has
+/* The TPM counts wrong PINs. After three of them it refuses every PIN, until an hour of device time has
    passed, or until lockoutAuth resets the count. */
 #include "commands.h"
 
-/* An index that is written and read with its own value. */
+/* The attributes of an index that is written and read with its own authorization value. */
 static const uint32_t by_value = 0x00040004;
 
 static const char pin[] = "7391";
 static const uint32_t hour = 3600;
 
-/* Prints the data of the index, read with a PIN, or the reason why not. */
+/* Reads the data of the index with a PIN, and prints them, or the reason for the refusal. */
 static void tell_data(tpm *it, const char *what, const char *given) {
     read_index(it, given);
     tell(it, what);

@@ -1,8 +1,10 @@
-/* A counter holds the lowest version that may start. The TPM returns the key that is sealed for a version
-   while the counter is not above it. The counter never goes back, whatever becomes of its index. */
+/* A counter holds the lowest version that may start. A key is sealed for each version, and the TPM
+   returns it while the counter is not above that version. The counter never decreases, even if its
+   index is deleted and defined again. */
 #include "commands.h"
 
-/* A counter that is read and written with its own value, or by the owner. */
+/* The attributes of a counter that is read and written with its own authorization value, or by the
+   owner. */
 static const uint32_t counter = 0x00060016;
 
 static void increment(tpm *it) { must(it, 0x134, HANDLES(INDEX, INDEX), BY_PASSWORD(""), NULL); }
@@ -12,16 +14,16 @@ static uint32_t lowest(tpm *it) {
     return number_at(it->parameters + 2 + 4, 4);
 }
 
-/* TPM2_PolicyNV: the counter is at most this version. */
+/* TPM2_PolicyNV: asserts that the counter is at most this version. */
 static int at_most(tpm *it, uint32_t session, uint32_t version) {
     text parameters = {0};
     put_number(&parameters, 8, 2);
     put_number(&parameters, version, 8);
-    put_number(&parameters, 9, 4); /* from offset 0 on; unsigned, less than or equal */
+    put_number(&parameters, 9, 4); /* offset 0; operation: unsigned, less than or equal */
     return send_command(it, 0x149, HANDLES(INDEX, INDEX, session), BY_PASSWORD(""), &parameters);
 }
 
-/* Prints the key of a version, or the reason why not. */
+/* Prints the key of a version, or the reason for the refusal. */
 static void tell_key(tpm *it, const char *what, uint32_t version) {
     const uint32_t trial = start_session(it, TRIAL);
     need(at_most(it, trial, version), "a trial session refuses");

@@ -1,5 +1,5 @@
-/* A session that computes HMACs, bound to what it authorizes, and encrypts by AES-128 in mode CFB. SHA-256,
-   HMAC, KDFa and AES are written out: a program has a library for them. */
+/* A session that computes HMACs, is bound to the entity that it authorizes, and encrypts by AES-128 in
+   mode CFB. SHA-256, HMAC, KDFa and AES are written out; a program uses a library for them. */
 #ifndef SESSION_H
 #define SESSION_H
 
@@ -89,7 +89,7 @@ static inline hash hmac(const text *key, const text *message) {
     return sha256(outer);
 }
 
-/* 256 bits of a key and two nonces. */
+/* Returns 256 bits that KDFa derives from a key and two nonces. */
 static inline hash kdfa(const text *key, const char *label, const uint8_t *newer,
                         const uint8_t *older) {
     text message = {0};
@@ -101,14 +101,14 @@ static inline hash kdfa(const text *key, const char *label, const uint8_t *newer
     return hmac(key, &message);
 }
 
-/* Twice an element of AES's field. */
+/* Doubles an element of AES's field. */
 static inline uint8_t doubled(uint8_t byte) { return (uint8_t)(byte << 1 ^ (byte >> 7) * 0x1b); }
 
 static inline uint8_t rotated_byte(uint8_t byte, unsigned by) {
     return (uint8_t)(byte << by | byte >> (8 - by));
 }
 
-/* AES's table of substitutions: `power` goes through all elements but zero, and `inverse` is its inverse. */
+/* Computes AES's S-box: `power` takes the value of each element but zero, and `inverse` is its inverse. */
 static inline void make_substitutions(uint8_t table[256]) {
     uint8_t power = 1, inverse = 1;
     do {
@@ -123,7 +123,7 @@ static inline void make_substitutions(uint8_t table[256]) {
     table[0] = 0x63;
 }
 
-/* AES-128 of one block. */
+/* Encrypts one block by AES-128. */
 static inline void encrypt_block(const uint8_t *first_key, uint8_t *block) {
     uint8_t table[256], key[BLOCK_BYTES], constant = 1;
     make_substitutions(table);
@@ -148,7 +148,7 @@ static inline void encrypt_block(const uint8_t *first_key, uint8_t *block) {
     }
 }
 
-/* AES-128 in mode CFB, with a key and an initial block. */
+/* Encrypts or decrypts by AES-128 in mode CFB, with a key and an initial block. */
 static inline void cfb(hash keys, int encrypts, uint8_t *data, size_t size) {
     uint8_t *before = keys.bytes + BLOCK_BYTES;
     for (size_t at = 0; at < size; at++) {
@@ -163,7 +163,7 @@ static inline void new_nonce(session *it) {
     need(getrandom(it->nonce_caller, NONCE_BYTES, 0) == NONCE_BYTES, "there are no random bytes");
 }
 
-/* Starts a session that is bound to a handle with this value. */
+/* Starts a session that is bound to the entity of a handle, with this authorization value. */
 static inline session start_bound(tpm *device, uint32_t bind, const char *value) {
     session it = {.value = value};
     text parameters = {0}, key = {0};
@@ -178,7 +178,7 @@ static inline session start_bound(tpm *device, uint32_t bind, const char *value)
     return it;
 }
 
-/* The encryption keys that follow from two nonces. */
+/* Returns the encryption key and the initial block that follow from two nonces. */
 static inline hash keys_of(const session *it, const uint8_t *newer, const uint8_t *older) {
     text key = {0};
     put(&key, it->key.bytes, HASH_BYTES);
@@ -186,7 +186,7 @@ static inline hash keys_of(const session *it, const uint8_t *newer, const uint8_
     return kdfa(&key, "CFB", newer, older);
 }
 
-/* The HMAC of an entry; `hashed` is the front of the bytes of cpHash or rpHash. */
+/* Returns the HMAC of an entry; `hashed` is the front of the bytes of cpHash or rpHash. */
 static inline hash mac_of(const session *it, text hashed, const text *parameters,
                           const uint8_t *newer, const uint8_t *older, uint8_t attributes) {
     text key = {0}, message = {0};
@@ -199,8 +199,8 @@ static inline hash mac_of(const session *it, text hashed, const text *parameters
     return hmac(&key, &message);
 }
 
-/* The entry of a command with these Names of its handles. The first parameter is encrypted if the attributes
-   say so. */
+/* Returns the entry of a command; `names` are the Names of its handles. If the attributes say so, the
+   first parameter is encrypted. */
 static inline text entry_of(session *it, uint32_t code, const text *names, text *parameters,
                             uint8_t attributes) {
     text hashed = {0}, entry = {0};
@@ -218,13 +218,13 @@ static inline text entry_of(session *it, uint32_t code, const text *names, text 
     return entry;
 }
 
-/* Checks that the device answered, and returns the parameters in plain. */
+/* Checks the response's HMAC, and returns the parameters in plain text. */
 static inline text plain_answer(session *it, const tpm *device, uint32_t code) {
     text hashed = {0}, parameters = {0};
     const uint8_t *nonce = device->parameters + device->size + 2;
     const uint8_t attributes = nonce[NONCE_BYTES];
     put(&parameters, device->parameters, device->size);
-    put_number(&hashed, code, 8); /* the response code, which is 0, and the command's */
+    put_number(&hashed, code, 8); /* the response code, which is 0, and the command code */
     const hash mac = mac_of(it, hashed, &parameters, nonce, it->nonce_caller, attributes);
     need(!memcmp(nonce + NONCE_BYTES + 3, mac.bytes, HASH_BYTES), "the response is not the TPM's");
     memcpy(it->nonce_tpm, nonce, NONCE_BYTES);

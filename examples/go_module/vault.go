@@ -1,4 +1,4 @@
-// Package vault is what is tested: random bytes of a TPM.
+// Package vault is the code under test: it gets random bytes from a TPM.
 package vault
 
 import (

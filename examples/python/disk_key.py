@@ -11,7 +11,7 @@ CHOSEN = [(SHA256, [7, 11])]
 
 
 def policy_of(tpm: Caller) -> str:
-    """The policy in words, for the values that the PCRs have now."""
+    """Returns the policy in words, for the present values of the PCRs."""
     seven, eleven = tpm.call("PCR_Read", pcrSelectionIn=CHOSEN)["pcrValues"]
     return f"""
 either
@@ -23,7 +23,7 @@ or
 
 
 def unseal(tpm: Caller, handle: int, policy: str) -> str:
-    """The disk's key, or the reason why there is none."""
+    """Returns the disk's key, or the reason for the refusal."""
     try:
         return tpm.send(tpm.unsealing(handle, tpm.policy(policy)))["outData"].decode()
     except Refused as refused:

@@ -20,7 +20,7 @@ Log = list[tuple[int, bytes]]
 
 
 def measured(tpm: Caller) -> Log:
-    """The log of a boot: the PCR and the digest of each measurement."""
+    """Measures a boot, and returns its log: the PCR and the digest of each measurement."""
     log = []
     for pcr, data in BOOT:
         digests = tpm.call("PCR_Event", pcr, eventData=data)["digests"]
@@ -29,7 +29,7 @@ def measured(tpm: Caller) -> Log:
 
 
 def replayed(log: Log) -> list[bytes]:
-    """The values that the PCRs have after the measurements of a log."""
+    """Returns the values that the PCRs have after the measurements of a log."""
     values = dict.fromkeys(PCRS, bytes(32))
     for pcr, digest in log:
         values[pcr] = hashlib.sha256(values[pcr] + digest).digest()
@@ -37,7 +37,7 @@ def replayed(log: Log) -> list[bytes]:
 
 
 def verdict(log: Log, values: list[bytes]) -> str:
-    """The judgement of someone who replays a log."""
+    """Returns what someone who replays a log concludes."""
     wrong = [str(pcr) for pcr, *both in zip(PCRS, replayed(log), values) if both[0] != both[1]]
     return f"PCR {', '.join(wrong)} differ" if wrong else "the PCRs are those of the log"
 

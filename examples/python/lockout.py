@@ -1,4 +1,4 @@
-"""The TPM counts wrong PINs. After three of them it checks none any more, until an hour of device time has
+"""The TPM counts wrong PINs. After three of them it refuses every PIN, until an hour of device time has
 passed, or until lockoutAuth resets the count.
 """
 
@@ -10,7 +10,7 @@ PIN, WRONG, HOUR = b"7391", b"1234", 3_600
 
 
 def read(tpm: Caller, index: int, pin: bytes) -> str:
-    """The data of the index, read with a PIN, or the reason why there are none."""
+    """Reads the data of the index with a PIN; returns them, or the reason for the refusal."""
     try:
         return tpm.send(tpm.reading(index, 8, pin))["data"].decode()
     except Refused as refused:

@@ -1,5 +1,6 @@
-"""A counter holds the lowest version that may start. The TPM returns the key that is sealed for a version
-while the counter is not above it. The counter never goes back, whatever becomes of its index.
+"""A counter holds the lowest version that may start. A key is sealed for each version, and the TPM
+returns it while the counter is not above that version. The counter never decreases, even if its index is
+deleted and defined again.
 """
 
 from tpmsim.caller import Caller, counter, digest_of, HERE, Refused, sealed, storage_key
@@ -14,12 +15,12 @@ def lowest(tpm: Caller, index: int) -> int:
 
 
 def policy_of(tpm: Caller, index: int, version: int) -> str:
-    """The counter is at most this version."""
+    """Returns the policy that requires the counter to be at most this version."""
     return f"PolicyNV {tpm.names[index].hex()} {version:016x} 0 ule\n"
 
 
 def unseal(tpm: Caller, index: int, version: int) -> str:
-    """The key of a version, or the reason why there is none."""
+    """Returns the key of a version, or the reason for the refusal."""
     words = policy_of(tpm, index, version)
     parent = tpm.create_primary(storage_key())
     made = tpm.create(parent, sealed(attributes=HERE, auth_policy=digest_of(words)), data=KEY)

@@ -15,7 +15,8 @@ const HOLDER_SIZE = 8;
 const TEXT_FAULTS = ["Short", "Magic", "Version", "Length", "Digest", "Body"];
 const JOURNAL_FAULTS = ["NoJournal", "Damaged", "Otherwise"];
 
-// The numbers that calls return: below these are those for a missing device and for a bad locality.
+// The first number that calls return for each kind of invalid bytes. The smaller numbers report a missing
+// device and a bad locality.
 const IMAGE_FROM = 4;
 const JOURNAL_FROM = 10;
 const STATE_FROM = 13;
@@ -65,7 +66,7 @@ export class Chip {
     calls.device_manufacture(...[this.#holder, this.#place.at, at.random].map(BigInt));
   }
 
-  /** The holder, as a parameter. */
+  /** The address of the holder, as a parameter. */
   get #device() {
     return BigInt(this.#holder);
   }
@@ -105,12 +106,12 @@ export class Chip {
     mustBeDone(this.#calls.device_cycle_power(this.#device));
   }
 
-  /** The image. */
+  /** Returns the image. */
   save() {
     return this.#memory.output((at, size) => this.#calls.device_save(this.#device, at, size));
   }
 
-  /** What is kept without power, except the clock. */
+  /** Returns what the device keeps without power, except its clock. */
   kept() {
     return this.#memory.output((at, size) => this.#calls.device_kept(this.#device, at, size));
   }
@@ -123,7 +124,7 @@ export class Chip {
     mustBeDone(this.#calls.device_open(this.#device, ...this.#memory.input(image)));
   }
 
-  /** The state text. */
+  /** Returns the state text. */
   snapshot() {
     return this.#memory.output((at, size) => this.#calls.device_snapshot(this.#device, at, size));
   }

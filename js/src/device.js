@@ -47,7 +47,7 @@ import { Words } from "./words.js";
  * }} Making
  */
 
-/** Only `Device.create` has access to it. */
+/** The key of the constructor: only `Device.create` has access to it. */
 const KEY = Symbol("Device.create");
 
 // The memory of a device is also freed if the device is garbage-collected.

@@ -43,7 +43,10 @@ export class BadState extends BadText {
   }
 }
 
-/** A text is not a journal, or was not followed to its end: NoJournal, Damaged or Otherwise. */
+/**
+ * A text is not a journal (NoJournal), an entry is invalid (Damaged), or the device's response to an
+ * entry differs from the recorded one (Otherwise).
+ */
 export class BadJournal extends BadText {
   /** @param {string} fault */
   constructor(fault) {

@@ -19,7 +19,7 @@ async function started(making) {
   return tpm;
 }
 
-/** The bytes of a GetRandom. */
+/** Executes a GetRandom, and returns its eight bytes in hex. */
 const drawn = (tpm, event) => hex(tpm.do("GetRandom 8", event).response).slice(-16);
 
 test("a command in words and in bytes", async () => {

@@ -13,7 +13,7 @@ test("the classes", () => {
   assert.deepEqual(Object.keys(exported).sort(), classes.map((it) => it[1]).sort());
 });
 
-/** The members of a class that a body declares. */
+/** Returns the names of the members that the body of a class declares. */
 const members = (body) =>
   [...body.matchAll(/^ {2}(?:static |readonly )*(\w+)[(:]/gm)].map((it) => it[1]).filter((it) => it !== "constructor");
 

@@ -13,7 +13,7 @@ import { hex, ZERO_TO_FF } from "./common.js";
 // The folder of the repository, if the package is not in it.
 const top = process.env.TPMSIM_REPOSITORY ?? fileURLToPath(new URL("../..", import.meta.url));
 
-/** @returns {Promise<Device>} a script's device */
+/** @returns {Promise<Device>} a new device, as a script expects it */
 const fresh = () => Device.create({ manufactured: ZERO_TO_FF });
 
 function* scripts(folder) {

@@ -3,7 +3,8 @@
 # namespaces. Other scripts read this file by `.`.
 # shellcheck shell=sh
 
-# note_of_arm64 QEMU FLAGS: the kernel's entry that names the file which runs programs for ARM64.
+# note_of_arm64 QEMU FLAGS: prints the kernel's entry that names QEMU as the interpreter of programs for
+# ARM64.
 note_of_arm64() {
     magic='\x7fELF\x02\x01\x01\x00\x00\x00\x00\x00\x00\x00\x00\x00\x02\x00\xb7\x00'
     mask='\xff\xff\xff\xff\xff\xff\xff\x00\xff\xff\xff\xff\xff\xff\xff\xff\xfe\xff\xff\xff'

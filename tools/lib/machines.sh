@@ -19,7 +19,7 @@ make_base() {
     apt update
 }
 
-# in_machine SHM WORDS..: runs a command in the machine, as root. Its mounts end with it.
+# in_machine SHM WORDS..: runs a command in the machine, as root. Its mounts end when the command ends.
 in_machine() {
     # shellcheck disable=SC2016 # the shell within expands them
     unshare --mount --propagation private --pid --fork --kill-child sh -c '
@@ -38,7 +38,7 @@ in_machine() {
     ' sh "$machine" "$@" </dev/null
 }
 
-# apt WORDS..: has apt-get do something in the machine.
+# apt WORDS..: runs apt-get in the machine.
 apt() {
     in_machine none apt-get -y --no-install-recommends "$@" >"$work/told" 2>&1 ||
         { tail -n 5 "$work/told"; fail "apt-get $1 fails"; }

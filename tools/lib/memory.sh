@@ -6,8 +6,8 @@ gigabytes_free() {
     awk '/^MemAvailable:/ { gigabytes = int($2 / 1000000) } END { print gigabytes + 0 }' /proc/meminfo
 }
 
-# folder_in_memory GIGABYTES: makes a folder in memory, if so much is free, and prints its path. Other
-# users may pass through it, and programs may be run in it.
+# folder_in_memory GIGABYTES: makes a folder in memory, if that much is free, and prints its path. Other
+# users may pass through it, and programs in it may run.
 folder_in_memory() {
     [ "$(df -Pk /dev/shm | awk 'NR == 2 { print $4 }')" -ge $((1000000 * $1)) ] || return 1
     made=$(mktemp -d /dev/shm/tpmsim.XXXXXX) || return 1

@@ -1,5 +1,5 @@
 #!/bin/sh
-# Plays tests, one after another, for tools/scripts.sh, which says of each test what it is:
+# Plays tests, one after another, for tools/scripts.sh, which describes each test in a file:
 #
 #   play_tests.sh WORK NUMBER..
 #
@@ -19,9 +19,9 @@ name_of() {
     echo "${name#"$work/"}"
 }
 
-# first_difference TEST WANTED: the first line of standard output that differs from the expected one
-# and, for a script, the line of the script that printed it. Each cmd and do line prints a line, with a
-# trace two; with a trace `power` prints one.
+# first_difference TEST WANTED: prints the first line of standard output that differs from the expected
+# one and, for a script, the line of the script that printed it. Each cmd and do line prints one line,
+# or two with a trace; `power` prints one line with a trace.
 first_difference() {
     awk -v test="$(name_of "$1")" -v out="$(name_of "$2")" '
         BEGIN { traces = out ~ /trace$/ }
@@ -44,7 +44,8 @@ first_difference() {
     ' "$1" "$2" "$output"
 }
 
-# name_program PATH: the name of a program: its path if it is the one in dist/.
+# name_program PATH: sets program_name to the name of a program: its path in the repository if it is
+# the one in dist/.
 name_program() {
     case $1 in
     */dist/*) program_name=${1#"$top/"} ;;
@@ -52,7 +53,7 @@ name_program() {
     esac
 }
 
-# is_skipped TEST STATUS: whether a test that ended with this status was skipped, and gave its reason.
+# is_skipped TEST STATUS: whether a test that ended with this status was skipped, and gave a reason.
 is_skipped() {
     case $1,$2 in
     *.sh,77) [ "$(grep -c . "$output")" -eq 1 ] && [ "$(wc -l <"$output")" -eq 1 ] ;;
@@ -69,7 +70,7 @@ run() {
     esac
 }
 
-# has_error FILE: whether standard error is the content of the file, or empty if there is no file.
+# has_error FILE: whether standard error equals the file, or is empty if there is no file.
 has_error() {
     if [ -f "$1" ]; then
         cmp -s "$1" "$error"
@@ -78,7 +79,7 @@ has_error() {
     fi
 }
 
-# tell_difference TEST WANTED STATUS WANTED_STATUS ERROR: says in what a test differs from the expected
+# tell_difference TEST WANTED STATUS WANTED_STATUS ERROR: prints how a test differs from the expected
 # files.
 tell_difference() {
     cmp -s "$2" "$output" || first_difference "$1" "$2"
@@ -89,7 +90,7 @@ tell_difference() {
     }
 }
 
-# check TEST PROGRAM WANTED [OPTION]: plays a test, and says what differs from the expected files.
+# check TEST PROGRAM WANTED [OPTION]: plays a test, and prints how it differs from the expected files.
 check() {
     name_program "$2"
     named="$(name_of "$1") with $program_name${4:+ $4}"

@@ -6,7 +6,7 @@
 . tools/lib/proved.sh
 stamp=crates/tpmsim/out/verified-$machine
 
-# Whether dist/ has a program for this machine.
+# Whether dist/ contains a program for this machine.
 is_served() {
     case $system in
     'Linux x86_64' | 'Linux aarch64') true ;;

@@ -16,7 +16,8 @@ ship() {
     proved=$distribution/PROVED
 }
 
-# They are for this machine, or for the one that TPMSIM_MACHINE names, as when a package for another is made.
+# By default they are the files for this machine; TPMSIM_MACHINE names another one, for example to make a
+# package for it.
 system=$(uname -sm)
 machine=${TPMSIM_MACHINE:-${system#Linux }}
 ship "$machine"
@@ -45,8 +46,8 @@ crates_below() {
         }' crates.txt
 }
 
-# sources [CRATE]: prints the files and folders from which a program or the library is made. CRATE is
-# its crate, tpmsim by default.
+# sources [CRATE]: prints the files and folders from which a program or the library is made. CRATE is its
+# crate, tpmsim by default.
 sources() {
     below=$(crates_below "${1:-tpmsim}") || return 1
     echo crates.txt
@@ -58,16 +59,16 @@ sources() {
     done
 }
 
-# is_newest FILE [CRATE]: whether the file is there, and no source or folder of sources is newer.
+# is_newest FILE [CRATE]: whether a file exists, and no source or folder of sources is newer.
 is_newest() {
     # shellcheck disable=SC2086 # no name of a source has a space
     [ -e "$1" ] && sources=$(sources "${2:-tpmsim}") &&
         newer=$(find $sources -newer "$1" -print -quit 2>/dev/null) && [ -z "$newer" ]
 }
 
-# are_built CRATE..: whether each of these libraries and programs is built here, as `rt ci` leaves it,
-# and none of its sources is newer. `rt ci` leaves nothing of a static library: instead all crates
-# below it have to be built.
+# are_built CRATE..: whether each of these libraries and programs is built here, as `rt ci` leaves it, and
+# none of its sources is newer. `rt ci` leaves no file of a static library; for one, all crates below it have
+# to be built.
 are_built() {
     for crate do
         if grep -q "^$crate staticlib" crates.txt; then
@@ -94,19 +95,19 @@ sources_checksum() {
     checksum_of $sources
 }
 
-# kept_sources_checksum: the same for the sources of libtpmsim-kept.so.0.
+# kept_sources_checksum: prints the same for the sources of libtpmsim-kept.so.0.
 kept_sources_checksum() {
     checksum_of hosts/kept hosts/shared.sh library/tpmsim.h
 }
 
-# checksum_of PATH..: the SHA-256 of the lines that sha256sum writes for these files and for the files of
-# these folders.
+# checksum_of PATH..: prints the SHA-256 of the lines that sha256sum writes for these files and for the files
+# in these folders.
 checksum_of() {
     sums=$(find "$@" ! -type d -print0 | LC_ALL=C sort -z | xargs -0 sha256sum) || return 1
     printf '%s\n' "$sums" | checksum
 }
 
-# proved_line NAME: the value of the line with this name in dist/PROVED.
+# proved_line NAME: prints the value of the line with this name in dist/PROVED.
 proved_line() {
     [ ! -f "$proved" ] || sed -n "s/^$1: //p" "$proved"
 }
@@ -116,14 +117,14 @@ is_proved() {
     [ -n "$2" ] && [ "$(proved_line "$1")" = "$2" ]
 }
 
-# What is wrong with the checksums of the C host of a kept device, one fault a line.
+# Prints the faults of the checksums of the C host of a kept device, one a line.
 faults_of_kept() {
     [ -f "$kept_shared" ] || { echo "$kept_shared is not there" && return; }
     is_proved 'kept sources' "$(kept_sources_checksum)" || echo "$kept_shared was made of other sources than these"
     is_proved 'kept shared object' "$(checksum <"$kept_shared")" || echo "$kept_shared is not what $proved names"
 }
 
-# What is wrong with the checksums of the module for web pages, one fault a line.
+# Prints the faults of the checksums of the module for web pages, one a line.
 faults_of_module() {
     [ -f "$module" ] || { echo "$module is not there" && return; }
     is_proved 'web sources' "$(sources_checksum tpmsim_web)" ||

@@ -15,7 +15,7 @@ copy_crates() {
     done >"$1/crates.txt"
 }
 
-# Logs the output of `rt`, and says which crates are proved.
+# Logs the output of `rt`, and prints the crates that are proved.
 tell() {
     number=0
     while IFS= read -r line; do
@@ -31,7 +31,7 @@ tell() {
 }
 
 # Proves the crates in this folder; crates that do not use each other are proved at the same time. The
-# result shows in the files that it leaves.
+# caller judges the result by the files that it leaves.
 prove_all() {
     git init --quiet && sh "$top/tools/lib/rt_ci.sh" </dev/null 2>&1 | tell
 }

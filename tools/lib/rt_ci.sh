@@ -1,10 +1,10 @@
 #!/bin/sh
 # rt_ci.sh [WORDS..]: runs `rt ci` in the current folder, with as many proofs at a time as there are
-# processors, and one processor for each proof. By itself `rt ci` gives a proof the processors that no
-# other proof waits for, and the same proof then takes up to half more processor time. It still does so
-# if there is less memory than 3 GB for each of that many proofs. A proof keeps the memory that it once
-# took: returning it to the system and taking it again costs a twentieth of its time. `rt ci` writes
-# thousands of files: in memory, if there is enough for them too, or in TMPDIR, if that is set.
+# processors, and one processor for each proof. By default `rt ci` gives a proof the processors that no
+# other proof needs, and the same proof then takes up to half more processor time. The default stays if
+# there is less memory than 3 GB for each of these proofs. A proof keeps the memory that it once
+# allocated: returning it to the system and allocating it again costs a twentieth of its time. `rt ci`
+# writes thousands of files: in memory, if there is enough for them too, or in TMPDIR, if that is set.
 set -u
 . "$(dirname "$0")/memory.sh"
 number=$(nproc)

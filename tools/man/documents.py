@@ -53,7 +53,7 @@ def paths(*patterns: str) -> list[str]:
 
 
 class Documents:
-    """The paths, below the root, at which files of the repository are installed."""
+    """The files of the repository that are installed, by their paths below the root."""
 
     def __init__(self, folder: str, others: dict[str, str]) -> None:
         ours = set(paths(*DOCUMENTS, *COPIED, SCRIPTS))
@@ -92,7 +92,7 @@ class Documents:
 
 
 def main(words: list[str]) -> int:
-    """Installs as the arguments say, and returns the exit status."""
+    """Installs the files that the arguments name, and returns the exit status."""
     if len(words) < 2 or not all("=" in it for it in words[2:]):
         print("usage: tools/man/documents.py ROOT FOLDER [PATH=PLACE]..", file=sys.stderr)
         return 2

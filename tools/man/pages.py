@@ -87,7 +87,8 @@ class Manual:
                 self.places |= {(part.document, anchor): page for anchor in part.anchors}
 
     def place_of(self, path: str, anchor: str) -> Page | None:
-        """Returns the page of a section; without an anchor, the page with most of the document."""
+        """Returns the page that contains a section; without an anchor, the page with most of the document.
+        """
         if anchor:
             return self.places.get((path, anchor))
         pages = [page for (document, _), page in self.places.items() if document == path]
@@ -144,9 +145,7 @@ class Manual:
         yield from roff.code(self.synopsis(page))
 
     def files(self, lines: list[str]) -> Iterator[str]:
-        """Yields where the folders are installed that lines name by their paths in the
-        repository.
-        """
+        """Yields the installed places of folders that these lines name by their paths in the repository."""
         named = sorted({f"\\fB{it}\\fR" for it in FOLDER.findall(FONT.sub("", "\n".join(lines)))})
         ours = [it for it in named if INSTALLED.search(it)]
         others = [it for it in named if it not in ours]
@@ -187,7 +186,7 @@ class Manual:
 
 
 def main(words: list[str]) -> int:
-    """Makes the pages as the arguments say, and returns the exit status."""
+    """Makes the pages that the arguments name, and returns the exit status."""
     if len(words) not in (1, 3) or words[1:2] not in ([], ["--program"]):
         print("usage: tools/man/pages.py FOLDER [--program PROGRAM]", file=sys.stderr)
         return 2

@@ -24,12 +24,12 @@ Link = Callable[[str, str], str]
 
 
 def escaped(text: str) -> str:
-    """Returns the text with every byte escaped that has a meaning in roff."""
+    """Returns a text in which every byte that has a meaning in roff is escaped."""
     return text.replace("\\", "\\e").replace("-", "\\-").replace("'", "\\(aq").replace("`", "\\(ga")
 
 
 def line(text: str) -> str:
-    """Returns a line of text that roff does not take as a request."""
+    """Returns a line of text in a form that roff does not read as a request."""
     return "\\&" + text if text[:1] in (".", "'") else text
 
 
@@ -87,7 +87,7 @@ def section(level: int, heading: str, link: Link) -> str:
 
 
 def taken(lines: list[str], start: int, belongs: Callable[[str], bool]) -> int:
-    """Returns the number of the first line from `start` on that does not belong."""
+    """Returns the number of the first line, from `start` on, for which `belongs` is false."""
     while start < len(lines) and belongs(lines[start]):
         start += 1
     return start

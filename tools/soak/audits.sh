@@ -1,15 +1,15 @@
 #!/bin/sh
-# Judges logs by tools/audit.py: what the program prints for each script of tests/ and examples/, and for
-# random scripts of 400 commands each. Each random one is judged again from the image of its device at a
-# power cycle on, and again with lines that are bent. Needs python3.
+# Judges logs by tools/audit.py. A log is the program's output for a script of tests/ or examples/, or
+# for a random script of 400 commands. Each random log is judged again from a power cycle on, with the
+# device's image, and again with altered lines. Needs python3.
 #
 #   tools/soak/audits.sh 1000     1,000 random ones, of the seeds from 1 on: about six minutes
 #   tools/soak/audits.sh 50 7     50, from seed 7 on
 #   tools/soak/audits.sh 0        only the scripts of tests/ and examples/
 #
-# It runs PROGRAM, or the one that tools/lib/program.sh names. It leaves the random scripts whose logs
-# do not agree, and says where. The last line counts logs and events; the status is 1 if one of them
-# does not agree.
+# It runs PROGRAM, or the one that tools/lib/program.sh names. It leaves the random scripts whose logs do
+# not agree, and says where. The last line counts logs and events; the status is 1 if one of them does
+# not agree.
 set -u
 
 is_number() {

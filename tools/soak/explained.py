@@ -15,19 +15,19 @@ OTHERWISE = "the response is another one than was recorded, by its sum"
 
 
 def faults_of(play, events):
-    """Returns what is wrong with the log itself, which a test has damaged."""
+    """Returns the faults of the log itself, which a test has damaged."""
     words = [it.words for event in events for it in event.differences if it.words != OTHERWISE]
     return [*([play.fault] if play.fault else []), *play.damages, *words]
 
 
 def others_of(events):
-    """Returns the events whose explanation differs from their response."""
+    """Returns the events whose explained response differs from the recorded one."""
     return [it for it in events if it.differences or (it.reason is None) == bool(it.refused)]
 
 
 def logs(folder):
-    """Returns the events of each complete log, and the number of logs with a cut end; prints
-    damaged ones.
+    """Returns the events of each complete log, and the number of logs with an incomplete end;
+    prints damaged ones.
     """
     found, cuts = dict[pathlib.Path, list](), 0
     for path in sorted(pathlib.Path(folder).iterdir()):

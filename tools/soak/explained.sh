@@ -1,13 +1,13 @@
 #!/bin/sh
-# Plays the scripts of tests, and explains each journal and log that they leave. A command must be explained
-# as accepted if it was answered so, and otherwise as refused, as the digests in the log say. Journals that a
-# test has damaged are listed with what is wrong. Then it explains all scripts of tests/ and examples/ in the
-# same way, by the answers of dist/tpmsim. Needs python3.
+# Plays the shell tests, and explains each journal and log that they leave. A command must be explained as
+# accepted or refused as the digest of its response in the log says. Journals that a test has damaged are
+# listed with what is wrong. Then it explains all scripts of tests/ and examples/ in the same way, by the
+# answers of dist/tpmsim. Needs python3.
 #
 #   tools/soak/explained.sh            all
 #   tools/soak/explained.sh attached_cut 'swtpm/*'
 #
-# The status is 1 if a whole log is explained otherwise than it was answered.
+# The status is 1 if the explanation of a whole log differs from its responses.
 set -u
 
 top=$(CDPATH='' cd "$(dirname "$0")/../.." && pwd -P) || exit 1

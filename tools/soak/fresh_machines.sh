@@ -1,8 +1,8 @@
 #!/bin/sh
-# Plays tools/scripts.sh, as the last commit has it, in empty Debians: with git and python3; with a C
-# compiler too; with python3-minimal; with everything that packaging/debian_packages names; and without git and
-# python3. No test may fail there. Then it installs what the line before the last one names, and plays again:
-# now that line names nothing. It takes half an hour or more, and is not part of the gate.
+# Plays tools/scripts.sh of the last commit in empty Debian systems: with git and python3; with a C compiler
+# too; with python3-minimal; with everything that packaging/debian_packages names; and without git and
+# python3. No test may fail there. Then it installs the packages that the last line but one names, and plays
+# again: now that line names none. It takes half an hour or more, and is not part of the gate.
 #
 #   tools/soak/fresh_machines.sh           each machine of the list below
 #   tools/soak/fresh_machines.sh NAME..    these
@@ -33,7 +33,7 @@ fail() {
 
 . "$top/tools/lib/machines.sh"
 
-# play SHM USER: plays the tests in the machine, and leaves their output in `said`.
+# play SHM USER: plays the tests in the machine, and leaves their output in the file `said`.
 play() {
     as=
     [ "$2" = root ] || as='setpriv --reuid 1000 --regid 1000 --clear-groups env HOME=/home/user'
@@ -41,7 +41,7 @@ play() {
     in_machine "$1" $as timeout 1800 sh -c 'cd /home/user/tpmsim && tools/scripts.sh' >"$work/said" 2>&1
 }
 
-# judge NAME STATUS: whether no test failed in the machine of this name.
+# judge NAME STATUS: prints the result of a machine, and counts it if a test failed there.
 judge() {
     echo "$1: $(tail -n 1 "$work/said")"
     [ "$2" -eq 0 ] && tail -n 1 "$work/said" | grep -q '^[0-9]* passed, 0 failed' && return
@@ -49,7 +49,7 @@ judge() {
     grep -v -e '^ok: ' -e '^skipped: ' "$work/said" | sed 's/^/    /'
 }
 
-# named: the packages that the tests name, with which more of them could be played.
+# named: prints the packages that the tests name, and that would let more tests run.
 named() {
     sed -n 's/^More is played after: apt-get install //p' "$work/said"
 }

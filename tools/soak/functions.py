@@ -1,5 +1,5 @@
-"""The functions in a crate's files, with their lines and paths, and the prover's messages about
-them.
+"""Finds the functions in a crate's files, with their lines and paths, and the prover's messages
+about them.
 """
 
 from __future__ import annotations
@@ -34,7 +34,7 @@ class Function:
     owner: str | None
 
     def fails_in(self, said: list[str]) -> str | None:
-        """Returns the message line about a goal of this function that fails."""
+        """Returns the prover's message line about a failing goal of this function."""
         return next((line for line in said if self._is_told(line)), None)
 
     def _is_told(self, line: str) -> bool:

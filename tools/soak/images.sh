@@ -1,16 +1,17 @@
 #!/bin/sh
 # Opens damaged images with a program, and compares its answers with those of the device in plain
-# Python under python/tpmsim/model: every beginning of the largest image of each version, each byte of
-# the one of version 2 changed in three ways or more, and bodies of a full device that are bent at
-# random, with the right length and digest. What is opened from these is also saved again. It is not
-# part of the gate; tests/images/images.sh is. Needs cc and python3; takes some minutes.
+# Python under python/tpmsim/model: every beginning of the largest image of each version; the one of
+# version 2 with each byte changed in three ways or more; and randomly altered bodies of a full
+# device, with the right length and digest. A device that is opened from one of these bodies is also
+# saved again. It is not part of the gate; tests/images/images.sh is. Needs cc and python3; takes some
+# minutes.
 #
 #   tools/soak/images.sh             ten thousand bent bodies of seed 1
 #   tools/soak/images.sh 7           those of seed 7
 #   tools/soak/images.sh 7 100       a hundred of them
 #
-# If they differ it says so, leaves the first texts that differ, and says where. Its last line is
-# `N agree, M differ`.
+# If the answers differ, it says so, keeps the first differing outputs, and prints their place. Its
+# last line is `N agree, M differ`.
 set -u
 
 top=$(CDPATH='' cd "$(dirname "$0")/../.." && pwd -P) || exit 1

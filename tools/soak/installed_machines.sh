@@ -25,12 +25,12 @@ fail() {
 
 . "$top/tools/lib/machines.sh"
 
-# block LANGUAGE FILE: the first block of code of a document in this language.
+# block LANGUAGE FILE: prints the first code block of a document in this language.
 block() {
     awk -v fence="\`\`\`$1" '/^```/ { shown = $0 == fence && !blocks++; next } shown' "$2"
 }
 
-# check WHAT WORDS..: whether a command succeeds in the machine; prints its output if not.
+# check WHAT WORDS..: checks that a command succeeds in the machine; prints its output if not.
 check() {
     what=$1
     shift

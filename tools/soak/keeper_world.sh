@@ -5,7 +5,8 @@
 #   tools/soak/keeper_world.sh               a million events, of seed 1
 #   tools/soak/keeper_world.sh 5000000 7     five million, of seed 7
 #
-# It says that each answer and each journal agreed with the history, or what did not, and how much was tried.
+# It prints that each answer and each journal agreed with the history, or which did not, and how much was
+# tried.
 set -u
 
 tests=$(CDPATH='' cd "$(dirname "$0")/../../tests" && pwd -P) || exit 1

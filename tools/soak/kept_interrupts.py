@@ -138,7 +138,7 @@ class Player:
 
 
 def forked(folder, increment, seed, is_traced):
-    """Returns a process that plays, and the pipe for its counts."""
+    """Starts a process that plays; returns it, and the pipe for its counts."""
     reads, writes = os.pipe()
     child = os.fork()
     if not child:
@@ -164,7 +164,7 @@ def ended(child, reads, until):
 
 
 def compared(folder, caller, index, before, counts):
-    """Returns what is wrong with a folder, given these counts; empty if nothing is."""
+    """Returns the faults of a folder, given these counts; empty if there are none."""
     try:
         with KeptDevice(folder) as caller.device:
             caller.device.power_cycle()

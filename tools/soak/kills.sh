@@ -1,15 +1,15 @@
 #!/bin/sh
 # Kills a served device at random moments while connections come one after another, and checks the image
-# after each kill, as tests/serving/killed.sh does a few times. Then it does so as often with a device that
-# is served with --save-each, immediately after a response, as tests/serving/save_each.sh does. It is not
-# part of the gate. Needs python3.
+# after each kill, as tests/serving/killed.sh does a few times. Then it does the same as often with a
+# device that is served with --save-each, and kills it immediately after a response, as
+# tests/serving/save_each.sh does. It is not part of the gate. Needs python3.
 #
 #   tools/soak/kills.sh               1,000 kills, of seed 1
 #   tools/soak/kills.sh 5000 7        5,000 kills, of seed 7
 #
-# Its first line says that all was right, or what was not; then the last image is left, and it says where.
-# The second line says when the kills happened, which differs from run to run. The others are those of
-# --save-each.
+# Its first line says that all was right, or what was wrong; then it keeps the last image, and prints its
+# place. The second line says when the kills happened, which differs from run to run. The other lines are
+# about --save-each.
 set -u
 
 top=$(CDPATH='' cd "$(dirname "$0")/../.." && pwd -P) || exit 1

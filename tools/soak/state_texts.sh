@@ -1,7 +1,7 @@
 #!/bin/sh
-# Plays random events on devices of the library and on the Python device, which go on from one state text
-# after some of the events. It compares answers and state texts, byte for byte, with a device that always
-# goes on. Needs python3, and the library in dist/, or the one that TPMSIM_LIBRARY names.
+# Plays random events on devices of the library and on the Python device. After some of the events both
+# continue from the same state text. It compares answers and state texts, byte for byte, with a device
+# that is never restored. Needs python3, and the library in dist/, or the one that TPMSIM_LIBRARY names.
 #
 #   tools/soak/state_texts.sh 100000   100,000 events, from seed 1 on: a minute or two
 #   tools/soak/state_texts.sh 5000 7   5,000 events, from seed 7 on

@@ -1,15 +1,15 @@
 #!/bin/sh
 # Tries the patches under wrong/turned. Each changes the code of a command together with the definition of
-# its row, and with the proofs that repeat the row. So the device does something wrong, and all crates below
-# tpm_step are proved of it. But its history determines something else, so that a law of tpm_step, or of
-# another crate of laws, has to fail. All patches are run before a piece of work is called done. Patches
-# that name different laws of one crate are tried in one copy of that crate and of those below it. `rt ci`
-# proves the copy: from nothing, if the kit keeps nothing. Needs rt, and git.
+# its row, and with the proofs that repeat the row. So the device behaves wrongly, and yet all crates below
+# tpm_step are proved. But its history determines another behaviour, so a law of tpm_step, or of another
+# crate of laws, has to fail. All patches are run before a piece of work is called done. Patches that name
+# different laws of one crate are tried in one copy of that crate and of those below it. `rt ci` proves the
+# copy: from nothing, if the kit keeps nothing. Needs rt, and git.
 #
 #   tools/soak/turned_rows.sh                    all of them
 #   tools/soak/turned_rows.sh pcr_16_restored    one of them, or several
 #
-# A patch begins with what the device does with it, and with one or two lines:
+# A patch begins with a description of the wrong behaviour, and with one or two lines:
 #
 #   law: FILE NAME       what must be refused, in crates/tpm_step/proofs/FILE.antt
 #   crate: CRATE         or in crates/CRATE/proofs/FILE.antt
@@ -30,17 +30,17 @@ fi
 room=$(mktemp -d)
 trap 'rm -rf "$room"' EXIT
 
-# said NAME PATCH: the content of the line of this name in the head of a patch.
+# said NAME PATCH: prints the content of the line with this name in the head of a patch.
 said() {
     sed -n "/^diff /q; s/^$1: //p" "$2"
 }
 
-# patch_of NAME: its file.
+# patch_of NAME: prints the file of a patch.
 patch_of() {
     echo "wrong/turned/$1.patch"
 }
 
-# crate_of NAME: the crate of the law that a patch names.
+# crate_of NAME: prints the crate of the law that a patch names.
 crate_of() {
     crate=$(said crate "$(patch_of "$1")")
     echo "${crate:-tpm_step}"
@@ -59,17 +59,17 @@ turn() {
     done
 }
 
-# prove: `rt ci` of the copy; its output goes to the log.
+# prove: runs `rt ci` in the copy; its output goes to the log.
 prove() {
     (cd "$room/copy" && sh "$top/tools/lib/rt_ci.sh") </dev/null >"$room/log" 2>&1
 }
 
-# refused_crates: the crates that are not proved, by the log.
+# refused_crates: prints the crates that are not proved, according to the log.
 refused_crates() {
     sed -n 's/^rt: \([a-z0-9_]*\).* NOT PROVED.*/\1/p' "$room/log" | sort -u
 }
 
-# law_at CRATE FILE LINE: the law that a line of a proof belongs to.
+# law_at CRATE FILE LINE: prints the law that a line of a proof belongs to.
 law_at() {
     awk -v at="$3" '
         NR > at { exit }
@@ -78,8 +78,8 @@ law_at() {
     ' "$room/copy/crates/$1/proofs/$2.antt"
 }
 
-# refused_laws CRATE: the laws of a crate that are refused, by the log, each as FILE NAME. Those that were
-# not tried, because they depend on a refused one, are left out.
+# refused_laws CRATE: prints the laws of a crate that are refused according to the log, each as FILE NAME.
+# It leaves out laws that were not tried because they depend on a refused one.
 refused_laws() {
     grep -E '^\./proofs/[A-Za-z]+\.antt:[0-9]+:[0-9]+: error: ' "$room/log" |
         grep -vE 'which was (rejected|not admitted)' |
@@ -104,7 +104,7 @@ fail_at_laws() {
 }
 
 # try_together NAME..: applies these patches to a copy. Everything below the crate of laws must be proved,
-# and its laws over rows, if it has any. The crate must be refused at the law of each patch.
+# and so must its laws over rows, if it has any. The crate must be refused at the law of each patch.
 try_together() {
     turn "$@" || return 0
     if prove; then
@@ -121,7 +121,8 @@ try_together() {
     fi
 }
 
-# is_apart NAME OTHER..: whether the law of a patch is of the same crate, and differs from all others.
+# is_apart NAME OTHER..: whether the law of a patch is in the same crate as the laws of the others, and
+# differs from all of them.
 is_apart() {
     law=$(said law "$(patch_of "$1")")
     crate=$(crate_of "$1")
@@ -132,8 +133,8 @@ is_apart() {
     done
 }
 
-# group NAME..: writes which patches are tried in one copy, one line for each copy: those of a line name
-# different laws of one crate.
+# group NAME..: writes which patches are tried in one copy, one line for each copy. The patches of a line
+# name different laws of one crate.
 group() {
     : >"$room/groups"
     for name do

@@ -22,8 +22,8 @@ out/.
 
 It prints a line for each body, and at the end `N of M wrong bodies refused`. The status is 0 if all
 are refused. It is 1 if one is not refused, or if one is bad: it cannot be applied, compiled or parsed,
-or it is refused only because a proof file names something that it removed, which shows nothing about a
-contract. It needs rt.
+or it is refused only because a proof file names something that it removed. Such a refusal shows
+nothing about a contract. It needs rt.
 """
 
 from __future__ import annotations
@@ -56,7 +56,8 @@ ITEM = re.compile(
 UNREAD = re.compile(
     r"is not in scope|has no field|is no name|operand is missing|expected the end|cannot continue"
 )
-# A function that the borrow checker does not cover is not proved, whatever its body does.
+# The borrow checker does not cover some functions. Such a function is not proved, whatever its body
+# does.
 COMPILER_ERROR = re.compile(r"\berror\[[\w-]+\]|the borrow checker does not cover this function")
 # If a proof file names what an edit removed, or cites such a proof, the refusal shows nothing about
 # a contract.
@@ -133,9 +134,9 @@ def edits_of(crate: str) -> list[Edit]:
 class WrongBody:
     name: str
     turns: tuple[Turn, ...]
-    # the functions that it changes; empty if it also changes something outside of functions
+    # the functions that the edit changes; empty if it also changes something outside of functions
     functions: frozenset[Function]
-    # in that case the functions that name a constant or a type that it changes
+    # in that case the functions that name a changed constant or type
     naming: frozenset[Function]
 
     def to_check(self) -> frozenset[Function]:
@@ -156,20 +157,20 @@ class Crate:
     def __init__(self, proved: pathlib.Path, name: str, room: pathlib.Path) -> None:
         self.name, self.proved, self.room = name, proved, room / name
         self.folder = proved / "crates" / name
-        # where the toolchain stores what it checked of the crate, for its next command
+        # the folder where the toolchain caches the crate's check results, for its next command
         self.place = TOP / "crates" / name / "out" / "incremental"
-        # what the latest check of some functions stored, from which others can continue, and the
-        # messages of the first check
+        # the folder with the results of the latest check of some functions, from which others can
+        # continue, and the messages of the first check
         self.kept = self.place
         self.said: list[str] = []
-        # what a check of the unchanged crate stored, once one was needed
+        # the folder with the results of a check of the unchanged crate, made when it was first needed
         self.whole = self.room / "whole"
         self.is_keeping = threading.Lock()
         self.texts = self._texts_of_functions()
         self.room.mkdir()
 
     def size(self) -> int:
-        """The size of its text, in bytes."""
+        """The size of the crate's text, in bytes."""
         files = itertools.chain(*((self.folder / part).rglob("*.*") for part in SOURCES))
         return sum(it.stat().st_size for it in files)
 
@@ -201,8 +202,8 @@ class Crate:
     def _checked_in(
         self, folder: pathlib.Path, kept: pathlib.Path, paths: Iterable[str]
     ) -> tuple[int, list[str]]:
-        """Checks the text of the crate in a folder, or only the parts that the paths name. Returns
-        the exit status and the message lines.
+        """Checks the text of the crate in a folder, or only the parts that the paths name. Returns the
+        exit status and the message lines.
         """
         only = [word for path in sorted(set(paths)) for word in ("--only", path)]
         ran = said_by(folder, *self._words(), *only, "--incremental", str(kept))
@@ -234,8 +235,8 @@ class Crate:
         return WrongBody(edit.name, turns, frozenset(), frozenset(naming))
 
     def _naming(self, file: str, lines: list[str]) -> set[Function]:
-        """Returns the functions that name, or belong to, the item that these first lines of a file
-        end in: an item of src/, or definitions of a file of specs/ that clauses use.
+        """Returns the functions that name the item in which these first lines of a file end, or that
+        belong to it: an item of src/, or definitions of a file of specs/ that clauses use.
         """
         if file.startswith("src/"):
             names = [match[1] for line in lines if (match := ITEM.match(line))][-1:]
@@ -282,12 +283,12 @@ class Crate:
             paths = [] if is_whole else self._paths(bodies)
             status, said = self._checked_in(folder, kept, paths)
             if all(body.functions for body in bodies):
-                # It may have proved functions that the previous check had mutated.
+                # This check may have proved functions that the previous check had mutated.
                 self._go_on_from(kept)
             return status, said
 
     def keep(self) -> pathlib.Path:
-        """Checks the whole unchanged crate, once; returns the folder of what that check stored."""
+        """Checks the whole unchanged crate, once; returns the folder with the results."""
         with self.is_keeping:
             if not self.whole.exists():
                 kept = self._copied(self.kept, self.room / "as-it-stands")
@@ -300,7 +301,7 @@ class Crate:
         return self.whole
 
     def leave(self) -> None:
-        """Leaves what the latest check stored to the toolchain's commands, and to the next run."""
+        """Leaves the results of the latest check to the toolchain's commands, and to the next run."""
         if self.kept != self.place and self.kept.exists():
             self.place.parent.mkdir(exist_ok=True)
             made = self._copied(self.kept, self.place.with_name(f"{self.place.name}-{os.getpid()}"))
@@ -308,13 +309,13 @@ class Crate:
             made.rename(self.place)
 
     def _go_on_from(self, kept: pathlib.Path) -> None:
-        """Makes the next check start from what an earlier one stored, if it stored anything."""
+        """Makes the next check start from the results of an earlier one, if there are any."""
         if kept.exists():
             self.kept = kept.rename(self.room / f"kept-by-{kept.parent.name}")
 
     @staticmethod
     def _copied(start: pathlib.Path, kept: pathlib.Path) -> pathlib.Path:
-        """Returns a copy of what a check stored, if there is any."""
+        """Returns a copy of a check's results, if there are any."""
         if start.exists():
             shutil.copytree(start, kept, copy_function=linked)
         return kept
@@ -348,7 +349,7 @@ def turned_texts(folder: pathlib.Path, turns: Iterable[Turn]) -> dict[str, str]:
 
 
 def copy_parts(start: pathlib.Path, folder: pathlib.Path) -> None:
-    """Copies the text of a crate, and the files with which a program is run."""
+    """Copies the text of a crate, and the files that running its program needs."""
     folder.mkdir(parents=True)
     for it in start.iterdir():
         if it.name in SOURCES:
@@ -393,7 +394,7 @@ def is_not_proved(status: int, said: list[str]) -> bool:
 
 
 def is_of_a_contract(said: list[str]) -> bool:
-    """Whether a refusal is about more than a removed name that a proof file uses."""
+    """Whether a refusal shows more than that a proof file uses a removed name."""
     told = [line for line in said if is_fault(line)]
     return not told or any(not GONE.match(line) for line in told)
 
@@ -413,7 +414,7 @@ def groups_of(bodies: list[WrongBody]) -> list[Group]:
 
 
 def refusal_alone(crate: Crate, body: WrongBody) -> str:
-    """Returns how a wrong body is refused that is tried by itself."""
+    """Tries a wrong body by itself, and returns how it is refused."""
     status, said = crate.check([body], is_whole=not body.to_check())
     if body.to_check() and not is_not_proved(status, said):
         status, said = crate.check([body], is_whole=True)
@@ -435,8 +436,8 @@ def refusals_told(group: Group, status: int, said: list[str]) -> dict[WrongBody,
     """
     if not is_not_proved(status, said):
         return {}
-    # A function that is proved nevertheless may have no contract, and then others may fail because
-    # of it.
+    # A function that is proved although it was changed may have no contract. Then others may fail
+    # because of it.
     if any(it.is_proved_in(said) for body in group for it in body.functions):
         return {}
     counted = [line for line in said if not GONE.match(line)]
@@ -479,7 +480,7 @@ def try_alone(crate: Crate, body: WrongBody) -> Tried:
 
 
 def name_in(line: str) -> str:
-    """Returns the crate in a line of crates.txt, or an empty word."""
+    """Returns the crate in a line of crates.txt, or ""."""
     return "" if line.startswith("#") else line.partition(":")[0].partition(" ")[0]
 
 
@@ -491,7 +492,7 @@ def rows() -> list[str]:
 
 @functools.cache
 def uses() -> dict[str, list[str]]:
-    """Returns the crates of this repository, each with the libraries that it names."""
+    """Returns the crates of this repository, each with the libraries that its line names."""
     return {name_in(line): line.partition(":")[2].split() for line in rows() if name_in(line)}
 
 
@@ -532,7 +533,7 @@ def take_built(room: pathlib.Path, names: list[str]) -> None:
 
 
 def prove(room: pathlib.Path) -> None:
-    """Proves all crates of a repository, or takes the proofs of them that the kit has stored."""
+    """Proves all crates of a repository, or reuses the proofs that the kit has stored."""
     ran = said_by(room, "sh", str(TOP / "tools" / "lib" / "rt_ci.sh"))
     if ran.returncode:
         print(ran.stdout)
@@ -541,8 +542,8 @@ def prove(room: pathlib.Path) -> None:
 
 @contextlib.contextmanager
 def files_in_memory(number: int) -> Iterator[None]:
-    """Lets this many checks at a time write their files to memory, if there is room for them; or to
-    TMPDIR, if that is set.
+    """Lets this many checks at a time write their files to memory, if they fit; or to TMPDIR, if that
+    is set.
     """
     script = f". tools/lib/memory.sh && folder_for_proofs {number}"
     made = "" if os.environ.get("TMPDIR") else said_by(TOP, "sh", "-c", script).stdout.strip()
@@ -621,7 +622,7 @@ def tried(folder: pathlib.Path, names: list[str], jobs: int) -> int:
 
 
 def apply_each(names: list[str]) -> int:
-    """Tries to apply each wrong body of these crates, and returns how many can be applied."""
+    """Applies each wrong body of these crates to a copy, and returns how many can be applied."""
     applied = 0
     for name, edit in ((name, edit) for name in names for edit in edits_of(name)):
         try:

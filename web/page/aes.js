@@ -1,15 +1,15 @@
-// AES in the direction of encryption, and decryption in its cipher feedback mode with segments of a block
-// (FIPS 197, SP 800-38A).
+// AES encryption of a block, and decryption in AES's cipher feedback mode with segments of a block (FIPS
+// 197, SP 800-38A).
 
 const BLOCK = 16;
 
 /**
- * Twice a polynomial of AES's field.
+ * Doubles a polynomial in AES's field.
  * @param {number} byte
  */
 const doubled = (byte) => ((byte << 1) ^ (byte & 0x80 ? 0x11b : 0)) & 0xff;
 
-/** The S-box, by the powers of 3 and of its inverse. */
+/** Returns the S-box, which it computes from the powers of 3 and of its inverse. */
 function substitution() {
   const box = new Uint8Array(256);
   let power = 1;
@@ -31,7 +31,7 @@ function substitution() {
 const BOX = substitution();
 
 /**
- * The keys of all rounds, one after another.
+ * Returns the keys of all rounds, one after another.
  * @param {Uint8Array} key of 16, 24 or 32 bytes
  */
 function roundKeys(key) {
@@ -80,7 +80,7 @@ function encryptedBlock(keys, block) {
 }
 
 /**
- * Decrypts a text, whose last block may be cut.
+ * Decrypts a text. Its last block may be incomplete.
  * @param {Uint8Array} key @param {Uint8Array} iv @param {Uint8Array} text
  */
 export function cfbDecrypted(key, iv, text) {

@@ -13,7 +13,7 @@ export function hexOf(bytes) {
 }
 
 /**
- * The bytes of an even number of hex digits.
+ * Returns the bytes that an even number of hex digits encode.
  * @param {string} hex
  */
 export function bytesOf(hex) {
@@ -34,7 +34,7 @@ export const decoded = (bytes) => decoder.decode(bytes);
 export const hexNumber = (number, digits) => number.toString(16).padStart(digits, "0");
 
 /**
- * The number of at most four bytes.
+ * Returns the number that at most four bytes encode.
  * @param {Uint8Array} bytes
  */
 export function numberOf(bytes) {
@@ -60,7 +60,10 @@ export function areSame(one, other) {
   return one.length === other.length && one.every((byte, at) => byte === other[at]);
 }
 
-/** Takes numbers and bytes from the front of bytes. Past their end it takes zeros and no bytes. */
+/**
+ * Reads numbers and bytes from the front of a text. Missing bytes of a number count as 0; other
+ * missing bytes are left out.
+ */
 export class Reader {
   /** @param {Uint8Array} bytes @param {number} [at] */
   constructor(bytes, at = 0) {
@@ -93,13 +96,13 @@ export class Reader {
     return this.bytes.subarray(this.at - size, this.at);
   }
 
-  /** The bytes of a buffer with its size in front. */
+  /** Returns the content of a buffer with a size field of two bytes. */
   sized() {
     return this.take(this.number(2));
   }
 
   /**
-   * What `read` takes after a byte that is 1, and null after a 0.
+   * Returns what `read` returns if the next byte is not 0, or else null.
    * @template T @param {() => T} read
    */
   optional(read) {

@@ -1,5 +1,5 @@
-// The bytes of a buffer next to its fields. A field and its bytes are lit together: by the pointer, or
-// by the arrow keys on the table.
+// Shows the bytes of a buffer next to its fields. The pointer, or the arrow keys in the table, highlight a
+// field together with its bytes.
 
 import { hexNumber, hexOf } from "./bytes.js";
 import { cut, make } from "./dom.js";
@@ -7,8 +7,8 @@ import { cut, make } from "./dom.js";
 /**
  * @typedef {import("./fields.js").Field} Field
  * @typedef {import("./plain.js").Plain} Plain
- * @typedef {{bytes: Uint8Array, fields: Field[], wrong: Field | null, plain: Plain | null}} Shown the bytes as
- *   they are sent, and the fields of them, of which some are decrypted
+ * @typedef {{bytes: Uint8Array, fields: Field[], wrong: Field | null, plain: Plain | null}} Shown the bytes
+ *   as they are sent, and their fields, some of which are decrypted
  */
 
 const SHOWN_DIGITS = 44;
@@ -49,7 +49,7 @@ function rowByKey(both, event) {
 }
 
 /**
- * The number of the field that has each byte.
+ * Returns, for each byte, the number of the field that contains it.
  * @param {Shown} shown
  */
 function ownersOf({ bytes, fields }) {

@@ -12,7 +12,7 @@ const FAULT_WORDS = {
 };
 
 /**
- * A fault in words; `isAtEnd` if nothing is where it is.
+ * Returns a fault in words. `isAtEnd` says that the line ends where the fault is.
  * @param {LineFault} fault
  */
 export function faultWords({ name, column, wanted }, isAtEnd = false) {
@@ -23,7 +23,7 @@ export function faultWords({ name, column, wanted }, isAtEnd = false) {
 }
 
 /**
- * A fault as `tpmsim check` has it.
+ * Returns a fault as `tpmsim check` prints it.
  * @param {LineFault} fault
  */
 export function faultName({ name, column, wanted }) {
@@ -31,7 +31,7 @@ export function faultName({ name, column, wanted }) {
 }
 
 /**
- * The columns of a fault in its line, from 0.
+ * Returns the columns of a fault in its line, counted from 0.
  * @param {string} text @param {LineFault} fault
  */
 export function faultPlace(text, { column, name }) {
@@ -44,7 +44,7 @@ export function faultPlace(text, { column, name }) {
 }
 
 /**
- * A line in colours.
+ * Returns the elements of a line in colours.
  * @param {string} text @param {LineFault | undefined} fault
  */
 export function colouredLine(text, fault) {

@@ -1,5 +1,5 @@
-// What may come next in a line: words, commands, and for each field what fits it, with the handles
-// that the device has there.
+// Completes a line: offers words, commands, and for each field the values that fit it, with the handles that
+// the device has at that line.
 
 import { hexNumber } from "./bytes.js";
 import { byName, facts } from "./facts.js";
@@ -24,7 +24,7 @@ const MOST_CHOICES = 60;
 const FIRST_BYTES = { index: 0x01, hmac: 0x02, policy: 0x03 };
 
 /**
- * The tokens of a command in words, each with its field.
+ * Returns the tokens of a command in words, each with its field.
  * @param {string} words
  */
 export function tokensOf(words) {
@@ -66,7 +66,7 @@ const isEntry = (text) => text.startsWith("pw:") || text.startsWith("s:");
 const choice = (text, words, isMore = true) => ({ text, words, isMore });
 
 /**
- * Those whose text begins with what is typed, and then those that have it elsewhere.
+ * Returns the choices whose text begins with what is typed, and then those that contain it elsewhere.
  * @param {Choice[]} choices @param {string} typed
  */
 function matching(choices, typed) {
@@ -77,7 +77,7 @@ function matching(choices, typed) {
 }
 
 /**
- * What may come at the end of a line, of which this much is typed.
+ * Returns what may follow the part of a line that is typed.
  * @param {import("./device.js").Chip} chip @param {string} line @param {State} state the device there
  * @returns {Completion | null}
  */
@@ -124,7 +124,7 @@ function handleChoices(command, field, state) {
 }
 
 /**
- * What a handle of the device is.
+ * Describes the entity that a handle names.
  * @param {number} handle @param {State} state
  */
 function entityWords(handle, state) {
@@ -149,7 +149,7 @@ function entryChoices(command, entries, state) {
 }
 
 /**
- * Numbers that have names.
+ * Returns the names of numbers, by the parameter that has them.
  * @returns {Record<string, [string, string][]>}
  */
 const namedNumbers = () => ({
@@ -181,7 +181,7 @@ function parameterChoices(command, field, example, state) {
 }
 
 /**
- * Handles that are parameters, which are numbers.
+ * Returns the handles that fit a parameter that is a handle, as numbers.
  * @param {CommandFact} command @param {State} state
  */
 function liveNumbers(command, state) {

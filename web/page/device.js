@@ -1,5 +1,5 @@
-// The device, as the page uses it: two devices of the proved module, by their numbers. What the module
-// exports, js/src alone knows.
+// The devices of the page: two devices of the proved module, which calls name by number. Only js/src
+// knows the exports of the module.
 
 import { BadImage, BadState } from "../../js/src/errors.js";
 import { Module } from "../../js/src/module.js";
@@ -18,7 +18,7 @@ export const RANDOM_BYTES = 256;
 const MOST_LINE = 65_536;
 
 /**
- * What a call throws that refuses a text: its fault, "" for none.
+ * Runs a call that may refuse a text. Returns the fault that it throws, "" for none.
  * @param {() => void} call
  */
 function faultOf(call) {
@@ -47,7 +47,7 @@ export class Chip {
   }
 
   /**
-   * Puts a new device instead of one.
+   * Replaces a device with a newly manufactured one.
    * @param {number} device @param {Uint8Array} random
    */
   manufacture(device, random) {
@@ -56,7 +56,7 @@ export class Chip {
   }
 
   /**
-   * Executes a command, with the completing layer above the device if it `completes`.
+   * Executes a command.
    * @param {number} device @param {Uint8Array} buffer @param {number} locality
    * @param {number} elapsed @param {Uint8Array} random
    */
@@ -79,7 +79,7 @@ export class Chip {
   }
 
   /**
-   * The image of a device.
+   * Returns the image of a device.
    * @param {number} device
    */
   save(device) {
@@ -87,7 +87,7 @@ export class Chip {
   }
 
   /**
-   * The state text of a device, which is all that it is.
+   * Returns the state text of a device, which is its whole state.
    * @param {number} device
    */
   snapshot(device) {
@@ -111,7 +111,7 @@ export class Chip {
   }
 
   /**
-   * Reads a line of a script, so many milliseconds after the command before it.
+   * Parses a line of a script, `waited` milliseconds after the command before it.
    * @param {string} text @param {number} waited
    * @returns {ReadLine}
    */
@@ -122,7 +122,7 @@ export class Chip {
   }
 
   /**
-   * What `tpmsim check` prints of the lines of a script, a text for each bad one.
+   * Returns what `tpmsim check` prints about the lines of a script: one text for each bad line.
    * @param {string[]} lines
    */
   report(lines) {
@@ -136,7 +136,7 @@ export class Chip {
   }
 
   /**
-   * A line in words that encodes a buffer, "" if there is none.
+   * Returns a line in words that encodes a buffer, "" if there is none.
    * @param {Uint8Array} buffer
    */
   spell(buffer) {
@@ -144,7 +144,7 @@ export class Chip {
   }
 
   /**
-   * What follows the name of a command in an example of it.
+   * Returns an example of what follows the name of a command.
    * @param {number} number
    */
   example(number) {
@@ -152,7 +152,7 @@ export class Chip {
   }
 
   /**
-   * What a response code says, null if there is no such code.
+   * Returns the meaning of a response code, null if there is no such code.
    * @param {number} code
    */
   meaning(code) {
@@ -166,7 +166,7 @@ export class Chip {
   }
 
   /**
-   * Cycles the power, and returns the head of a new journal.
+   * Power-cycles a device, and returns the head of a new journal.
    * @param {number} device
    */
   beginJournal(device) {
@@ -174,7 +174,7 @@ export class Chip {
   }
 
   /**
-   * The head of a new journal that goes on with the device as it is.
+   * Returns the head of a new journal that begins with the device's present state.
    * @param {number} device
    */
   continueJournal(device) {
@@ -182,7 +182,7 @@ export class Chip {
   }
 
   /**
-   * Executes a command at a time in milliseconds, and returns its entry of the journal.
+   * Executes a command at a time in milliseconds, and returns its journal entry.
    * @param {number} device @param {import("./script.js").Step} step @param {number} now
    */
   executeInJournal(device, { buffer, locality, random, completes }, now) {

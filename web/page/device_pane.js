@@ -1,4 +1,4 @@
-// The device after the chosen step, with what that step changed set off.
+// Shows the device after the chosen step, and highlights what that step changed.
 
 import { byId, cut, isHexWord, make } from "./dom.js";
 import { GROUPS, changesOf, isBlank } from "./state.js";
@@ -71,7 +71,7 @@ function valuesShown(group, of, values, changed) {
 }
 
 /**
- * PCRs that are written, in full if the step wrote them; the blank ones in a sentence.
+ * Shows the PCRs that are not blank, in full if the step changed them. A sentence covers the blank ones.
  * @param {Group} those @param {Set<string>} changed
  */
 function pcrsShown(those, changed) {

@@ -1,10 +1,11 @@
-// Digests, HMACs and the key derivation of sessions (TPM 2.0 Library, Part 1, 11.4.9 and 19.6), over whole
-// texts. The browser's own are asynchronous, and not there for a file on a disk.
+// Computes digests, HMACs and the keys of sessions (TPM 2.0 Library, Part 1, 11.4.9 and 19.6), over whole
+// texts. The browser's own functions are asynchronous, and are missing for a page that is a file on a
+// disk.
 
 import { encoded, joined } from "./bytes.js";
 
 /**
- * A function from bytes to a digest, the bytes of a block of it and of its digest.
+ * A hash: the size of its digest and of its block, in bytes, and the function that computes a digest.
  * @typedef {{size: number, block: number, digest: (text: Uint8Array) => Uint8Array}} Hash
  */
 
@@ -22,7 +23,7 @@ function primes(count) {
 }
 
 /**
- * The first 64 bits of the fraction of a root of a number, which is the second or the third.
+ * Returns the first 64 bits of the fraction of a number's square root (degree 2) or cube root (degree 3).
  * @param {number} number @param {bigint} degree
  */
 function fraction(number, degree) {
@@ -47,8 +48,9 @@ const STARTS_SHA1 = [0x67452301, 0xefcdab89, 0x98badcfe, 0x10325476, 0xc3d2e1f0]
 const ROUNDS_SHA1 = [0x5a827999, 0x6ed9eba1, 0x8f1bbcdc, 0xca62c1d6];
 
 /**
- * A text with a 1 bit, zeros, and its size in bits, up to a whole number of blocks.
- * @param {Uint8Array} text @param {number} block @param {number} counter the bytes of the size
+ * Pads a text with a 1 bit, zeros and its size in bits, to a whole number of blocks.
+ * @param {Uint8Array} text @param {number} block @param {number} counter the size of the size field, in
+ *   bytes
  */
 function padded(text, block, counter) {
   const size = Math.ceil((text.length + 1 + counter) / block) * block;
@@ -165,7 +167,7 @@ export function hmac({ block, digest }, key, text) {
 }
 
 /**
- * KDFa: so many bytes of a key, for what the label says.
+ * KDFa: derives `size` bytes of a key for the purpose that the label names.
  * @param {Hash} hash @param {Uint8Array} key @param {string} label
  * @param {Uint8Array} newer @param {Uint8Array} older @param {number} size
  */

@@ -1,4 +1,4 @@
-// Elements. What is shown is in text nodes: nothing of a script or a log is read as markup.
+// Makes elements. Text becomes text nodes, so nothing in a script or a log is read as markup.
 
 /** @typedef {Node | string | null | undefined | false} Child */
 

@@ -1,5 +1,5 @@
-// The editor: a text area whose text is transparent, over the rows that can be seen of it. Sizes are read
-// before anything is written, as the browser computes the layout again for whoever asks after that.
+// The editor: a text area whose text is transparent, over the rows of the text that are visible. Sizes are
+// read before anything is written: after a write, the browser computes the layout again for the next read.
 
 import { faultPlace, faultWords } from "./coloured.js";
 import { byId, cut, make } from "./dom.js";
@@ -11,7 +11,7 @@ import { ROW, Rows, TOP } from "./rows.js";
 /**
  * @typedef {import("./rows.js").Told & {
  *   stateAtLine: (line: number) => import("./state.js").State, edited: () => void, moved: (line: number) => void,
- * }} Told what the editor asks of the page, and reports to it
+ * }} Told what the editor asks the page for, and reports to it
  */
 
 const FAULT_WIDTH = 220;
@@ -66,7 +66,7 @@ export class Editor {
     this.paint();
   }
 
-  /** Reads what can be seen, and ends the layers at the scroll bars. */
+  /** Finds out which part of the text is visible, and ends the layers at the scroll bars. */
   #look() {
     const { scrollTop, scrollLeft, clientWidth, clientHeight, offsetWidth, offsetHeight } = this.area;
     const isSame = clientWidth === this.view.width && clientHeight === this.view.height;
@@ -99,7 +99,7 @@ export class Editor {
     this.#openChoices(false);
   }
 
-  /** Where the caret is: its line and column, from 0. */
+  /** Returns the line and column of the caret, counted from 0. */
   caret() {
     const { lines } = this;
     let line = 0;
@@ -112,7 +112,7 @@ export class Editor {
   }
 
   /**
-   * Buffers in hex become commands, if they begin a line or come after its `cmd`.
+   * Turns pasted buffers in hex into commands, if they are pasted at the start of a line or after its `cmd`.
    * @param {ClipboardEvent} event
    */
   #paste(event) {
@@ -132,7 +132,7 @@ export class Editor {
   }
 
   /**
-   * Puts the caret at the end of a line, if it is not there, and shows that line.
+   * Moves the caret to the end of a line, unless it is in that line, and shows the line.
    * @param {number} line
    */
   goTo(line) {
@@ -167,7 +167,7 @@ export class Editor {
   }
 
   /**
-   * Says what came of the caret's line to who does not see it, after a pause.
+   * Announces the result of the caret's line to screen readers, after a pause.
    * @param {number} line
    */
   #sayLater(line) {
@@ -180,7 +180,7 @@ export class Editor {
     }, PAUSE);
   }
 
-  /** Shows the fault of the caret's line under it. */
+  /** Shows the fault of the caret's line below the line. */
   #showUnder() {
     const under = byId("under");
     const { line, column } = this.caret();
@@ -207,7 +207,7 @@ export class Editor {
     return TOP + (line + 1) * ROW - this.view.top + 2;
   }
 
-  /** Shows the form of the caret's command, with its field set off. */
+  /** Shows the form of the caret's command, and highlights the caret's field. */
   showForm() {
     const { line, column } = this.caret();
     const text = this.lines[line] ?? "";
@@ -304,7 +304,7 @@ export class Editor {
 }
 
 /**
- * Puts text instead of what is selected, as if it was typed, so that undo knows it.
+ * Replaces the selected text as if by typing, so that the browser can undo it.
  * @param {HTMLTextAreaElement} area @param {string} text
  */
 function insertText(area, text) {
@@ -315,7 +315,7 @@ function insertText(area, text) {
 }
 
 /**
- * Whether a command needs more than these words.
+ * Returns whether a command needs more than the words of this line.
  * @param {string} line
  */
 function needsMore(line) {

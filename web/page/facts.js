@@ -1,4 +1,5 @@
-// What the repository's tables say: web/build.py collects it, and the page has it as data.
+// The contents of the repository's tables. web/build.py collects them, and the page contains them as
+// data.
 
 /**
  * @typedef {{name: string, kind: string, isAuthorized: boolean}} HandleFact
@@ -8,7 +9,7 @@
  *   parameters: ParameterFact[], answeredHandles: string[], answeredParameters: ParameterFact[],
  * }} CommandFact
  * @typedef {{fixed: string[], isPcr: boolean, first: number[], words: string}} HandleKindFact
- * @typedef {[string, string]} RuleFact a sentence, and where the table has it
+ * @typedef {[string, string]} RuleFact a sentence, and the place in the table that has it
  * @typedef {Record<string, string>} Names by their numbers
  * @typedef {{
  *   commands: CommandFact[], otherCommands: Names, handleKinds: Record<string, HandleKindFact>,

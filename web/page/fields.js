@@ -1,4 +1,4 @@
-// Commands and responses, field by field. Whatever the bytes are, each byte has a field.
+// Divides commands and responses into fields. Whatever the bytes are, each byte belongs to a field.
 
 import { hexNumber, numberOf } from "./bytes.js";
 import { byNumber, facts } from "./facts.js";
@@ -9,8 +9,8 @@ import {
 } from "./words.js";
 
 /**
- * A field: its first byte, its size, of which `front` bytes are a size, what it belongs to, and in
- * how many structures it is. A structure is a group, and its fields follow it.
+ * A field: its offset; its size, the first `front` bytes of which are a size field; what it belongs to; and
+ * the number of structures around it. A structure is a group, and its fields follow it.
  * @typedef {"header" | "handle" | "entry" | "parameter" | "rest"} Sort
  * @typedef {{
  *   name: string, at: number, size: number, front: number, meaning: string, sort: Sort,
@@ -26,7 +26,7 @@ const DIGEST_BYTES = new Map([[ALG.sha1, 20], [ALG.sha256, 32]]);
 /** The bytes end within a field. */
 class Cut extends Error {}
 
-/** Takes fields from the front of bytes. */
+/** Reads fields from the front of bytes. */
 class Walk {
   /** @param {Uint8Array} bytes */
   constructor(bytes) {
@@ -41,7 +41,7 @@ class Walk {
   }
 
   /**
-   * The next bytes, of which the first `front` are a size.
+   * Adds a field of `size` bytes, the first `front` of which are a size field.
    * @param {number} size @param {string} name @param {(bytes: Uint8Array) => string} meaning
    */
   take(size, name, meaning, front = 0) {
@@ -69,7 +69,7 @@ class Walk {
     this.take(size, name, (bytes) => meaning([...bytes].reduce((all, it) => all * 256n + BigInt(it), 0n)));
   }
 
-  /** The size in front of a buffer. */
+  /** Returns the value of the size field at the front. */
   peek() {
     return numberOf(this.bytes.subarray(this.at, Math.min(this.at + 2, this.end)));
   }
@@ -90,7 +90,7 @@ class Walk {
   }
 
   /**
-   * A structure, of a size that is known or of what `read` takes.
+   * Adds a structure: of a known size, or of the fields that `read` reads.
    * @param {string} name @param {number | null} size @param {number} front @param {() => void} read
    */
   group(name, size, front, read) {
@@ -142,7 +142,7 @@ const named = (size, names, other) =>
   number(size, (value) => /** @type {any} */ (names())[value] ?? other);
 
 /**
- * A structure with its size in front.
+ * Returns a reader of a structure with a size field in front.
  * @param {(walk: Walk) => void} read @returns {Read}
  */
 const structure = (read) => (walk, name) => {
@@ -258,7 +258,7 @@ const OF_KIND = {
 const seconds = number(4, (value) => `${grouped(value)} s`);
 
 /**
- * Parameters of which more is known than their kind says.
+ * The readers of parameters for which more is known than their kind says.
  * @type {Record<string, Read>}
  */
 const OF_NAME = {
@@ -338,7 +338,7 @@ export function fieldsOfCommand(buffer) {
 }
 
 /**
- * The fields of the response to a command of this number.
+ * Returns the fields of the response to a command with this number.
  * @param {number} number @param {Uint8Array} response @param {(code: number) => string} meaning
  */
 export function fieldsOfResponse(number, response, meaning) {
@@ -362,13 +362,13 @@ export function fieldsOfResponse(number, response, meaning) {
 }
 
 /**
- * The number of the command in a buffer, 0 if it is too short.
+ * Returns the number of the command in a buffer, 0 if the buffer is too short.
  * @param {Uint8Array} buffer
  */
 export const commandNumber = (buffer) => (buffer.length < 10 ? 0 : numberOf(buffer.subarray(6, 10)));
 
 /**
- * The response code of a response.
+ * Returns the response code of a response.
  * @param {Uint8Array} response
  */
 export const responseCode = (response) => commandNumber(response);

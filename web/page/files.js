@@ -1,4 +1,4 @@
-// Links that hold a script, files that are opened, and those that are downloaded.
+// Links that contain a script, files that are opened, and files that are downloaded.
 
 import { decoded, encoded, hexOf } from "./bytes.js";
 import { make } from "./dom.js";
@@ -8,11 +8,11 @@ import { onDevice } from "./script.js";
 const MOST_LINK = 60000;
 const MOST_FILE = 16 * 1024 * 1024;
 const MOST_SCRIPT = 4 * 1024 * 1024;
-/** The first byte of a command, which begins no text. */
+/** The first byte of a command; no text begins with it. */
 const BINARY = 0x80;
 const FRAGMENT = /^#s=([\w-]+)(?:&n=(\d{1,7}))?$/;
 
-// TypeScript of Debian does not know these two.
+// Debian's TypeScript does not declare these two.
 const { CompressionStream, DecompressionStream } = /** @type {any} */ (globalThis);
 
 /** @param {Uint8Array} bytes */
@@ -24,7 +24,7 @@ export const unpacked = (text) =>
   Uint8Array.from(atob(text.replace(/-/g, "+").replace(/_/g, "/")), (it) => it.charCodeAt(0));
 
 /**
- * What comes out of a stream, of which so many bytes at most are read.
+ * Reads a stream's output, at most `most` bytes of it.
  * @param {Uint8Array} bytes @param {any} stream @param {number} most
  */
 async function through(bytes, stream, most) {
@@ -42,13 +42,13 @@ async function through(bytes, stream, most) {
 }
 
 /**
- * What was packed as raw deflate, of which so many bytes at most are read.
+ * Unpacks raw deflate, to at most `most` bytes.
  * @param {Uint8Array} bytes @param {number} most
  */
 export const inflated = (bytes, most) => through(bytes, new DecompressionStream("deflate-raw"), most);
 
 /**
- * The fragment of a link that holds a script, "" if the script is too long for one.
+ * Returns the fragment of a link that contains a script, "" if the script is too long for a link.
  * @param {string} text
  */
 export async function fragmentOf(text) {
@@ -58,7 +58,7 @@ export async function fragmentOf(text) {
 }
 
 /**
- * The script of a fragment: null if there is none, "" if what is there is none.
+ * Returns the script in a fragment: null if the fragment is empty, "" if it contains no script.
  * @param {string} fragment
  */
 export async function scriptOf(fragment) {
@@ -73,7 +73,7 @@ export async function scriptOf(fragment) {
 }
 
 /**
- * The step that a fragment chooses, from 0; -1 if it chooses none.
+ * Returns the step that a fragment chooses, counted from 0; -1 if it chooses none.
  * @param {string} fragment
  */
 export const stepOf = (fragment) => Number(FRAGMENT.exec(fragment)?.[2] ?? 0) - 1;
@@ -86,7 +86,8 @@ export function download(name, parts) {
 }
 
 /**
- * The script that a file comes to, on top of the present one if it is an image or a state text.
+ * Returns the script that a file yields. For an image or a state text it is the present script on
+ * that device.
  * @param {File} file @param {string} present
  * @returns {Promise<{text: string, note: string, isBad: boolean}>}
  */

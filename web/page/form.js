@@ -1,4 +1,4 @@
-// The form of the command in a line, with the field under the caret set off.
+// Shows the form of a line's command, and highlights the field at the caret.
 
 import { LINE_WORD } from "./coloured.js";
 import { tokensOf } from "./completion.js";

@@ -1,4 +1,4 @@
-// What keys do, and which pane is shown where only one fits.
+// The effects of keys, and the choice of the pane to show if only one fits.
 
 import { byId, make } from "./dom.js";
 
@@ -28,7 +28,7 @@ export function tabKey(tab, event) {
 }
 
 /**
- * Moves to the next pane, or the one before.
+ * Moves to the next pane or to the previous one.
  * @param {number} by
  */
 function movePane(by) {

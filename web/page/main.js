@@ -1,4 +1,4 @@
-// The start: the device is made, and the page listens to its reader.
+// Starts the page: makes the device, and listens to the user.
 
 import { Chip } from "./device.js";
 import { byId, make } from "./dom.js";

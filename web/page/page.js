@@ -27,7 +27,7 @@ const OF_FILE = location.protocol === "file:" ? "This is a file of this computer
 const LINK_WORDS = `${OF_FILE}The link holds all that the script shows, passwords too.`;
 const NOT_ENCRYPTED = { plainCommand: null, plainResponse: null, plainGiven: null };
 
-/** The whole page, once the device is there. */
+/** The whole page, made as soon as the device exists. */
 export class Page {
   /** @param {Chip} chip */
   constructor(chip) {
@@ -37,29 +37,29 @@ export class Page {
     this.script = readScript(chip, [""]);
     this.told = new Told(JSON.parse(byId("log").textContent));
     /**
-     * The steps that the script has another answer of than this device.
+     * The steps for which the script's recorded response differs from this device's.
      * @type {number[]}
      */
     this.parted = [];
     /**
-     * What the panes of the step and of the device show.
+     * What the panes of the step and of the device now show.
      * @type {unknown[]}
      */
     this.shown = [];
-    /** What was opened, which is said until the script is edited. */
+    /** A message about the file that was opened, shown until the script is edited. */
     this.opened = "";
-    /** Whether the script is the reader's: typed, opened, or of a link. */
+    /** Whether the script is the user's own: typed, opened, or from a link. */
     this.isOwn = false;
     /**
-     * The reader's script that another one replaced.
+     * The user's own script, which another one replaced.
      * @type {string | null}
      */
     this.former = null;
-    /** Whether what is said is of the chosen step, and goes with it. */
+    /** Whether the message is about the chosen step, and disappears when another step is chosen. */
     this.isPassing = false;
     this.slice = 0;
     this.linkWait = 0;
-    /** The script of the last link, and its fragment. */
+    /** The script that the last link contains, and its fragment. */
     this.linked = { text: "", fragment: "" };
     this.editor = new Editor(chip, {
       fault: (line) => this.script.faults.get(line),
@@ -86,7 +86,7 @@ export class Page {
   // The script.
 
   /**
-   * How many events come before a line.
+   * Returns the number of events before a line.
    * @param {number} line
    */
   countBefore(line) {
@@ -111,7 +111,7 @@ export class Page {
     this.playOn();
   }
 
-  /** Keeps the script, if it is the reader's, before another one replaces it. */
+  /** Remembers the script, if it is the user's own, before another one replaces it. */
   keepFormer() {
     if (this.isOwn) this.former = this.editor.text;
     this.isOwn = false;
@@ -123,7 +123,7 @@ export class Page {
     byId("former").hidden = true;
   }
 
-  /** Puts the reader's script back instead of the one that replaced it. */
+  /** Restores the user's script that another one replaced. */
   backToFormer() {
     const text = this.former;
     if (text === null) return;
@@ -136,7 +136,7 @@ export class Page {
     byId("text").focus();
   }
 
-  /** Reads the text, and plays up to the chosen event. */
+  /** Reads the text, and plays it up to the chosen event. */
   take() {
     this.script = readScript(this.chip, this.editor.lines);
     this.told.complete(this.script.steps);
@@ -144,7 +144,7 @@ export class Page {
     this.run.take(this.script.steps);
   }
 
-  /** Forgets what was known of a log, and the device that it began on. */
+  /** Drops the explained log, and the device that it began on. */
   leaveLog() {
     if (!this.told.log) return;
     if (this.told.start) this.run.begin(null);
@@ -166,7 +166,7 @@ export class Page {
     this.keepLink();
   }
 
-  /** Plays what is left, a slice at a time, so that the page answers in between. */
+  /** Plays the remaining events in slices, so that the page responds in between. */
   playOn() {
     clearTimeout(this.slice);
     if (this.run.isPlayed) return this.played();
@@ -189,7 +189,7 @@ export class Page {
   }
 
   /**
-   * The event of a line, or else of the nearest line before it that has one.
+   * Returns the event of a line, or of the nearest line before it that has one.
    * @param {number} line
    */
   nearest(line) {
@@ -214,7 +214,10 @@ export class Page {
     this.stepped();
   }
 
-  /** After the reader chose a step: what was said of another one goes, and the link has this one. */
+  /**
+   * Called after the user chose a step: removes the message about another step, and puts this step into the
+   * link.
+   */
   stepped() {
     if (this.isPassing) this.sayCount();
     if (!this.told.log) this.keepLink();
@@ -230,19 +233,19 @@ export class Page {
     this.editor.paint();
   }
 
-  /** Shows all again, as in another size or in other colours. */
+  /** Shows everything again, for example in another size or other colours. */
   redraw() {
     this.shown = [];
     this.show();
     drawMarks(this.script.steps, this.notable());
   }
 
-  /** The steps that are refused, or that the script has another answer of. */
+  /** Returns the steps that are refused, or for which the script has another response. */
   notable() {
     return this.parted.length ? [...new Set([...this.run.refusals, ...this.parted])].sort((one, other) => one - other) : this.run.refusals;
   }
 
-  /** Shows the chosen step and its device, unless they are shown. */
+  /** Shows the chosen step and the device after it, unless they are shown already. */
   show() {
     const { chosen, run, script, chip } = this;
     const step = script.steps[chosen];
@@ -263,7 +266,7 @@ export class Page {
   }
 
   /**
-   * What sessions encrypted in a step.
+   * Returns the parameters of a step that sessions encrypted, decrypted.
    * @param {number} at
    */
   plainOf(at) {
@@ -290,7 +293,7 @@ export class Page {
     return code ? { text: this.chip.meaning(code)?.name ?? hexNumber(code, 3), isBad: true } : { text: "ok", isBad: false };
   }
 
-  /** Each command that is played, with the name of its code. */
+  /** Returns the name and the response code of each played command, in words. */
   outcomes() {
     return this.run.answers.flatMap((answer, at) => {
       const { kind, buffer } = this.script.steps[at];
@@ -325,7 +328,7 @@ export class Page {
   }
 
   /**
-   * Says what holds of the chosen step, or what was just done.
+   * Shows a message about the chosen step, or about what was just done.
    * @param {string} words @param {boolean} [isBad]
    */
   sayShortly(words, isBad = false) {
@@ -354,7 +357,7 @@ export class Page {
 
   // Files and links.
 
-  /** What the page begins with, where nothing else is asked of it. */
+  /** Shows what the page begins with by default. */
   greet() {
     const isBad = byId("note").classList.contains("bad");
     this.load(exampleOf(FIRST_EXAMPLE), 0);
@@ -382,7 +385,10 @@ export class Page {
     this.linkWait = setTimeout(async () => replaceFragment(await this.fragment()), LINK_WAIT);
   }
 
-  /** The fragment that holds the script and its chosen step, "" if the script is too long for one. */
+  /**
+   * Returns the fragment that contains the script and its chosen step, "" if the script is too long for a
+   * link.
+   */
   async fragment() {
     const { text } = this.editor;
     if (text !== this.linked.text) this.linked = { text, fragment: await fragmentOf(text) };
@@ -444,7 +450,7 @@ export class Page {
     return download("log.tpm", [logOf(script, run.answers)]);
   }
 
-  /** The lines that cannot be read, as tpmsim check prints them. */
+  /** Shows the invalid lines, as `tpmsim check` prints them. */
   report() {
     const lines = this.chip.report(this.script.lines);
     if (!lines.length) return this.sayShortly("Every line can be read.");

@@ -1,4 +1,4 @@
-// Buffers in hex, as firmware, libraries and programs for dumps print them, as a script.
+// Turns buffers in hex, as firmware, libraries and dump programs print them, into a script.
 
 import { bytesOf, numberOf } from "./bytes.js";
 import { byNumber, facts } from "./facts.js";
@@ -16,12 +16,13 @@ const PAIRS = /^(?:[0-9a-f]{2})+$/i;
 const OCTAL_DIGITS = 7;
 
 /**
- * @typedef {{offset: number, hex: string, isRepeated: boolean}} Row of a dump; `isRepeated` if a star after it
- *   stands for rows of the same bytes
+ * @typedef {{offset: number, hex: string, isRepeated: boolean}} Row a row of a dump; `isRepeated` says that a
+ *   star after it stands for rows of the same bytes
  */
 
 /**
- * A row of a dump: its offset and its bytes, without the column of characters. od has offsets of 7 octal digits.
+ * Parses a row of a dump: its offset and its bytes, without the column of characters. od writes offsets of 7
+ * octal digits.
  * @param {string} line @returns {Row | null}
  */
 function rowOf(line) {
@@ -35,7 +36,7 @@ function rowOf(line) {
 }
 
 /**
- * The bytes of a row in hex, up to the offset of the next one.
+ * Returns the bytes of a row in hex, repeated up to the offset of the next row.
  * @param {Row} row @param {Row | undefined} next
  */
 function bytesOfRow({ offset, hex, isRepeated }, next) {
@@ -45,7 +46,7 @@ function bytesOfRow({ offset, hex, isRepeated }, next) {
 }
 
 /**
- * The dumps of a text, each as a line of hex; the text itself if it is no dump.
+ * Returns each dump in a text as one line of hex; the text itself if it contains no dump.
  * @param {string} text
  */
 function withoutOffsets(text) {
@@ -68,7 +69,8 @@ function withoutOffsets(text) {
 }
 
 /**
- * The buffers of a text, in hex: a line has some, or one goes on up to its size. Null for another text.
+ * Returns the buffers in a text, in hex; null if it contains anything else. A line contains whole buffers, or
+ * a buffer continues on the next lines up to its size.
  * @param {string} text
  */
 function buffersIn(text) {
@@ -88,7 +90,8 @@ function buffersIn(text) {
 }
 
 /**
- * Whether a buffer after a command is its response: it has no command's number, or the code of a refusal.
+ * Returns whether a buffer that follows a command is its response: it has no command's number, or has the
+ * code of a refusal.
  * @param {string} buffer
  */
 function isResponse(buffer) {
@@ -100,7 +103,8 @@ function isResponse(buffer) {
 }
 
 /**
- * The script of a text that is nothing but buffers in hex, with responses as comments; null for any other.
+ * Returns the script of a text that contains only buffers in hex, with the responses as comments; null for
+ * any other text.
  * @param {string} text
  */
 export function scriptOfBuffers(text) {
@@ -120,7 +124,8 @@ const SPACED = /^cmd\s+((?:(?:0x)?[0-9a-f]{2}[\s,:;]*)+)$/i;
 const joinedLine = (line) => line.replace(SPACED, (_, /** @type {string} */ bytes) => `cmd ${bytes.replace(BETWEEN, "").toLowerCase()}`);
 
 /**
- * What is put into the script for a text that is pasted after the beginning of a line; null for the text itself.
+ * Returns what to insert for a text that is pasted after the beginning of a line; null if the text itself is
+ * to be inserted.
  * @param {string} before @param {string} text
  */
 export function pastedText(before, text) {

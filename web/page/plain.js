@@ -1,5 +1,5 @@
-// Parameters that a session encrypted, decrypted: by keys that are worked out from the script, of its
-// nonces, its responses, and the authorization values that it set (TPM 2.0 Library, Part 1, 19 and 21).
+// Decrypts the parameters that a session encrypted. The keys are computed from the script: from its nonces,
+// its responses, and the authorization values that it sets (TPM 2.0 Library, Part 1, 19 and 21).
 
 import { cfbDecrypted } from "./aes.js";
 import { bytesOf, hexNumber, joined, numberOf } from "./bytes.js";
@@ -15,7 +15,7 @@ import { handleWords, PASSWORD_HANDLE } from "./words.js";
  * @typedef {{algorithm: number, keyBytes: number}} Cipher
  * @typedef {{hash: Hash, cipher: Cipher, key: Uint8Array, nonce: Uint8Array}} Session
  * @typedef {{session: number, reason: string, bytes: Uint8Array, from: number, to: number}} Plain the whole
- *   buffer with its bytes from `from` to `to` decrypted, or the reason why none is
+ *   buffer with its bytes from `from` to `to` decrypted, or the reason why nothing is decrypted
  */
 
 const START = "StartAuthSession";
@@ -32,7 +32,8 @@ const EMPTY = new Uint8Array(0);
 const WHOLE_ANSWER = /^(?:8001|8002|00c4)[0-9a-f]{16,}$/;
 
 /**
- * The commands that set a value, and which fields they have for it.
+ * The commands that set an authorization value, and the names of their fields for the entity and for the
+ * value.
  * @type {Record<string, {handle: string, value: string}>}
  */
 const SETTERS = {
@@ -40,7 +41,7 @@ const SETTERS = {
   NV_DefineSpace: { handle: "nvIndex", value: "auth" },
 };
 
-/** Why a parameter is not decrypted, in words. */
+/** The reason why a parameter is not decrypted, in words. */
 class Unknown extends Error {}
 
 /** @param {boolean} holds @param {string} words */
@@ -49,7 +50,7 @@ function need(holds, words) {
 }
 
 /**
- * The response that the script has of an event, or else the device's.
+ * Returns the script's recorded response to an event, or else the device's response.
  * @param {Run} run @param {number} at
  */
 export function responseOf(run, at) {
@@ -58,13 +59,13 @@ export function responseOf(run, at) {
 }
 
 /**
- * A command with its first parameter decrypted; null if none is encrypted.
+ * Returns a command with its first parameter decrypted; null if none is encrypted.
  * @param {Run} run @param {number} at
  */
 export const plainCommand = (run, at) => new Decryption(run, 0).command(at);
 
 /**
- * The response to a command, likewise.
+ * Returns the response to a command with its first parameter decrypted; null if none is encrypted.
  * @param {Run} run @param {number} at
  */
 export const plainResponse = (run, at) => new Decryption(run, 0).response(at);
@@ -126,7 +127,7 @@ class Decryption {
   }
 
   /**
-   * The value of the entity that an entry authorizes; empty if it authorizes none.
+   * Returns the authorization value of the entity that an entry authorizes; empty if it authorizes none.
    * @param {number} at @param {number} place
    */
   #authorizedValue(at, place) {
@@ -143,7 +144,8 @@ class Decryption {
   }
 
   /**
-   * Whether the script has an answer before an event that this device does not give, as it is of another one.
+   * Returns whether the script was recorded on another device: before this event it has a response with
+   * another code than this device's.
    * @param {number} at
    */
   #hasParted(at) {
@@ -152,7 +154,8 @@ class Decryption {
   }
 
   /**
-   * The value that a command before an event set, or that of the first device.
+   * Returns the authorization value that the latest command before an event set, or else the value on the
+   * device that the script begins with.
    * @param {number} handle @param {number} at
    */
   #valueSet(handle, at) {
@@ -168,7 +171,7 @@ class Decryption {
   }
 
   /**
-   * A session as it is before an event.
+   * Returns a session as it is before an event.
    * @param {number} handle @param {number} at @returns {Session}
    */
   #sessionAt(handle, at) {
@@ -193,7 +196,7 @@ class Decryption {
   }
 
   /**
-   * The nonce of the TPM that a response has for a session.
+   * Returns the TPM's nonce for a session in the response to a step.
    * @param {number} step @param {number} handle
    */
   #nonceAfter(step, handle) {
@@ -205,7 +208,7 @@ class Decryption {
   }
 
   /**
-   * A session that the device has where the script begins, as by a state text.
+   * Returns a session that the device has where the script begins, for example from a state text.
    * @param {number} handle @param {number} step @param {Uint8Array | null} nonce
    * @returns {Session}
    */
@@ -218,7 +221,7 @@ class Decryption {
   }
 
   /**
-   * The session that a command starts, by its nonces in plain.
+   * Returns the session that a command starts, from the nonces in plain text.
    * @param {number} step @returns {Session}
    */
   #started(step) {
@@ -245,7 +248,7 @@ function bytesIn(plain, sent) {
 }
 
 /**
- * An authorization value counts without its trailing zeros.
+ * Removes the trailing zeros of an authorization value, which do not count.
  * @param {Uint8Array} value
  */
 function trimmed(value) {
@@ -255,7 +258,7 @@ function trimmed(value) {
 }
 
 /**
- * The bytes of fields by their names, without the size in front of them.
+ * Returns a function from a field's name to its bytes, without a size field in front.
  * @param {Uint8Array} bytes @param {(bytes: Uint8Array) => import("./fields.js").Field[]} fieldsOf
  */
 function namedFields(bytes, fieldsOf) {

@@ -1,4 +1,5 @@
-// Why a command was refused: the rules of its check, and the values that the rule compares.
+// Explains why a command was refused: the rules of the check that refused it, and the values that the rule
+// compares.
 
 import { hexOf, numberOf, Reader } from "./bytes.js";
 import { byNumber, facts } from "./facts.js";
@@ -11,7 +12,8 @@ import { bytesWords, commandWords, grouped, handleWords, localitiesWords, nvFlag
  * @typedef {import("./script.js").Step} Step
  * @typedef {import("./state.js").State} State
  * @typedef {{sentence: string, link: string}} Rule
- * @typedef {{nonce: Uint8Array, attributes: number, secret: Uint8Array}} Part of an entry, or of its answer
+ * @typedef {{nonce: Uint8Array, attributes: number, secret: Uint8Array}} Part of an entry of a command or of
+ *   a response
  * @typedef {Part & {handle: number, isPassword: boolean}} Entry
  */
 
@@ -24,7 +26,7 @@ const LEAST_ANSWER = 5;
 const isRule = (key) => key in facts.rules;
 
 /**
- * The keys of the rules that a check may have refused by.
+ * Returns the keys of the rules that may be the reason why a check refused.
  * @param {string} check @param {string} command @param {Meaning | null} meaning
  */
 function ruleKeys(check, command, meaning) {
@@ -39,14 +41,14 @@ function ruleKeys(check, command, meaning) {
 }
 
 /**
- * The conditions of a policy's use that are refused by this name.
+ * Returns the keys of the policy conditions that a command is refused with, by the name of the code.
  * @param {string} name
  */
 const conditionKeys = (name) =>
   Object.keys(facts.rules).filter((key) => key.startsWith("condition/") && new RegExp(`\\b${name}\\b`).test(facts.rules[key][0]));
 
 /**
- * The rules by which a check refused a command.
+ * Returns the rules by which a check refused a command.
  * @param {string} check @param {Uint8Array} buffer @param {Meaning | null} meaning @param {State} before
  * @returns {Rule[]}
  */
@@ -58,7 +60,8 @@ export function rulesOf(check, buffer, meaning, before) {
 }
 
 /**
- * The rows of the table for a check of all commands, or for the checks of this command: what each says, by its label.
+ * Returns the rows of the table for a check of all commands, or for the checks of this command: the sentence
+ * of each row, by the row's label.
  * @param {string} check @param {Uint8Array} buffer
  * @returns {[string, string][]}
  */
@@ -70,13 +73,13 @@ export function rowsOf(check, buffer) {
 }
 
 /**
- * Whether a code is that of an entry with a wrong password or HMAC.
+ * Returns whether a code reports an entry with a wrong password or HMAC.
  * @param {Meaning | null} meaning
  */
 export const isWrongEntry = (meaning) => meaning !== null && ["AUTH_FAIL", "BAD_AUTH"].includes(meaning.name);
 
 /**
- * A rule with the number of the entry, and of a wrong entry only the case that happened.
+ * Returns a rule with the number of the entry. For a wrong entry it states only the case that happened.
  * @param {string} rule @param {Uint8Array} buffer @param {Meaning | null} meaning @param {State} before
  */
 function sentenceOf(rule, buffer, meaning, before) {
@@ -108,7 +111,7 @@ function failedCondition(buffer, meaning, before) {
 const WRITTEN = 1 << 29;
 
 /**
- * Conditions 5 and 6 come before 8.
+ * Returns which condition refused first: conditions 5 and 6 are checked before 8.
  * @param {import("./state.js").Session} session
  * @param {import("./state.js").Index | undefined} index
  */
@@ -119,7 +122,7 @@ function whichBefore(session, index) {
 }
 
 /**
- * The entries of a command.
+ * Returns the entries of a command.
  * @param {Uint8Array} buffer @returns {Entry[]}
  */
 export function entriesOf(buffer) {
@@ -140,7 +143,7 @@ export function entriesOf(buffer) {
 const partOf = (reader) => ({ nonce: reader.sized(), attributes: reader.number(1), secret: reader.sized() });
 
 /**
- * What a success answers to the entries of its command.
+ * Returns the response's parts for the entries of its command, after a success.
  * @param {import("./facts.js").CommandFact} command @param {Uint8Array} response @returns {Part[]}
  */
 export function answersOf(command, response) {
@@ -153,7 +156,7 @@ export function answersOf(command, response) {
 }
 
 /**
- * The handles of the entries.
+ * Returns the handles of the entries.
  * @param {Uint8Array} buffer
  */
 export const entryHandles = (buffer) => entriesOf(buffer).map((it) => it.handle);
@@ -162,7 +165,7 @@ export const entryHandles = (buffer) => entriesOf(buffer).map((it) => it.handle)
 const handleAt = (buffer, at) => numberOf(buffer.subarray(HEADER + HANDLE * at, HEADER + HANDLE * (at + 1)));
 
 /**
- * The authorization value of an entity that the device has, empty for a PCR.
+ * Returns the authorization value of an entity of the device, empty for a PCR.
  * @param {number} handle @param {State} state
  */
 export function authOf(handle, state) {
@@ -172,7 +175,7 @@ export function authOf(handle, state) {
 }
 
 /**
- * The entity that an entry authorizes, and the session by which.
+ * Returns an entry, the entity that it authorizes, and its session.
  * @param {Uint8Array} buffer @param {number} place from 1 @param {State} before
  */
 function useOf(buffer, place, before) {
@@ -189,7 +192,7 @@ function useOf(buffer, place, before) {
 }
 
 /**
- * The values that a refusal is about, each with what it is.
+ * Returns the values that a refusal is about, each with a label.
  * @param {Step} step @param {Meaning | null} meaning @param {State} before
  * @returns {[string, string][]}
  */
@@ -235,7 +238,7 @@ function counterValues({ session }, before) {
 const READERS = new Set(["NV_Read", "NV_ReadLock", "PolicyNV"]);
 
 /**
- * The attributes of an index, and which one would let the handle use it.
+ * Returns the attributes of an index, and the attribute that would let the handle use it.
  * @param {Use} use @param {Step} step @param {string} name @returns {[string, string][]}
  */
 function indexValues({ used, handle }, step, name) {

@@ -1,5 +1,5 @@
-// The rows of the editor that can be seen: each line in colours; next to it its number and what came of
-// it. A row that is as it was stays, so that an edit makes few elements.
+// The visible rows of the editor: each line in colours, and next to it its number and its result.
+// Unchanged rows stay, so an edit makes few elements.
 
 import { colouredLine } from "./coloured.js";
 import { byId, make } from "./dom.js";
@@ -9,8 +9,8 @@ import { byId, make } from "./dom.js";
  * @typedef {{
  *   fault: (line: number) => import("./device.js").LineFault | undefined,
  *   outcome: (line: number) => Outcome | null, isChosen: (line: number) => boolean,
- * }} Told what a row shows of its line
- * @typedef {{top: number, left: number, width: number, height: number}} View what can be seen of the text
+ * }} Told what a row shows about its line
+ * @typedef {{top: number, left: number, width: number, height: number}} View the visible part of the text
  * @typedef {{key: string, row: HTMLElement, side: HTMLElement}} Shown
  */
 
@@ -61,7 +61,8 @@ export class Rows {
   }
 
   /**
-   * The first column of a long line that is there; a step of a hundred columns, so that it seldom changes.
+   * Returns the first column of a long line that is drawn. It is a multiple of a hundred, so that it
+   * seldom changes.
    * @param {View} view
    */
   #firstColumn(view) {

@@ -1,5 +1,6 @@
-// A script that is played: answers and states by their events. What an edit left as it was is not
-// played again: each 64th state is kept as its state text, and what follows goes on from there.
+// Plays a script: answers and states by their events. What an edit left unchanged is not played
+// again: the state before each 64th event is kept as a state text, and playing continues from
+// there.
 
 import { decoded } from "./bytes.js";
 import { responseCode } from "./fields.js";
@@ -48,7 +49,7 @@ export class Run {
   }
 
   /**
-   * Begins again, on the device of an image or a state text if there is one.
+   * Begins again, on the device of an image or a state text if one is passed.
    * @param {Uint8Array | null} text
    */
   begin(text) {
@@ -68,7 +69,7 @@ export class Run {
   }
 
   /**
-   * Takes other events instead of its own.
+   * Replaces the events, and keeps the answers to those at the front that are the same.
    * @param {Step[]} steps
    */
   take(steps) {
@@ -88,7 +89,7 @@ export class Run {
   }
 
   /**
-   * Plays up to an event, and after it for so many milliseconds at most.
+   * Plays up to an event, and then continues for at most so many milliseconds.
    * @param {number} least @param {number} milliseconds
    */
   play(least, milliseconds) {
@@ -125,7 +126,7 @@ export class Run {
   }
 
   /**
-   * The second device, where so many events have happened.
+   * Brings the second device to the state after `count` events, and returns its number.
    * @param {number} count
    */
   #reach(count) {
@@ -140,7 +141,7 @@ export class Run {
   }
 
   /**
-   * The state where so many events have happened.
+   * Returns the state after `count` events.
    * @param {number} count
    */
   stateAt(count) {
@@ -163,7 +164,7 @@ export class Run {
     return this.chip.snapshot(this.#reach(count));
   }
 
-  /** The journal of the last time of power, from the first command on. */
+  /** Returns the journal since the last power cycle, from the first command on. */
   journal() {
     this.play(this.steps.length, 0);
     let from = this.steps.length - 1;

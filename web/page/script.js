@@ -1,12 +1,12 @@
-// The lines of a script: what each says, and the events that they come to.
+// Reads the lines of a script: the meaning of each, and the events that they make.
 
 import { areSame, bytesOf, hexNumber, hexOf } from "./bytes.js";
 import { RANDOM_BYTES } from "./device.js";
 
 /**
- * An event: where the device begins, a power cycle, or a command with what passed before it.
- * `answers` are those that the script itself has of it, as a log does. With `completes` the completing
- * layer was there.
+ * An event: the start of a device, a power cycle, or a command with the time that elapsed before it.
+ * `answers` are the responses that the script itself records, as a log does. `completes` says that the
+ * completing layer was above the device.
  * @typedef {{
  *   kind: "begin" | "power" | "command", line: number, buffer: Uint8Array, locality: number,
  *   elapsed: number, random: Uint8Array, answers: string[], completes: boolean,
@@ -20,7 +20,7 @@ const MOST_KEPT = 50000;
 const NOTHING = new Uint8Array(0);
 const ZEROS = new Uint8Array(RANDOM_BYTES);
 
-/** The bytes of which a script's device is manufactured: 00 to ff. */
+/** The bytes from which a script's device is manufactured: 00 to ff. */
 export const FIRST_RANDOM = Uint8Array.from({ length: RANDOM_BYTES }, (_, byte) => byte);
 
 const TRACE = /^\S+ L\d \+\d+ \S+ [0-9a-f]{8}$/;
@@ -33,13 +33,13 @@ const SUM = "sum ";
 const CONTENT = /^# ((?:[0-9a-f]{2}){42,})$/;
 
 /**
- * Whether a line begins a device, as the head of a journal or of a report does.
+ * Returns whether a line starts a device, as the head of a journal or of a report does.
  * @param {string} line
  */
 export const isHead = (line) => line.startsWith("# ") && (REPORTED.test(line) || JOURNAL.test(line));
 
 /**
- * What each line says, by its text.
+ * The parsed form of each line, by its text.
  * @type {Map<string, ReadLine>}
  */
 const kept = new Map();
@@ -62,7 +62,7 @@ function lineOf(chip, text, waited) {
 }
 
 /**
- * Whether answers come before their commands, as where one comes before all commands.
+ * Returns whether the responses are before their commands: the first response is then before all commands.
  * @param {string[]} lines
  */
 function answersComeFirst(lines) {
@@ -110,7 +110,8 @@ class Reading {
   }
 
   /**
-   * The mark of a journal, before its command: whether the layer was there, and the response's sum.
+   * Reads the mark that a journal has before a command: whether the completing layer was above the device,
+   * and the checksum of the response.
    * @param {string} hex
    */
   mark(hex) {
@@ -165,7 +166,7 @@ export function readScript(chip, lines) {
 }
 
 /**
- * Whether two events are alike, wherever they are.
+ * Returns whether two events are alike, wherever they are in the script.
  * @param {Step} one @param {Step} other
  */
 export function isSameStep(one, other) {
@@ -177,7 +178,7 @@ export function isSameStep(one, other) {
 const FNV = { basis: 0xcbf29ce484222325n, prime: 0x100000001b3n, bits: 64 };
 
 /**
- * The sum that a journal has of a response: FNV-1a of 64 bits.
+ * Returns the checksum of a response in a journal: FNV-1a of 64 bits.
  * @param {Uint8Array} bytes
  */
 function sumOf(bytes) {
@@ -187,7 +188,7 @@ function sumOf(bytes) {
 }
 
 /**
- * Whether an answer that a script has is that of the device.
+ * Returns whether a response that a script records is the device's.
  * @param {string} given @param {import("./device.js").Answer} answer
  */
 export function isAnswer(given, answer) {
@@ -198,7 +199,7 @@ export function isAnswer(given, answer) {
 }
 
 /**
- * The script as a log: each command with its response after it.
+ * Returns the script as a log: each command with its response after it.
  * @param {Script} script @param {(import("./device.js").Answer | null)[]} answers
  */
 export function logOf(script, answers) {
@@ -214,7 +215,7 @@ export function logOf(script, answers) {
 }
 
 /**
- * The lines of a script on another device: without its head, and with this one.
+ * Returns the lines of a script on another device: its own head is replaced by this one.
  * @param {string} text @param {string} head
  */
 export function onDevice(text, head) {
@@ -224,7 +225,7 @@ export function onDevice(text, head) {
 }
 
 /**
- * A word for the random bytes of a step, as an entropy line has them.
+ * Returns a step's random bytes as the word of an entropy line.
  * @param {Uint8Array} random
  */
 export function entropyWord(random) {

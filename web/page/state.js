@@ -1,5 +1,5 @@
-// A device, read from its state text (docs/table/state_text.md), which is all that it is. Reading it
-// changes nothing.
+// Reads a device from its state text (docs/table/state_text.md), which is its whole state. Reading it changes
+// nothing.
 
 import { hexNumber, hexOf, Reader } from "./bytes.js";
 import { facts } from "./facts.js";
@@ -68,7 +68,7 @@ export function readState(text) {
 }
 
 /**
- * What a device keeps without power.
+ * Reads what a device keeps without power.
  * @param {Reader} reader @param {State} state
  */
 function readKept(reader, state) {
@@ -155,7 +155,7 @@ function readSession(reader, place) {
   };
 }
 
-// The values of a device as texts.
+// The values of a device, as text.
 
 /** @param {Iterable<[string, string | null]>} pairs @returns {Map<string, string>} */
 const present = (pairs) => {
@@ -264,11 +264,11 @@ function clockValues(state) {
   ]);
 }
 
-// What differs between two states.
+// The differences between two states.
 
 /** @typedef {{group: string, entity: string, name: string, before: string | null, after: string | null}} Change */
 
-/** Time, which passes with each command. */
+/** The values that change with each command because time passes. */
 const QUIET = new Set(["Time", "Clock"]);
 
 /** @param {State} before @param {State} after @returns {Change[]} */
@@ -297,13 +297,13 @@ function valueChanges(old = new Map(), now = new Map()) {
 }
 
 /**
- * Whether all bytes of a value are 00, or all are ff.
+ * Returns whether all bytes of a value are 00, or all are ff.
  * @param {string} hex
  */
 export const isBlank = (hex) => /^(?:(?:00)*|(?:ff)*)$/.test(hex);
 
 /**
- * The handles that a device has of a first byte.
+ * Returns the device's handles with this first byte.
  * @param {State} state @param {number} first
  */
 export function handlesOf(state, first) {

@@ -1,4 +1,4 @@
-// The chosen step: what was asked, what was answered and why, what it changed, and the bytes.
+// Shows the chosen step: the command, the response and the reason for it, the changes, and the bytes.
 
 import { hexNumber, hexOf } from "./bytes.js";
 import { bytesShown } from "./bytes_view.js";
@@ -19,7 +19,7 @@ import { commandWords, plural, secondsWords, sizeWords } from "./words.js";
  * @typedef {{
  *   step: Step, answer: Answer, line: string, before: State, after: State, told?: import("./told.js").ToldShown | null,
  *   plainCommand: Plain | null, plainResponse: Plain | null, plainGiven: Plain | null, uses: Node | null,
- * }} Chosen `plainGiven` is of a response that the script has, which is not the device's
+ * }} Chosen `plainGiven` is a response that the script records, if it is not the device's, decrypted
  */
 
 const MOST_CHANGES = 40;
@@ -28,7 +28,7 @@ const ROW_EDGES = 84;
 const PCRS = "PCRs";
 
 /**
- * The code of an answer in words.
+ * Returns the response code of an answer in words.
  * @param {import("./device.js").Chip} chip @param {Answer} answer
  */
 export function codeWords(chip, answer) {
@@ -40,7 +40,7 @@ export function codeWords(chip, answer) {
 }
 
 /**
- * The code of an answer as the table writes it, such as AUTH_FAIL/s1.
+ * Returns a response code as the table writes it, such as AUTH_FAIL/s1.
  * @param {import("./device.js").Chip} chip @param {number} code
  */
 export function spelledCode(chip, code) {
@@ -51,7 +51,7 @@ export function spelledCode(chip, code) {
 }
 
 /**
- * A section of docs/table, in words.
+ * Returns the name of a section of docs/table, in words.
  * @param {string} link
  */
 const sectionWords = (link) =>
@@ -157,7 +157,7 @@ function whyShown({ step, answer, before, told }, meaning) {
 }
 
 /**
- * The rows of the table for a check, which open.
+ * Shows the table's rows for a check; the user can open them.
  * @param {string} check @param {Uint8Array} buffer
  */
 function rowsShown(check, buffer) {
@@ -168,7 +168,7 @@ function rowsShown(check, buffer) {
 }
 
 /**
- * Where a log has another answer than the device.
+ * Shows the log's responses that differ from the device's.
  * @param {import("./device.js").Chip} chip @param {Chosen} chosen
  */
 function differences(chip, { step, answer, plainGiven }) {
@@ -187,13 +187,13 @@ const givenWords = ({ reason, bytes, from, to, session }) => (reason
   : `Session ${hexNumber(session, 8)} encrypted it; decrypted, its first parameter is ${hexOf(bytes.subarray(from, to)) || "empty"}.`);
 
 /**
- * What could be decrypted.
+ * Returns what could be decrypted, or null.
  * @param {Plain | null} plain
  */
 const known = (plain) => (plain && !plain.reason ? plain : null);
 
 /**
- * That a parameter is encrypted, and why it stays so.
+ * Shows that a parameter is encrypted, and why it was not decrypted.
  * @param {Plain | null} plain @param {boolean} [isRefused] whether its command was refused
  */
 function encryptionShown(plain, isRefused = false) {
@@ -203,7 +203,7 @@ function encryptionShown(plain, isRefused = false) {
 }
 
 /**
- * The field that a code points at.
+ * Returns the field that a response code points at.
  * @param {import("./fields.js").Field[]} fields @param {Meaning | null} meaning
  */
 function wrongField(fields, meaning) {
@@ -214,7 +214,7 @@ function wrongField(fields, meaning) {
 
 let perRow = 16;
 
-/** Reads the number of bytes that fit in a row of the pane, and returns whether that is another number. */
+/** Measures the number of bytes that fit in a row of the pane, and returns whether it has changed. */
 export function measureStep() {
   const before = perRow;
   perRow = byId("detail").clientWidth - ROW_EDGES >= 16 * BYTE_WIDTH ? 16 : 8;
@@ -238,7 +238,7 @@ function changesShown(before, after) {
 const MOST_BEFORE = 40;
 
 /**
- * A value that is gone, shortly.
+ * Shortens a value that was replaced.
  * @param {string} text
  */
 const shortly = (text) =>

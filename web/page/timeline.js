@@ -1,4 +1,4 @@
-// The slider through the script, over a mark for each step: refusals are taller, power cycles lines.
+// The slider through the script, over a mark for each step: tall marks for refusals, lines for power cycles.
 
 import { byId } from "./dom.js";
 import { commandNumber } from "./fields.js";
@@ -31,8 +31,9 @@ const OTHER = 2;
 const REFUSED = 3;
 
 /**
- * The mark at each pixel: of steps that share one, the most notable.
- * @param {import("./script.js").Step[]} steps @param {number[]} refusals @param {number} span how many pixels there are
+ * Returns the mark at each pixel. If several steps share a pixel, it is the mark of the most notable one.
+ * @param {import("./script.js").Step[]} steps @param {number[]} refusals @param {number} span how many pixels
+ *   there are
  */
 function marksOf(steps, refusals, span) {
   const marks = new Uint8Array(span + 1).fill(NONE);
@@ -47,7 +48,7 @@ function marksOf(steps, refusals, span) {
 }
 
 /**
- * Draws the marks of a kind, and those that touch as one.
+ * Draws the marks of one kind; marks that touch are drawn as one.
  * @param {CanvasRenderingContext2D} pen @param {Uint8Array} marks @param {number} mark
  * @param {{width: number, half: number, middle: number}} shape
  */
@@ -60,7 +61,7 @@ function drawKind(pen, marks, mark, { width, half, middle }) {
   }
 }
 
-/** What is drawn, in words. */
+/** What is drawn now, in words. */
 let drawn = "";
 
 /** @param {import("./script.js").Step[]} steps @param {number[]} refusals */

@@ -1,5 +1,5 @@
-// A log that tools/explain.py explained: its reasons, by the lines of its commands. The page plays the
-// log as it plays any script; an edit drops the reasons.
+// A log with the reasons that tools/explain.py found, by the line of each command. The page plays the log
+// like any script; an edit drops the reasons.
 
 import { bytesOf } from "./bytes.js";
 import { RANDOM_BYTES } from "./device.js";
@@ -13,13 +13,13 @@ import { tableLink } from "./step_pane.js";
  *   reason?: Reason, notes?: Reason[], entries?: [number, Fact[]][],
  *   differs?: [string, string, string][], layer?: string, random?: string,
  * }} Event
- * @typedef {{parts: Node[], after: Node[], hasReason: boolean}} ToldShown what the pane of a step shows of it
+ * @typedef {{parts: Node[], after: Node[], hasReason: boolean}} ToldShown what the pane of a step shows about
+ *   a command
  * @typedef {{
  *   name: string, script: string, line: number, start: string, summary: string,
  *   events: Record<string, Event>,
  * }} Log the text of the log, the line to begin at, the device if the log does not say it, and what is
  *   said of the command in each line
-
  */
 
 export class Told {
@@ -36,7 +36,7 @@ export class Told {
     return this.log?.line ?? -1;
   }
 
-  /** The image or the state text that the log begins on. */
+  /** Returns the image or the state text that the log begins with. */
   get start() {
     return this.log?.start ? bytesOf(this.log.start) : null;
   }
@@ -46,7 +46,7 @@ export class Told {
   }
 
   /**
-   * Random bytes that the log itself does not say.
+   * Fills in the random bytes that the log itself does not contain.
    * @param {import("./script.js").Step[]} steps
    */
   complete(steps) {
@@ -57,7 +57,7 @@ export class Told {
   }
 
   /**
-   * What is said of the command in a line, from 0.
+   * Returns what the explanation says about the command in a line, counted from 0.
    * @param {number} line
    * @returns {ToldShown | null}
    */
@@ -90,7 +90,7 @@ const factsShown = (those) =>
   listed(those.map(([label, value, sort]) => [label, sort ? make("span", { class: sort === "had" ? "had" : "new" }, value) : value]));
 
 /**
- * What the HMACs of the command are of.
+ * Shows the values that the HMACs of the command are computed over.
  * @param {Event} event
  */
 const entriesShown = (event) =>

@@ -1,10 +1,10 @@
-// The tutorial: lessons, each with a script that is whole, and a task that the page sees done.
+// The tutorial: lessons, each with a complete script, and a task whose completion the page detects.
 
 import { byId, make } from "./dom.js";
 
 /**
- * A task is done once the text matches this expression, and so many events have this command and this code.
- * What is said after it says where to look.
+ * A lesson. Its task is done when the text matches the expression and enough events have this command and
+ * this code. `after` then says where to look.
  * @typedef {{
  *   title: string, text: string[], task: string, script: string[], line: number,
  *   done: {name: string, code: string, least?: number, matches?: string}, after?: string, show: Show,
@@ -26,7 +26,7 @@ export class Tutorial {
     this.at = -1;
     this.isDone = false;
     /**
-     * The lesson that was left, and its script then.
+     * The lesson that the user left, and its script at that time.
      * @type {{at: number, text: string} | null}
      */
     this.left = null;
@@ -37,7 +37,7 @@ export class Tutorial {
   }
 
   /**
-   * Opens a lesson, or the one that was left.
+   * Opens a lesson, or the one that the user left.
    * @param {number} at
    */
   open(at) {
@@ -60,7 +60,7 @@ export class Tutorial {
   }
 
   /**
-   * Shows the lesson that was just left, if an image was opened.
+   * Opens the lesson that was just closed, if the user then opened an image.
    * @param {{at: number, text: string}} left
    */
   #reopen({ at, text }) {
@@ -112,7 +112,7 @@ export class Tutorial {
     );
   }
 
-  /** Does the task. */
+  /** Performs the task. */
   #showTask() {
     const lesson = this.lessons[this.at];
     const { script, show } = lesson;
@@ -122,7 +122,7 @@ export class Tutorial {
     this.page.edit(text, show.image ? 3 : before < 0 ? script.length : before);
   }
 
-  /** Looks whether the task of the lesson is done. */
+  /** Checks whether the task of the lesson is done. */
   look() {
     if (!this.isOpen || this.isDone) return;
     const lesson = this.lessons[this.at];
@@ -147,7 +147,7 @@ export function isDone({ done }, page) {
 }
 
 /**
- * The script of a lesson, with its task done.
+ * Returns the script of a lesson with its task done.
  * @param {string} text @param {Show} show @param {Pick<Shell, "onImage">} page
  */
 export function shownText(text, show, page) {
@@ -156,7 +156,7 @@ export function shownText(text, show, page) {
 }
 
 /**
- * Text with code between backticks.
+ * Turns text between backticks into code elements.
  * @param {string} text
  */
 export const marked = (text) =>

@@ -1,4 +1,4 @@
-// Where a script uses an object, an index or a session that the chosen step uses too.
+// Shows where a script uses an object, an index or a session that the chosen step uses too.
 
 import { hexNumber, numberOf } from "./bytes.js";
 import { make } from "./dom.js";
@@ -18,7 +18,7 @@ const MOST_SHOWN = 40;
 const HEADER = 10;
 
 /**
- * The handle that a success answers.
+ * Returns the handle in a successful response.
  * @param {Step} step @param {Answer} answer
  */
 function answeredHandle(step, answer) {
@@ -28,7 +28,8 @@ function answeredHandle(step, answer) {
 }
 
 /**
- * The handles of entities in a command: its own, those of entries, and those that are parameters.
+ * Returns the handles of entities in a command: its handles, those of its entries, and those in its
+ * parameters.
  * @param {Step} step
  */
 function handlesIn(step) {
@@ -54,7 +55,7 @@ function entitiesOf(step, answer) {
 }
 
 /**
- * The steps of the life that an entity has at a step.
+ * Returns the steps that use the same entity as this step, from its creation to its end.
  * @param {Step[]} steps @param {Answer[]} answers @param {number} handle @param {number} at
  */
 function usesOf(steps, answers, handle, at) {
@@ -70,7 +71,8 @@ function usesOf(steps, answers, handle, at) {
 }
 
 /**
- * What the step uses, and where else that is used; looked for each time that it is opened.
+ * Shows what the step uses, and where else the script uses that. It searches each time that the user opens
+ * it.
  * @param {import("./run.js").Run} run @param {number} at @param {(step: number) => void} go
  */
 export function usesShown(run, at, go) {

@@ -1,4 +1,4 @@
-// How numbers, handles and bytes are said, in the words of tools/explain.py.
+// Writes numbers, handles and bytes in the words of tools/explain.py.
 
 import { decoded, hexNumber, hexOf } from "./bytes.js";
 import { byNumber, facts } from "./facts.js";
@@ -42,7 +42,7 @@ export function kindWords(handle) {
 }
 
 /**
- * What a handle in a buffer is.
+ * Describes a handle in a buffer.
  * @param {number} handle
  */
 export function saidHandle(handle) {
@@ -65,7 +65,7 @@ export const saidBytes = (bytes) =>
   isPrintable(bytes) ? `"${decoded(bytes)}"` : sizeWords(bytes.length);
 
 /**
- * Hex, and the text after it if the bytes are one.
+ * Returns bytes in hex, followed by the text that they encode if it is printable.
  * @param {Uint8Array} bytes
  */
 export function bytesWords(bytes) {
@@ -74,7 +74,7 @@ export function bytesWords(bytes) {
 }
 
 /**
- * The names of the bits that are set; others in hex.
+ * Returns the names of the bits that are set; bits without names in hex.
  * @param {number} value @param {Record<string, string>} names
  */
 export function bitWords(value, names) {
@@ -113,7 +113,7 @@ export function secondsWords(milliseconds) {
 }
 
 /**
- * The PCRs of a selection's bits.
+ * Returns the PCRs that a selection's bits select.
  * @param {Uint8Array} bits
  */
 export function pcrWords(bits) {

@@ -1,5 +1,5 @@
--- What TPM2_GetCapability lists. TPM 2.0 Library, Part 3, section 30.2, and Part 2, section 10.10.2
--- (TPMS_CAPABILITY_DATA).
+-- The elements that TPM2_GetCapability lists. TPM 2.0 Library, Part 3, section 30.2, and Part 2,
+-- section 10.10.2 (TPMS_CAPABILITY_DATA).
 use Rattle.std.specs.Prelude.{ℕ, ◌==◌, zero, suc, nat_lt, nat_le, min, Bool, List, [], ◌∷◌, ◌++◌, count_by, filter, take, map, if◌then◌else◌}
 use Rattle.std.specs.Int.{w32, to_be_bytes}
 use Rattle.std.specs.List.{flat_map}
@@ -23,8 +23,8 @@ told_text tell.NumberAndValue e = to_be_bytes w32 e.number ++ to_be_bytes w32 e.
 abbrev pub is_from : ℕ → Element → Bool
 is_from from e = nat_le from e.number
 
--- how many elements have at least this number, and how many of these are listed: the requested
--- number, but at most 64
+-- the number of elements that have at least this number; and how many of these are listed: the
+-- requested number, but at most 64
 abbrev pub found_count : ℕ → List Element → ℕ
 found_count from elements = count_by (is_from from) elements
 

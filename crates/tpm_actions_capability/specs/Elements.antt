@@ -84,8 +84,9 @@ command_elements = map command_element all_codes
 
 -- ---- properties
 
--- the properties TPM_PT_FAMILY_INDICATOR ("2.0" and a zero) and TPM_PT_TOTAL_COMMANDS;
--- TPM_PT_LOCKOUT_COUNTER, TPM_PT_MAX_AUTH_FAIL, TPM_PT_LOCKOUT_INTERVAL and TPM_PT_LOCKOUT_RECOVERY
+-- the listed properties, with their values: TPM_PT_FAMILY_INDICATOR ("2.0" and a zero),
+-- TPM_PT_TOTAL_COMMANDS, TPM_PT_LOCKOUT_COUNTER, TPM_PT_MAX_AUTH_FAIL, TPM_PT_LOCKOUT_INTERVAL and
+-- TPM_PT_LOCKOUT_RECOVERY
 abbrev pub property_elements : LockoutState → List Element
 property_elements lockout =
     record { number = 0x100; told = 0x322e3000 }

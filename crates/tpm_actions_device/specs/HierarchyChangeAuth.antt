@@ -18,7 +18,8 @@ abbrev pub with_auth_of : Hierarchies → Handle → List ℕ → Hierarchies
 with_auth_of h handle value =
     option_map_or (λ auth. with_hierarchy_auth h auth value) (hierarchy_auth_of handle) h
 
--- authHandle is authorized; parameter newAuth, at most 32 bytes, without its trailing zeros
+-- the row of TPM2_HierarchyChangeAuth. Handle: authHandle, authorized. Parameter: newAuth, at most
+-- 32 bytes, without its trailing zeros
 unfoldable pub hierarchy_change_auth_row : Record → Request → Result Success Refused
 hierarchy_change_auth_row r q = do
   handle ← first_handle q.handles

@@ -1,5 +1,5 @@
--- What the commands that change PCRs have in common: they change a PCR; with TPM_RH_NULL they
--- check and change nothing.
+-- The common part of the commands that change PCRs: they change a PCR; with TPM_RH_NULL they check
+-- and change nothing.
 use Rattle.tpm_types.specs.declared.action_check.ActionCheck.TheVariants as action
 use Rattle.std.specs.Prelude.{ℕ, Option, Some, None, Result, Ok, Err}
 use Rattle.tpm_pcr.specs.Values.{BankValues}
@@ -11,8 +11,8 @@ use Rattle.tpm_record.specs.Record.{Record}
 use Rattle.tpm_types.specs.declared.refused.Refused.{Refused}
 use Rattle.tpm_record.specs.rows.Refusals.{action_refusal}
 
--- the refusal to change a PCR. A1: the PCR does not allow this change from this locality. A2: the
--- updates cannot be counted
+-- the refusal to change a PCR: by A1 if the PCR does not allow this change from this locality; by
+-- A2 if the updates cannot be counted
 abbrev pub change_refusal : ChangeFault → Refused
 change_refusal Locality = action_refusal action.First (plain code.Locality)
 change_refusal Failure = action_refusal action.Second (plain code.Failure)

@@ -19,7 +19,7 @@ abbrev pub extended : Handle → (locality : ℕ) → List DigestValue
     → BankValues → Result BankValues Refused
 extended handle locality digests = on_pcr (pcr_of handle) (λ pcr. extend_of pcr locality digests)
 
--- pcrHandle is authorized; parameter digests
+-- the row of TPM2_PCR_Extend. Handle: pcrHandle, authorized. Parameter: digests
 unfoldable pub pcr_extend_row : Record → Request → Result Success Refused
 pcr_extend_row r q = do
   handle ← first_handle q.handles

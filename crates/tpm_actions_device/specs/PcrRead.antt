@@ -21,8 +21,8 @@ reading_text banks selection =
     ++ selection_text (answer_selection 8 selection)
     ++ digest_list_text (read_values banks 8 selection)
 
--- parameter pcrSelectionIn; returned: the update counter, the selection of the PCRs that are
--- read, and their values
+-- the row of TPM2_PCR_Read. Parameter: pcrSelectionIn. Answer: the update counter, the selection
+-- of the PCRs that are read, and their values
 unfoldable pub pcr_read_row : Record → Request → Result Success Refused
 pcr_read_row r q = do
   selection ← only (selection_at q.parameters)

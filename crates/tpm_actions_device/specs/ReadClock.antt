@@ -20,7 +20,7 @@ time_text f =
     ++ to_be_bytes w32 f.restart_count
     ++ 1 ∷ []
 
--- no parameters; returned: Time and the clock's values
+-- the row of TPM2_ReadClock. Parameters: none. Answer: Time and the clock's values
 unfoldable pub read_clock_row : Record → Request → Result Success Refused
 read_clock_row r q = do
   ended ← all_read q.parameters

@@ -8,7 +8,8 @@ use Rattle.tpm_record.specs.rows.Answer.{nothing}
 use Rattle.tpm_record.specs.rows.Request.{Request}
 use Rattle.tpm_record.specs.rows.Rows.{Success, only, unchanged}
 
--- parameter fullTest. All tests have already passed, so there is nothing to do
+-- the row of TPM2_SelfTest. Parameter: fullTest. All tests have already passed, so the command
+-- does nothing
 unfoldable pub self_test_row : Record → Request → Result Success Refused
 self_test_row r q = do
   full_test ← only (yes_no_at q.parameters)

@@ -9,7 +9,8 @@ use Rattle.tpm_record.specs.rows.Answer.{nothing}
 use Rattle.tpm_record.specs.rows.Request.{Request}
 use Rattle.tpm_record.specs.rows.Rows.{Success, only}
 
--- parameter shutdownType; the newly saved state replaces what was saved before
+-- the row of TPM2_Shutdown. Parameter: shutdownType. Effect: the newly saved state replaces the
+-- one saved before
 unfoldable pub shutdown_row : Record → Request → Result Success Refused
 shutdown_row r q = do
   type ← only (startup_type_at q.parameters)

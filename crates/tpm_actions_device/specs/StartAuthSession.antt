@@ -66,9 +66,9 @@ abbrev pub has_other_mask : SymmetricDefinition → HashAlg → Bool
 has_other_mask (symmetric.Xor mask) hash = not (hash_number mask == hash_number hash)
 has_other_mask other hash = false
 
--- the command's own checks of its parameters. A1: nonceCaller is shorter than 16 bytes, or longer
--- than a digest. A2: there is a salt, but no key to decrypt it. A3: the hash of XOR is not
--- authHash
+-- the command's own checks of its parameters. Refused by A1 if nonceCaller is shorter than 16
+-- bytes, or longer than a digest; by A2 if there is a salt, because there is no key to decrypt it;
+-- by A3 if the hash of XOR is not authHash
 unfoldable pub parameters_pass : Parameters → Result (Unit {0}) Refused
 parameters_pass p = do
   a1 ← refused_if (not (is_nonce_size p.hash (length p.nonce_caller)))
@@ -90,7 +90,7 @@ binding_of r bind =
 abbrev pub session_with : Parameters → Option Binding → List ℕ → Session
 session_with p binding nonce = new_session p.kind p.hash p.symmetric binding nonce p.nonce_caller
 
--- the slot of a new session. A4: no slot is free
+-- the slot of a new session. Refused by A4 if no slot is free
 abbrev pub session_place : List (Option Session) → Result ℕ Refused
 session_place sessions =
     ok_or (lowest_free sessions) (action_refusal action.Fourth (plain code.SessionMemory))
@@ -104,8 +104,9 @@ start_answer p s place = record {
   drawn = length p.nonce_caller;
 }
 
--- handles tpmKey, which is TPM_RH_NULL, and bind. The session takes the lowest free slot. Its
--- nonceTPM is as long as nonceCaller, and consists of the first random bytes
+-- the row of TPM2_StartAuthSession. Handles: tpmKey, which is TPM_RH_NULL, and bind. Effect: the
+-- session is put into the lowest free slot. Its nonceTPM is as long as nonceCaller, and consists
+-- of the first random bytes
 unfoldable pub start_auth_session_row : Record → Request → Result Success Refused
 start_auth_session_row r q = do
   bind ← second_handle q.handles

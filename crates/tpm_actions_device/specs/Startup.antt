@@ -27,7 +27,7 @@ use Rattle.tpm_actions_device.specs.declared.startup.Start.{Start}
 use Rattle.tpm_actions_device.specs.declared.startup.Start.TheVariants.{Reset, Restart, Resume}
 
 -- the kind of a startup. If a state was saved, CLEAR is a TPM Restart, and STATE is a TPM Resume;
--- otherwise CLEAR is a TPM Reset. A1: STATE, and no state was saved
+-- otherwise CLEAR is a TPM Reset. Refused by A1 if STATE is requested and no state was saved
 abbrev pub start_of : StartupType → SavedKind → Result Start Refused
 start_of type.Clear saved.Nothing = Ok Reset
 start_of type.Clear saved.Clear = Ok Reset
@@ -38,7 +38,7 @@ start_of type.State saved.State = Ok Resume
 
 -- ---- what every startup does
 
--- a count of startups increases up to 2^32 - 1, and then stays there
+-- a count of startups after one more startup; at 2^32 - 1 it stays
 abbrev pub counted_up : ℕ → ℕ
 counted_up count = min (count + 1) (2 ^ 32 - 1)
 
@@ -103,8 +103,9 @@ start_draws Reset = 64
 start_draws Restart = 0
 start_draws Resume = 0
 
--- parameter startupType, from any locality. A1: there is no state to restore. The saved state is
--- discarded, as by any other successful command that does not preserve it
+-- the row of TPM2_Startup. Parameter: startupType, from any locality. Refused by A1 if there is no
+-- state to restore. Effect: the saved state is discarded, as by any other successful command that
+-- does not preserve it
 unfoldable pub startup_row : Record → Request → Result Success Refused
 startup_row r q = do
   type ← only (startup_type_at q.parameters)

@@ -23,7 +23,7 @@ use Rattle.tpm_record.specs.rows.Refusals.{action_refusal, handle_refusal, memor
 abbrev pub loaded_at : Record → Handle → Result Object Refused
 loaded_at r handle = ok_or (object_of r handle) handle_refusal
 
--- A1: the object of the first handle is not a storage parent
+-- the check A1 of a parent: refused if the object of the first handle is not a storage parent
 abbrev pub parent_passes : Object → Result (Unit {0}) Refused
 parent_passes parent =
     refused_if (not (is_storage_parent parent.public))
@@ -42,8 +42,8 @@ no_place action = action_refusal action (plain code.ObjectMemory)
 abbrev pub place_for : ActionCheck → Record → Result ℕ Refused
 place_for action r = ok_or (lowest_free r.objects) (no_place action)
 
--- The code loaded an object into its slot, or ran out of memory, if that can happen; or no slot
--- is free. A refusal changes nothing.
+-- The code put an object into its slot; or it ran out of memory, if that can happen; or no slot
+-- was free. A refusal changes nothing.
 abbrev pub Loads : Bool → Result ℕ Refused → Record → Object → Result Handle Refused → Record
     → Type 0
 Loads can (Ok place) old object (Ok handle) new =

@@ -1,5 +1,5 @@
-//! What TPM2_Create and TPM2_CreatePrimary have in common: their parameters, and the creation
-//! data and creation ticket in their answer.
+//! The common part of TPM2_Create and TPM2_CreatePrimary: their parameters, and the creation data
+//! and creation ticket in their answer.
 
 ghost use Rattle.tpm_bytes.specs.Reading.{Gives};
 ghost use Rattle.std.specs.Prelude.{◌≡◌, ◌+◌, ◌≤◌, ◌++◌, length};

@@ -4,7 +4,7 @@
 //! 15, 24 and 28).
 //!
 //! A command decodes its parameters, checks them, and calls `tpm_object` to compute the object
-//! that it makes or opens. `checks`, `loaded` and `creation` contain what several commands have
+//! that it makes or unwraps. `checks`, `loaded` and `creation` contain what several commands have
 //! in common.
 //!
 //! The crate uses `tpm_record::rows` and `tpm_object`. `specs/` contains a row for each command,

@@ -1,5 +1,5 @@
-//! What the commands on objects have in common: the object that a handle names, whether it can be
-//! a parent, and how a new object is loaded.
+//! The common part of the commands on objects: the object that a handle names, whether it can be a
+//! parent, and how a new object is loaded.
 
 ghost use Rattle.tpm_bytes.specs.Reading.{Gives};
 ghost use Rattle.std.specs.Prelude.{◌≡◌};

@@ -1,4 +1,4 @@
--- The assertion that the code requests, as values.
+-- The assertion that the code requests, as a value.
 use Rattle.std.specs.Prelude.{◌≡◌, Result, Ok, Err}
 use Rattle.tpm_policy.specs.Assertion as assertion
 use Rattle.tpm_policy.specs.Assertion.{Assertion}

@@ -9,7 +9,7 @@ use Rattle.tpm_types.specs.Rc.{plain}
 use Rattle.tpm_types.specs.declared.refused.Refused.{Refused}
 use Rattle.tpm_record.specs.rows.Rows.{only}
 
--- the assertion for the parameter code: the only command that is allowed
+-- the assertion of TPM2_PolicyCommandCode. Parameter: code, the only command that is allowed
 abbrev pub command_code_assertion : List ℕ → Result (Session → Assertion) Refused
 command_code_assertion text = do
   number ← only (or_fault (number_at w32 text) (plain code.Insufficient))

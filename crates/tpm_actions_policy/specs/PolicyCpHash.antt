@@ -7,7 +7,7 @@ use Rattle.tpm_types.specs.Buffer.{buffer_at}
 use Rattle.tpm_types.specs.declared.refused.Refused.{Refused}
 use Rattle.tpm_record.specs.rows.Rows.{only}
 
--- the assertion for the parameter cpHashA
+-- the assertion of TPM2_PolicyCpHash. Parameter: cpHashA
 abbrev pub cp_hash_assertion : List ℕ → Result (Session → Assertion) Refused
 cp_hash_assertion text = do
   cp_hash ← only (buffer_at 32 text)

@@ -8,7 +8,7 @@ use Rattle.tpm_record.specs.rows.Request.{Request, first_handle}
 use Rattle.tpm_record.specs.rows.Rows.{Success, all_read, unchanged}
 use Rattle.tpm_actions_policy.specs.Assertions.{policy_session}
 
--- no parameters; returned: the session's policy digest
+-- the row of TPM2_PolicyGetDigest. Parameters: none. Answer: the session's policy digest
 unfoldable pub policy_get_digest_row : Record → Request → Result Success Refused
 policy_get_digest_row r q = do
   handle ← first_handle q.handles

@@ -9,7 +9,7 @@ use Rattle.tpm_types.specs.Rc.{plain}
 use Rattle.tpm_types.specs.declared.refused.Refused.{Refused}
 use Rattle.tpm_record.specs.rows.Rows.{only}
 
--- the assertion for the parameter locality: one bit per allowed locality
+-- the assertion of TPM2_PolicyLocality. Parameter: locality, one bit for each allowed locality
 abbrev pub locality_assertion : List ℕ → Result (Session → Assertion) Refused
 locality_assertion text = do
   localities ← only (or_fault (number_at w8 text) (plain code.Insufficient))

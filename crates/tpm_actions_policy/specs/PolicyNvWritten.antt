@@ -7,7 +7,7 @@ use Rattle.tpm_types.specs.YesNo.{yes_no_at}
 use Rattle.tpm_types.specs.declared.refused.Refused.{Refused}
 use Rattle.tpm_record.specs.rows.Rows.{only}
 
--- the assertion for the parameter writtenSet
+-- the assertion of TPM2_PolicyNvWritten. Parameter: writtenSet
 abbrev pub nv_written_assertion : List ℕ → Result (Session → Assertion) Refused
 nv_written_assertion text = do
   is_written ← only (yes_no_at text)

@@ -7,7 +7,7 @@ use Rattle.tpm_types.specs.DigestList.{digest_list_at}
 use Rattle.tpm_types.specs.declared.refused.Refused.{Refused}
 use Rattle.tpm_record.specs.rows.Rows.{only}
 
--- the assertion for the parameter pHashList: the digests of the branches
+-- the assertion of TPM2_PolicyOR. Parameter: pHashList, the digests of the branches
 abbrev pub or_assertion : List ℕ → Result (Session → Assertion) Refused
 or_assertion text = do
   digests ← only (digest_list_at text)

@@ -6,7 +6,8 @@ use Rattle.tpm_session.specs.declared.session.Session.{Session}
 use Rattle.tpm_types.specs.declared.refused.Refused.{Refused}
 use Rattle.tpm_record.specs.rows.Rows.{all_read}
 
--- the assertion that demands the entity's authorization value as a password; no parameters
+-- the assertion of TPM2_PolicyPassword, which demands the entity's authorization value as a
+-- password. Parameters: none
 abbrev pub password_assertion : List ℕ → Result (Session → Assertion) Refused
 password_assertion text = do
   ended ← all_read text

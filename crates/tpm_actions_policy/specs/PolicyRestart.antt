@@ -10,7 +10,8 @@ use Rattle.tpm_record.specs.rows.Request.{Request, first_handle}
 use Rattle.tpm_record.specs.rows.Rows.{Success, all_read}
 use Rattle.tpm_actions_policy.specs.Assertions.{policy_session}
 
--- resets the session's policy to its initial state; no parameters
+-- the row of TPM2_PolicyRestart. Parameters: none. Effect: resets the session's policy to its
+-- initial state
 unfoldable pub policy_restart_row : Record → Request → Result Success Refused
 policy_restart_row r q = do
   handle ← first_handle q.handles

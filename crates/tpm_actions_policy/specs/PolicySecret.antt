@@ -48,8 +48,8 @@ secret_of p name s = record {
   expiration = p.expiration;
 }
 
--- the assertion that an entity was authorized: the one that the command's first handle names and
--- authorizes
+-- the assertion of TPM2_PolicySecret: the entity that the command's first handle names was
+-- authorized by this command
 abbrev pub secret_assertion : Record → Request → Result (Session → Assertion) Refused
 secret_assertion r q = do
   entity ← first_handle q.handles
@@ -60,6 +60,6 @@ secret_assertion r q = do
 abbrev pub null_ticket : List ℕ
 null_ticket = to_be_bytes w16 0x8023 ++ to_be_bytes w32 null_handle.number ++ to_be_bytes w16 0
 
--- returned: an empty timeout, and a null ticket
+-- the answer of TPM2_PolicySecret: an empty timeout, and a null ticket
 abbrev pub no_ticket : Body
 no_ticket = SizedFirst [] null_ticket

@@ -1,4 +1,4 @@
-//! What the assertion commands have in common: each assertion is made on a copy of the session's
+//! The common part of the assertion commands: each assertion is made on a copy of the session's
 //! policy, which replaces the policy only if the assertion is not refused.
 
 ghost use Rattle.tpm_bytes.specs.Reading.{Gives};

@@ -10,12 +10,12 @@ use Rattle.tpm_aes.specs.Field.{times_power}
 use Rattle.tpm_aes.specs.Words.{bytes_of}
 use Rattle.tpm_aes.specs.declared.key_schedule.TheConstants.{ROUND_CONSTANTS}
 
--- the column that takes one byte from each of four columns
+-- a column that takes one byte from each of four columns: row r from the r-th of them
 abbrev pub shifted_column : (a b c d : List ℕ) → List ℕ
 shifted_column a b c d =
     slice_index_or a 0 0 ∷ slice_index_or b 1 0 ∷ slice_index_or c 2 0 ∷ slice_index_or d 3 0 ∷ []
 
--- columns that a function computes from the columns of the substituted and shifted state
+-- the function g applied to each column of a state, concatenated
 abbrev columns_by : (g : List ℕ → List ℕ) (state : List ℕ) → List ℕ
 columns_by g state =
     g (word_of state 0) ++ (g (word_of state 1) ++ (g (word_of state 2) ++ g (word_of state 3)))
@@ -29,8 +29,8 @@ columns_made : (g : List ℕ → List ℕ) (p q r s : ℕ)
 unfolding shift_rows
 columns_made g p q r s = refl
 
--- the words of four columns that a function computes from the columns of the substituted and
--- shifted state
+-- If each of the words v, w, x and y is g applied to a column of the state after SubBytes and
+-- ShiftRows, then together they are g applied to all its columns.
 columns_words : (g : List ℕ → List ℕ) (state a b c d : List ℕ) (v w x y : ℕ) → length state ≡ 4
     → a ≡ to_le_bytes w32 (slice_index_or state 0 0) → b ≡ to_le_bytes w32 (slice_index_or state 1 0)
     → c ≡ to_le_bytes w32 (slice_index_or state 2 0) → d ≡ to_le_bytes w32 (slice_index_or state 3 0)
@@ -50,7 +50,7 @@ columns_words g state a b c d v w x y size is_a is_b is_c is_d is_v is_w is_x is
     ∙ sym (ap (λ (words : List ℕ). columns_by g (shift_rows (sub_bytes (bytes_of words))))
     (four_words state size))
 
--- the words of mixed columns
+-- The words of four mixed columns are the state after SubBytes, ShiftRows and MixColumns.
 pub mixed_words : (state a b c d : List ℕ) (v w x y : ℕ) → length state ≡ 4
     → a ≡ to_le_bytes w32 (slice_index_or state 0 0) → b ≡ to_le_bytes w32 (slice_index_or state 1 0)
     → c ≡ to_le_bytes w32 (slice_index_or state 2 0) → d ≡ to_le_bytes w32 (slice_index_or state 3 0)
@@ -67,7 +67,8 @@ words_shifted : (state : List ℕ) → columns_by (λ column. column) (shift_row
 unfolding shift_rows
 words_shifted state = refl
 
--- the words of columns that are not mixed, as in the last round
+-- The words of four columns that are not mixed, as in the last round, are the state after SubBytes
+-- and ShiftRows.
 pub shifted_words : (state a b c d : List ℕ) (v w x y : ℕ) → length state ≡ 4
     → a ≡ to_le_bytes w32 (slice_index_or state 0 0) → b ≡ to_le_bytes w32 (slice_index_or state 1 0)
     → c ≡ to_le_bytes w32 (slice_index_or state 2 0) → d ≡ to_le_bytes w32 (slice_index_or state 3 0)
@@ -84,7 +85,7 @@ constant_values : ROUND_CONSTANTS ≡ map (times_power 1) (range_with_len 0 10)
 unfolding times_power
 constant_values = refl
 
--- the constant of a round
+-- The constant of round n is the power n - 1 of x.
 pub constant_at : (n : ℕ) → 1 ≤ n → n ≤ 10
     → slice_index_or ROUND_CONSTANTS (n - 1) 0 ≡ times_power 1 (n - 1)
 constant_at n low high =
@@ -97,7 +98,8 @@ turned bytes =
     sub_bytes (slice_index_or bytes 1 0 ∷ slice_index_or bytes 2 0 ∷ slice_index_or bytes 3 0
     ∷ slice_index_or bytes 0 0 ∷ [])
 
--- the scheduled word, computed from its substituted bytes and the constant
+-- If a word's rotated and substituted bytes are XORed with the round's constant, the result is the
+-- scheduled word.
 pub scheduled_sum : (n word sum constant added : ℕ) (bytes : List ℕ) → bytes ≡ to_le_bytes w32 word
     → to_le_bytes w32 sum ≡ turned bytes → added ≡ constant → constant < 256 → constant ≡ times_power 1 (n - 1)
     → to_le_bytes w32 (bit_xor sum added) ≡ scheduled_word n (to_le_bytes w32 word)
@@ -108,7 +110,7 @@ scheduled_sum n word sum constant added bytes is_bytes is_sum is_added small of_
     ∙ ap (λ (k : ℕ). k ∷ 0 ∷ 0 ∷ 0 ∷ []) of_round in
     bytes-xor sum added ∙ ap₂ xor_of (is_sum ∙ ap turned is_bytes) term
 
--- the next round key of four words
+-- The next round key, computed from the four words of a round key, matches the standard.
 next_of_four : (n p q r s added : ℕ) → to_le_bytes w32 added ≡ scheduled_word n (to_le_bytes w32 s)
     → let first = bit_xor p added in let second = bit_xor q first in let third = bit_xor r second in
     bytes_of (first ∷ second ∷ third ∷ bit_xor s third ∷ []) ≡ next_round_key n (bytes_of (p ∷ q ∷ r ∷ s ∷ []))
@@ -123,7 +125,7 @@ next_of_four n p q r s added is_added =
     let w3 = bytes-xor s third ∙ ap (xor_of (to_le_bytes w32 s)) w2 in
     λ i. w0 i ++ (w1 i ++ (w2 i ++ w3 i))
 
--- the words of the next round key match the standard
+-- The next round key, computed from a list of four words, matches the standard.
 pub next_words : (n added : ℕ) (key : List ℕ) → length key ≡ 4
     → to_le_bytes w32 added ≡ scheduled_word n (to_le_bytes w32 (slice_index_or key 3 0))
     → let first = bit_xor (slice_index_or key 0 0) added in

@@ -15,14 +15,14 @@ s_box_values : S_BOX ≡ map sub_byte (range_with_len 0 256)
 unfolding sub_byte affine inverse times_power times_terms
 s_box_values = refl
 
--- an entry of the S-box
+-- Entry a of the S-box is the S-box value of a.
 pub s_box_at : (i a : ℕ) → i ≡ a → a < 256 → slice_index_or S_BOX i 0 ≡ sub_byte a
 s_box_at i a same byte =
     ap (λ (t : List ℕ). slice_index_or t i 0) s_box_values
     ∙ get_or-map-range_with_len sub_byte 0 256 i a 0 (omega arith) (omega arith)
 
--- an entry of a table whose words consist of the bytes that a function computes from the S-box
--- entries
+-- If the words of a table are f of the entries of the S-box, then entry a is f of the S-box value
+-- of a.
 word_at : (f : ℕ → List ℕ) (table : List ℕ) → length table ≡ 256
     → map (to_le_bytes w32) table ≡ map f S_BOX
     → (i a : ℕ) → i ≡ a → a < 256 → to_le_bytes w32 (slice_index_or table i 0) ≡ f (sub_byte a)
@@ -65,7 +65,8 @@ mixed_3_values : map (to_le_bytes w32) (mixed_table 3) ≡ map mixed_3 S_BOX
 unfolding mix_column times_power times_terms
 mixed_3_values = refl
 
--- an entry of each lookup table
+-- Entry a of lookup table r is the mixed column with the S-box value of a in row r, and zeros
+-- elsewhere.
 pub mixed_0_at : (i a : ℕ) → i ≡ a → a < 256
     → to_le_bytes w32 (slice_index_or (mixed_table 0) i 0) ≡ mixed_0 (sub_byte a)
 mixed_0_at = word_at mixed_0 (mixed_table 0) refl mixed_0_values
@@ -82,7 +83,7 @@ pub mixed_3_at : (i a : ℕ) → i ≡ a → a < 256
     → to_le_bytes w32 (slice_index_or (mixed_table 3) i 0) ≡ mixed_3 (sub_byte a)
 mixed_3_at = word_at mixed_3 (mixed_table 3) refl mixed_3_values
 
--- every entry of the S-box, and of the four lookup tables
+-- Every entry of the S-box and of the four lookup tables is as required.
 pub s_box_entries : IsSBox S_BOX
 s_box_entries a byte = s_box_at a a refl byte
 
@@ -101,14 +102,15 @@ times_zero_three : times 0 3 ≡ 0
 unfolding times_power times_terms
 times_zero_three = refl
 
--- a mixed column is the sum of the mixed columns of its bytes
+-- A mixed column is the XOR of the mixed columns of its single bytes.
 pub mixed_sum : (a b c d : ℕ)
     → xor_of (xor_of (xor_of (mixed_0 a) (mixed_1 b)) (mixed_2 c)) (mixed_3 d)
     ≡ mix_column (a ∷ b ∷ c ∷ d ∷ [])
 unfolding mix_column
 mixed_sum a b c d = simp (times_zero_two, times_zero_three, xor_zero_r) refl
 
--- the sum of the words of four mixed columns, each of one byte
+-- The XOR of the words of four mixed columns, each of one byte, is the word of the mixed column of
+-- the four bytes.
 pub mixed_word : (v w x y a b c d : ℕ) → to_le_bytes w32 v ≡ mixed_0 a → to_le_bytes w32 w ≡ mixed_1 b
     → to_le_bytes w32 x ≡ mixed_2 c → to_le_bytes w32 y ≡ mixed_3 d
     → to_le_bytes w32 (bit_xor (bit_xor (bit_xor v w) x) y) ≡ mix_column (a ∷ b ∷ c ∷ d ∷ [])

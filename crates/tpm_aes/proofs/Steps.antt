@@ -1,11 +1,11 @@
--- One step of each definition of the cipher.
+-- Single steps of the definitions of the cipher.
 use Rattle.std.proofs.Common.{◌≡◌, ℕ, ◌+◌, ◌-◌, ◌<◌, ◌≤◌, List, [], ◌++◌, add-one, ap, arith, length, refl, map, below_more, get_or-set_other, get_or-set_same, ◌≢◌, slice_index_or, slice_set, subst, sym, ◌∙◌}
 use Rattle.std.proofs.lemmas.List.{append-nil, get_or-map, length-map}
 use Rattle.std.proofs.lemmas.List.FromFn.{fill_by_all, get_or-map-range_with_len}
 use Rattle.tpm_aes.specs.Cipher.{expanded_key, mix_column, mix_columns, next_round_key, round_key, shift_rows, state_after, sub_bytes, word_of, xor_of}
 use Rattle.tpm_aes.specs.Words.{bytes_of}
 
--- the four columns of a mixed state
+-- A mixed state consists of its four mixed columns.
 pub words_mixed : (state : List ℕ) → mix_columns state
     ≡ mix_column (word_of state 0) ++ (mix_column (word_of state 1) ++ (mix_column (word_of state 2) ++ mix_column (word_of state 3)))
 unfolding mix_columns
@@ -16,7 +16,7 @@ pub round_key_first : (key : List ℕ) → round_key key 0 ≡ key
 unfolding round_key
 round_key_first key = refl
 
--- the key for the next round
+-- The key for round n + 1 is computed from the key for round n.
 pub round_key_more : (key : List ℕ) (n : ℕ) → round_key key (n + 1) ≡ next_round_key (n + 1) (round_key key n)
 unfolding round_key
 round_key_more key n = rw (add-one n) refl
@@ -26,19 +26,19 @@ pub state_after_none : (key block : List ℕ) → state_after key block 0 ≡ xo
 unfolding state_after
 state_after_none key block = refl
 
--- the state after the next round
+-- The state after round n + 1 is computed from the state after round n.
 pub state_after_more : (key block : List ℕ) (n : ℕ) → state_after key block (n + 1)
     ≡ xor_of (mix_columns (shift_rows (sub_bytes (state_after key block n)))) (round_key key (n + 1))
 unfolding state_after
 state_after_more key block n = rw (add-one n) refl
 
--- an entry of the expanded key
+-- Entry n of the expanded key is the key for round n.
 get_or-expanded_key : (key : List ℕ) (n : ℕ) → n < 11
     → slice_index_or (expanded_key key) n [] ≡ round_key key n
 unfolding expanded_key
 get_or-expanded_key key n within = get_or-map-range_with_len (round_key key) 0 11 n n [] within (omega arith)
 
--- a list of keys whose bytes are those of the keys for all rounds
+-- If 11 keys have the bytes of the round keys, together they are the expanded key.
 pub expanded_key_from : (keys : List (List ℕ)) (key : List ℕ) → length keys ≡ 11
     → ((k : ℕ) → k < 11 → bytes_of (slice_index_or keys k []) ≡ round_key key k)
     → map bytes_of keys ≡ expanded_key (bytes_of (slice_index_or keys 0 []))
@@ -54,7 +54,8 @@ pub record HasKeysBelow (keys : List (List ℕ)) (key : List ℕ) (n : ℕ) : Ty
   pub size : length keys ≡ 11
   pub each : (k : ℕ) → k < n → bytes_of (slice_index_or keys k []) ≡ round_key key k
 
--- the list of round keys with one key added
+-- If the keys for the rounds below n are at their indices, and the next key is stored at index n,
+-- then the keys for the rounds up to n are at their indices.
 pub round_keys_more : (keys : List (List ℕ)) (key next : List ℕ) (n : ℕ) → 1 ≤ n → n < length keys
     → ((k : ℕ) → k < n → bytes_of (slice_index_or keys k []) ≡ round_key key k)
     → bytes_of next ≡ next_round_key n (bytes_of (slice_index_or keys (n - 1) []))
@@ -68,7 +69,7 @@ round_keys_more keys key next n low within so_far is_next =
     (λ k h. let other : k ≢ n = omega arith in rw get_or-set_other (so_far k h))
     (rw get_or-set_same value)
 
--- a round key of a cipher whose first round key is the cipher key
+-- If keys are the expanded key of a cipher key, key n has the bytes of the key for round n.
 pub round_key_at : (keys : List (List ℕ)) (key : List ℕ) → length keys ≡ 11
     → bytes_of (slice_index_or keys 0 []) ≡ key
     → map bytes_of keys ≡ expanded_key (bytes_of (slice_index_or keys 0 [])) → (n : ℕ) → n < 11

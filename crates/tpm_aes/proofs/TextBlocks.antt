@@ -6,7 +6,7 @@ use Rattle.std.proofs.lemmas.List.{append-nil, drop-drop, drop_all, drop_at, len
 use Rattle.std.specs.List.{flat_map, range_with_len}
 use Rattle.tpm_aes.specs.Cfb.{block_at, block_count}
 
--- a range with one number added at the end
+-- A range of n + 1 numbers is the range of the first n numbers, followed by the last number.
 range_with_len-suc : (a n : ℕ) → range_with_len a (suc n) ≡ range_with_len a n ++ (a + n) ∷ []
 range_with_len-suc a zero = rw (add-zero a) refl
 range_with_len-suc a (suc n) =
@@ -23,7 +23,7 @@ pub pieces_to-zero : (piece : ℕ → List ℕ) → pieces_to piece 0 ≡ []
 unfolding pieces_to
 pieces_to-zero piece = refl
 
--- the concatenation of the first pieces, with one more added
+-- The first n + 1 pieces, concatenated, are the first n pieces followed by piece n.
 pub pieces_to-suc : (piece : ℕ → List ℕ) (n : ℕ) → pieces_to piece (suc n) ≡ pieces_to piece n ++ piece n
 unfolding pieces_to
 pieces_to-suc piece n =
@@ -32,16 +32,16 @@ pieces_to-suc piece n =
     ∙ flat_map-append piece (range_with_len 0 n) ((0 + n) ∷ [])
     ∙ ap (λ (xs : List ℕ). pieces_to piece n ++ xs) (append-nil (piece (0 + n)) ∙ ap piece number)
 
--- the concatenation of the first pieces, with one more added (with n + 1)
+-- The same for n + 1 written as a sum.
 pub pieces_to-add-one : (piece : ℕ → List ℕ) (n : ℕ) → pieces_to piece (n + 1) ≡ pieces_to piece n ++ piece n
 pieces_to-add-one piece n = ap (pieces_to piece) (add-one n) ∙ pieces_to-suc piece n
 
--- The blocks of a text below i were replaced by pieces of the same sizes.
+-- The blocks of a text before block i were replaced by pieces of the same sizes.
 pub record IsDoneTo (piece : ℕ → List ℕ) (old now : List ℕ) (i : ℕ) : Type 0 where
   pub size : length now ≡ length old
   pub value : now ≡ pieces_to piece i ++ drop (16 * i) old
 
--- before the first block nothing has changed
+-- Before the first block is replaced, the text is unchanged.
 pub done_to_none : (piece : ℕ → List ℕ) (text : List ℕ) → IsDoneTo piece text text 0
 done_to_none piece text =
     record { size = refl; value = rw (pieces_to-zero piece) refl }
@@ -51,14 +51,14 @@ length-done : (piece : ℕ → List ℕ) (old now : List ℕ) (i : ℕ) → IsDo
 length-done piece old now i done within =
     omega (arith, done.size, simp (length-append, length-drop) at (ap length done.value))
 
--- the bytes after the blocks so far are unchanged
+-- The bytes after the replaced blocks are unchanged.
 rest_left : (piece : ℕ → List ℕ) (old now : List ℕ) (i start : ℕ) → IsDoneTo piece old now i
     → start ≡ 16 * i → start ≤ length old → drop start now ≡ drop (16 * i) old
 rest_left piece old now i start done at within =
     ap (drop start) done.value
     ∙ drop_at (pieces_to piece i) (drop (16 * i) old) start (length-done piece old now i done (omega arith) ∙ sym at)
 
--- the bytes of a text after the next block
+-- After block i is removed from the front, the text starts with block i + 1.
 drop_block : (old : List ℕ) (i size : ℕ) → 16 * i ≤ length old → size ≡ min 16 (length old - 16 * i)
     → drop size (drop (16 * i) old) ≡ drop (16 * (i + 1)) old
 drop_block old i size within is_size =
@@ -72,7 +72,7 @@ drop_block old i size within is_size =
           rw (sixteen, ← whole) (drop-drop 16 (16 * i) old)
     ]
 
--- the next block is unchanged
+-- The block to be replaced next is unchanged.
 pub block_left : (piece : ℕ → List ℕ) (old now : List ℕ) (i start end : ℕ) → IsDoneTo piece old now i
     → start ≡ 16 * i → start ≤ length old → end ≡ start + min 16 (length old - start)
     → take (end - start) (drop start now) ≡ block_at old i
@@ -82,7 +82,7 @@ block_left piece old now i start end done at within stop =
     let size : end - start ≡ min 16 (length rest) = omega (arith, length-drop (16 * i) old) in
     ap (take (end - start)) left ∙ ap (λ (k : ℕ). take k rest) size ∙ take_min 16 rest
 
--- after the next block is replaced, one more block is a piece
+-- If the next block is replaced by its piece, one more block is replaced.
 pub done_to_more : (piece : ℕ → List ℕ) (old now new part : List ℕ) (i start end : ℕ) → IsDoneTo piece old now i
     → start ≡ 16 * i → start ≤ length old → end ≡ start + min 16 (length old - start)
     → part ≡ piece i → length part ≡ end - start
@@ -115,7 +115,7 @@ done_to_more piece old now new part i start end done at within stop is_piece siz
 pub block_count-inside : (text : List ℕ) (i : ℕ) → i < block_count text → 16 * i < length text
 block_count-inside text i low = omega arith
 
--- a block is short only at the end of the text
+-- A block is sixteen bytes long, or as long as the rest of the text if that is shorter.
 pub length-block_at : (text : List ℕ) (i : ℕ) → length (block_at text i) ≡ min 16 (length text - 16 * i)
 length-block_at text i = length-take 16 (drop (16 * i) text) ∙ ap (min 16) (length-drop (16 * i) text)
 

@@ -42,7 +42,7 @@ length-streamed key feedback text i =
     length-xor_of-whole (block_at text i) (aes_of key feedback)
     (omega (arith, length-block_at text i, length-aes_of key feedback))
 
--- pieces with the sizes of a text's blocks
+-- Each piece has the size of the block of a text with the same number.
 abbrev AreLikeBlocks : (ℕ → List ℕ) → List ℕ → Type 0
 AreLikeBlocks piece text = (i : ℕ) → length (piece i) ≡ length (block_at text i)
 
@@ -68,7 +68,7 @@ xor_of-twice (x ∷ xs) (y ∷ ys) whole =
     let byte : bit_xor (bit_xor x y) y ≡ x = xor_assoc x y y ∙ ap (bit_xor x) (xor_self y) ∙ xor_zero_r x in
     ap (λ (k : ℕ). k ∷ xor_of (xor_of xs ys) ys) byte ∙ ap (λ (t : List ℕ). x ∷ t) (xor_of-twice xs ys (omega arith))
 
--- block i of pieces that are all full blocks, except perhaps the last
+-- If all pieces before the last are full blocks, block i of their concatenation is piece i.
 block_at-pieces_to : (piece : ℕ → List ℕ) (n : ℕ) → ((i : ℕ) → i < n → length (pieces_to piece i) ≡ 16 * i)
     → ((i : ℕ) → length (piece i) ≤ 16) → (i : ℕ) → i < n → block_at (pieces_to piece n) i ≡ piece i
 block_at-pieces_to piece zero whole short i low = absurd (omega arith)
@@ -87,7 +87,7 @@ block_at-pieces_to piece (suc n) whole short i low =
           ∙ take_all 16 (piece n) (short n) ∙ ap piece same
     ]
 
--- block i of pieces with the sizes of a text's blocks
+-- If the pieces have the sizes of a text's blocks, block i of their concatenation is piece i.
 block_at-joined : (piece : ℕ → List ℕ) (text : List ℕ) → AreLikeBlocks piece text
     → (i : ℕ) → i < block_count text → block_at (pieces_to piece (block_count text)) i ≡ piece i
 block_at-joined piece text like =
@@ -95,14 +95,14 @@ block_at-joined piece text like =
     (λ i low. length-pieces_to piece text like i ∙ omega (arith, block_count-inside text i low))
     (λ i. omega (arith, like i, length-block_at text i))
 
--- equal pieces
+-- If the pieces are equal, their concatenations are equal.
 pieces_to-same : (f g : ℕ → List ℕ) (n : ℕ) → ((i : ℕ) → i < n → f i ≡ g i) → pieces_to f n ≡ pieces_to g n
 pieces_to-same f g zero each = pieces_to-zero f ∙ sym (pieces_to-zero g)
 pieces_to-same f g (suc n) each =
     pieces_to-suc f n ∙ ap (λ (xs : List ℕ). xs ++ f n) (pieces_to-same f g n (λ i h. each i (omega arith)))
     ∙ ap (λ (xs : List ℕ). pieces_to g n ++ xs) (each n (omega arith)) ∙ sym (pieces_to-suc g n)
 
--- the concatenated blocks of a text
+-- The first n blocks of a text, concatenated, are the front of the text.
 pieces_to-block_at : (text : List ℕ) (n : ℕ) → pieces_to (block_at text) n ≡ take (16 * n) text
 pieces_to-block_at text zero = pieces_to-zero (block_at text)
 pieces_to-block_at text (suc n) =
@@ -121,7 +121,7 @@ joined_again piece text other whole each =
 
 -- ---- encryption
 
--- C(i + 1), computed from C(i)
+-- C(i + 1) is computed from C(i)
 pub cipher_block_more : (key iv text : List ℕ) (i : ℕ) → cipher_block key iv text (i + 1)
     ≡ xor_of (block_at text i) (aes_of key (cipher_block key iv text i))
 unfolding cipher_block
@@ -136,7 +136,7 @@ cipher_block_none key iv text = refl
 abbrev pub cipher_piece : (key iv text : List ℕ) → ℕ → List ℕ
 cipher_piece key iv text i = cipher_block key iv text (i + 1)
 
--- the block before block i of a ciphertext whose blocks are C(1), C(2) and so on
+-- If the blocks of a ciphertext are C(1), C(2) and so on, the block before block i is C(i).
 block_before-cipher : (key iv text cipher : List ℕ) (i : ℕ)
     → ((j : ℕ) → j < i → block_at cipher j ≡ cipher_block key iv text (j + 1))
     → block_before iv cipher i ≡ cipher_block key iv text i
@@ -179,7 +179,8 @@ pub length-cfb_decrypt_of : (key iv cipher : List ℕ) → length (cfb_decrypt_o
 unfolding pieces_to
 length-cfb_decrypt_of key iv cipher = length-joined (plain_block key iv cipher) cipher (length-plain_block key iv cipher)
 
--- encryption yields the blocks of a ciphertext, if the plaintext blocks are its decryption
+-- If the plaintext's blocks are the decryption of a ciphertext, encrypting them yields the
+-- ciphertext's blocks.
 encrypted_again : (key iv cipher text : List ℕ) (n : ℕ)
     → ((i : ℕ) → i < n → block_at text i ≡ plain_block key iv cipher i)
     → (i : ℕ) → i ≤ n → cipher_block key iv text i ≡ block_before iv cipher i

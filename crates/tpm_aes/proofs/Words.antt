@@ -5,16 +5,16 @@ use Rattle.std.specs.Int.{to_le_bytes, w32}
 use Rattle.tpm_aes.specs.Cipher.{xor_of}
 use Rattle.tpm_aes.specs.Words.{bytes_of}
 
--- byte k of the XOR of two words
+-- Byte k of the XOR of two words is the XOR of their bytes k.
 byte-xor : (a b k : ℕ) → bit_xor a b / 2 ^ k % 256 ≡ bit_xor (a / 2 ^ k % 256) (b / 2 ^ k % 256)
 byte-xor a b k = ap (λ (n : ℕ). n % 256) (xor_shr a b k) ∙ xor_mod (a / 2 ^ k) (b / 2 ^ k) 8
 
--- the bytes of the XOR of two words
+-- The bytes of the XOR of two words are the XORs of their bytes.
 pub bytes-xor : (a b : ℕ)
     → to_le_bytes w32 (bit_xor a b) ≡ xor_of (to_le_bytes w32 a) (to_le_bytes w32 b)
 bytes-xor a b = rw (xor_mod a b 8, byte-xor a b 8, byte-xor a b 16, byte-xor a b 24) refl
 
--- the bytes of the XORs of two lists of words
+-- The bytes of the XORs of two lists of words are the XORs of their bytes.
 pub bytes_of-xor_of : (xs ys : List ℕ) → bytes_of (xor_of xs ys) ≡ xor_of (bytes_of xs) (bytes_of ys)
 bytes_of-xor_of [] ys = refl
 bytes_of-xor_of (x ∷ xs) [] = refl
@@ -32,14 +32,14 @@ pub four_words : (words : List ℕ) → length words ≡ 4 → words ≡ by_inde
 four_words (a ∷ b ∷ c ∷ d ∷ []) size = refl
 four_words words size = absurd (omega arith)
 
--- the bytes of the XORs of four words
+-- For lists of four words, the bytes of the XORs are the XORs of the bytes.
 pub bytes_of-sums : (xs ys : List ℕ) → length xs ≡ 4 → length ys ≡ 4
     → bytes_of (xor_of (by_index xs) (by_index ys)) ≡ xor_of (bytes_of xs) (bytes_of ys)
 bytes_of-sums xs ys x4 y4 =
     bytes_of-xor_of (by_index xs) (by_index ys)
     ∙ sym (ap₂ (λ (vs ws : List ℕ). xor_of (bytes_of vs) (bytes_of ws)) (four_words xs x4) (four_words ys y4))
 
--- the bytes of a word whose value is below 256
+-- A word below 256 has its value as the first byte, and zeros as the others.
 pub bytes-byte : (a : ℕ) → a < 256 → to_le_bytes w32 a ≡ a ∷ 0 ∷ 0 ∷ 0 ∷ []
 bytes-byte a small =
     let first : a % 256 ≡ a = omega arith in
@@ -52,7 +52,7 @@ bytes-byte a small =
 abbrev pub xored_front : List ℕ → List ℕ → ℕ → List ℕ
 xored_front old other i = xor_of (take i old) (take i other) ++ drop i old
 
--- byte i is still unchanged
+-- Byte i of a list whose first i bytes are XORed is still unchanged.
 get_or-xored_front : (old other : List ℕ) (i : ℕ) → i < length old → length old ≤ length other
     → slice_index_or (xored_front old other i) i 0 ≡ slice_index_or old i 0
 get_or-xored_front [] other i within fits = absurd (omega arith)
@@ -61,7 +61,7 @@ get_or-xored_front (x ∷ xs) (y ∷ ys) zero within fits = refl
 get_or-xored_front (x ∷ xs) (y ∷ ys) (suc i) within fits =
     get_or-xored_front xs ys i (omega arith) (omega arith)
 
--- XORing byte i of the list
+-- If byte i is XORed too, the first i + 1 bytes are XORed.
 set-xored_front : (old other : List ℕ) (i : ℕ) → i < length old → length old ≤ length other
     → slice_set (xored_front old other i) i (bit_xor (slice_index_or old i 0) (slice_index_or other i 0))
     ≡ xored_front old other (suc i)
@@ -71,14 +71,14 @@ set-xored_front (x ∷ xs) (y ∷ ys) zero within fits = refl
 set-xored_front (x ∷ xs) (y ∷ ys) (suc i) within fits =
     ap (λ (t : List ℕ). bit_xor x y ∷ t) (set-xored_front xs ys i (omega arith) (omega arith))
 
--- one more byte at the start of a list is XORed
+-- If the next byte of a list is XORed, one more byte at the start is XORed.
 pub xored_more : (old other bytes : List ℕ) (i : ℕ) → i < length old → length old ≤ length other
     → bytes ≡ xored_front old other i
     → slice_set bytes i (bit_xor (slice_index_or bytes i 0) (slice_index_or other i 0)) ≡ xored_front old other (i + 1)
 xored_more old other bytes i within fits so_far =
     rw (so_far, get_or-xored_front old other i within fits, add-one i) (set-xored_front old other i within fits)
 
--- all bytes of a list are XORed
+-- If as many bytes as the list has are XORed, the whole list is XORed.
 pub xored_all : (old other : List ℕ) (n : ℕ) → n ≡ length old → length old ≤ length other
     → xored_front old other n ≡ xor_of old other
 xored_all [] other zero whole fits = refl

@@ -1,4 +1,4 @@
--- What an accepted authorization means for each entry.
+-- The meaning of an accepted authorization for each entry.
 use Rattle.std.proofs.Common.{◌≡◌, ℕ, zero, suc, ◌+◌, arith, false, List, [], ◌∷◌, ◌++◌, length, length-append, append_assoc, append-nil, slice_get, Option, Some, Result, Ok, Err, IfOk, refl, sym, subst, ◌∙◌}
 use Rattle.std.proofs.lemmas.Bool.{ltb-false, not-false}
 use Rattle.std.proofs.lemmas.Result.{IfOk-at_ok, IfOk-weaker}
@@ -20,13 +20,13 @@ use Rattle.tpm_auth.specs.Grant.{authorize, authorized, grant, grants_pass}
 use Rattle.tpm_auth.specs.Granting.{IsGranted, IsGranting}
 use Rattle.tpm_auth.specs.declared.session_grant.Grant.{Grant}
 
--- if a property holds for each success after a step, whatever the step returned, it holds for
--- each success of the whole
+-- If a property holds for each success after a step, whatever the step returned, it holds for each
+-- success of the whole.
 ok_bind_is : {A B E : Type 0} (Q : B → Type 0) (x : Result A E) (f : A → Result B E) → ((a : A) → x ≡ Ok a → IfOk (f a) Q) → IfOk (x >>= f) Q
 ok_bind_is Q (Ok a) f h = h a refl
 ok_bind_is Q (Err e) f h = tt
 
--- turning a fault into a refusal changes no success
+-- If a fault is turned into a refusal, no success changes.
 checked_ok : {X : Type 0} (check : Check) (x : Result X Rc) (y : X) → checked check x ≡ Ok y → x ≡ Ok y
 checked_ok check (Ok x) y is = cc
 checked_ok check (Err rc) y is = absurd cc
@@ -49,7 +49,7 @@ module _ (r : Record) (c : Whole) (locality : ℕ) where
       each_of place zero x granted at entry there = let here : first ≡ place = omega arith in cc
       each_of place (suc i) x granted at entry there = others.each place i x granted (omega arith) entry there
 
-  -- checking the remaining entries adds their grants to those of the entries before them
+  -- Checking the remaining entries adds their grants to those of the entries before them.
   walk : (before : List (Option Grant)) (es : List Entry) → IfOk (grants_pass r c locality before es) (λ grants. (given : List (Option Grant)) × (before ++ given ≡ grants) × AreOf (length before) es given)
   walk before [] = ([], append-nil before, none (length before))
   walk before (e ∷ es) =

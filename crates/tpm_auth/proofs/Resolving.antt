@@ -1,5 +1,5 @@
--- At each position the code found the entity of the handle there; it computes the Names from
--- these entities.
+-- At each position the code found the entity of the handle there. It computes the Names from these
+-- entities.
 use Rattle.std.proofs.Common.{◌≡◌, ℕ, zero, suc, ◌<◌, ◌≤◌, List, [], ◌∷◌, ◌++◌, length, map, take, slice_get, slice_index_or, get_or, Option, Some, None, option_map, refl, sym, subst, ap, ◌∙◌, arith, Bor}
 use Rattle.std.proofs.lemmas.Option.{slice_get_read}
 use Rattle.std.specs.Option.{ForSome, IfSome, MatchOption}
@@ -15,18 +15,18 @@ use Rattle.tpm_auth.specs.Used.{AreNamesOf, IsToGrant, IsUsed, IsUsedFor, used_h
 use Rattle.tpm_auth.specs.declared.used.Granted.{Granted}
 use Rattle.tpm_auth.specs.declared.used.Used.{Used}
 
--- the first entity found is that of the first handle, and the rest are those of the other handles
+-- The first entity found is that of the first handle, and the rest are those of the other handles.
 first_found : (r : Record) (x : Resolved) (xs : List Resolved) (h : Handle) (hs : List Handle) → AreFound r (x ∷ xs) (h ∷ hs) → (found_by x ≡ found_at r h) × AreFound r xs hs
 first_found r x xs h hs are = (cc, cc)
 
--- exactly one entity was found for each handle
+-- Exactly one entity was found for each handle.
 pub as_many : (r : Record) (resolved : List Resolved) (handles : List Handle) → AreFound r resolved handles → length resolved ≡ length handles
 as_many r [] [] are = refl
 as_many r [] (h ∷ hs) are = absurd cc
 as_many r (x ∷ xs) [] are = absurd cc
 as_many r (x ∷ xs) (h ∷ hs) are = let others = as_many r xs hs (first_found r x xs h hs are).1 in omega (arith, others)
 
--- the entity found at a position is that of the handle there
+-- The entity found at a position is that of the handle there.
 pub found_in : (r : Record) (resolved : List Resolved) (handles : List Handle) (place : ℕ) (x : Resolved) → AreFound r resolved handles → slice_get resolved place ≡ Some x → (slice_get handles place ≡ Some x.handle) × IsFound r x
 found_in r [] handles place x are is = absurd cc
 found_in r (y ∷ ys) [] place x are is = absurd cc
@@ -37,7 +37,7 @@ found_in r (y ∷ ys) (h ∷ hs) zero x are is =
     (ap Some (sym handle), ap (λ (f : Found). f.entity) here ∙ ap (entity_at r) (sym handle))
 found_in r (y ∷ ys) (h ∷ hs) (suc place) x are is = found_in r ys hs place x (first_found r y ys h hs are).1 is
 
--- a prefix of a list keeps the positions of its elements
+-- If a list is cut to a prefix, the elements of the prefix keep their positions.
 taken : {X : Type 0} (xs : List X) (n place : ℕ) (x : X) → slice_get (take n xs) place ≡ Some x → slice_get xs place ≡ Some x
 taken [] zero place x is = is
 taken [] (suc n) place x is = is
@@ -57,7 +57,7 @@ taken_found r (suc n) (x ∷ xs) (h ∷ hs) are =
     let here = both.0 in
     ap (λ f. f ∷ map found_by (take n xs)) here ∙ ap (λ l. found_at r h ∷ l) others
 
--- the entry at a position within the first handles has to authorize the handle at that position
+-- The entry at a position within the first handles has to authorize the handle at that position.
 pub used_in : (r : Record) (handles : List Handle) (names : List (List ℕ)) (resolved : List Resolved) (n place : ℕ) (used : Used) → AreFound r resolved handles → AreNamesOf r names handles → slice_get (take n resolved) place ≡ Some used.resolved → ForSome used.name (λ name. slice_get names place ≡ Some name.now) → IsUsedFor r (slice_get (take n handles) place) (Some used)
 used_in r handles names resolved n place used are named is name_is =
     let both = found_in r (take n resolved) (take n handles) place used.resolved (taken_found r n resolved handles are) is in (
@@ -68,14 +68,14 @@ used_in r handles names resolved n place used are named is name_is =
       },
     )
 
--- the Name read at a position is the Name of the handle there
+-- The Name read at a position is the Name of the handle there.
 pub name_read : {X : Type 0} (Nothing : Type 0) (More : Bor X → Type 0) (names : List X) (place : ℕ) (read : Option (Bor X)) → IfSome read (λ name. name.now ≡ get_or names place name.now) → MatchOption read Nothing (λ name. (place < length names) × More name) → ForSome read (λ name. slice_get names place ≡ Some name.now)
 name_read Nothing More names place None is within name made = absurd cc
 name_read {X = X} Nothing More names place (Some x) is within name made =
     let same : x ≡ name = cc in
     subst (λ (n : Bor X). slice_get names place ≡ Some n.now) same (slice_get_read names (length names) place x.now refl within.0 is)
 
--- nothing is found at a position without a handle
+-- At a position without a handle, nothing is found.
 none_in : (r : Record) (resolved : List Resolved) (handles : List Handle) (place : ℕ) → AreFound r resolved handles → slice_get resolved place ≡ None → slice_get handles place ≡ None
 none_in r [] [] place are is = refl
 none_in r [] (h ∷ hs) place are is = absurd cc
@@ -88,7 +88,7 @@ nothing_in r handles resolved n place are is = none_in r (take n resolved) (take
 
 -- ---- Names
 
--- the Name of the handle at the next position
+-- The Name of the entity found at the next position is the Name of the handle there.
 pub next_named : (r : Record) (resolved : List Resolved) (handles : List Handle) (place : ℕ) (x : Resolved) (name : List ℕ) → AreFound r resolved handles → slice_get resolved place ≡ Some x → name ≡ entity_name x.handle (entity_seen x.entity) → Some name ≡ option_map (name_of r) (slice_get handles place)
 unfolding name_of
 next_named r resolved handles place x name are is name_is =
@@ -104,7 +104,8 @@ head_of_map f [] n x y at is = absurd cc
 head_of_map f (z ∷ zs) zero x y at is = absurd cc
 head_of_map f (z ∷ zs) (suc n) x y at is = cc
 
--- the Name of the handle at the next position, if it is the first handle again
+-- If the handle at the next position is the first handle again, the first Name is the Name of the
+-- handle there.
 pub next_again : (r : Record) (resolved : List Resolved) (handles : List Handle) (names : List (List ℕ)) (place : ℕ) (first x : Resolved) (name : List ℕ) → AreFound r resolved handles → names ≡ map (name_of r) (take (length names) handles) → slice_get resolved 0 ≡ Some first → slice_get resolved place ≡ Some x → slice_get names 0 ≡ Some name → first.handle.number ≡ x.handle.number → Some name ≡ option_map (name_of r) (slice_get handles place)
 next_again r resolved handles names place first x name are names_are at_first at_x at_name same =
     let one = found_in r resolved handles 0 first are at_first in
@@ -113,7 +114,7 @@ next_again r resolved handles names place first x name are names_are at_first at
     let again : name ≡ name_of r x.handle = named ∙ ap (name_of r) (same_handle first.handle x.handle same) in
     sym (ap (option_map (name_of r)) other.0 ∙ ap Some (sym again))
 
--- a list with one value added
+-- If the next value is added to a prefix of a mapped list, the prefix is longer by one.
 one_more : {X Y : Type 0} (f : X → Y) (xs : List X) (n m : ℕ) (y : Y) → m ≡ suc n → Some y ≡ option_map f (slice_get xs n) → map f (take n xs) ++ y ∷ [] ≡ map f (take m xs)
 one_more f [] n m y next is = absurd cc
 one_more f (x ∷ xs) zero m y next is =
@@ -124,7 +125,7 @@ one_more f (x ∷ xs) (suc n) m y next is = rw next (ap (λ l. f x ∷ l) (one_m
 pub one_more_named : (r : Record) (handles : List Handle) (names : List (List ℕ)) (n m : ℕ) (name : List ℕ) → n ≡ length names → m ≡ suc n → names ≡ map (name_of r) (take n handles) → Some name ≡ option_map (name_of r) (slice_get handles n) → names ++ name ∷ [] ≡ map (name_of r) (take m handles)
 one_more_named r handles names n m name size next are is = ap (λ l. l ++ name ∷ []) are ∙ one_more (name_of r) handles n m name next is
 
--- the list of all handles' Names has each handle's Name at its position
+-- The list of the Names of all handles has each handle's Name at its position.
 pub all_named : (r : Record) (handles : List Handle) → AreNamesOf r (map (name_of r) handles) handles
 all_named r [] place name handle is at = absurd cc
 all_named r (h ∷ hs) zero name handle is at = cc
@@ -137,13 +138,13 @@ one_to_grant r used demand is granted same =
     let those : granted ≡ record { used = used; demand = demand } = cc in
     record { used = subst (λ (g : Granted). IsUsed r g.used) (sym those) is }
 
--- as long as no Name is computed, every computed Name is right
+-- As long as no Name is computed, every computed Name is right.
 pub none_named : (r : Record) (handles : List Handle) → AreNamesOf r [] handles
 none_named r handles place name handle at is = absurd cc
 
 -- ---- entries
 
--- if there is only one entry, it makes up the whole list of entries
+-- If there is only one entry, it is the whole list of entries.
 pub only_entry : (entries : List AuthEntry) (d : AuthEntry) → 1 ≤ length entries → length entries < 2 → map entry_of entries ≡ entry_of (slice_index_or entries 0 d) ∷ []
 only_entry [] d some one = absurd (omega arith)
 only_entry (entry ∷ []) d some one = refl

@@ -40,7 +40,8 @@ is_bound_to r s handle =
     bytes_eq b.name (name_of r handle) && bytes_eq b.auth_value (auth_value_of r handle))
     s.binding false
 
--- whether the policy demands the authorization value in the HMAC key; or as a password
+-- whether the policy demands the authorization value in the HMAC key; and whether it demands it as
+-- a password
 abbrev pub is_in_key : Demand → Bool
 is_in_key demand.None = false
 is_in_key demand.AuthValue = true
@@ -160,15 +161,15 @@ use_of r c locality n handle s = record {
   entity = policy_of r handle;
 }
 
--- what an HMAC session demands of an entry in addition to its comparison: nothing, but the
--- entry's handle must allow authorization with its authorization value
+-- the demand of an HMAC session on an entry, in addition to its comparison: none. But the entry's
+-- handle must allow authorization with its authorization value
 abbrev by_value : Record → Whole → (n : ℕ) → Handle → Result Demand Refused
 by_value r c n handle = do
   available ← refused_if (not (is_available r handle means.AuthValue (nv_use_at c.code (n - 1))))
       (refusal check.Authorization (plain code.AuthUnavailable))
   Ok demand.None
 
--- what a policy session demands of the entry that authorizes a handle, if the policy allows the
+-- the demand of a policy session on the entry that authorizes a handle, if the policy allows the
 -- use; a trial session authorizes nothing
 abbrev pub by_policy : Record → Whole → (locality n : ℕ) → Handle → Session → Result Demand Refused
 by_policy r c locality n handle s =

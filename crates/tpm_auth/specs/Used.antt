@@ -1,5 +1,5 @@
--- What an entry has to authorize: a handle of its command, with the handle's entity, which is
--- looked up only once.
+-- The handle that an entry has to authorize, with the handle's entity, which is looked up only
+-- once.
 use Rattle.std.specs.Prelude.{◌≡◌, ℕ, List, Option, Some, None, slice_get}
 use Rattle.std.specs.Option.{ForSome}
 use Rattle.tpm_types.specs.declared.handle.Handle.{Handle}
@@ -15,17 +15,17 @@ use Rattle.tpm_auth.specs.declared.used.Used.{Used}
 abbrev pub used_handle : Used → Handle
 used_handle used = used.resolved.handle
 
--- What an entry has to authorize was found in the record; its Name, if computed, is the Name of
--- its handle in the record.
+-- The entity that an entry has to authorize was found in the record; its Name, if computed, is the
+-- Name of its handle in the record.
 pub record IsUsed (r : Record) (used : Used) : Type 0 where
   pub found : IsFound r used.resolved
   pub named : ForSome used.name (λ name. name.now ≡ name_of r (used_handle used))
 
--- What an entry has to authorize was found in the record.
+-- The entity that an entry authorizes was found in the record.
 pub record IsToGrant (r : Record) (granted : Granted) : Type 0 where
   pub used : IsUsed r granted.used
 
--- what an entry authorizes: the handle and the demand, without the handle's entity
+-- the handle that an entry authorizes and the demand, without the handle's entity
 abbrev pub grant_by : Granted → Grant
 grant_by granted = record { handle = used_handle granted.used; demand = granted.demand }
 

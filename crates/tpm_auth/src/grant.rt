@@ -265,7 +265,7 @@ fn check_sessions<K: Keep>(
     check_resolved(keep, sent, keyed)
 }
 
-/// What the first entry of a command has to authorize, if anything.
+/// The handle that the first entry of a command has to authorize, if there is one.
 fn first_used<'a, K: Keep>(keep: &'a K, command: &Command) -> Option<Used<'a>>
     ensures handle { option_map used_handle result
         ≡ slice_get (authorized (whole_of command.now)) 0 }

@@ -25,7 +25,7 @@ use tpm_session::{ParameterHashes, Protection, Session};
 use tpm_types::{Check, Handle, Refused, ResponseCode, SessionType};
 use tpm_types_command::{AuthEntry, Command};
 
-/// What an entry authorizes: a handle, with the policy's demand for it.
+/// The handle that an entry authorizes, with the policy's demand for it.
 #[derive(Clone, Copy, PartialEq, Eq)]
 pub struct Grant {
     pub handle: Handle,
@@ -138,7 +138,7 @@ fn use_of<'a, K: Keep>(
     }
 }
 
-/// What a session's policy demands for this handle, if the policy authorizes the use.
+/// The demand of a session's policy for this handle, if the policy authorizes the use.
 fn policy_demand<K: Keep>(
     keep: &K,
     sent: &Sent,
@@ -163,7 +163,7 @@ fn policy_demand<K: Keep>(
     }
 }
 
-/// What a session demands for this handle in addition to the comparison, if it can authorize the
+/// The demand of a session for this handle, in addition to the comparison, if it can authorize the
 /// handle.
 #[tactic(auto, unfolding(crate::specs::SessionGrant::demanded, tpm_record::specs::Entity::is_available))]
 fn demand_of<K: Keep>(
@@ -235,7 +235,7 @@ fn comparison_holds<K: Keep>(
     }
 }
 
-/// What an entry authorizes: its handle and the demand, without the handle's entity.
+/// The handle that an entry authorizes and the demand, without the handle's entity.
 fn grant_of(granted: Option<Granted>) -> Option<Grant>
     ensures { result ≡ option_map grant_by granted.entry }
 {

@@ -1,5 +1,5 @@
-//! What an entry has to authorize: a handle of its command, with the handle's entity, which is
-//! looked up only once.
+//! The handle that an entry has to authorize, with the handle's entity, which is looked up only
+//! once.
 
 ghost use Rattle.std.specs.Prelude.{◌≡◌, ◌≤◌, length, map, slice_get, take};
 ghost use Rattle.std.specs.Str.{bytes_eq};
@@ -27,14 +27,14 @@ pub struct Sent<'a, 'b> {
     pub locality: Locality,
 }
 
-/// What an entry has to authorize, with its Name if it has been computed.
+/// The handle that an entry has to authorize, with its Name if the Name has been computed.
 #[derive(Clone, Copy)]
 pub struct Used<'a> {
     pub resolved: Resolved<'a>,
     pub name: Option<&'a Name>,
 }
 
-/// What an entry authorizes, with the policy's demand for it.
+/// The handle that an entry authorizes, with the policy's demand for it.
 #[derive(Clone, Copy)]
 pub struct Granted<'a> {
     pub used: Used<'a>,
@@ -42,7 +42,7 @@ pub struct Granted<'a> {
 }
 
 impl Granted<'_> {
-    /// What an entry authorizes: its handle and the demand, without the handle's entity.
+    /// The handle that an entry authorizes and the demand, without the handle's entity.
     pub fn grant(&self) -> Grant
         ensures { result ≡ grant_by self.now }
     {
@@ -76,7 +76,7 @@ fn authorized<'a>(sent: &Sent<'a, '_>) -> &'a [Resolved<'a>]
     &sent.resolved[..sent.command.code.authorized_handles()]
 }
 
-/// What the entry at a position has to authorize, if anything.
+/// The handle that the entry at a position has to authorize, if there is one.
 #[tactic(auto, using(crate::proofs::Resolving::used_in, crate::proofs::Resolving::nothing_in))]
 pub fn used_at<'a>(sent: &Sent<'a, '_>, place: usize) -> Option<Used<'a>>
     requires { length sent.now.resolved.now ≡ length (whole_of sent.now.command.now).handles }

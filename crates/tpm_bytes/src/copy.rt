@@ -4,7 +4,7 @@ ghost use Rattle.std.specs.Prelude.{◌≡◌, ◌+◌, ◌≤◌, ◌++◌, len
 
 use arrayvec::ArrayVec;
 
-/// Appends these bytes to a buffer that must have room for them.
+/// Appends these bytes to a buffer, which must have room for them.
 pub fn append<const N: usize>(buffer: &mut ArrayVec<u8, N>, bytes: &[u8])
     requires { length buffer.old.items + length bytes.now ≤ N }
     ensures { buffer.new.items ≡ buffer.old.items ++ bytes.now }

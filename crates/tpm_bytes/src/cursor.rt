@@ -11,7 +11,7 @@ use std::marker::Model;
 #[derive(Clone, Copy, PartialEq, Eq)]
 pub struct Short;
 
-/// Why a sized buffer was not read.
+/// The reason why a sized buffer was not read.
 #[derive(Clone, Copy, PartialEq, Eq)]
 pub enum SizedFault {
     /// The size of the buffer is over the limit, even if bytes are missing.

@@ -8,7 +8,7 @@ use Rattle.tpm_commands.specs.declared.command_code.CommandCode.TheVariants as c
 use Rattle.tpm_commands.specs.CommandCode.{code_named, code_number}
 use Rattle.tpm_commands.specs.CommandFacts.{all_codes}
 
--- a value found by a search passes the test
+-- If a search finds a value, the value passes the test.
 pub found_passes : {X : Type 0} (test : X → Bool) (xs : List X) → IfSome (find test xs) (λ x. test x ≡ true)
 found_passes test [] = tt
 found_passes test (x ∷ xs) = chosen (test x) refl (found_passes test xs)

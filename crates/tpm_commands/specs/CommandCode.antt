@@ -31,15 +31,15 @@ part_of code = (command_facts code).part
 unfoldable pub shape_of : CommandCode → Facts
 shape_of code = (command_facts code).shape
 
--- the command with this number, or None if it is not served
+-- the command with this number, or None if it is not supported
 unfoldable pub code_named : ℕ → Option CommandCode
 code_named number = find (λ code. code_number code == number) all_codes
 
--- whether a command with this number is served, and therefore whether a policy can name it
+-- whether a command with this number is supported, and therefore whether a policy can name it
 abbrev pub is_served : ℕ → Bool
 is_served number = is_some (code_named number)
 
--- the command with this name, or None if it is not served
+-- the command with this name, or None if it is not supported
 unfoldable pub code_called : List ℕ → Option CommandCode
 code_called name = find (λ code. pointwise nat_eq name (code_name code)) all_codes
 

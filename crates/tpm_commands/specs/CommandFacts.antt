@@ -1,6 +1,6 @@
--- The facts about the served commands: the number of each (TPM 2.0 Library, Part 2, section 6.5.2:
--- TPM_CC), its name, the part of the device's state that it may change if it succeeds, and its
--- shape (Part 3, its own section).
+-- The facts about the supported commands: the number of each (TPM 2.0 Library, Part 2, section
+-- 6.5.2: TPM_CC), its name, the part of the device's state that it may change if it succeeds, and
+-- its shape (Part 3, its own section).
 use Rattle.tpm_types.specs.Limits.{data_limit}
 use Rattle.std.specs.Prelude.{ℕ, true, List, [], ◌∷◌, codes}
 use Prim.Native.String.{String}
@@ -226,7 +226,7 @@ command_facts code.PolicyPassword = facts 0x18c "PolicyPassword" Sessions (on_po
 command_facts code.PolicyNvWritten =
     facts 0x18f "PolicyNvWritten" Sessions (on_policy (parameter.YesNo ∷ []))
 
--- all served commands, in ascending order of number
+-- all supported commands, in ascending order of number
 abbrev pub all_codes : List CommandCode
 all_codes =
     code.EvictControl

@@ -26,7 +26,7 @@ is_provision handle =
     handle.number == owner_handle.number || handle.number == platform_handle.number
 
 -- whether a handle is of a kind (Part 2, section 9). The kinds, in order: a PCR (TPMI_DH_PCR); a
--- PCR or TPM_RH_NULL; only TPM_RH_NULL (the standard allows a key too); a hierarchy or lockout
+-- PCR or TPM_RH_NULL; only TPM_RH_NULL (the standard also allows a key); a hierarchy or lockout
 -- (TPMI_RH_HIERARCHY_AUTH); a hierarchy or TPM_RH_NULL (TPMI_RH_HIERARCHY+); an entity as above,
 -- with or without TPM_RH_NULL; a transient or persistent object, which need not exist
 -- (TPMI_DH_OBJECT); a policy session or a trial session (03: TPMI_SH_POLICY); the owner or the

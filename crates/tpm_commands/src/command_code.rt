@@ -1,4 +1,4 @@
-//! The served commands and the facts about each: its number (TPM_CC; TPM 2.0 Library, Part 2,
+//! The supported commands and the facts about each: its number (TPM_CC; TPM 2.0 Library, Part 2,
 //! section 6.5.2), its name, and its [`Shape`], which contains all other facts.
 
 ghost use Rattle.std.specs.Prelude.{◌≡◌, ◌≤◌, ◌==◌, IfSome, Some, length, true};
@@ -10,7 +10,7 @@ use crate::shape::ParameterKind::{
 use crate::shape::{HandleKind, HandleRule, ParameterKind, Shape};
 use tpm_types::{DATA_LIMIT, NvUse, Role};
 
-/// The served commands, in ascending order of number. One line of `facts!` contains all facts
+/// The supported commands, in ascending order of number. One line of `facts!` contains all facts
 /// about a command.
 #[derive(Clone, Copy, PartialEq, Eq)]
 pub enum CommandCode {
@@ -280,7 +280,7 @@ impl CommandCode {
     ghost use Rattle.tpm_commands.specs.CommandCode.{authorized_handles, code_called, code_name, code_named, code_number, handle_count, has_sized_parameter, is_served, nv_use_at, role_at, shape_of};
     ghost use Rattle.tpm_commands.specs.Shape.{facts_of};
 
-    /// All served commands, in ascending order of number.
+    /// All supported commands, in ascending order of number.
     pub const ALL: &'static [CommandCode] = &facts!(all);
 
     /// The wire number of the command.
@@ -293,14 +293,15 @@ impl CommandCode {
         facts!(number of self)
     }
 
-    /// Whether a command with this number is served, and therefore whether a policy can name it.
+    /// Whether a command with this number is supported, and therefore whether a policy can name
+    /// it.
     pub fn is_served(number: u32) -> bool
         ensures { result ≡ is_served number }
     {
         CommandCode::named(number).is_some()
     }
 
-    /// The command with this number, or None if it is not served.
+    /// The command with this number, or None if it is not supported.
     #[tactic(auto, using(crate::proofs::Codes::codes), unfolding(crate::specs::CommandCode::code_named))]
     pub fn named(number: u32) -> Option<CommandCode>
         ensures value { result ≡ code_named number }
@@ -321,7 +322,7 @@ impl CommandCode {
         facts!(name of self)
     }
 
-    /// The command with this name, or None if it is not served.
+    /// The command with this name, or None if it is not supported.
     #[tactic(auto, unfolding(crate::specs::CommandCode::code_called))]
     pub fn called(name: &[u8]) -> Option<CommandCode>
         ensures { result ≡ code_called name.now }

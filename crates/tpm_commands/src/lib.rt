@@ -1,6 +1,6 @@
 #![tactic(auto)]
 
-//! The served commands (TPM 2.0 Library, Part 3), and the reader of their handles.
+//! The supported commands (TPM 2.0 Library, Part 3), and the reader of their handles.
 //!
 //! The [`shape::Shape`] of a command contains every fact about it except its number, its name and
 //! its effect; [`command_code`] states all facts about a command in one line.

@@ -118,7 +118,7 @@ pub enum ParameterKind {
     DigestList,
     /// A sized buffer of at most this many bytes: a TPM2B.
     Buffer(u16),
-    /// What a caller provides for a new object: TPM2B_SENSITIVE_CREATE.
+    /// The values that a caller provides for a new object: TPM2B_SENSITIVE_CREATE.
     SensitiveCreate,
     /// The public area of an object: TPM2B_PUBLIC.
     Public,

@@ -1,5 +1,5 @@
--- The values found by each key after a value was changed, one was removed, some were kept, or all
--- were changed.
+-- The values found by each key after a value was changed, a value was removed, only some values
+-- were kept, or all values were changed.
 use Rattle.std.proofs.Common.{◌≡◌, ◌⊎◌, ℕ, Bool, true, false, cond, [], ◌∷◌, map, Option, Some, None, option_map, ◌==◌, refl, sym, ap, ◌∙◌, inl, inr}
 use Rattle.std.proofs.lemmas.Bool.{cases_Bool, cases_eq}
 use Rattle.tpm_containers.specs.IsSortedMap.{IsSortedMap}
@@ -10,7 +10,7 @@ module _ {X : Type 0} where
   laws : IsSortedMap X
   laws = is_map
 
-  -- after a key is removed, each value is unchanged or gone
+  -- After a key is removed, the value found by each key is unchanged or removed.
   pub removed_or_same : (es : Entries X) (key other : ℕ) → Ascends es → (at_key (without_key es key) other ≡ at_key es other) ⊎ (at_key (without_key es key) other ≡ None)
   removed_or_same es key other up =
       elim (cases_eq other key) [
@@ -18,7 +18,7 @@ module _ {X : Type 0} where
         | inr apart ↦ inl (laws.removed_others es key other apart)
       ]
 
-  -- after some values are kept, each value is unchanged or gone
+  -- If only some values are kept, the value found by each key is unchanged or removed.
   pub kept_or_gone : (stays : X → Bool) (es : Entries X) (key : ℕ) → Ascends es → (at_key (kept_entries stays es) key ≡ at_key es key) ⊎ (at_key (kept_entries stays es) key ≡ None)
   kept_or_gone stays es key up = by (at_key es key) refl
     where

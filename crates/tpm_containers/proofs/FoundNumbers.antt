@@ -1,4 +1,4 @@
--- The values found by each number after a value was removed, and if all slots are free.
+-- The values found by each number after a value was removed, or when all slots are free.
 use Rattle.std.proofs.Common.{◌≡◌, ◌⊎◌, ℕ, zero, suc, List, Option, None, option_and_then, refl, ap, ◌∙◌, inl, inr}
 use Rattle.std.proofs.lemmas.Bool.{cases_eq}
 use Rattle.tpm_containers.specs.Numbered.{at_number, if_of_kind, place_of, without_number}
@@ -6,7 +6,7 @@ use Rattle.tpm_containers.specs.Slots.{at_place, free}
 use Rattle.tpm_containers.proofs.NumberedLaws.{removed_gone, removed_others}
 
 module _ {X : Type 0} (kind : X → ℕ) where
-  -- after a number is removed, each value is unchanged or gone
+  -- After a number is removed, the value found by each number is unchanged or removed.
   pub removed_or_same : (places : List (Option X)) (number other : ℕ) → (at_number kind (without_number kind places number) other ≡ at_number kind places other) ⊎ (at_number kind (without_number kind places number) other ≡ None)
   removed_or_same places number other =
       elim (cases_eq other number) [

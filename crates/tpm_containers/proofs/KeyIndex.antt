@@ -69,7 +69,8 @@ module _ {X : Type 0} where
   IsFirst test es i d =
       (i < length es) × (test (get_or es i d) ≡ true) × ((k : ℕ) → k < i → test (get_or es k d) ≡ false)
 
-  -- the first index whose entry passes a test is also the first among the rest
+  -- If the first index whose entry passes a test is not 0, it is also the first such index among
+  -- the rest.
   first_rest : (test : ℕ × X → Bool) (e : ℕ × X) (es : Entries X) (i : ℕ) (d : ℕ × X) → IsFirst test (e ∷ es) (suc i) d → IsFirst test es i d
   first_rest test e es i d p =
       let inside = p.0 in
@@ -134,12 +135,14 @@ module _ {X : Type 0} where
       let same : e.0 ≡ key = ap (λ (p : ℕ × X). p.0) (sym read) ∙ here in
       ap (λ (k : ℕ). slice_set es i (k, x)) same ∙ set_position es key i x (sym is)
 
-  -- The entry at an index is that of this key, for reading and for writing.
+  -- The entry e at index i belongs to this key: e contains the key's value, and writing index i
+  -- changes that value.
   pub record Lent (es : Entries X) (key i : ℕ) (e : ℕ × X) : Type 0 where
     pub value : at_key es key ≡ Some e.1
     pub written : (x : X) → slice_set es i (e.0, x) ≡ changed_key es key x
 
-  -- an entry borrowed from a container's slice is that of its key, for reading and for writing
+  -- An entry that is borrowed from a container's slice at a key's index, shared or mutable,
+  -- belongs to that key.
   pub lent_at : (shown es : Entries X) (key i : ℕ) (e : ℕ × X) → shown ≡ es → e ≡ get_or es i e → ((e : ℕ × X) → get_or shown i e ≡ e → at_key shown key ≡ Some e.1) → ((e : ℕ × X) (x : X) → get_or shown i e ≡ e → slice_set shown i (e.0, x) ≡ changed_key shown key x) → Lent es key i e
   lent_at shown es key i e same read value written =
       let is : get_or shown i e ≡ e = ap (λ (l : Entries X). get_or l i e) same ∙ sym {b = get_or es i e} read in

@@ -12,7 +12,7 @@ module _ {X : Type 0} (kind : X → ℕ) where
 
   -- ---- numbers
 
-  -- what is found by a number whose slot has this content
+  -- the value that a number finds in a slot with this content, if it has the number's kind
   abbrev seen : ℕ → Option X → Option X
   seen number cell = option_and_then (if_of_kind kind number) cell
 
@@ -41,7 +41,7 @@ module _ {X : Type 0} (kind : X → ℕ) where
   kind_of-number_of : (k place : ℕ) → place < 2 ^ 24 → kind_of (number_of k place) ≡ k
   kind_of-number_of k place below = omega arith
 
-  -- what is found by another number after a slot is written
+  -- After a slot is written, any other number finds what it found before.
   elsewhere : (places : Slots) (place other : ℕ) (cell : Option X) → (place_of other ≡ place → seen other cell ≡ seen other (at_place places place)) → place < length places → at_number kind (slice_set places place cell) other ≡ at_number kind places other
   unfolding at_number
   elsewhere places place other cell same inside =
@@ -90,7 +90,7 @@ module _ {X : Type 0} (kind : X → ℕ) where
   unfolding at_number
   found_at places number x is = seen_some number (at_place places (place_of number)) x is
 
-  -- another number for the same slot differs in its highest byte, and nothing is found by it
+  -- If another number identifies the same slot, it differs in its highest byte, and finds nothing.
   hidden : (places : Slots) (number other : ℕ) (x y : X) → Found places number x → kind y ≡ kind x → other ≢ number → place_of other ≡ place_of number → seen other (Some y) ≡ None
   hidden places number other x y is same apart here =
       seen_apart other y (λ byte. apart (one_number other number here (byte ∙ same ∙ sym is.1)))
@@ -170,11 +170,12 @@ module _ {X : Type 0} (kind : X → ℕ) where
       let set = taken_set places place (Some x) free.0 in
       omega (arith, set, none)
 
-  -- the value found by a number is in the number's slot, which counts as one taken slot
+  -- If a number finds a value, the value is in the number's slot, and counts as one taken slot.
   one_taken : (places : Slots) (number : ℕ) (x : X) → at_number kind places number ≡ Some x → counted (at_place places (place_of number)) ≡ 1
   one_taken places number x is = ap counted (found_at places number x is).0
 
-  -- after a number's slot is written, it counts as what was written
+  -- If the slot of a number that finds a value is written, the number of taken slots decreases by
+  -- one, and increases by the count for the new content.
   taken_there : (places : Slots) (number : ℕ) (x : X) (cell : Option X) → at_number kind places number ≡ Some x → taken_count (slice_set places (place_of number) cell) + 1 ≡ taken_count places + counted cell
   taken_there places number x cell is =
       let set = taken_set places (place_of number) cell (at_inside places (place_of number) x (found_at places number x is).0) in
@@ -186,7 +187,7 @@ module _ {X : Type 0} (kind : X → ℕ) where
       let there = taken_there places number x None is in
       rw (removed_some places number x is) (omega (arith, there))
 
-  -- a removal never increases the number of taken slots, whether or not there was a value
+  -- A removal never increases the number of taken slots, even if there was no value.
   pub removed_taken : (places : Slots) (number : ℕ) → taken_count (without_number kind places number) ≤ taken_count places
   removed_taken places number = by (at_number kind places number) refl
     where

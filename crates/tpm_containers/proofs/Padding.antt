@@ -118,13 +118,13 @@ padded-push most cells cell few =
     ∙ sym (set_first_free cells (most - suc (length cells)) cell)
     ∙ ap (λ (n : ℕ). slice_set (cells ++ free n) (length cells) cell) (sym before)
 
--- adding a free cell changes no slot
+-- If a free cell is added to a list, no slot changes.
 pub padded-grown : {X : Type 0} (most : ℕ) (cells : Cells X) → length cells < most → padded_to most (cells ++ None ∷ []) ≡ padded_to most cells
 padded-grown most cells few = padded-push most cells None few ∙ padded-clear most cells (length cells) (omega arith)
 
 -- ---- reading cells and writing them back
 
--- a cell that is read contains what is in its slot
+-- A cell that is read has the content of its slot.
 pub at_place-read : {X : Type 0} (cells : Cells X) (place : ℕ) (cell d : Option X) → place < length cells → get_or cells place d ≡ cell → at_place cells place ≡ cell
 at_place-read [] place cell d below is = absurd (omega arith)
 at_place-read (first ∷ cells) zero cell d below is = is

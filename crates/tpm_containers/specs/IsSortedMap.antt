@@ -14,7 +14,7 @@ pub record IsSortedMap (X : Type 0) : Type 0 where
       → at_key entries key ≡ None → Ascends (with_key entries key x)
   pub put_length : (entries : Entries X) (key : ℕ) (x : X)
       → length (with_key entries key x) ≡ length entries + 1
-  -- what is removed is gone, and all else is unchanged
+  -- a removed key finds nothing, and all else is unchanged
   pub removed_gone : (entries : Entries X) (key : ℕ) → Ascends entries
       → at_key (without_key entries key) key ≡ None
   pub removed_others : (entries : Entries X) (key other : ℕ) → other ≢ key
@@ -43,7 +43,7 @@ pub record IsSortedMap (X : Type 0) : Type 0 where
       → Ascends (changed_key entries key x)
   pub changed_length : (entries : Entries X) (key : ℕ) (x : X)
       → length (changed_key entries key x) ≡ length entries
-  -- if a choice keeps some values, these are unchanged, all others are gone, and no value is new
+  -- if a choice keeps some values, they are unchanged, all others are removed, and no value is new
   pub kept_found : (stays : X → Bool) (entries : Entries X) (key : ℕ) (x : X)
       → at_key entries key ≡ Some x → stays x ≡ true
       → at_key (kept_entries stays entries) key ≡ Some x

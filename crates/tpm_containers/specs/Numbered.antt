@@ -35,7 +35,8 @@ module _ {X : Type 0} where
 
   -- the laws of slots as a map keyed by number
   pub record MapLaws (kind : X → ℕ) : Type 0 where
-    -- what is put into the lowest free slot is found by its number, and all else is unchanged
+    -- a value that is put into the lowest free slot is found by its number, and all else is
+    -- unchanged
     pub put_found : (places : List (Option X)) (place : ℕ) (x : X) → place < 2 ^ 24
         → lowest_free places ≡ Some place
         → at_number kind (slice_set places place (Some x)) (number_of (kind x) place) ≡ Some x
@@ -50,10 +51,10 @@ module _ {X : Type 0} where
     -- if there is no free slot, all slots are taken
     pub full : (places : List (Option X)) (place : ℕ)
         → lowest_free places ≡ None → place < length places → at_place places place ≢ None
-    -- what is in a slot is found by its number
+    -- a value in a slot is found by its number
     pub taken : (places : List (Option X)) (place : ℕ) (x : X) → place < 2 ^ 24
         → at_place places place ≡ Some x → at_number kind places (number_of (kind x) place) ≡ Some x
-    -- what is removed is gone, and all else is unchanged
+    -- a removed number finds nothing, and all else is unchanged
     pub removed_gone : (places : List (Option X)) (number : ℕ)
         → at_number kind (without_number kind places number) number ≡ None
     pub removed_others : (places : List (Option X)) (number other : ℕ) → other ≢ number

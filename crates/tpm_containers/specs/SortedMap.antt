@@ -53,8 +53,8 @@ module _ {X : Type 0} where
   AreEach Is [] = Unit {0}
   AreEach Is (e ∷ es) = Is e.0 e.1 × AreEach Is es
 
-  -- A value was put under a free key, since the map was not full; or nothing changed. If nothing
-  -- changed, the key is taken; or it is free, but the map is full; or neither is the case, and an
+  -- A value was put under a free key, since the map was not full; or nothing changed for one of
+  -- three reasons. The first that applies is returned: the key is taken; the map is full; an
   -- allocation failed.
   abbrev pub PutsKey : ℕ → Bool → Entries X → ℕ → X → Result (Unit {0}) KeyFault → Entries X
       → Type 0

@@ -1,5 +1,5 @@
-//! Cells, each free or with a value: finding the lowest free slot among them, and growing them
-//! until they include a slot. Both kinds of slots share this.
+//! Cells, each free or with a value. The functions find the lowest free slot, and append cells
+//! until the cell of a slot exists. All kinds of slots share this code.
 
 ghost use Rattle.std.specs.Prelude.{◌≡◌, ◌<◌, ◌≤◌, IfSome, OnErr, OnOk, is_none, length, position, true};
 ghost use Rattle.tpm_containers.specs.Slots.{lowest_free, padded_to};

@@ -15,9 +15,9 @@ pub fn sorted_map_laws<T>()
 {}
 
 /// The value found by each key after a change. If a key is removed, or only some values are kept,
-/// each value is unchanged or gone. If a value changes and a view of it does not, the view of the
-/// value found does not change either. If all values change, the changed value is found by each
-/// key. A proof only: it has no effect at run time.
+/// each value is unchanged or removed. If a value changes and a view of it does not, the view of
+/// the value found does not change either. If all values change, each key finds the changed value.
+/// A proof only: it has no effect at run time.
 #[inline(always)]
 #[tactic(auto, using(crate::proofs::FoundKeys::removed_or_same, crate::proofs::FoundKeys::kept_or_gone, crate::proofs::FoundKeys::changed_shows, crate::proofs::FoundKeys::all_changed_found))]
 pub fn found_laws<T, V>()

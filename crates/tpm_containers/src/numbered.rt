@@ -114,8 +114,8 @@ pub fn numbered_laws<T: Kinded>()
     ensures { MapLaws T.kind }
 {}
 
-/// After a removal, the value found by each number is unchanged or gone; if all slots are free,
-/// nothing is found. A proof only: it has no effect at run time.
+/// After a removal, the value found by each number is unchanged or removed; if all slots are free,
+/// no number finds anything. A proof only: it has no effect at run time.
 #[inline(always)]
 #[tactic(auto, using(crate::proofs::FoundNumbers::removed_or_same, crate::proofs::FoundNumbers::free_found))]
 pub fn found_laws<T: Kinded>()

@@ -8,7 +8,7 @@ ghost use Rattle.tpm_containers.specs.Slots.{Inserts, Puts, at_place, free, lowe
 
 use std::alloc::Global;
 
-/// Why a value was not put into a slot.
+/// The reason why a value was not put into a slot.
 #[derive(Clone, Copy, PartialEq, Eq)]
 pub enum SlotFault {
     /// All slots are taken.

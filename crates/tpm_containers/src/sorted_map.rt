@@ -8,7 +8,7 @@ ghost use Rattle.tpm_containers.specs.SortedMap.{Ascends, PutsKey, at_key, chang
 use crate::Choice;
 use std::alloc::Global;
 
-/// Why no value was put under a key.
+/// The reason why no value was put under a key.
 #[derive(Clone, Copy, PartialEq, Eq)]
 pub enum KeyFault {
     /// The key already has a value.

@@ -1,4 +1,4 @@
--- What is expected at the position of a fault, in words that are not a command.
+-- The word that is expected at the position of a fault, in words that are not a command.
 use Rattle.std.specs.Prelude.{ℕ, ◌+◌, ◌-◌, ◌==◌, List, [], ◌++◌, length, map, take, drop, replicate, codes, get_or}
 use Rattle.std.specs.Prelude.{Option, Some, None}
 use Rattle.std.specs.List.{count_by, take_while}
@@ -16,7 +16,7 @@ abbrev pub entry_count : CommandCode → (tokens : List (List ℕ)) → ℕ
 entry_count code tokens =
     length (take_while begins_entry (take 3 (drop (handle_count code + 1) tokens)))
 
--- the words for what follows the name of a command that has this many entries, in order
+-- the words for the parts after the name of a command that has this many entries, in order
 abbrev pub words_behind : CommandCode → (entries : ℕ) → List (List ℕ)
 words_behind code entries = map (λ rule. handle_word rule.kind) (shape_of code).handles
     ++ (replicate entries (codes "entry") ++ map parameter_word (shape_of code).parameters)
@@ -38,7 +38,7 @@ word_behind words place =
 abbrev pub space_count : List ℕ → ℕ
 space_count text = count_by (λ byte. byte == space) text
 
--- what is expected at this fault in the words: at the fault's column, or after the last token
+-- the word that is expected at this fault: at the fault's column, or after the last token
 unfoldable pub word_at : (words : List ℕ) → AsmFault → List ℕ
 word_at words fault.BadName = codes "command"
 word_at words (fault.BadField column) =

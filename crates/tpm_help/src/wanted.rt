@@ -1,4 +1,4 @@
-//! What is expected at the position of a fault, in words that are not a command.
+//! The word that is expected at the position of a fault, in words that are not a command.
 
 ghost use Rattle.std.specs.Prelude.{◌≡◌, ◌-◌, [], codes, get_or, take};
 ghost use Rattle.tpm_text.specs.Entry.{begins_entry};
@@ -9,7 +9,7 @@ use crate::form::{handle_word, parameter_word};
 use tpm_commands::CommandCode;
 use tpm_text::{AsmFault, position_of};
 
-/// The word for what is expected at this fault in the words.
+/// The word for the part that is expected at this fault.
 #[tactic(auto, unfolding(crate::specs::Wanted::word_at))]
 pub fn word_at(words: &[u8], fault: AsmFault) -> &'static str
     ensures { result.now ≡ word_at words.now fault }

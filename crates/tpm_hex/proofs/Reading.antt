@@ -6,14 +6,14 @@ use Rattle.hex.specs.declared.error.FromHexError.{FromHexError}
 use Rattle.hex.specs.declared.error.FromHexError.TheVariants.{InvalidHexCharacter}
 use Rattle.hex.proofs.Pairs.{decode_err, decode_step, prepend}
 
--- The pairs before this offset have been read.
+-- The pairs before index `place` have been decoded.
 abbrev pub PairsTellSoFar : List ℕ → (largest : ℕ) → (place : ℕ) → (bytes : List ℕ) → Type 0
 PairsTellSoFar digits largest place bytes =
     (largest < 16 → decode_pairs 0 digits
     ≡ prepend (take place bytes) (decode_pairs (2 * place) (drop (2 * place) digits)))
     × (16 ≤ largest → (fault : FromHexError) × (decode_pairs 0 digits ≡ Err fault))
 
--- the value of a byte is below 16 exactly if the byte is a hex digit
+-- If the value of a byte is below 16, the byte is the hex digit with that value.
 small_is_digit : (digit : Option ℕ) (value : ℕ) → value ≡ unwrap_or digit 255 → value < 16 → digit ≡ Some value
 small_is_digit (Some own) value e small = ap Some (sym e)
 small_is_digit None value e small = absurd (omega (arith, e, small))
@@ -21,14 +21,14 @@ small_is_digit None value e small = absurd (omega (arith, e, small))
 large_is_none : (byte value : ℕ) → value ≡ unwrap_or (hex_digit_value byte) 255 → 16 ≤ value → hex_digit_value byte ≡ None
 large_is_none byte value e large = grind (arith)
 
--- a pair of digits encodes a byte
+-- Two hex digits encode the byte whose upper and lower four bits are the digits' values.
 digits_write : (first second high low index : ℕ)
     → hex_digit_value first ≡ Some high → hex_digit_value second ≡ Some low → high < 16 → low < 16
     → pair_value first second index ≡ Ok (high % 16 * 16 + low % 16)
 digits_write first second high low index e f small small' =
     rw (e, f) (ap Ok (omega (arith, small, small')))
 
--- a pair in which one byte is not a digit encodes no byte
+-- If one byte of a pair is not a digit, decoding the pair fails at that byte.
 first_is_bad : (first second index : ℕ) → hex_digit_value first ≡ None
     → pair_value first second index ≡ Err (InvalidHexCharacter first index)
 first_is_bad first second index e = rw e refl
@@ -50,7 +50,7 @@ pair_is_bad first second high low index e f large =
       | inr not_small ↦ (_, first_is_bad first second index (large_is_none first high e not_small))
     ]
 
--- one more pair has been read
+-- If the next pair is decoded, all pairs up to it have been decoded.
 pub pair_read : (digits bytes : List ℕ) (largest place high low next : ℕ)
     → 2 * place + 1 < length digits → place < length bytes
     → high ≡ unwrap_or (hex_digit_value (slice_index digits (2 * place))) 255

@@ -4,8 +4,8 @@ use Rattle.std.specs.Prelude.{◌≡◌, ℕ, ◌<◌, ◌≤◌, List, Ok, Err}
 use Rattle.hex.specs.Hex.{decode_pairs}
 use Rattle.hex.specs.declared.error.FromHexError.{FromHexError}
 
--- What follows from the largest digit value: if it is below 16, all bytes are hex digits and
--- encode these bytes; otherwise they encode nothing.
+-- The meaning of the largest digit value: if it is below 16, all bytes are hex digits and encode
+-- these bytes; otherwise they encode nothing.
 abbrev pub PairsTell : List ℕ → (largest : ℕ) → (bytes : List ℕ) → Type 0
 PairsTell digits largest bytes =
     (largest < 16 → decode_pairs 0 digits ≡ Ok bytes)

@@ -11,7 +11,7 @@ regrouped true true rest = refl
 regrouped true false rest = refl
 regrouped false b rest = refl
 
--- one more pair is compared
+-- If the next pair of digits is compared, the remaining digits decide about the rest.
 pub pair_compared : (digits bytes pair : List ℕ) (place : ℕ) → 2 * place + 1 < length digits → place < length bytes
     → pair ≡ encode_lower (slice_index bytes place ∷ [])
     → bytes_eq (drop (2 * place) digits) (encode_lower (drop place bytes))
@@ -29,7 +29,7 @@ none_left [] [] e f = refl
 none_left [] (b ∷ bytes) e f = absurd cc
 none_left (d ∷ digits) bytes e f = absurd cc
 
--- a text lacks the line of an image if the line's end does not follow its digits
+-- If the end of an image's line does not follow its digits, the text lacks that line.
 pub end_missing : {X : Type 0} (text digits image end : List ℕ) (found : Option X) → text ≡ codes "# " ++ digits
     → digits ≡ encode_lower image ++ end → IfNone found ((rest : List ℕ) → end ≡ 10 ∷ [] ++ rest → ⊥)
     → IfNone found ((rest : List ℕ) → text ≡ codes "# " ++ (encode_lower image ++ (10 ∷ [] ++ rest)) → ⊥)

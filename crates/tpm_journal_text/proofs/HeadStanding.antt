@@ -41,7 +41,7 @@ count_is kind clock content has =
 regrouped : (line word content end rest : List ℕ) → (line ++ word ++ content ++ end) ++ rest ≡ (line ++ word) ++ (content ++ (end ++ rest))
 regrouped line word content end rest = simp append_assoc refl
 
--- the line of the mark of a head
+-- the line of a head's mark
 head_line : HeadKind → (clock : ℕ) → (content : List ℕ) → List ℕ
 head_line kind clock content = marked_line (head_word kind) (head_mark clock content) (head_sum clock content)
 
@@ -72,7 +72,7 @@ unfolding behind_line
 line_first kind clock content rest =
     parts kind clock content rest ∙ append_assoc (head_line kind clock content) (codes "# ") (encode_lower content ++ (10 ∷ [] ++ rest))
 
--- a head's text begins with the line of its mark
+-- A head's text begins with the line of its mark.
 pub head_line_stands : (kind : HeadKind) (clock : ℕ) (content text rest : List ℕ) → text ≡ head_text kind clock content ++ rest
     → take 77 text ≡ marked_line (head_word kind) (head_mark clock content) (head_sum clock content)
 unfolding head_line
@@ -85,7 +85,7 @@ unfolding marked_line
 line_word word bytes rest sum =
     (encode_lower bytes ++ (32 ∷ [] ++ (encode_lower (to_be_bytes w64 sum) ++ (10 ∷ [] ++ rest))), simp append_assoc refl)
 
--- a head begins with its word, so all heads that a text begins with are of one kind
+-- A head begins with the word of its kind, so all heads that a text begins with are of one kind.
 word_stands : (kind : HeadKind) (clock : ℕ) (content text rest : List ℕ) → text ≡ head_text kind clock content ++ rest
     → (more : List ℕ) × (text ≡ head_word kind ++ more)
 unfolding head_line
@@ -103,7 +103,8 @@ one_word State Image x y same =
     let no : 50 ≡ 49 = ap (λ (l : List ℕ). get_or l 17 0) same in
     absurd (omega (arith, no))
 
--- a head contains a state text if the text begins with the word for one, and otherwise an image
+-- If a text begins with the word for a state text, its head contains a state text; otherwise it
+-- contains an image.
 pub is_state : (word text rest : List ℕ) (kind : HeadKind) (clock : ℕ) (content : List ℕ) → word ≡ head_word State → take (length word) text ≡ word
     → text ≡ head_text kind clock content ++ rest → State ≡ kind
 is_state word text rest kind clock content is front t =
@@ -128,7 +129,7 @@ head_text_many kind clock content =
     let c = length-append (head_line kind clock content ++ codes "# " ++ encode_lower content) (10 ∷ []) in
     omega (arith, line, a, b, c, length-encode_with lower_digits content)
 
--- the mark that was read is that of the head
+-- The mark that was read is that of the head.
 pub head_mark_stands : (kind : HeadKind) (clock : ℕ) (content mark text rest : List ℕ) → length mark ≡ 20 → AreBytes mark
     → take 77 text ≡ marked_line (head_word kind) mark (sum_from offset_basis mark) → text ≡ head_text kind clock content ++ rest
     → mark ≡ head_mark clock content
@@ -151,7 +152,7 @@ head_stands kind clock content mark text rest has many are line t =
       long = omega (arith, ap length t, length-append (head_text kind clock content) rest, head_text_many kind clock content);
     }
 
--- the line of the content follows the line of the mark
+-- The line of the content follows the line of the mark.
 pub content_line_stands : (kind : HeadKind) (clock : ℕ) (content text rest : List ℕ) → text ≡ head_text kind clock content ++ rest
     → drop 77 text ≡ codes "# " ++ (encode_lower content ++ (10 ∷ [] ++ rest))
 unfolding behind_line
@@ -159,7 +160,7 @@ content_line_stands kind clock content text rest t =
     ap (drop 77) (t ∙ line_first kind clock content rest)
     ∙ drop_at (head_line kind clock content) (behind_line content rest) 77 (head_line_many kind clock content)
 
--- the lines of the mark and of the content make up a head
+-- If a text begins with the lines of a mark and a content, it begins with a head.
 head_whole : (kind : HeadKind) (clock : ℕ) (content text rest : List ℕ) → take 77 text ≡ head_line kind clock content
     → drop 77 text ≡ behind_line content rest → text ≡ head_text kind clock content ++ rest
 head_whole kind clock content text rest line behind =
@@ -185,7 +186,7 @@ head_found text mark rest head has is sum line behind size =
       after = after;
     }
 
--- two heads at the beginning of one text are of one kind
+-- If one text begins with two heads, they are of one kind.
 pub same_kind : (kind other : HeadKind) (clock time : ℕ) (content bytes x y : List ℕ)
     → head_text kind clock content ++ x ≡ head_text other time bytes ++ y → kind ≡ other
 same_kind kind other clock time content bytes x y same =
@@ -193,7 +194,7 @@ same_kind kind other clock time content bytes x y same =
     let b = word_stands other time bytes (head_text kind clock content ++ x) y same in
     one_word kind other a.0 b.0 (sym a.1 ∙ b.1)
 
--- two heads of one kind at the beginning of one text are equal
+-- If one text begins with two heads of one kind, they are equal.
 pub same_head : (kind : HeadKind) (clock other : ℕ) (content bytes x y : List ℕ) → HasHead kind clock content → HasHead kind other bytes
     → head_text kind clock content ++ x ≡ head_text kind other bytes ++ y → (clock ≡ other) × (content ≡ bytes)
 same_head kind clock other content bytes x y has others same =

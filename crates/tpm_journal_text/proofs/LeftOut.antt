@@ -1,4 +1,4 @@
--- Removing any byte of an entry except the last makes it damaged.
+-- If any byte of an entry except the last is removed, the entry is damaged.
 use Rattle.std.proofs.Common.{◌≡◌, ℕ, ◌+◌, ◌-◌, ◌<◌, ◌≤◌, inl, inr, List, [], ◌∷◌, ◌++◌, length, take, drop, max, replicate, get_or, ap, sym, subst, ◌∙◌, append_assoc, arith, length-append}
 use Rattle.std.specs.Int.{w64, to_be_bytes}
 use Rattle.std.proofs.Math.Seq.{get_or-append_right}
@@ -16,7 +16,8 @@ use Rattle.tpm_journal_text.proofs.Standing.{buffer_told, drawn_told, entry_text
 abbrev pub without : (place : ℕ) → List ℕ → List ℕ
 without place text = take place text ++ drop (place + 1) text
 
--- bytes before the removed one keep their offset, and later ones move forward by one
+-- If a byte is removed, the bytes before it keep their offset, and the later ones move forward by
+-- one.
 before_place : (place : ℕ) (text : List ℕ) (at : ℕ) → at < place → place ≤ length text → get_or (without place text) at 0 ≡ get_or text at 0
 before_place place text at before within =
     get_or_append_left (take place text) (drop (place + 1) text) 0 at (omega (arith, before, length-take-le place text within))
@@ -38,21 +39,21 @@ without_many place text within =
 
 -- ---- the bytes of an entry
 
--- the last byte of an entry is a line feed
+-- The last byte of an entry is a line feed.
 last_is_feed : (sum : ℕ) (e : PlainEntry) (last : ℕ) → last + 1 ≡ length (entry_text sum e) → get_or (entry_text sum e) last 0 ≡ 10
 last_is_feed sum e last is =
     let ends : entry_text sum e ≡ without_end sum e ++ 10 ∷ [] = sym (append-nil (entry_text sum e)) ∙ ends_a_line sum e [] in
     ap (λ (t : List ℕ). get_or t last 0) ends
     ∙ get_or_at (without_end sum e) 10 [] 0 last (omega (arith, is, ap length ends, length-append (without_end sum e) (10 ∷ [])))
 
--- the line of a mark ends with a line feed
+-- The line of a mark ends with a line feed.
 line_ends : (sum : ℕ) (mark : List ℕ) → length mark ≡ 26 → get_or (mark_line sum mark) 71 0 ≡ 10
 unfolding marked_line
 line_ends sum mark many =
     let line = entry_word ++ encode_lower mark ++ 32 ∷ [] ++ encode_lower (to_be_bytes w64 (sum_from sum mark)) in
     get_or_at line 10 [] 0 71 (omega (arith, mark_line_many sum mark many, length-append line (10 ∷ [])))
 
--- the byte after the line of an entry's mark is not a line feed
+-- The byte after the line of an entry's mark is not a line feed.
 wait_follows : (sum : ℕ) (e : PlainEntry) → get_or (entry_text sum e) 72 0 ≡ 119
 unfolding entry_text setting_lines
 wait_follows sum e =
@@ -64,7 +65,7 @@ wait_follows sum e =
 
 -- ---- torn
 
--- a torn text that ends with a line feed has no zeros at its end
+-- If a torn text ends with a line feed, it has no zeros at its end.
 no_zeros : (sum : ℕ) (text : List ℕ) (last : ℕ) (torn : IsTorn sum text) → last + 1 ≡ length text → get_or text last 0 ≡ 10 → torn.front ≡ text
 no_zeros sum text last torn many feed =
     elim (cases_lt last (length torn.front)) [
@@ -102,7 +103,7 @@ module _ (sum : ℕ) (e : PlainEntry) (place : ℕ) (is : IsEntry e) (less : pla
   unfolding cut text last
   cut_many = omega (arith, less, without_many place (entry_text sum e) (omega (arith, less)))
 
-  -- if a byte of the mark's line is removed, the first 72 bytes are not the line of a mark
+  -- If a byte of the mark's line is removed, the first 72 bytes are not the line of a mark.
   early : (mark : List ℕ) → place < 72 → length mark ≡ 26 → take 72 cut ≡ mark_line sum mark → ⊥
   unfolding cut text
   early mark before many line =
@@ -111,7 +112,7 @@ module _ (sum : ℕ) (e : PlainEntry) (place : ℕ) (is : IsEntry e) (less : pla
       ∙ sym (get_or-take 72 (without place (entry_text sum e)) 71 0 (omega arith)) ∙ ap (λ (t : List ℕ). get_or t 71 0) line ∙ line_ends sum mark many in
       absurd (omega (arith, feed))
 
-  -- if a later byte is removed, the line of the mark is still present
+  -- If a later byte is removed, the line of the mark is still present.
   late : 72 ≤ place → take 72 cut ≡ mark_line sum (mark_of e)
   unfolding cut text
   late after =
@@ -119,7 +120,7 @@ module _ (sum : ℕ) (e : PlainEntry) (place : ℕ) (is : IsEntry e) (less : pla
       take-append-le 72 (take place entry) (drop (place + 1) entry) (omega (arith, after, less, length-take-le place entry (omega (arith, less))))
       ∙ take-take 72 place entry after ∙ line_stands sum e entry [] (sym (append-nil entry))
 
-  -- the last line feed is not at the end of a line of the entry
+  -- After a removal, the last line feed is not at the end of a line of the entry.
   no_end : (mark : List ℕ) → mark ≡ mark_of e → LinesEnd mark cut → ⊥
   unfolding last text
   no_end mark same end =

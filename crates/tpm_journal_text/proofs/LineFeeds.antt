@@ -182,7 +182,7 @@ abbrev Ends : (e : PlainEntry) (place : ℕ) → Type 0
 Ends e place =
     ((place ≡ 15) ⊎ ((place ≡ 21) ⊎ (place ≡ drawn_line_end (length e.drawn)))) ⊎ (place ≡ last_end e)
 
--- each line feed in the lines ends one of them
+-- Each line feed in the lines ends one of them.
 feeds_end : (e : PlainEntry) (place : ℕ) → get_or (lines_of e) place 0 ≡ 10 → Ends e place
 unfolding lines_of
 feeds_end e place is =
@@ -214,7 +214,7 @@ feeds_end e place is =
 
 -- ---- a prefix of an entry
 
--- a line feed that is found is within the text
+-- If a line feed is found at an offset, the offset is within the text.
 pub feed_within : (text : List ℕ) (place : ℕ) → get_or text place 0 ≡ 10 → place < length text
 feed_within text place e =
     elim (cases_lt place (length text)) [
@@ -230,7 +230,7 @@ entry_lines sum e =
     append_assoc (mark_line sum (mark_of e)) (setting_lines e) (executing_lines e)
     ∙ ap (λ (l : List ℕ). mark_line sum (mark_of e) ++ l) (lines_are e)
 
--- a line feed after the line of the mark belongs to the entry's lines
+-- If a line feed follows the line of the mark, it belongs to the entry's lines.
 pub feed_in_entry : (sum : ℕ) (e : PlainEntry) (place : ℕ) → get_or (entry_text sum e) (72 + place) 0 ≡ 10 → Ends e place
 feed_in_entry sum e place is =
     let line = mark_line sum (mark_of e) in
@@ -239,7 +239,7 @@ feed_in_entry sum e place is =
     (sym (get_or-append-add line (lines_of e) place 0) ∙ ap (λ (n : ℕ). get_or (line ++ lines_of e) (n + place) 0) many
     ∙ ap (λ (l : List ℕ). get_or l (72 + place) 0) (sym (entry_lines sum e)) ∙ is)
 
--- the lines of a prefix of an entry end where the lines of the entry end
+-- The lines of a prefix of an entry end where the lines of the entry end.
 pub front_lines_end : (sum : ℕ) (e : PlainEntry) (size : ℕ) → IsEntry e → size ≤ 72 + last_end e → LinesEnd (mark_of e) (take size (entry_text sum e))
 front_lines_end sum e size is less place there =
     let text = entry_text sum e in
@@ -252,14 +252,14 @@ front_lines_end sum e size is less place there =
       | inr last ↦ absurd (omega (arith, last, small, less))
     ]
 
--- the lines of a prefix of a text end where the lines of the text end
+-- The lines of a prefix of a text end where the lines of the text end.
 pub lines_end_front : (mark front back : List ℕ) → LinesEnd mark (front ++ back) → LinesEnd mark front
 lines_end_front mark front back end place there =
     let at : get_or front (72 + place) 0 ≡ 10 = sym (get_or-drop 72 front place 0) ∙ there in
     end place (get_or-drop 72 (front ++ back) place 0
     ∙ get_or_append_left front back 0 (72 + place) (feed_within front (72 + place) at) ∙ at)
 
--- appending zeros to a text ends no line
+-- If zeros are appended to a text, no line ends in them.
 pub lines_end_zeros : (mark front : List ℕ) (count : ℕ) → LinesEnd mark front → LinesEnd mark (front ++ replicate count 0)
 lines_end_zeros mark front count end place there =
     let text = front ++ replicate count 0 in
@@ -274,7 +274,7 @@ lines_end_zeros mark front count end place there =
 
 -- ---- lines that were split off
 
--- the lines after the line of a mark end where the mark says
+-- The lines after the line of a mark end where the mark says.
 abbrev EndAt : (lines : List ℕ) → (drawn_end : ℕ) → Type 0
 EndAt lines drawn_end = (place : ℕ) → get_or lines place 0 ≡ 10 → (place ≡ 15) ⊎ ((place ≡ 21) ⊎ (place ≡ drawn_end))
 

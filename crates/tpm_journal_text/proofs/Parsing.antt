@@ -1,4 +1,4 @@
--- A text can be read in only one way.
+-- A text can be parsed in only one way.
 use Rattle.std.proofs.Common.{◌≡◌, ℕ, ◌+◌, ◌*◌, Bool, true, false, List, [], ◌∷◌, ◌++◌, length, take, drop, max, refl, ap, sym, subst, ◌∙◌, append_assoc, arith}
 use Rattle.std.specs.List.{AllByRecursion}
 use Rattle.std.proofs.lemmas.List.{drop_at}
@@ -41,7 +41,7 @@ fields_same e f a b d g h i =
     ∙ ap (λ (l : List ℕ). made f.elapsed f.locality f.completes f.drawn l e.answered) h
     ∙ ap (made f.elapsed f.locality f.completes f.drawn f.buffer) i
 
--- two entries with the same mark in one text are equal
+-- If a text contains two entries with the same mark at one offset, they are equal.
 one_stands : (e f : PlainEntry) (mark text : List ℕ) → Stands e mark text → Stands f mark text → e ≡ f
 one_stands e f mark text a b =
     let drawn_many : length e.drawn ≡ length f.drawn = sym a.drawn_size ∙ b.drawn_size in
@@ -68,7 +68,8 @@ same_entry sum e f x y is other same =
 
 -- ---- entries
 
--- entries followed by a torn end are the first entries in any other reading of the text
+-- If a text consists of entries and a torn end, they are the first entries in any other parsing of
+-- the text.
 pub others_are_more : (sum : ℕ) (entries others : List PlainEntry) (rest left : List ℕ) → AllByRecursion IsEntry entries → AllByRecursion IsEntry others
     → entries_text sum entries ++ rest ≡ entries_text sum others ++ left → IsTorn (sum_after_all sum entries) rest
     → (more : List PlainEntry) × AllByRecursion IsEntry more × (entries ≡ others ++ more) × (left ≡ entries_text (sum_after_all sum others) more ++ rest)

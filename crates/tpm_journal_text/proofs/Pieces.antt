@@ -13,7 +13,7 @@ use Rattle.hex.specs.declared.error.FromHexError.{FromHexError}
 use Rattle.tpm_journal_text.specs.Marked.{marked_line}
 use Rattle.tpm_hex.specs.declared.NotHex.{NotHex}
 
--- a piece is at its offset in a text, whatever follows
+-- A piece is at its offset in a text, whatever follows.
 pub piece_in : (front piece back text : List ℕ) (size place count : ℕ) → take size text ≡ front ++ piece ++ back
     → length front ≡ place → length piece ≡ count → take count (drop place text) ≡ piece
 piece_in front piece back text size place count e at of =
@@ -23,7 +23,7 @@ piece_in front piece back text size place count e at of =
     ap (λ (t : List ℕ). take count (drop place t)) whole
     ∙ rw (drop_at front (piece ++ (back ++ drop size text)) place at, take_at piece (back ++ drop size text) count of) refl
 
--- digits that encode bytes are read as these bytes
+-- If digits encode bytes, they are read as these bytes.
 pub digits_read : (digits bytes new : List ℕ) (result : Result (Unit {0}) NotHex)
     → MatchResult (decode_of digits) (λ read. (result ≡ Ok tt) × (new ≡ read)) (λ fault. IsErr result)
     → digits ≡ encode_lower bytes → AreBytes bytes → (result ≡ Ok tt) × (new ≡ bytes)
@@ -38,7 +38,7 @@ line_parts word bytes sum =
     append_assoc (word ++ encode_lower bytes ++ 32 ∷ []) (encode_lower (to_be_bytes w64 sum)) (10 ∷ [])
     ∙ append_assoc (word ++ encode_lower bytes) (32 ∷ []) (encode_lower (to_be_bytes w64 sum) ++ 10 ∷ [])
 
--- the digits of the bytes are at their offset
+-- The digits of the bytes are at their offset.
 pub line_digits : (word bytes text : List ℕ) (sum size count : ℕ) → length bytes ≡ count
     → take size text ≡ marked_line word bytes sum → take (2 * count) (drop (length word) text) ≡ encode_lower bytes
 line_digits word bytes text sum size count many there =
@@ -55,7 +55,7 @@ all_equal (byte ∷ text) = rw (eq-eqb byte byte refl, all_equal text) refl
 pub same_is_equal : (text other : List ℕ) → text ≡ other → pointwise nat_eq text other ≡ true
 same_is_equal text other e = rw (← e) (all_equal text)
 
--- a text begins with this one, whatever follows
+-- If a text consists of this front and a rest, it begins with the front.
 pub front_of : (front rest text : List ℕ) (size : ℕ) → length front ≡ size → text ≡ front ++ rest → take size text ≡ front
 front_of front rest text size many e = ap (take size) e ∙ take_at front rest size many
 
@@ -71,12 +71,12 @@ line_length word bytes sum count many =
     let e = length-encode_with lower_digits (to_be_bytes w64 sum) in
     omega (arith, head, a, b, c, d, e, many)
 
--- bytes with the same hex are equal
+-- If two lists of bytes have the same hex, they are equal.
 pub hex_same : (bytes others : List ℕ) → AreBytes bytes → AreBytes others → encode_lower bytes ≡ encode_lower others → bytes ≡ others
 hex_same bytes others are others_are e =
     ok_is {E = FromHexError} bytes others (sym (decode_of-encode_lower bytes are) ∙ ap decode_of e ∙ decode_of-encode_lower others others_are)
 
--- the bytes of two equal marked lines are equal
+-- If two marked lines are equal, their bytes are equal.
 pub line_same : (word bytes others : List ℕ) (sum other_sum : ℕ) → AreBytes bytes → AreBytes others → length bytes ≡ length others
     → marked_line word bytes sum ≡ marked_line word others other_sum → bytes ≡ others
 line_same word bytes others sum other_sum are others_are many e =
@@ -87,7 +87,7 @@ line_same word bytes others sum other_sum are others_are many e =
     (sym (line_digits word bytes text sum size (length others) many whole)
     ∙ line_digits word others text other_sum size (length others) refl (whole ∙ e))
 
--- the hex of two joined parts is the hex of the first, followed by that of the second
+-- The hex of two joined parts is the hex of the first, followed by the hex of the second.
 hex_parts : (front back : List ℕ) → encode_lower (front ++ back) ≡ encode_lower front ++ encode_lower back
 unfolding encode_with
 hex_parts [] back = refl

@@ -121,7 +121,7 @@ stands sum e mark text rest is m t =
           (take_at (encode_lower e.buffer) (10 ∷ [] ++ rest) (2 * length e.buffer) (length-encode_with lower_digits e.buffer));
     }
 
--- an entry's text begins with the line of its mark
+-- An entry's text begins with the line of its mark.
 pub line_stands : (sum : ℕ) (e : PlainEntry) (text rest : List ℕ) → text ≡ entry_text sum e ++ rest → take 72 text ≡ mark_line sum (mark_of e)
 unfolding entry_text
 line_stands sum e text rest t =
@@ -130,7 +130,7 @@ line_stands sum e text rest t =
     (t ∙ append_assoc (line ++ setting_lines e) (executing_lines e) rest ∙ append_assoc line (setting_lines e) (executing_lines e ++ rest)
     ∙ ap (λ (l : List ℕ). line ++ l) (sym (append_assoc (setting_lines e) (executing_lines e) rest)))
 
--- the text of an entry is not empty
+-- The text of an entry is not empty.
 pub entry_text_some : (sum : ℕ) (e : PlainEntry) → 0 < length (entry_text sum e)
 unfolding entry_text
 entry_text_some sum e =

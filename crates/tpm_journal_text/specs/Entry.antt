@@ -9,7 +9,8 @@ use Rattle.tpm_journal_text.specs.Marked.{marked_line, marked_size}
 use Rattle.tpm_journal_text.specs.Sum.{sum_from, sum_of}
 
 -- an answered command: the milliseconds since the command before it, its locality, whether the
--- completing layer was on, the random bytes that it drew, its buffer, and the sum of its response
+-- completing layer was on, the random bytes that it drew, its buffer, and the checksum of its
+-- response
 pub record PlainEntry : Type 0 where
   pub elapsed : ℕ
   pub locality : ℕ
@@ -55,7 +56,8 @@ flag false = 0
 flag true = 1
 
 -- the mark of an entry, 26 bytes: the elapsed time, the locality, the flag, the number of random
--- bytes drawn, the size of the buffer, the sum of these fields, and the sum of the response
+-- bytes drawn, the size of the buffer, the checksum of these fields, and the checksum of the
+-- response
 unfoldable pub mark_of : PlainEntry → List ℕ
 mark_of e =
     to_be_bytes w32 e.elapsed ++ to_be_bytes w8 e.locality ++ to_be_bytes w8 (flag e.completes)
@@ -77,7 +79,7 @@ buffer_size mark = from_be_bytes w16 (take 2 (drop 8 mark))
 abbrev pub entry_word : List ℕ
 entry_word = codes "# "
 
--- the line of a mark, where `sum` is the sum of all earlier marks
+-- the line of a mark, where `sum` is the checksum of all earlier marks
 abbrev pub mark_line : (sum : ℕ) → (mark : List ℕ) → List ℕ
 mark_line sum mark = marked_line entry_word mark (sum_from sum mark)
 
@@ -118,7 +120,7 @@ abbrev pub lines_size : (drawn buffer : ℕ) → ℕ
 lines_size drawn buffer = 36 + (2 * max 1 drawn + 2 * buffer)
 
 -- the text of an entry: the line of its mark, and the four script lines that execute its command;
--- `sum` is the sum of all earlier marks
+-- `sum` is the checksum of all earlier marks
 unfoldable pub entry_text : (sum : ℕ) → PlainEntry → List ℕ
 entry_text sum e = mark_line sum (mark_of e) ++ setting_lines e ++ executing_lines e
 
@@ -126,6 +128,6 @@ entry_text sum e = mark_line sum (mark_of e) ++ setting_lines e ++ executing_lin
 abbrev pub entry_size : (mark : List ℕ) → ℕ
 entry_size mark = mark_line_size + lines_size (drawn_size mark) (buffer_size mark)
 
--- the sum with the mark of an entry added
+-- the checksum with the mark of an entry added
 abbrev pub sum_after : (sum : ℕ) → PlainEntry → ℕ
 sum_after sum e = sum_from sum (mark_of e)

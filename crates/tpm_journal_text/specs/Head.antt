@@ -21,12 +21,12 @@ content_limit Image = 28672
 content_limit State = 36864
 
 -- the mark of a head, 20 bytes: the clock in milliseconds, the size of the content, and the
--- content's sum
+-- content's checksum
 unfoldable pub head_mark : (clock : ℕ) → (content : List ℕ) → List ℕ
 head_mark clock content =
     to_be_bytes w64 clock ++ (to_be_bytes w32 (length content) ++ to_be_bytes w64 (sum_of content))
 
--- the sum of the mark of a head
+-- the checksum of the mark of a head
 abbrev pub head_sum : (clock : ℕ) → (content : List ℕ) → ℕ
 head_sum clock content = sum_from offset_basis (head_mark clock content)
 
@@ -50,7 +50,7 @@ pub record HasHead (kind : HeadKind) (clock : ℕ) (content : List ℕ) : Type 0
   pub small : length content ≤ content_limit kind
   pub are_bytes : AreBytes content
 
--- The text begins with a head of this kind, clock and content, with this size and this sum.
+-- The text begins with a head of this kind, clock and content, with this size and this checksum.
 pub record IsHeadOf (text : List ℕ) (head : Head) : Type 0 where
   pub has : HasHead head.kind head.clock head.content.now
   pub whole : head.size ≤ length text

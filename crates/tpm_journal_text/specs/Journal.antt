@@ -6,17 +6,17 @@ use Rattle.tpm_journal_text.specs.declared.reading.Next.{Next}
 use Rattle.tpm_journal_text.specs.declared.reading.Next.TheVariants.{Whole, Torn, Damaged}
 use Rattle.tpm_journal_text.specs.Entry.{plain_entry, mark_line_size, mark_size, sum_after}
 
--- the text of entries; `sum` is the sum of all marks before the first entry
+-- the text of entries; `sum` is the checksum of all marks before the first entry
 abbrev pub entries_text : (sum : ℕ) → List PlainEntry → List ℕ
 entries_text sum [] = []
 entries_text sum (e ∷ entries) = entry_text sum e ++ entries_text (sum_after sum e) entries
 
--- the sum with the marks of these entries added
+-- the checksum with the marks of these entries added
 abbrev pub sum_after_all : (sum : ℕ) → List PlainEntry → ℕ
 sum_after_all sum [] = sum
 sum_after_all sum (e ∷ entries) = sum_after_all (sum_after sum e) entries
 
--- A text begins with the line of this mark; `sum` is the sum of all earlier marks.
+-- A text begins with the line of this mark; `sum` is the checksum of all earlier marks.
 pub record BeginsWithMark (sum : ℕ) (mark text : List ℕ) : Type 0 where
   pub count : length mark ≡ mark_size
   pub bytes : AreBytes mark
@@ -63,8 +63,8 @@ pub record IsDamaged (sum : ℕ) (text : List ℕ) : Type 0 where
   pub not_torn : IsTorn sum text → ⊥
   pub no_entry : (e : PlainEntry) (rest : List ℕ) → IsEntry e → text ≡ entry_text sum e ++ rest → ⊥
 
--- What was found at the beginning of a text: an entry, its size and the sum after it; or the text
--- is torn; or it is damaged.
+-- One of these was found at the beginning of a text: an entry, its size and the checksum after it;
+-- or the text is torn; or it is damaged.
 abbrev pub Finds : (sum : ℕ) → List ℕ → Next → Type 0
 Finds sum text (Whole entry size after) =
     IsEntry (plain_entry entry) × (size ≤ length text)

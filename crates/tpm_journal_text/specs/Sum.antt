@@ -1,5 +1,6 @@
--- The sum of bytes: 64-bit FNV-1a (Fowler, Noll, Vo). Each step maps different sums to different
--- sums, and different bytes to different sums, so changing a single byte changes the sum.
+-- The checksum of bytes: 64-bit FNV-1a (Fowler, Noll, Vo), called the sum. Each step maps
+-- different sums to different sums, and different bytes to different sums, so changing a single
+-- byte changes the sum.
 use Rattle.std.specs.Prelude.{ℕ, ◌*◌, ◌%◌, ◌^◌, bit_xor, List, [], ◌∷◌}
 
 -- the sum of no bytes

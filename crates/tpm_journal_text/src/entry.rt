@@ -28,7 +28,7 @@ pub struct Entry<'a> {
     /// The random bytes that the command drew.
     pub drawn: &'a [u8],
     pub buffer: &'a [u8],
-    /// The sum of the response to the command.
+    /// The checksum of the response to the command.
     pub answered: u64,
 }
 
@@ -131,7 +131,7 @@ impl<'a> Entry<'a> {
     }
 
     /// Writes the text of the entry to the beginning of a buffer, and returns its size. Adds the
-    /// entry's mark to `sum`, the sum of all earlier marks.
+    /// entry's mark to `sum`, the checksum of all earlier marks.
     #[tactic(auto, unfolding(crate::specs::Entry::entry_text))]
     pub fn write(&self, sum: &mut u64, room: &mut [u8]) -> usize
         requires entry { IsEntry (plain_entry self.now) }

@@ -41,7 +41,7 @@ pub struct Head<'a> {
     pub content: &'a [u8],
     /// The size of the head's text.
     pub size: usize,
-    /// The sum of the head's mark.
+    /// The checksum of the head's mark.
     pub sum: u64,
 }
 
@@ -92,8 +92,8 @@ pub(crate) fn mark_of(clock: u64, front: &[u8], back: &[u8]) -> Sink<MARK_SIZE>
     mark
 }
 
-/// Writes the head for this clock and this content, which comes in two parts, to a buffer.
-/// Returns the size, and sets `sum` to the sum of the head's mark.
+/// Writes the head for this clock and this content, which comes in two parts, to a buffer. Returns
+/// the size, and sets `sum` to the checksum of the head's mark.
 #[tactic(auto, using(crate::proofs::Pieces::hex_joined), unfolding(crate::specs::Head::head_text))]
 fn put_head(
     kind: HeadKind,
@@ -120,8 +120,8 @@ fn put_head(
 }
 
 /// Writes the head for this clock and this content to a buffer of exactly its size, and returns
-/// the sum of the head's mark. The content comes in two parts, so that its header and its body
-/// need not be joined.
+/// the checksum of the head's mark. The content comes in two parts, so that its header and its
+/// body need not be joined.
 #[tactic(auto, using(std::proofs::lemmas::List::take_all))]
 pub fn write_head(kind: HeadKind, clock: u64, front: &[u8], back: &[u8], buffer: &mut [u8]) -> u64
     requires small { length front.now + length back.now ≤ content_limit kind }

@@ -47,8 +47,8 @@ fn kind_of(text: &[u8]) -> HeadKind
     }
 }
 
-/// Reads the mark of a head of this kind at the beginning of a text. Returns the mark's sum, or
-/// None if there is no line with such a mark.
+/// Reads the mark of a head of this kind at the beginning of a text. Returns the mark's checksum,
+/// or None if there is no line with such a mark.
 #[tactic(auto, using(crate::proofs::HeadStanding::word_many))]
 fn read_mark(kind: HeadKind, text: &[u8], mark: &mut [u8; MARK_SIZE]) -> Option<u64>
     requires { head_line_size ≤ length text.now }

@@ -1,4 +1,4 @@
-//! A line that contains bytes and a sum in hex.
+//! A line that contains bytes and a checksum in hex.
 
 ghost use Rattle.std.specs.Prelude.{◌≡◌, ◌+◌, ◌*◌, ◌≤◌, ◌++◌, ℕ, List, IfNone, IfSome, length, take};
 ghost use Rattle.tpm_bytes.specs.Reading.{AreBytes};
@@ -20,7 +20,8 @@ pub(crate) const fn marked_size(word: usize, count: usize) -> usize
     word + 2 * count + 18
 }
 
-/// Writes a line with these bytes and their sum at an offset in a buffer; returns the end offset.
+/// Writes a line with these bytes and their checksum at an offset in a buffer; returns the end
+/// offset.
 #[tactic(auto, unfolding(crate::specs::Marked::marked_line))]
 pub(crate) fn put_marked_line(
     room: &mut [u8],
@@ -42,7 +43,7 @@ pub(crate) fn put_marked_line(
     put(room, place, b"\n")
 }
 
-/// Reads the bytes of the marked line at the beginning of a text. Returns the sum with these
+/// Reads the bytes of the marked line at the beginning of a text. Returns the checksum with these
 /// bytes added, or None if there is no such line.
 pub(crate) fn read_marked_line(text: &[u8], word: &[u8], sum: u64, bytes: &mut [u8]) -> Option<u64>
     requires small { marked_size word.now (length bytes.old) ≤ 128 }

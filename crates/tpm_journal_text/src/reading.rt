@@ -25,9 +25,9 @@ pub const BYTES_ROOM: usize = 256 + ENTRY_LIMIT;
 /// The offset of the random bytes in the text of an entry.
 const DRAWN_PLACE: usize = 102;
 
-/// What a text begins with.
+/// The beginning of a text: an entry, less than an entry, or neither.
 pub enum Next<'a> {
-    /// An entry, the size of its text, and the sum after it.
+    /// An entry, the size of its text, and the checksum after it.
     Whole {
         entry: Entry<'a>,
         size: usize,
@@ -151,8 +151,8 @@ fn less_than_entry<'a>(text: &[u8], mark: &[u8; MARK_SIZE]) -> Next<'a>
     }
 }
 
-/// Reads the entry at the beginning of a text. `sum` is the sum of all earlier marks. Stores the
-/// entry's bytes in the first buffer, and writes its text to the second for comparison.
+/// Reads the entry at the beginning of a text. `sum` is the checksum of all earlier marks. Stores
+/// the entry's bytes in the first buffer, and writes its text to the second for comparison.
 pub fn read_entry<'a>(
     sum: u64,
     text: &[u8],

@@ -1,14 +1,14 @@
-//! The sum of bytes: FNV-1a of 64 bits.
+//! The checksum of bytes: FNV-1a of 64 bits.
 
 ghost use Rattle.std.specs.Prelude.{◌≡◌, [], codes};
 ghost use Rattle.tpm_journal_text.specs.Sum.{sum_from, sum_of};
 
-/// The sum of no bytes.
+/// The checksum of no bytes.
 pub const OFFSET_BASIS: u64 = 0xcbf2_9ce4_8422_2325;
 
 const PRIME: u64 = 0x100_0000_01b3;
 
-/// The sum with these bytes added.
+/// The checksum with these bytes added.
 pub fn sum_from(sum: u64, bytes: &[u8]) -> u64
     ensures { result ≡ sum_from sum bytes.now }
 {
@@ -19,14 +19,14 @@ pub fn sum_from(sum: u64, bytes: &[u8]) -> u64
     sum
 }
 
-/// The sum of these bytes.
+/// The checksum of these bytes.
 pub fn sum_of(bytes: &[u8]) -> u64
     ensures { result ≡ sum_of bytes.now }
 {
     sum_from(OFFSET_BASIS, bytes)
 }
 
-/// The definition yields the sums that FNV's authors publish for no bytes, for `a` and for
+/// The definition yields the checksums that FNV's authors publish for no bytes, for `a` and for
 /// `foobar`. A proof only: it has no effect at run time.
 pub fn published_sums()
     ensures none { sum_of [] ≡ 0xcbf29ce484222325 }

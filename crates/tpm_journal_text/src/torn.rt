@@ -50,9 +50,9 @@ pub(crate) fn lines_end(lines: &[u8], drawn_end: usize) -> bool
     true
 }
 
-/// The remains of an entry after a crash are torn: nothing, or a prefix of the entry, possibly
-/// followed by zeros. They stay torn if another crash truncates them or adds zeros. An entry is
-/// not torn. An entry with one byte removed is damaged, unless it was the last byte. A proof
+/// If a crash leaves nothing of an entry, or a prefix of it, possibly followed by zeros, the text
+/// is torn. It stays torn if another crash truncates it or adds zeros. An entry is not torn. If
+/// one byte of an entry is removed, and it is not the last byte, the entry is damaged. A proof
 /// only: it has no effect at run time.
 #[inline(always)]
 pub fn torn_laws()

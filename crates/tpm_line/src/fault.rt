@@ -1,4 +1,4 @@
-//! Why a buffer has no line.
+//! The reason why a buffer has no line.
 
 ghost use Rattle.std.specs.Prelude.{◌≡◌};
 

@@ -1,4 +1,4 @@
-//! The words for bytes and algorithms.
+//! Writes bytes and algorithms as words of a line.
 
 use crate::fault::SpellFault;
 use std::fmt::{self, Write};

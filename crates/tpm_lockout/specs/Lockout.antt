@@ -2,9 +2,9 @@
 use Rattle.std.specs.Prelude.{ℕ, ◌<◌, ◌*◌, ◌^◌, false}
 use Rattle.tpm_lockout.specs.declared.fields.LockoutFields.{LockoutFields}
 
--- the lockout state: failed tries, their parameters, and whether lockoutAuth is disabled, all of
--- which survive a power cycle; and two times in milliseconds, since the latest try was counted or
--- forgiven, and since lockoutAuth was disabled
+-- the lockout state: failedTries, the parameters of the protection, and whether lockoutAuth is
+-- disabled, all of which survive a power cycle; and two times in milliseconds, since the latest
+-- failed try was counted or forgiven, and since lockoutAuth was disabled
 pub record LockoutState : Type 0 where
   pub fields : LockoutFields
   pub forgiving_time : ℕ
@@ -47,8 +47,8 @@ with_parameters max_tries recovery_time lockout_recovery s = restored (record s.
   lockout_recovery = lockout_recovery;
 })
 
--- what holds for every lockout state: each number fits its integer type, and each time is less
--- than 2^32 seconds, counted in milliseconds
+-- The conditions that every lockout state meets: each number fits its integer type, and each time
+-- is less than 2^32 seconds, counted in milliseconds.
 pub record IsLockout (s : LockoutState) : Type 0 where
   pub failed_tries : s.fields.failed_tries < 2 ^ 32
   pub max_tries : s.fields.max_tries < 2 ^ 32

@@ -33,7 +33,7 @@ opened_after elapsed s =
     if opens_by_time s.fields then opened_at (s.closed_time + elapsed) s
     else record s { closed_time = 0 }
 
--- the lockout state after some milliseconds: tries are forgiven, and lockoutAuth may be enabled
--- again
+-- the lockout state after some milliseconds: failed tries are forgiven, and lockoutAuth may be
+-- enabled again
 abbrev pub lockout_ticked : (elapsed : ℕ) → LockoutState → LockoutState
 lockout_ticked elapsed s = opened_after elapsed (forgiven_after elapsed s)

@@ -1,7 +1,8 @@
 -- Failed tries at protected entities: how they are counted, when they lock out the entities, and
 -- how they are forgiven. TPM 2.0 Library, Part 1, section 19.8 (failedTries, maxTries,
--- recoveryTime). Two rules are this device's own: with a recoveryTime of 0, no try counts or locks
--- out anything; with any other recoveryTime, a maxTries of 0 locks out all entities.
+-- recoveryTime). Two rules are this device's own: with a recoveryTime of 0, no failed try counts
+-- or locks out anything; with any other recoveryTime, a maxTries of 0 locks out all protected
+-- entities.
 use Rattle.std.specs.Prelude.{ℕ, ◌+◌, ◌-◌, ◌/◌, ◌%◌, ◌==◌, ◌&&◌, ◌||◌, not, nat_le, Bool, if◌then◌else◌}
 use Rattle.tpm_lockout.specs.Lockout.{LockoutState, milliseconds}
 use Rattle.tpm_lockout.specs.declared.fields.LockoutFields.{LockoutFields}
@@ -10,28 +11,29 @@ use Rattle.tpm_lockout.specs.declared.fields.LockoutFields.{LockoutFields}
 abbrev pub counts_tries : LockoutFields → Bool
 counts_tries f = not (f.recovery_time == 0)
 
--- whether the entities protected by failed tries are locked out
+-- whether failed tries lock out the protected entities
 abbrev pub is_locked : LockoutFields → Bool
 is_locked f = counts_tries f && nat_le f.max_tries f.failed_tries
 
 abbrev pub with_tries : ℕ → LockoutState → LockoutState
 with_tries tries s = record s { fields = record s.fields { failed_tries = tries } }
 
--- the lockout state after a failed try that counts: the time to the next forgiveness restarts,
--- unless the entities are locked out
+-- the lockout state after a failed try that counts: the time until the next failed try is forgiven
+-- restarts, unless the entities are locked out
 unfoldable pub after_failure : LockoutState → LockoutState
 after_failure s =
     if counts_tries s.fields && not (is_locked s.fields)
     then record (with_tries (s.fields.failed_tries + 1) s) { forgiving_time = 0 }
     else s
 
--- the number of failed tries left after a time: each full recoveryTime forgives one, until none is
--- left
+-- the number of failed tries left after a time: each full recoveryTime forgives one, until there
+-- are none
 abbrev pub tries_left : LockoutFields → (time : ℕ) → ℕ
 tries_left f time = f.failed_tries - time / milliseconds f.recovery_time
 
--- the lockout state this long after a try was counted or forgiven: each full recoveryTime has
--- forgiven a try, and the remaining time counts towards forgiving the next one, if any is left
+-- the lockout state this long after a failed try was counted or forgiven: each full recoveryTime
+-- has forgiven a failed try, and the remaining time counts towards forgiving the next one, if any
+-- is left
 abbrev pub forgiven_at : (time : ℕ) → LockoutState → LockoutState
 forgiven_at time s =
     let left = tries_left s.fields time in
@@ -39,7 +41,7 @@ forgiven_at time s =
       forgiving_time = if left == 0 then 0 else time % milliseconds s.fields.recovery_time;
     }
 
--- the lockout state after some milliseconds: each full recoveryTime forgives a try
+-- the lockout state after some milliseconds: each full recoveryTime forgives a failed try
 unfoldable pub forgiven_after : (elapsed : ℕ) → LockoutState → LockoutState
 forgiven_after elapsed s =
     if counts_tries s.fields then forgiven_at (s.forgiving_time + elapsed) s

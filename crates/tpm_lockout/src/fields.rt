@@ -9,7 +9,7 @@ pub struct LockoutFields {
     /// The number of failed tries that locks out the protected entities (TPM_PT_MAX_AUTH_FAIL).
     pub max_tries: u32,
     /// The number of seconds after which one failed try is forgiven (TPM_PT_LOCKOUT_INTERVAL).
-    /// With 0, tries are not counted and lock out nothing.
+    /// With 0, failed tries are not counted and lock out nothing.
     pub recovery_time: u32,
     /// The number of seconds for which a failed try disables lockoutAuth
     /// (TPM_PT_LOCKOUT_RECOVERY). With 0, it stays disabled until a TPM Reset.

@@ -16,7 +16,7 @@ use std::marker::Model;
 #[derive(Drop)]
 pub struct Lockout {
     fields: LockoutFields,
-    /// Milliseconds since the latest try was counted or forgiven.
+    /// Milliseconds since the latest failed try was counted or forgiven.
     forgiving_time: u64,
     /// Milliseconds since lockoutAuth was disabled.
     closed_time: u64,
@@ -93,7 +93,7 @@ impl Lockout {
         }
     }
 
-    /// Milliseconds since the latest try was counted or forgiven.
+    /// Milliseconds since the latest failed try was counted or forgiven.
     pub fn forgiving_time(&self) -> u64
         ensures { result ≡ self.now.forgiving_time }
     {
@@ -120,8 +120,8 @@ impl Lockout {
         self.fields
     }
 
-    /// Lets some milliseconds elapse: each full recoveryTime forgives a try, and lockoutAuth is
-    /// enabled again after it was disabled for lockoutRecovery.
+    /// Lets some milliseconds elapse: each full recoveryTime forgives a failed try, and
+    /// lockoutAuth is enabled again after it was disabled for lockoutRecovery.
     pub fn tick(&mut self, elapsed_ms: u32)
         ensures { self.new ≡ lockout_ticked elapsed_ms self.old }
     {
@@ -161,15 +161,15 @@ impl Lockout {
         }
     }
 
-    /// Whether the entities protected by failed tries are locked out.
+    /// Whether failed tries lock out the protected entities.
     pub fn is_locked(&self) -> bool
         ensures { result ≡ is_locked self.now.fields }
     {
         self.fields.recovery_time != 0 && self.fields.failed_tries >= self.fields.max_tries
     }
 
-    /// Counts a failed try at a protected entity, unless the entities are locked out or tries are
-    /// not counted.
+    /// Counts a failed try at a protected entity, unless the entities are locked out or failed
+    /// tries are not counted.
     #[tactic(auto, unfolding(crate::specs::Tries::after_failure))]
     pub fn failed(&mut self)
         ensures { self.new ≡ after_failure self.old }

@@ -1,4 +1,4 @@
--- Concatenating blocks 1 to n of KDFa.
+-- Blocks 1 to n of KDFa, concatenated.
 use Rattle.std.proofs.Common.{◌≡◌, ℕ, zero, suc, ◌+◌, ◌-◌, ◌*◌, ◌<◌, ◌≤◌, List, ◌∷◌, [], ◌++◌, add-one, ap, arith, drop, length, length-append, sym, take, ◌∙◌}
 use Rattle.std.proofs.lemmas.Grind.{div_ceil_times, flat_map-append}
 use Rattle.std.proofs.lemmas.List.{append-nil, take_all}
@@ -21,7 +21,7 @@ abbrev pub blocks_to : HashAlg → (key label context_u context_v : List ℕ) (s
 blocks_to alg key label context_u context_v size n =
     pieces_to (λ i. hmac_of alg key (kdfa_text label context_u context_v (size * 8) i)) n
 
--- the first blocks concatenated with one more
+-- The first n + 1 blocks, concatenated, are the first n blocks followed by block n + 1.
 pieces_to-suc : (piece : ℕ → List ℕ) (n : ℕ) → pieces_to piece (suc n) ≡ pieces_to piece n ++ piece (1 + n)
 pieces_to-suc piece n =
     ap (flat_map piece) (range_with_len-suc 1 n)
@@ -54,7 +54,8 @@ take-piece_written piece size each old new block n fits so_far same after =
     ∙ ap (λ (xs : List ℕ). before ++ xs) (ap piece (omega arith) ∙ sym same) in
     rw (seam, last, after, front, ← at) (take-block_written old before block (omega arith))
 
--- one more block of KDFa is written after the previous ones
+-- If block n + 1 of KDFa is written after the first n, the output starts with the first n + 1
+-- blocks.
 pub kdfa_block_written : (alg : HashAlg) (key label context_u context_v old new block : List ℕ) (size n : ℕ)
     → size ≡ digest_size alg → n * size ≤ length old
     → take (n * size) old ≡ take (length old) (blocks_to alg key label context_u context_v (length old) n)

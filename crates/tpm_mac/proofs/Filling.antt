@@ -8,14 +8,14 @@ use Rattle.std.proofs.Math.Seq.{take-append-add}
 use Rattle.std.specs.List.{range_with_len}
 use Rattle.tpm_mac.specs.Hmac.{masked_key}
 
--- bytes overwrite the front of a list of zeros
+-- If bytes overwrite the front of 64 zeros, the result is the bytes padded with zeros to 64.
 pub zeros_overwritten : (zeros bytes written : List ℕ) → zeros ≡ replicate 64 0 → written ≡ bytes
     → written ++ drop (length bytes) zeros ≡ bytes ++ replicate (64 - length bytes) 0
 zeros_overwritten zeros bytes written blank same =
     let none : ℕ = 0 in
     rw (blank, same, drop-replicate (length bytes) 64 none) refl
 
--- one more byte of a key has been masked
+-- If byte i of the key is masked after the bytes before it, the first i + 1 bytes are masked.
 pub masked_more : (key bytes : List ℕ) (pad i : ℕ) → i < length key
     → bytes ≡ masked_key pad (take i key) ++ drop i key
     → slice_set bytes i (bit_xor (slice_index_or bytes i 0) pad) ≡ masked_key pad (take (i + 1) key) ++ drop (i + 1) key
@@ -26,7 +26,8 @@ masked_more key bytes pad i within so_far =
     map_over_more (λ (x : ℕ). bit_xor x pad) key bytes i byte within so_far
     (sym (get_or_default_zero bytes i byte (omega arith)))
 
--- the front of a block and the text after it; if the block was truncated, nothing follows it
+-- If nothing follows a block that was truncated, the first bytes, as many as the whole block has,
+-- are the block as far as it was kept.
 take-cut_block : (block rest : List ℕ) (room : ℕ) → (room < length block → rest ≡ [])
     → take (length block) (take room block ++ rest) ≡ take room block
 take-cut_block block rest room none =
@@ -35,7 +36,8 @@ take-cut_block block rest room none =
       | inr fits ↦ rw (take_all room block fits) (take_at block rest (length block) refl)
     ]
 
--- the front of a list after a block, truncated to fit, was written after the bytes before it
+-- If a block, truncated to fit, is written after the bytes before it, the list starts with those
+-- bytes and the block.
 pub take-block_written : (old before block : List ℕ) → length before ≤ length old
     → take (length before + length block)
     (before ++ take (length old - length before) block ++ drop (length before + length block) old)
@@ -51,7 +53,7 @@ take-block_written old before block fits =
     ∙ ap (λ (xs : List ℕ). before ++ xs) (take-cut_block block rest room none)
     ∙ sym (ap (λ (k : ℕ). take k (before ++ block)) all ∙ take-append-add before block room)
 
--- a range extended by one more number at the end
+-- A range of n + 1 numbers is the range of the first n numbers, followed by the last number.
 pub range_with_len-suc : (a n : ℕ) → range_with_len a (suc n) ≡ range_with_len a n ++ (a + n) ∷ []
 range_with_len-suc a zero = rw (add-zero a) refl
 range_with_len-suc a (suc n) =

@@ -24,7 +24,7 @@ impl HashAlg {
         }
     }
 
-    /// Zeros, as many as a digest has bytes.
+    /// As many zeros as a digest has bytes.
     pub fn zeros(self) -> &'static [u8]
         ensures { result.now ≡ replicate (digest_size self) 0 }
     {

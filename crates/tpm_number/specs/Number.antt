@@ -23,7 +23,8 @@ radix_number radix.Hexadecimal = 16
 abbrev pub is_digit : ℕ → ℕ → Bool
 is_digit radix digit = nat_lt (digit_value digit) radix
 
--- the number in digits of a radix: at least one digit, and leading zeros do not count
+-- the number that digits of a radix encode; there must be at least one digit, and leading zeros
+-- are allowed
 unfoldable pub numeral : ℕ → List ℕ → Option ℕ
 numeral radix [] = None
 numeral radix (digit ∷ digits) =
@@ -35,7 +36,7 @@ unfoldable pub number_of : List ℕ → Option ℕ
 number_of token =
     if starts_with nat_eq token (codes "0x") then numeral 16 (drop 2 token) else numeral 10 token
 
--- the number that was written; the fault is Bad if there is none, Range if it exceeds this limit
+-- the number that was read; the fault is Bad if there is none, Range if it exceeds this limit
 unfoldable pub at_most : ℕ → Option ℕ → Result ℕ TokenFault
 at_most most written = do
   number ← ok_or written Bad

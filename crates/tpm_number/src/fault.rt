@@ -1,4 +1,4 @@
-//! Why a token is not the expected one.
+//! The reason why a token is not the expected one.
 
 /// The reasons why a token is not the expected one.
 #[derive(Clone, Copy, PartialEq, Eq)]

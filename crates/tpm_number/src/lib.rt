@@ -1,8 +1,8 @@
 #![tactic(auto)]
 
 //! Numbers as people write and read them, decimal or in hex, up to a given limit; and localities.
-//! A [`TokenFault`] says what is wrong with a token. The caller has the whole line, and says
-//! which token of the line it is.
+//! A [`TokenFault`] says what is wrong with a token. The caller knows the whole line, and adds the
+//! token's position.
 //!
 //! The crate uses `tpm_types` for localities. Each call equals its definition in `specs/Number`.
 

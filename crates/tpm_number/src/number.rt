@@ -49,8 +49,8 @@ impl Radix {
         bytes.iter().all(|byte| self.has_digit(*byte))
     }
 
-    /// The number in digits of this radix. The fault is Bad if they are not a number, Range from
-    /// 2^64 on.
+    /// The number that these digits of this radix encode. The fault is Bad if they are not a
+    /// number, Range from 2^64 on.
     fn read(self, digits: &[u8]) -> Result<u64, TokenFault>
         ensures { Gives (λ number. number)
             (at_most (2 ^ 64 - 1) (numeral (radix_number self) digits.now)) result }

@@ -1,4 +1,5 @@
--- Heads and the area of their bytes: changing both changes the indices that they represent.
+-- If heads and the area of their bytes both change, the indices that they represent change
+-- accordingly.
 use Rattle.std.proofs.Common.{◌≡◌, ◌≢◌, ℕ, ◌+◌, ◌-◌, ◌<◌, ◌≤◌, cond, eqb, leb, zero, suc, List, [], ◌∷◌, ◌++◌, length, get_or, take, drop, replicate, Option, Some, None, refl, sym, ap, subst, ◌∙◌, arith, inl, inr, append_assoc, length-append, length-drop}
 use Rattle.std.proofs.Math.Seq.{drop-append-add, take-append-add}
 use Rattle.std.specs.List.{sum_by}
@@ -50,13 +51,13 @@ place e es key h up there =
           behind apart (above_first e.0 es key h up.0 found) found
     ]
 
--- a key at or below a bound is not found if all keys are above the bound
+-- If all keys are above a bound, no key at or below the bound is found.
 pub none_below : (es : Entries Head) (key low : ℕ) → AllAbove low es → key ≤ low → at_key es key ≡ None
 none_below [] key low above under = refl
 none_below (e ∷ es) key low above under =
     rw (ne_eqb e.0 key (λ same. omega (arith, same, above.0, under))) (none_below es key low above.1 under)
 
--- a key is not found from an entry on if the key of that entry is above it
+-- If an entry's key is above a key, that key is not found from the entry on.
 pub none_from : (es : Entries Head) (i key : ℕ) (d : ℕ × Head) → i < length es → Ascends (drop i es) → key ≤ (get_or es i d).0 → key ≢ (get_or es i d).0 → at_key (drop i es) key ≡ None
 none_from [] i key d in_es up under apart = absurd (omega (arith, in_es))
 none_from (e ∷ es) zero key d in_es up under apart =
@@ -271,15 +272,15 @@ length_put offset piece bytes fits =
     let back = drop (offset + length piece) bytes in
     omega (arith, fits, length-append (take offset bytes) (piece ++ back), length-append piece back, length-take-le offset bytes (omega arith), length-drop (offset + length piece) bytes)
 
--- overwriting a piece with itself changes nothing
+-- If a piece is overwritten with itself, nothing changes.
 pub put_back : (start size : ℕ) (area : List ℕ) → start + size ≤ length area → put_over start (piece_of start size area) area ≡ area
 put_back start size area fits =
     let behind = drop start area in
     let many : length (take size behind) ≡ size = length-take-le size behind (omega (arith, fits, length-drop start area)) in
     rw (many, ← drop-drop size start area, take-append-drop size behind, take-append-drop start area) refl
 
--- writing bytes into a piece and then the piece into the area is the same as writing the bytes
--- into the area
+-- Writing bytes into a piece, and then the piece into the area, equals writing the bytes into the
+-- area.
 put_inside : (start offset : ℕ) (inner piece area : List ℕ) → start + length piece ≤ length area → offset + length inner ≤ length piece → put_over (start + offset) inner (put_over start piece area) ≡ put_over start (put_over offset inner piece) area
 put_inside start offset inner piece area fits within =
     let front = take start area in
@@ -297,7 +298,8 @@ put_inside start offset inner piece area fits within =
     ∙ drop-append-le (offset + length inner) piece back within in
     rw (first, last, length_put offset inner piece within) (simp append_assoc refl)
 
--- writing bytes into a piece of an area writes them into the area
+-- Writing bytes into a piece that is read from an area, and writing the piece back, equals writing
+-- the bytes into the area.
 pub put_within : (start size offset : ℕ) (inner area : List ℕ) → start + size ≤ length area → offset + length inner ≤ size → put_over (start + offset) inner area ≡ put_over start (put_over offset inner (piece_of start size area)) area
 put_within start size offset inner area fits within =
     let piece = piece_of start size area in
@@ -308,13 +310,13 @@ put_within start size offset inner area fits within =
 pub put_anew : (start offset : ℕ) (inner piece area : List ℕ) → start + length piece ≤ length area → offset + length inner ≤ length piece → put_over (start + offset) inner (put_over start piece area) ≡ put_over start (put_over offset inner piece) area
 put_anew = put_inside
 
--- overwriting bytes with a piece of the same length leaves just the piece
+-- If bytes are overwritten with a piece of the same length, the result is the piece.
 pub put_all : (piece bytes : List ℕ) → length piece ≡ length bytes → put_over 0 piece bytes ≡ piece
 put_all piece bytes same =
     let none : drop (0 + length piece) bytes ≡ [] = drop_all (0 + length piece) bytes (omega arith) in
     rw none (append-nil piece)
 
--- opening a gap, filling it with a piece and closing it leaves the area unchanged
+-- If a gap is opened, filled with a piece and closed, the area is unchanged.
 pub closed_again : (start size : ℕ) (piece area : List ℕ) → start ≤ length area → length piece ≡ size → closed_up start size (take start area ++ (piece ++ drop start area)) ≡ area
 closed_again start size piece area inside same =
     let front = take start area in
@@ -325,7 +327,8 @@ closed_again start size piece area inside same =
     ∙ drop_at piece (drop start area) size same in
     rw (take_at front (piece ++ drop start area) start many, behind) (take-append-drop start area)
 
--- putting a piece, padded with zeros if it is shorter, into an opened gap
+-- Writing a piece into an opened gap equals inserting the piece, padded with zeros if it is
+-- shorter than the gap.
 pub put_opened : (start size : ℕ) (piece area : List ℕ) → start ≤ length area → length piece ≤ size → put_over start piece (opened start size area) ≡ take start area ++ ((piece ++ replicate (size - length piece) 0) ++ drop start area)
 put_opened start size piece area inside within =
     let front = take start area in

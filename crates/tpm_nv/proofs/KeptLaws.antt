@@ -53,12 +53,12 @@ there_is es area count handle (Some h) kept is =
       },
     )
 
--- what is known about an index that exists holds for the index that was found
+-- If an index exists and is found, the property of the existing index holds for the found one.
 pub known_of : (P : NvIndex → Type 0) (found : Option NvIndex) (x : NvIndex) → found ≡ Some x → IsSomeAnd found P → P x
 known_of P None x is known = absurd cc
 known_of P (Some y) x is known = let same : y ≡ x = cc in subst P same known
 
--- changing one index changes the contents accordingly
+-- If one index is changed, the contents change accordingly.
 pub contents_changed : (es new : Entries Head) (area after : List ℕ) (count : ℕ) (handle : Handle) (shown : NvContents) (x : NvIndex) (f : NvIndex → NvIndex) → (let view : NvContents = record { indices = indices_of es area; max_count = count } in view ≡ shown) → at_key (indices_of es area) handle.number ≡ Some x → indices_of new after ≡ changed_key (indices_of es area) handle.number (f x) → (index : NvIndex) → index_at shown handle ≡ Some index → (let view : NvContents = record { indices = indices_of new after; max_count = count } in view ≡ changed_index shown handle (f index))
 contents_changed es new area after count handle shown x f view found seen index is =
     let there : at_key (indices_of es area) handle.number ≡ Some index = ap (λ (s : NvContents). index_at s handle) view ∙ is in
@@ -105,7 +105,7 @@ kept_changed es area after key h g kept there is same_size same_length =
       each = heads_changed es key g kept.each is;
     }
 
--- changing a head and leaving its bytes unchanged changes the index that they represent
+-- If a head changes and its bytes do not, the index that they represent changes accordingly.
 pub seen_changed : (es : Entries Head) (area : List ℕ) (key : ℕ) (h g : Head) → AreKept es area → at_key es key ≡ Some h → size_of g ≡ size_of h → indices_of (changed_key es key g) area ≡ changed_key (indices_of es area) key (index_with g (piece_of (start_of es key) (size_of h) area))
 seen_changed es area key h g kept there same_size =
     let s = start_of es key in
@@ -135,7 +135,8 @@ length_filled true start size byte area fits = refl
 length_filled false start size byte area fits =
     length_put start (replicate size byte) area (omega (arith, fits, length-replicate {A = ℕ} size byte))
 
--- bytes written over a piece that was already there or was filled first
+-- Writing bytes over a piece, after it was filled if it was not written yet, equals filling and
+-- writing the piece in the area.
 filled_put : (is_written : Bool) (start size offset byte : ℕ) (bytes area : List ℕ) → start + size ≤ length area → offset + length bytes ≤ size → put_over (start + offset) bytes (filled is_written start size byte area) ≡ put_over start (put_over offset bytes (cond is_written (piece_of start size area) (replicate size byte))) area
 filled_put true start size offset byte bytes area fits within = put_within start size offset bytes area fits within
 filled_put false start size offset byte bytes area fits within =
@@ -145,7 +146,8 @@ filled_put false start size offset byte bytes area fits within =
 abbrev pub written_head : Head → Head
 written_head h = with_attributes h (with_attribute h.public.attributes attribute.Written)
 
--- the data of an index with this head; before its first write, this byte
+-- The data of an index with this head are its bytes or, before its first write, this byte
+-- repeated.
 data_is : (h : Head) (bytes : List ℕ) (byte : ℕ) → data_or byte (index_with h bytes) ≡ cond (has h.public.attributes attribute.Written) bytes (replicate (size_of h) byte)
 data_is h bytes byte = by (has h.public.attributes attribute.Written)
   where
@@ -193,7 +195,7 @@ kept_put es area bytes key offset byte h kept there within =
     refl
     (length_put_filled es area bytes key offset byte h kept there within)
 
--- writing a piece, stated with the variables of the code
+-- The same law about writing a piece, stated with the variables of the code.
 pub put_is : (after bytes area : List ℕ) (is_written : Bool) (start size offset byte from many : ℕ) (b : Bool) → after ≡ put_over (from + offset) bytes (filled b from many byte area) → b ≡ is_written → from ≡ start → many ≡ size → after ≡ put_over (start + offset) bytes (filled is_written start size byte area)
 put_is after bytes area is_written start size offset byte from many b is written from_is size_is =
     is
@@ -216,7 +218,8 @@ pub seen_head : (es : Entries Head) (area : List ℕ) (key : ℕ) (found : Optio
 seen_head es area key None up is = rw (none_among es area key (sym is)) refl
 seen_head es area key (Some h) up is = rw (found_among es area key h.now up (sym is)) refl
 
--- the head of an index that exists, and what is known about that index
+-- If an index exists, its head is found, and the property of the index holds for the head and its
+-- bytes.
 pub head_of_index : (P : NvIndex → Type 0) (es : Entries Head) (area : List ℕ) (count : ℕ) (handle : Handle) (shown : NvContents) → (let view : NvContents = record { indices = indices_of es area; max_count = count } in view ≡ shown) → AreKept es area → IsSomeAnd (index_at shown handle) P → (h : Head) × (at_key es handle.number ≡ Some h) × P (index_with h (piece_of (start_of es handle.number) (size_of h) area))
 head_of_index P es area count handle shown view kept known = by (at_key es handle.number) refl
   where
@@ -226,7 +229,7 @@ head_of_index P es area count handle shown view kept known = by (at_key es handl
         let never : ⊥ = subst (λ (o : Option NvIndex). IsSomeAnd o P) (none_at es area count handle shown view is) known in
         absurd never
 
--- the offset of an index's bytes, computed from the indices that are represented
+-- The offset of an index's bytes follows from the indices that the heads and the area represent.
 pub start_is : (es : Entries Head) (area : List ℕ) (count : ℕ) (handle : Handle) (shown : NvContents) → (let view : NvContents = record { indices = indices_of es area; max_count = count } in view ≡ shown) → start_in shown handle ≡ start_of es handle.number
 start_is es area count handle shown view =
     ap (λ (s : NvContents). start_in s handle) (sym view) ∙ ap (λ (l : Entries Head). start_of l handle.number) (sym (heads_among es area))
@@ -234,7 +237,8 @@ start_is es area count handle shown view =
 pub known_some : (P : NvIndex → Type 0) (found : Option NvIndex) (x : NvIndex) → found ≡ Some x → P x → IsSomeAnd found P
 known_some P found x is known = subst (λ (o : Option NvIndex). IsSomeAnd o P) (sym is) known
 
--- what a pass over the heads found for an index
+-- If a pass over the heads finds no head, there is no index; if it finds one, the index consists
+-- of that head and its bytes.
 module _ (es : Entries Head) (area : List ℕ) (count : ℕ) (handle : Handle) (shown : NvContents) (view : (let kept : NvContents = record { indices = indices_of es area; max_count = count } in kept ≡ shown)) where
   pub found_none : (found : Option Found) → IfNone found (at_key es handle.number ≡ None) → IfNone found (index_at shown handle ≡ None)
   found_none None none = none_at es area count handle shown view none
@@ -246,7 +250,7 @@ module _ (es : Entries Head) (area : List ℕ) (count : ℕ) (handle : Handle) (
       let t = subst (λ (s : NvContents). (old : List ℕ) × IsIndexOf s handle f.head.now old) view (there_is es area count handle (Some f.head) kept (sym some.0)) in
       (t.0, t.1, some.1 ∙ sym (start_is es area count handle shown view))
 
--- if an index is written, its data are its bytes
+-- If an index is written, its data are its bytes.
 pub bytes_of : (h : Head) (bytes : List ℕ) (index : NvIndex) → index_with h bytes ≡ index → has index.public.attributes attribute.Written ≡ true → bytes ≡ index.bytes
 bytes_of h bytes index same is =
     let written : has h.public.attributes attribute.Written ≡ true = ap (λ (i : NvIndex). has i.public.attributes attribute.Written) same ∙ is in
@@ -382,7 +386,8 @@ type_of_writable type index e =
     let a = bind_ok (refused_if (has index.public.attributes attribute.WriteLocked) Locked) (λ _. refused_if (not (is_of index.public.attributes type)) Attributes) tt e in
     not_false (is_of index.public.attributes type) (passed (not (is_of index.public.attributes type)) Attributes tt a.2)
 
--- the size of an index's data, as its type determines it
+-- If an index of this type has a size that is allowed for its public area, the size is allowed for
+-- the type.
 pub size_of_type : (p : NvPublic) (kind : NvType) → is_of p.attributes kind ≡ true → has_type_size p ≡ true → is_type_size p (Some kind) ≡ true
 size_of_type p kind is sized =
     let number : type_number p.attributes ≡ nv_type_number kind = eqb-true _ _ is in

@@ -34,13 +34,13 @@ entry_there [] i inside = absurd (omega arith)
 entry_there (f ∷ es) zero inside = (f, refl)
 entry_there (f ∷ es) (suc i) inside = entry_there es i (omega arith)
 
--- an entry is unchanged while only those before it have been changed
+-- While only the entries before an entry have been changed, the entry is unchanged.
 pub same_in_turn : (es : Entries Head) (i : ℕ) (e : ℕ × Head) → i < length es → get_or (started_up_to i es) i e ≡ get_or es i e
 same_in_turn [] i e inside = absurd (omega arith)
 same_in_turn (f ∷ es) zero e inside = refl
 same_in_turn (f ∷ es) (suc i) e inside = same_in_turn es i e (omega arith)
 
--- an entry is found by its key while only those before it have been changed
+-- While only the entries before an entry have been changed, the entry's key finds it.
 pub found_in_turn : (es : Entries Head) (i : ℕ) (e : ℕ × Head) → Ascends es → i < length es → get_or es i e ≡ e → at_key (started_up_to i es) e.0 ≡ Some e.1
 found_in_turn [] i e up inside is = absurd (omega arith)
 found_in_turn (f ∷ es) zero e up inside is =
@@ -49,7 +49,7 @@ found_in_turn (f ∷ es) (suc i) e up inside is =
     let apart : f.0 ≢ e.0 = λ same. let above = key_above f.0 es i e up.0 (omega arith) is in omega arith in
     cond-false _ _ _ (ne_eqb f.0 e.0 apart) ∙ found_in_turn es i e up.1 (omega arith) is
 
--- changing the next entry gives the heads with one more of them changed
+-- If the next entry is changed too, one more entry has been changed.
 pub started_in_turn : (es : Entries Head) (i : ℕ) (e : ℕ × Head) → Ascends es → i < length es → get_or es i e ≡ e → changed_key (started_up_to i es) e.0 (started_head e.1) ≡ started_up_to (suc i) es
 started_in_turn [] i e up inside is = absurd (omega arith)
 started_in_turn (f ∷ es) zero e up inside is =
@@ -81,7 +81,7 @@ unlocked_written a =
     (λ _. first)
     (λ _. second ∙ first)
 
--- an index that is written after a startup was also written before it
+-- If an index is written after a startup, it was also written before.
 kept_bytes : (a : NvAttributes) (bytes : List ℕ) → cond (has (kept_written a) attribute.Written) bytes [] ≡ cond (has (kept_written a) attribute.Written) (cond (has a attribute.Written) bytes []) []
 kept_bytes a bytes =
     cond_both (has a attribute.ClearStClear) (without_attribute a attribute.Written) a (λ (b : NvAttributes). cond (has b attribute.Written) bytes [] ≡ cond (has b attribute.Written) (cond (has a attribute.Written) bytes []) [])

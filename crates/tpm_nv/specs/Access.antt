@@ -22,7 +22,8 @@ use Rattle.tpm_nv.specs.declared.fault.Undefined.{Undefined}
 use Rattle.tpm_nv.specs.declared.fault.WriteFault.{WriteFault}
 use Rattle.tpm_nv.specs.declared.fault.WriteFault.TheVariants as write_fault
 
--- A call changed the contents as defined, or failed with the defined fault and changed nothing.
+-- A call either changed the contents as defined, or failed with the defined fault and changed
+-- nothing.
 abbrev pub ChangesContents : {F : Type 0} → Result NvContents F
     → NvContents → Result (Unit {0}) F → NvContents
     → Type 0

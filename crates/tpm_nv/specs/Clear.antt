@@ -1,5 +1,5 @@
--- What TPM2_Clear does to NV indices. TPM 2.0 Library, Part 3, section 24.6 (TPM2_Clear), and Part
--- 2, section 13.4 (TPMA_NV).
+-- The effect of TPM2_Clear on NV indices. TPM 2.0 Library, Part 3, section 24.6 (TPM2_Clear), and
+-- Part 2, section 13.4 (TPMA_NV).
 use Rattle.std.specs.Prelude.{Bool}
 use Rattle.tpm_containers.specs.SortedMap.{kept_entries}
 use Rattle.tpm_types_nv.specs.NvAttributes.{has}

@@ -1,7 +1,7 @@
 -- The checks of a new NV index, and the effect of its definition. TPM 2.0 Library, Part 3, section
 -- 31.3 (TPM2_NV_DefineSpace), and Part 2, section 13.4 (TPMA_NV). The order of the checks and two
 -- limits are this device's own: the data is limited to `nv_data_limit`, and attributes that the
--- device does not serve are refused.
+-- device does not support are refused.
 use Rattle.tpm_types.specs.Algorithm.{is_policy_size}
 use Rattle.tpm_types.specs.Limits.{nv_data_limit}
 use Rattle.std.specs.Prelude.{◌≡◌, ℕ, ◌==◌, ◌&&◌, nat_lt, nat_le, not, Bool, true, false}
@@ -41,15 +41,16 @@ read_attributes =
     attribute.PpRead ∷ attribute.OwnerRead ∷ attribute.AuthRead ∷ attribute.PolicyRead ∷ []
 
 -- the attributes that a definition may not set: those that describe the index's state (the first
--- three), and those that this device does not serve
+-- three), and those that this device does not support
 abbrev pub undefinable_attributes : List NvAttribute
 undefinable_attributes =
     attribute.Written ∷ attribute.ReadLocked ∷ attribute.WriteLocked
     ∷ attribute.PolicyDelete ∷ attribute.GlobalLock ∷ attribute.Orderly ∷ []
 
--- which of these faults the attributes of a new index have: a type that is not served; an
--- attribute that a definition may not set; nobody may write, or nobody may read; a counter that a
--- startup clears; PLATFORMCREATE set by the owner, or not set by the platform
+-- for each of these faults, whether the attributes of a new index have it: the type is not
+-- supported; an attribute is set that a definition may not set; nobody may write; nobody may read;
+-- the index is a counter that a startup clears; PLATFORMCREATE is set but the owner defines the
+-- index, or not set but the platform does
 abbrev pub index_attribute_conflicts : (by_platform : Bool) → NvAttributes → List Bool
 index_attribute_conflicts by_platform a =
     not (is_some (index_type a))
@@ -91,7 +92,7 @@ definition_passes by_platform p auth_size = do
 abbrev pub defined_index : NvPublic → List ℕ → NvIndex
 defined_index public auth_value = record { public = public; auth_value = auth_value; bytes = [] }
 
--- the result says whether there is room for an index, or why there is not
+-- The result says that there is room for an index, or why there is none.
 abbrev pub HasRoomFor : NvContents → NvPublic → Result (Unit {0}) RestoreFault → Type 0
 HasRoomFor contents public (Ok done) =
     (index_at contents public.nv_index ≡ None) × (has_room contents public.data_size ≡ true)
@@ -100,9 +101,9 @@ HasRoomFor contents public (Err Space) =
     (index_at contents public.nv_index ≡ None) × (has_room contents public.data_size ≡ false)
 HasRoomFor contents public (Err NoMemory) = ⊥
 
--- An index was added with its handle, or nothing changed. If nothing changed, the handle already
--- has an index; or there is no room for the index; or neither is the case, and an allocation
--- failed.
+-- An index was added with its handle, or nothing changed for one of three reasons. The first that
+-- applies is returned: the handle already has an index; there is no room for the index; an
+-- allocation failed.
 abbrev pub Restores : Bool → NvContents → NvIndex → Result (Unit {0}) RestoreFault → NvContents
     → Type 0
 Restores can old index (Ok done) new =

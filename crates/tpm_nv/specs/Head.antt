@@ -36,7 +36,7 @@ index_with head bytes = record {
 abbrev pub size_of : Head → ℕ
 size_of head = head.public.data_size
 
--- the indices that consist of these heads and this area
+-- the indices that these heads and this area represent
 abbrev pub indices_of : Entries Head → List ℕ → Entries NvIndex
 indices_of [] area = []
 indices_of (e ∷ es) area =
@@ -55,7 +55,7 @@ start_of (e ∷ es) key = if nat_le key e.0 then 0 else size_of e.1 + start_of e
 abbrev pub start_in : NvContents → Handle → ℕ
 start_in contents handle = start_of (heads_of contents) handle.number
 
--- a head and its handle: its public area can be encoded, and its type allows its size
+-- A head and its handle: its public area can be encoded, and its type allows its size.
 pub record IsHead (key : ℕ) (head : Head) : Type 0 where
   pub named : key ≡ head.public.nv_index.number
   pub public : IsNvPublic head.public
@@ -66,7 +66,7 @@ abbrev pub AreHeads : Entries Head → Type 0
 AreHeads [] = Unit {0}
 AreHeads (e ∷ es) = IsHead e.0 e.1 × AreHeads es
 
--- heads and the area of their bytes, which is as long as the sum of their sizes
+-- Heads, and an area that is as long as the sum of their sizes.
 pub record AreKept (heads : Entries Head) (area : List ℕ) : Type 0 where
   pub ascends : Ascends heads
   pub few : length heads ≤ nv_index_limit

@@ -1,4 +1,4 @@
--- What always holds for the NV indices of a device.
+-- The conditions that the NV indices of a device always meet.
 use Rattle.tpm_types.specs.Limits.{nv_index_limit, nv_space_limit}
 use Rattle.std.specs.Prelude.{◌≡◌, ℕ, ◌<◌, ◌≤◌, ◌^◌, true, [], ◌∷◌, length, if◌then◌else◌}
 use Rattle.tpm_containers.specs.SortedMap.{Ascends, Entries}

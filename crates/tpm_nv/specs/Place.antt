@@ -1,4 +1,4 @@
--- The location of an index in the stored state, which a call looks up once and passes on.
+-- The location of an index in the stored state. A call looks it up once and passes it on.
 use Rattle.std.specs.Prelude.{◌≡◌, ℕ, List, IsSomeAnd}
 use Rattle.tpm_types.specs.declared.handle.Handle.{Handle}
 use Rattle.tpm_types_nv.specs.NvAttributes.{has}
@@ -22,7 +22,7 @@ piece_at_place place = record {
   is_written = has place.attributes attribute.Written;
 }
 
--- What the code found for a handle is the head of its index and the offset of its bytes.
+-- The code found the head of the index with this handle, and the offset of its bytes.
 abbrev pub IsFound : NvContents → Handle → Found → Type 0
 IsFound contents handle found =
     (old : List ℕ) × IsIndexOf contents handle found.head.now old

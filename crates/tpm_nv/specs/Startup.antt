@@ -1,4 +1,4 @@
--- What a startup with CLEAR does to NV indices. TPM 2.0 Library, Part 3, section 9.3
+-- The effect of a startup with CLEAR on NV indices. TPM 2.0 Library, Part 3, section 9.3
 -- (TPM2_Startup), and Part 2, section 13.4 (TPMA_NV).
 use Rattle.std.specs.Prelude.{◌&&◌, [], map, if◌then◌else◌}
 use Rattle.tpm_types_nv.specs.NvAttributes.{has, without_attribute}

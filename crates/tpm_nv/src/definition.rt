@@ -10,7 +10,7 @@ ghost use Rattle.tpm_types_nv.specs.declared.nv_attributes.NvAttribute.TheVarian
 use tpm_types::{NV_DATA_LIMIT, is_policy_size};
 use tpm_types_nv::{NvAttribute, NvAttributes, NvPublic, NvType};
 
-/// Why a public area is refused for a new index.
+/// The reason why a public area is refused for a new index.
 #[derive(Clone, Copy, PartialEq, Eq)]
 pub enum DefinitionFault {
     /// The authorization value is longer than a nameAlg digest.
@@ -19,12 +19,12 @@ pub enum DefinitionFault {
     AuthPolicySize,
     /// An attribute is set that a definition may not set, or the attributes contradict each other.
     Attributes,
-    /// An index of this type may not have this size.
+    /// The size is not allowed for an index of this type.
     DataSize,
 }
 
 /// Whether an attribute is set that a definition may not set, because it describes the index's
-/// state or is not served.
+/// state or is not supported.
 fn is_undefinable(attributes: NvAttributes) -> bool
     ensures { result ≡ has_one attributes undefinable_attributes }
 {

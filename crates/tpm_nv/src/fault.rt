@@ -1,10 +1,10 @@
-//! Why an NV index cannot be used, defined, or restored from what was saved.
+//! The reasons why an NV index cannot be used, defined, or restored from what was saved.
 
-/// No index has this handle. Changing an authorization value can only fail for this reason.
+/// No index has this handle. This is the only reason why an authorization value is not changed.
 #[derive(Clone, Copy, PartialEq, Eq)]
 pub struct Undefined;
 
-/// Why an index was not written, incremented or extended, or why its bits were not set.
+/// The reason why an index was not written, incremented or extended, or why its bits were not set.
 #[derive(Clone, Copy, PartialEq, Eq)]
 pub enum WriteFault {
     /// No index has this handle.
@@ -21,7 +21,7 @@ pub enum WriteFault {
     Exhausted,
 }
 
-/// Why an index was not read.
+/// The reason why an index was not read.
 #[derive(Clone, Copy, PartialEq, Eq)]
 pub enum ReadFault {
     /// No index has this handle.
@@ -34,7 +34,7 @@ pub enum ReadFault {
     PastData,
 }
 
-/// Why an index was not locked.
+/// The reason why an index was not locked.
 #[derive(Clone, Copy, PartialEq, Eq)]
 pub enum LockFault {
     /// No index has this handle.
@@ -43,12 +43,12 @@ pub enum LockFault {
     Attributes,
 }
 
-/// Why an index was not defined.
+/// The reason why an index was not defined.
 #[derive(Clone, Copy, PartialEq, Eq)]
 pub enum DefineFault {
     /// WRITTEN is set in the public area, which a definition does not allow.
     Written,
-    /// An index of this type may not have this size.
+    /// The size is not allowed for an index of this type.
     DataSize,
     /// An index with this handle already exists.
     Defined,
@@ -58,7 +58,7 @@ pub enum DefineFault {
     NoMemory,
 }
 
-/// Why an index was not restored.
+/// The reason why an index was not restored.
 #[derive(Clone, Copy, PartialEq, Eq)]
 pub enum RestoreFault {
     /// An index with this handle already exists.

@@ -1,5 +1,5 @@
-//! What a TPM2_Startup with CLEAR does to the attributes of all NV indices (TPM 2.0 Library, Part
-//! 3, section 9.3).
+//! The effect of a TPM2_Startup with CLEAR on the attributes of all NV indices (TPM 2.0 Library,
+//! Part 3, section 9.3).
 
 ghost use Rattle.std.specs.Prelude.{◌≡◌, ◌<◌, ℕ, Some, length, map, slice_index_or};
 ghost use Rattle.tpm_containers.specs.SortedMap.{Ascends, at_key, changed_key};

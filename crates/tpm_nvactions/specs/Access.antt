@@ -1,5 +1,5 @@
--- What the commands on NV indices have in common: the refusal of an authHandle that may not read
--- or write, and of an index that cannot be written or locked. TPM 2.0 Library, Part 3, section 31
+-- The common part of the commands on NV indices: the refusal of an authHandle that may not read or
+-- write, and of an index that cannot be written or locked. TPM 2.0 Library, Part 3, section 31
 -- (non-volatile storage). The response codes and the order of the checks are this device's own.
 use Rattle.tpm_types.specs.declared.action_check.ActionCheck.TheVariants as action
 use Rattle.std.specs.Prelude.{not, Result, Ok}
@@ -22,20 +22,21 @@ use Rattle.tpm_record.specs.rows.Rows.{Success}
 use Rattle.tpm_record.specs.rows.Target.{may_read, may_write, target_of}
 use Rattle.tpm_record.specs.declared.rows.target.Target.{Target}
 
--- A1 of the commands that write, and of TPM2_NV_WriteLock: authHandle may not write the index
+-- the check A1 of the commands that write, and of TPM2_NV_WriteLock: refused if authHandle may not
+-- write the index
 abbrev pub writer_passes : Target → Result (Unit {0}) Refused
 writer_passes target =
     refused_if (not (may_write target)) (action_refusal action.First (plain code.NvAuthorization))
 
--- A1 of TPM2_NV_ReadLock: authHandle may not read the index
+-- the check A1 of TPM2_NV_ReadLock: refused if authHandle may not read the index
 abbrev pub reader_passes : Target → Result (Unit {0}) Refused
 reader_passes target =
     refused_if (not (may_read target)) (action_refusal action.First (plain code.NvAuthorization))
 
--- the refusal of a write after A1. A2: the index is locked against writing. A3: its type does not
--- match the command. A4: the write extends past the end of the data; or it does not cover all of
--- the data, although WRITEALL is set; or the counter is at its maximum. A missing index does not
--- occur here
+-- the refusal of a write after A1: by A2 if the index is locked against writing; by A3 if its type
+-- does not match the command; by A4 if the write extends past the end of the data, if it does not
+-- cover all of the data although WRITEALL is set, or if the counter is at its maximum. A missing
+-- index does not occur here
 abbrev pub writing_refusal : WriteFault → Refused
 writing_refusal write_fault.Locked = action_refusal action.Second (plain code.NvLocked)
 writing_refusal write_fault.Attributes =
@@ -45,8 +46,8 @@ writing_refusal write_fault.Partial = action_refusal action.Fourth (plain code.N
 writing_refusal write_fault.Exhausted = action_refusal action.Fourth (plain code.NvRange)
 writing_refusal write_fault.Undefined = handle_refusal
 
--- the refusal of a lock after A1. A2: no attribute of the index allows this lock. A missing index
--- does not occur here
+-- the refusal of a lock after A1: by A2 if no attribute of the index allows this lock. A missing
+-- index does not occur here
 abbrev pub lock_refusal : LockFault → Refused
 lock_refusal lock_fault.Attributes =
     action_refusal action.Second (at (place.Handle 2) (plain code.Attributes))

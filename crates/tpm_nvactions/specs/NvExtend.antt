@@ -9,8 +9,9 @@ use Rattle.tpm_record.specs.rows.Request.{Request}
 use Rattle.tpm_record.specs.rows.Rows.{Success, only}
 use Rattle.tpm_nvactions.specs.Access.{write_row}
 
--- handles authHandle and nvIndex; parameter data, within its size limit. A1: authHandle may not
--- write the index; A2: the index is locked; A3: its type cannot be extended
+-- the row of TPM2_NV_Extend. Handles: authHandle and nvIndex. Parameter: data, within its size
+-- limit. Refused by A1 if authHandle may not write the index; by A2 if the index is locked; by A3
+-- if its type cannot be extended
 unfoldable pub nv_extend_row : Record → Request → Result Success Refused
 nv_extend_row r q =
     write_row r q (only (buffer_at data_limit q.parameters)) (λ bytes handle. extended r.nv handle bytes)

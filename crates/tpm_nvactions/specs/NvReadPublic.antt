@@ -17,7 +17,8 @@ abbrev pub public_body : NvIndex → Body
 public_body index =
     SizedFirst (nv_public_text index.public) (sized_text (nv_name index.public))
 
--- handle nvIndex; returned: the public area and the Name of the index
+-- the row of TPM2_NV_ReadPublic. Handle: nvIndex. Answer: the public area and the Name of the
+-- index
 unfoldable pub nv_read_public_row : Record → Request → Result Success Refused
 nv_read_public_row r q = do
   handle ← first_handle q.handles

@@ -17,13 +17,13 @@ use Rattle.tpm_record.specs.declared.rows.target.Target.{Target}
 use Rattle.tpm_record.specs.rows.Target.{target_of}
 use Rattle.tpm_nvactions.specs.Access.{changed_nv}
 
--- whether the owner tries to remove an index that the platform defined
+-- whether the owner requests the removal of an index that the platform defined
 abbrev pub is_kept_from : Target → Bool
 is_kept_from target =
     target.auth_handle.number == owner_handle.number && has target.attributes attribute.PlatformCreate
 
--- authHandle (the owner or the platform) is authorized; nvIndex. A1: the owner may not remove an
--- index that the platform defined
+-- the row of TPM2_NV_UndefineSpace. Handles: authHandle (the owner or the platform), authorized,
+-- and nvIndex. Refused by A1 if the owner would remove an index that the platform defined
 unfoldable pub nv_undefine_space_row : Record → Request → Result Success Refused
 nv_undefine_space_row r q = do
   target ← target_of r q

@@ -1,5 +1,5 @@
-//! What the commands on NV indices have in common: who may write or read an index, and the
-//! refusals for errors in writing and locking.
+//! The common part of the commands on NV indices: who may write or read an index, and the refusals
+//! for errors in writing and locking.
 
 ghost use Rattle.std.specs.Prelude.{◌≡◌};
 ghost use Rattle.tpm_nvactions.specs.Access.{lock_refusal, reader_passes, writing_refusal, writer_passes};

@@ -23,7 +23,7 @@ use Rattle.tpm_types.proofs.SelectionLaws.{is_equal}
 abbrev Takes_up_to : {A E : Type 0} → ℕ → (List ℕ → Result (A × List ℕ) E) → Type 0
 Takes_up_to {A} most at = (text : List ℕ) (x : A × List ℕ) → at text ≡ Ok x → length text ≤ most + length x.1
 
--- two reads in sequence consume at most the sum of what each may consume
+-- Two reads in sequence consume at most the sum of what each may consume.
 both : {A B E : Type 0} (m n : ℕ) (at : List ℕ → Result (A × List ℕ) E) (behind : A → List ℕ → Result (B × List ℕ) E)
     → Takes_up_to m at → ((a : A) → Takes_up_to n (behind a)) → Takes_up_to (m + n) (λ text. at text >>= λ a. behind a.0 a.1)
 both m n at behind first next text x e =
@@ -63,7 +63,7 @@ buffer_size limit text x e = sized_size limit text x (or_sized_ok (sized_at limi
 buffer_most : (limit : ℕ) → Takes_up_to (2 + limit) (buffer_at limit)
 buffer_most limit text x e = let s = buffer_size limit text x e in omega (arith, s.0, s.1)
 
--- a structure in a sized buffer takes two more bytes than the structure itself
+-- A structure in a sized buffer takes two more bytes than the structure itself.
 filled_most : {X : Type 0} (most : ℕ) (at : List ℕ → Result (X × List ℕ) Rc) → Takes_up_to most at → Takes_up_to (2 + most) (filled_by at)
 unfolding filled_by
 filled_most {X} most at inside text x e =

@@ -49,7 +49,8 @@ integrity_small parent name protected =
       length-hmac_of parent.public.name_alg (integrity_key parent) (protected ++ name),
     )
 
--- reading the text finds the bytes that were authenticated
+-- If a text consists of authenticated bytes and their integrity value, reading it finds these
+-- bytes.
 protected_again : (parent : Object) (name protected : List ℕ)
     → protected_in parent name (authenticated_text parent name protected) ≡ Ok protected
 unfolding protected_in
@@ -61,7 +62,8 @@ protected_again parent name protected =
       (bytes_eq-Decides value value).1 refl,
     ) refl
 
--- bytes found in a text were authenticated this way
+-- If reading a text finds protected bytes, the text consists of their integrity value and these
+-- bytes.
 protected_found : (parent : Object) (name text protected : List ℕ)
     → AreBytes text → protected_in parent name text ≡ Ok protected
     → text ≡ authenticated_text parent name protected
@@ -80,7 +82,7 @@ protected_found parent name text protected fits e =
 
 -- ---- the encrypted area
 
--- an area is decoded again from its encoding in a sized buffer
+-- An area is decoded again from its encoding in a sized buffer.
 area_again : (area : Sensitive) → IsSensitive area → area_in (sized_text (sensitive_text area)) ≡ Ok area
 unfolding area_in
 area_again area is =
@@ -89,7 +91,7 @@ area_again area is =
     ap (filled_by sensitive_at) (sym (append-nil text)) ∙ sized_sensitive_spelled.again area [] is in
     rw read refl
 
--- an area in its sized buffer is at most 202 bytes long
+-- An area in its sized buffer is at most 202 bytes long.
 area_most : (plain : List ℕ) (area : Sensitive) → area_in plain ≡ Ok area → length plain ≤ 202
 unfolding area_in
 area_most plain area e =
@@ -105,7 +107,7 @@ unfolding encrypted_area
 encrypted_undone parent name iv area =
     cfb_undone (storage_key parent name) iv (sized_text (sensitive_text area))
 
--- decrypting an encrypted area returns the original area
+-- If an encrypted area is decrypted, the result is the original area.
 decrypted_again : (parent : Object) (name iv : List ℕ) (area : Sensitive) → length iv ≡ 16 → IsSensitive area
     → decrypted_area parent name (protected_text parent name iv area) ≡ Ok area
 unfolding decrypted_area
@@ -118,7 +120,7 @@ decrypted_again parent name iv area whole is =
       area_again area is,
     ) refl
 
--- an area that was decrypted had been encrypted this way
+-- If an area was decrypted, the bytes were that area, encrypted this way.
 decrypted_found : (parent : Object) (name protected iv encrypted plain : List ℕ) (area : Sensitive)
     → AreBytes protected → sized_at 16 protected ≡ Ok (iv, encrypted) → length iv ≡ 16
     → cfb_encrypt_of (storage_key parent name) iv plain ≡ encrypted
@@ -132,8 +134,8 @@ decrypted_found parent name protected iv encrypted plain area fits read whole un
     sym undone ∙ ap (cfb_encrypt_of (storage_key parent name) iv) spelled in
     (iv, whole, t.0.parts ∙ ap (λ (l : List ℕ). sized_text iv ++ l) again)
 
--- a text longer than any area in a sized buffer is refused, whether as an area or as an encrypted
--- one
+-- If a text is longer than any area in a sized buffer, it is refused, whether as an area or as an
+-- encrypted one.
 long_refused : (plain : List ℕ) → 202 < length plain → area_in plain ≡ Err integrity_fault
 long_refused plain long = by (area_in plain) refl
   where
@@ -154,7 +156,7 @@ unfolding decrypted_area
 long_area_refused parent name protected iv encrypted read whole long =
     rw (read, whole, long_cipher_refused parent name iv encrypted long) refl
 
--- reading a decrypted text returns the area that was encrypted
+-- If a text is decrypted and read, the result is the area that was encrypted.
 pub decrypted_law : (parent : Object) (name protected iv encrypted plain : List ℕ)
     (result : Result Sensitive IntegrityFault)
     → AreBytes protected → sized_at 16 protected ≡ Ok (iv, encrypted) → length iv ≡ 16
@@ -175,7 +177,7 @@ of_type a b area =
 passes : (a b : ObjectType) (area : Sensitive) → a ≡ b → of_type a b area ≡ Ok area
 passes a b area same = rw ((Decides-eqb (object_type_number a) (object_type_number b)).1 (ap object_type_number same)) refl
 
--- two types with the same number are equal
+-- If two types have the same number, they are equal.
 same_type : (a b : ObjectType) → object_type_number a ≡ object_type_number b → a ≡ b
 same_type object.KeyedHash object.KeyedHash e = refl
 same_type object.KeyedHash object.SymCipher e = absurd (omega arith)
@@ -186,7 +188,7 @@ refuses : (a b : ObjectType) (area : Sensitive) → b ≢ a → of_type a b area
 refuses a b area other =
     rw (ne_eqb (object_type_number a) (object_type_number b) (λ same. other (sym (same_type a b same)))) refl
 
--- a wrapped private area can be unwrapped if the types match
+-- A wrapped private area is unwrapped to the area if the types match, and refused otherwise.
 wrapped_is : (parent : Object) (public : Public) (name iv : List ℕ) (area : Sensitive)
     → name ≡ object_name public → length iv ≡ 16 → IsSensitive area
     → unwrapped parent public (private_text parent name iv area)
@@ -196,7 +198,7 @@ wrapped_is parent public name iv area named whole is =
     let protected : List ℕ = protected_text parent name iv area in
     rw (sym named, protected_again parent name protected, decrypted_again parent name iv area whole is) refl
 
--- a private area can be unwrapped if both areas have the same type
+-- If both areas have the same type, a wrapped private area can be unwrapped.
 pub wrapped_undone : (parent : Object) (public : Public) (name iv text : List ℕ) (area : Sensitive)
     → text ≡ private_text parent name iv area → length iv ≡ 16 → IsSensitive area
     → name ≡ object_name public → object_type public ≡ area.object_type
@@ -205,7 +207,7 @@ wrapped_undone parent public name iv text area spelled whole is named typed =
     ap (unwrapped parent public) spelled ∙ wrapped_is parent public name iv area named whole is
     ∙ passes area.object_type (object_type public) area (sym typed)
 
--- a private area cannot be unwrapped if the two areas have different types
+-- If the two areas have different types, a wrapped private area cannot be unwrapped.
 pub wrapped_refused : (parent : Object) (public : Public) (name iv text : List ℕ) (area : Sensitive)
     → text ≡ private_text parent name iv area → length iv ≡ 16 → IsSensitive area
     → name ≡ object_name public → object_type public ≢ area.object_type
@@ -214,14 +216,14 @@ wrapped_refused parent public name iv text area spelled whole is named other =
     ap (unwrapped parent public) spelled ∙ wrapped_is parent public name iv area named whole is
     ∙ refuses area.object_type (object_type public) area other
 
--- a private area wrapped for a public area can be unwrapped
+-- If a private area was wrapped for a public area, it can be unwrapped.
 pub unwrapped_only : (parent : Object) (public : Public) (text : List ℕ) (area : Sensitive)
     → IsWrapped parent public text area → unwrapped parent public text ≡ Ok area
 unwrapped_only parent public text area is =
     wrapped_undone parent public (object_name public) is.iv text area is.spelled is.whole is.sized refl
     (sym is.typed)
 
--- a private area that can be unwrapped had been wrapped
+-- If a private area can be unwrapped, it was wrapped.
 pub unwrapped_found : (parent : Object) (public : Public) (name text protected : List ℕ) (area : Sensitive)
     → name ≡ object_name public → AreBytes text → protected_in parent name text ≡ Ok protected
     → IsSensitive area × IsProtected parent name protected area

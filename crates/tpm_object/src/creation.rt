@@ -14,7 +14,7 @@ use tpm_types_object::{
     KeyedHashScheme, ObjectAttribute, Public, PublicParameters, SensitiveCreate,
 };
 
-/// Why the caller's values for a new object are refused.
+/// The reason why the caller's values for a new object are refused.
 #[derive(Clone, Copy, PartialEq, Eq)]
 pub enum CreationFault {
     /// The authorization value is longer than a nameAlg digest.

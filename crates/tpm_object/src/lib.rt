@@ -6,8 +6,8 @@
 //! The crate uses `tpm_types_object` for the areas of objects, `tpm_mac` and `tpm_aes` for
 //! digests, keys and encryption, `tpm_types_name` for Names, and `tpm_types`. Each call equals its
 //! definition in `specs/`. Unwrapping a private area returns the sensitive area that was wrapped
-//! for a public area of its type, and accepts only what the parent wraps. The two areas of a new
-//! object always have the same type. No call here allocates memory.
+//! for a public area of its type. It accepts only private areas that the parent wrapped. The two
+//! areas of a new object always have the same type. No call here allocates memory.
 
 mod areas;
 mod creation;

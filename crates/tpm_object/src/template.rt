@@ -11,7 +11,7 @@ use tpm_types_object::{
     KeyedHashScheme, ObjectAttribute, ObjectAttributes, Public, PublicParameters,
 };
 
-/// Why a template is refused.
+/// The reason why a template is refused.
 #[derive(Clone, Copy, PartialEq, Eq)]
 pub enum TemplateFault {
     /// authPolicy is neither empty nor of the size of a nameAlg digest.

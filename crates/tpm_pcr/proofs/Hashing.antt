@@ -19,7 +19,8 @@ abbrev pub text_below : BankValues → BankSelection → ℕ → List ℕ
 text_below all bank n =
     concat (map (pcr_value all bank.hash) (filter (is_selected bank.select) (numbers_below n)))
 
--- concatenating the lists of the chosen numbers, after one more number that may be chosen
+-- Concatenating the lists of the chosen numbers, and of one more number if it is chosen, appends
+-- that number's list.
 joined_cond : (f : ℕ → List ℕ) (front : List ℕ) (n : ℕ) (b : Bool)
     → concat (map f (front ++ cond b (n ∷ []) [])) ≡ concat (map f front) ++ cond b (f n) []
 joined_cond f front n true =
@@ -29,7 +30,8 @@ joined_cond f front n true =
 joined_cond f front n false =
     ap (λ (pcrs : List ℕ). concat (map f pcrs)) (append-nil front) ∙ sym (append-nil (concat (map f front)))
 
--- the value of one more PCR is appended if the PCR is selected
+-- If PCR n is selected, its value is appended to those of the selected PCRs below n; otherwise
+-- nothing is.
 text_below_more : (all : BankValues) (bank : BankSelection) (n : ℕ)
     → text_below all bank (n + 1) ≡ text_below all bank n ++ cond (is_selected bank.select n) (pcr_value all bank.hash n) []
 text_below_more all bank n =
@@ -37,13 +39,13 @@ text_below_more all bank n =
     ∙ ap (λ (pcrs : List ℕ). concat (map (pcr_value all bank.hash) pcrs)) (filter-append (is_selected bank.select) (numbers_below n) (n ∷ []))
     ∙ joined_cond (pcr_value all bank.hash) (filter (is_selected bank.select) (numbers_below n)) n (is_selected bank.select n)
 
--- the values of all selected PCRs in a bank are those of the selected PCRs below 24
+-- The values of the selected PCRs below 24 are the values of all selected PCRs.
 text_below_all : (all : BankValues) (bank : BankSelection)
     → text_below all bank 24 ≡ concat (selected_values all bank)
 unfolding selected_pcrs all_pcrs
 text_below_all all bank = refl
 
--- the values of one more bank are appended
+-- The values of the first i + 1 banks are those of the first i banks, followed by those of bank i.
 banks_joined_more : (all : BankValues) (banks : List BankSelection) (i : ℕ) (bank : BankSelection)
     → i < length banks
     → concat (flat_map (selected_values all) (take (i + 1) banks))
@@ -54,7 +56,8 @@ banks_joined_more all banks i bank below =
     ∙ concat-append (flat_map (selected_values all) (take i banks)) _
     ∙ ap (λ (l : List (List ℕ)). concat (flat_map (selected_values all) (take i banks)) ++ concat l) (append-nil (selected_values all (get_or banks i bank)))
 
--- feeding the value of one more PCR to a hasher that was fed those below a number
+-- If a hasher was fed the values below a number and is fed the next value, it was fed the values
+-- up to that number.
 pub taken_more : (all : BankValues) (bank : BankSelection) (n pcr : ℕ) (start before after : Hasher) → pcr ≡ n
     → Takes start (text_below all bank n) before
     → Takes before (cond (is_selected bank.select pcr) (pcr_value all bank.hash pcr) []) after
@@ -67,13 +70,14 @@ taken_more all bank n pcr start before after is so_far one algorithm message hel
     ∙ ap (λ (text : List ℕ). message ++ text) (sym (text_below_more all bank n)) in
     subst (Holds after algorithm) whole (one algorithm _ (so_far algorithm message held))
 
--- a hasher that was fed the values below 24 was fed those of all selected PCRs
+-- If a hasher was fed the values below 24, it was fed the values of all selected PCRs.
 pub taken_all : (all : BankValues) (bank : BankSelection) (n : ℕ) (start after : Hasher) → n ≡ 24
     → Takes start (text_below all bank n) after → Takes start (concat (selected_values all bank)) after
 taken_all all bank n start after done so_far =
     subst (λ (text : List ℕ). Takes start text after) (ap (text_below all bank) done ∙ text_below_all all bank) so_far
 
--- feeding the values of one more bank to a hasher that was fed those of the first banks
+-- If a hasher was fed the values of the first banks and is fed those of one more bank, it was fed
+-- the values of all these banks.
 pub held_more : (all : BankValues) (banks : List BankSelection) (i : ℕ) (bank : BankSelection) (hash : HashAlg)
     (before after : Hasher) → i < length banks → bank ≡ get_or banks i bank
     → Holds before hash (concat (flat_map (selected_values all) (take i banks)))

@@ -21,7 +21,7 @@ le_false a b e = grind (arith, nat_tests)
 lt_false : (a b : ℕ) → nat_lt a b ≡ false → a < b → ⊥
 lt_false a b e below = let above : b ≤ a = grind (arith, nat_tests) in absurd (omega arith)
 
--- one more value after the first few, with and without room for it
+-- If one more value fits, it is appended to the first few; if none fits, they are unchanged.
 take_push_room : {X : Type 0} (room : ℕ) (xs : List X) (x : X) → nat_lt (length xs) room ≡ true → take room (xs ++ x ∷ []) ≡ take room xs ++ x ∷ []
 take_push_room room xs x e =
     let below : length xs < room = grind (arith, nat_tests) in
@@ -38,18 +38,19 @@ pub take_push : {X : Type 0} (room : ℕ) (xs : List X) (x : X) (b : Bool) → n
 take_push room xs x true e = take_push_room room xs x e
 take_push room xs x false e = take_push_full room xs x e
 
--- two tests that are equivalent
+-- If two tests are equivalent, they have the same result.
 same_test : (a b c d : ℕ) (x y : Bool) → nat_lt a b ≡ x → nat_lt c d ≡ y → (a < b → c < d) → (c < d → a < b) → x ≡ y
 same_test a b c d true true e f h k = refl
 same_test a b c d false false e f h k = refl
 same_test a b c d true false e f h k = absurd (lt_false c d f (h (lt_true a b e)))
 same_test a b c d false true e f h k = absurd (lt_false a b e (k (lt_true c d f)))
 
--- whether eight values leave room for another one, after some values and the first few others
+-- Another value fits among eight, after `old` values and the first k others, exactly if k is less
+-- than 8 - `old`.
 pub room_left : (old k : ℕ) → nat_lt (old + min (8 - old) k) 8 ≡ nat_lt k (8 - old)
 room_left old k = same_test (old + min (8 - old) k) 8 k (8 - old) _ _ refl refl (λ h. omega arith) (λ h. omega arith)
 
--- the first few chosen PCRs below a number, extended by one more PCR
+-- The first few chosen PCRs below n + 1 are those below n, and PCR n if it is chosen and fits.
 chosen_by : (p : ℕ → Bool) (n room : ℕ) (b : Bool) → p n ≡ b → take room (filter p (numbers_below (n + 1))) ≡ cond (b && nat_lt (length (filter p (numbers_below n))) room) (take room (filter p (numbers_below n)) ++ n ∷ []) (take room (filter p (numbers_below n)))
 chosen_by p n room true e =
     rw (add-one, filter-append p (numbers_below n) (n ∷ []), e) (take_push room (filter p (numbers_below n)) n _ refl)
@@ -67,7 +68,7 @@ values_cond : (b : Bool) (f : ℕ → List ℕ) (front : List (List ℕ)) (pcrs 
 values_cond true f front pcrs n = append_assoc front (map f pcrs) (f n ∷ []) ∙ ap (λ (l : List (List ℕ)). front ++ l) (sym (map-append f pcrs (n ∷ [])))
 values_cond false f front pcrs n = refl
 
--- whether the next PCR is read, given the number of values read before it
+-- The number of values read so far decides whether the next PCR is read.
 reads_next : (p : ℕ → Bool) (n pcr old count : ℕ) → pcr ≡ n → count ≡ old + min (8 - old) (length (filter p (numbers_below n))) → (p pcr && nat_lt count 8) ≡ (p n && nat_lt (length (filter p (numbers_below n))) (8 - old))
 reads_next p n pcr old count is counted =
     ap (λ k. p k && nat_lt count 8) is
@@ -82,7 +83,8 @@ pub values_step : (p : ℕ → Bool) (f : ℕ → List ℕ) (n pcr old count : �
 values_step p f n pcr old count front values is counted so =
     rw (reads_next p n pcr old count is counted, is, so, chosen_more p n (8 - old)) (values_cond _ f front (take (8 - old) (filter p (numbers_below n))) n)
 
--- the number of values after one more PCR
+-- The number of values read is the number before this bank plus the number of chosen PCRs below n,
+-- up to eight in all.
 pub values_count : (p : ℕ → Bool) (f : ℕ → List ℕ) (n old count : ℕ) (front values : List (List ℕ)) → length front ≡ old → length values ≡ count → values ≡ front ++ map f (take (8 - old) (filter p (numbers_below n))) → count ≡ old + min (8 - old) (length (filter p (numbers_below n)))
 values_count p f n old count front values before after so =
     sym after
@@ -90,7 +92,7 @@ values_count p f n old count front values before after so =
     ∙ length-append front (map f (take (8 - old) (filter p (numbers_below n))))
     ∙ rw (length-map, length-take, before) refl
 
--- all selected PCRs are below 24
+-- All selected PCRs are below 24.
 pub selected_pcrs-is : (bank : BankSelection) (n : ℕ) → n ≡ 24 → selected_pcrs bank ≡ filter (is_selected bank.select) (numbers_below n)
 unfolding selected_pcrs all_pcrs
 selected_pcrs-is bank n e = rw e refl
@@ -110,15 +112,17 @@ take_by : {X : Type 0} (room : ℕ) (xs ys : List X) (b : Bool) → nat_lt (leng
 take_by room xs ys true e = let below : length xs < room = lt_true (length xs) room e in take_beyond room (room - length xs) xs ys (omega arith)
 take_by room xs ys false e = let above : room ≤ length xs = le_false (length xs) room e in take_within room xs ys above
 
--- the first few elements of two concatenated lists
+-- The first few elements of two concatenated lists are those of the first list and, if they do not
+-- fill the number, those of the second.
 pub take-append : {X : Type 0} (room : ℕ) (xs ys : List X) → take room (xs ++ ys) ≡ take room xs ++ take (room - length xs) ys
 take-append room xs ys = take_by room xs ys _ refl
 
--- the number of values that still fit after the first few
+-- The number of values that still fit decreases by the number of values read.
 pub room_after : (old new k : ℕ) → new ≡ old + min (8 - old) k → 8 - new ≡ (8 - old) - k
 room_after old new k e = omega arith
 
--- one more bank is returned, and the remaining banks after it
+-- If one more bank is returned, the returned selection is that bank and what the remaining banks
+-- return.
 pub answered_more : (room after i : ℕ) (banks front : List BankSelection) (bank : BankSelection) (select : ℕ) → i < length banks → bank ≡ get_or banks i bank → select ≡ select_with (take room (selected_pcrs bank)) → after ≡ room - length (selected_pcrs bank) → (front ++ record bank { select = select } ∷ []) ++ answer_selection after (drop (i + 1) banks) ≡ front ++ answer_selection room (drop i banks)
 answered_more room after i banks front bank select below is kept left =
     append_assoc front _ _
@@ -129,7 +133,8 @@ answered_more room after i banks front bank select below is kept left =
     ∙ sym (ap (answer_selection room) (drop_more banks i bank below))
     )
 
--- the values of one more bank are read, and those of the remaining banks after them
+-- If the values of one more bank are read, the values are those of that bank and of the remaining
+-- banks after it.
 pub read_more : (all : BankValues) (room after i : ℕ) (banks : List BankSelection) (bank : BankSelection) (front : List (List ℕ)) → i < length banks → bank ≡ get_or banks i bank → after ≡ room - length (selected_pcrs bank) → (front ++ take room (selected_values all bank)) ++ read_values all after (drop (i + 1) banks) ≡ front ++ read_values all room (drop i banks)
 unfolding read_values
 read_more all room after i banks bank front below is left =

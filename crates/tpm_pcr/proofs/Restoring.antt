@@ -1,4 +1,4 @@
--- A bank whose first values were restored is still a bank.
+-- If the first values of a bank are restored, it is still a bank.
 use Rattle.std.proofs.Common.{arith, ◌≡◌, ℕ, List, ◌++◌, length, drop, length-append, length-drop}
 use Rattle.std.proofs.lemmas.List.Elements.{All-append, All-drop}
 use Rattle.tpm_pcr.specs.Saved.{IsSavedBank}

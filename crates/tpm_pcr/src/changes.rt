@@ -17,7 +17,7 @@ use arrayvec::ArrayVec;
 use tpm_mac::{Digest, HashAlg, digest_parts};
 use tpm_types::{DigestValue, DigestValues, Locality, PcrIndex};
 
-/// Why no PCR was changed.
+/// The reason why no PCR was changed.
 #[derive(Clone, Copy, PartialEq, Eq)]
 pub enum ChangeFault {
     /// The PCR does not allow this change from this locality.

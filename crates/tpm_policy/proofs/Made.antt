@@ -1,4 +1,4 @@
--- The policy after an assertion that passes its checks.
+-- The policy that an assertion makes if it passes its checks.
 use Rattle.std.proofs.Common.{rules, ◌≡◌, Bool, Result, Ok, Err, IfOk, refl, subst}
 use Rattle.tpm_bytes.specs.Reading.{◌>>=◌}
 use Rattle.tpm_mac.specs.declared.algorithm.HashAlg.{HashAlg}

@@ -14,8 +14,8 @@ AreBytes bytes = (i : ℕ) → slice_index bytes i < 256
 abbrev number_after : ℕ → List ℕ → ℕ
 number_after n bytes = number_from_digits_after 256 n bytes
 
--- if one number is less than another, it stays less after the same number of bytes is appended to
--- each
+-- If one number is less than another, it stays less when the same number of bytes is appended to
+-- each.
 number_after_lt : (m n : ℕ) (xs ys : List ℕ) → length xs ≡ length ys → AreBytes xs → m < n
     → number_after m xs < number_after n ys
 number_after_lt m n [] [] same fit less = less
@@ -31,7 +31,7 @@ is_less [] others = false
 is_less (byte ∷ bytes) [] = false
 is_less (byte ∷ bytes) (other ∷ others) = nat_lt byte other || (byte == other && is_less bytes others)
 
--- one step of the comparison, if all earlier bytes are equal
+-- If all earlier bytes are equal, one step of the comparison decides by the next bytes.
 step_is : (m x y : ℕ) (xs ys : List ℕ) (lt eq : Bool) → length xs ≡ length ys
     → AreBytes xs → AreBytes ys
     → ((n : ℕ) → nat_lt (number_after n xs) (number_after n ys) ≡ is_less xs ys)
@@ -62,7 +62,7 @@ less_after (x ∷ xs) (y ∷ ys) same fit fits m =
     step_is m x y xs ys (nat_lt x y) (x == y) rest (λ i. fit (suc i)) (λ i. fits (suc i))
     (less_after xs ys rest (λ i. fit (suc i)) (λ i. fits (suc i))) refl refl
 
--- of two numbers, the first bytes decide which is less; if they are equal, the remaining bytes do
+-- The first bytes of two numbers decide which is less; if they are equal, the remaining bytes do.
 less_by_first : (x y : ℕ) (xs ys : List ℕ) → length xs ≡ length ys
     → AreBytes (x ∷ xs) → AreBytes (y ∷ ys)
     → nat_lt (unsigned_number (x ∷ xs)) (unsigned_number (y ∷ ys))
@@ -72,7 +72,7 @@ less_by_first x y xs ys same fit fits =
     ∙ ap (λ (less : Bool). nat_lt x y || (x == y && less))
     (sym (less_after xs ys same (λ i. fit (suc i)) (λ i. fits (suc i)) 0))
 
--- two comparisons agree if their operands are ordered in the same way
+-- If the operands of two comparisons are ordered in the same way, the comparisons agree.
 same_lt : (a b x y : ℕ) → (x < y → a < b) → (y ≤ x → b ≤ a) → nat_lt a b ≡ nat_lt x y
 same_lt a b x y up down = by (nat_lt x y) refl
   where
@@ -91,7 +91,8 @@ all_below : (bytes : List ℕ) → AreBytes bytes → AllBelowBase 256 bytes
 all_below [] fit = tt
 all_below (x ∷ xs) fit = (fit 0, all_below xs (λ i. fit (suc i)))
 
--- a natural number minus a larger one, as an integer
+-- If a larger natural number is subtracted from a smaller one, the difference is the negative
+-- integer.
 below_zero : (n whole : ℕ) → n < whole → pos n -ℤ pos whole ≡ negsuc (whole - suc n)
 below_zero n zero below = absurd (omega arith)
 below_zero n (suc more) below = rw (lt-ltb n (suc more) below) refl
@@ -100,7 +101,7 @@ below_zero n (suc more) below = rw (lt-ltb n (suc more) below) refl
 abbrev raised : ℕ → ℕ
 raised byte = (byte + 128) % 256
 
--- adding the same number to both first bytes does not change which is less
+-- If the same number is added to both first bytes, it does not change which is less.
 raised_alike : (x y : ℕ) (less : Bool) → (raised x + y ≡ raised y + x)
     → (nat_lt x y || (x == y && less)) ≡ (nat_lt (raised x) (raised y) || (raised x == raised y && less))
 raised_alike x y less alike =
@@ -156,13 +157,13 @@ rest_of bytes = take (length bytes - 1) (drop 1 bytes)
 rest_is : (x : ℕ) (xs : List ℕ) → rest_of (x ∷ xs) ≡ xs
 rest_is x xs = let size : length (x ∷ xs) - 1 ≡ length xs = omega arith in rw (size) (take-length xs)
 
--- if two texts have the same size, so have their bytes after the first
+-- If two texts have the same size, so have their bytes after the first.
 pub rest-length : (bytes others : List ℕ) → length bytes ≡ length others
     → length (rest_of bytes) ≡ length (rest_of others)
 rest-length bytes others same = simp (length-take, length-drop, same) refl
 
--- for two texts that are not empty, the first bytes decide which is less; if they are equal, the
--- remaining bytes do
+-- For two texts that are not empty, the first bytes decide which is less; if they are equal, the
+-- remaining bytes do.
 pub unsigned_less : (bytes others : List ℕ) → 1 ≤ length bytes → length bytes ≡ length others
     → AreBytes bytes → AreBytes others
     → nat_lt (unsigned_number bytes) (unsigned_number others)

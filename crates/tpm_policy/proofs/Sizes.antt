@@ -20,6 +20,6 @@ asserted_sized hash trial AuthValue policy = length-hash_of hash _
 asserted_sized hash trial Password policy = length-hash_of hash _
 asserted_sized hash trial _ policy = search (rules, ok_bind, length-hash_of)
 
--- after an assertion, the digest has the size of the hash
+-- After an assertion, the digest has the size of the hash.
 pub made_sized : (hash : HashAlg) (trial : Bool) (assertion : Assertion) (old new : Policy) → asserted hash trial assertion old ≡ Ok new → length new.digest ≡ digest_size hash
 made_sized hash trial assertion old new is = subst (λ x. IfOk x (λ made. length made.digest ≡ digest_size hash)) is (asserted_sized hash trial assertion old)

@@ -51,9 +51,9 @@ pub record SecretParts : Type 0 where
   pub reference : List ℕ
   pub expiration : ℕ
 
--- the data of TPM2_PolicyNV: the Name of the index, the operand, the offset of the compared
--- bytes, the operation, and the compared bytes of the index, of the same size as the operand, or
--- why they cannot be read
+-- the data of TPM2_PolicyNV: the Name of the index, the operand, the offset of the compared bytes,
+-- the operation, and the compared bytes of the index, of the same size as the operand, or the
+-- reason why they cannot be read
 pub record NvParts : Type 0 where
   pub name : List ℕ
   pub operand : List ℕ
@@ -161,9 +161,9 @@ or_asserted hash trial digests policy = do
       (parameter_fault action.First 1 code.Value)
   Ok (record policy { digest = or_digest hash digests })
 
--- TPM2_PolicyAuthValue (section 23.17), and TPM2_PolicyPassword (section 23.18), which extends
--- the digest in the same way. The first demands the entity's authorization value in an HMAC key,
--- the second in plaintext
+-- TPM2_PolicyAuthValue (section 23.17), and TPM2_PolicyPassword (section 23.18), which extends the
+-- digest in the same way. The first demands that the HMAC key include the entity's authorization
+-- value; the second demands the value as a password
 abbrev demanding : HashAlg → Demand → Policy → Policy
 demanding hash wanted policy = record (extended hash served.PolicyAuthValue [] policy) { demand = wanted }
 

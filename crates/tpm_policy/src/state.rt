@@ -9,7 +9,7 @@ use std::marker::Model;
 use tpm_bytes::{append, copied};
 use tpm_mac::{Digest, HashAlg};
 
-/// What a policy demands in addition to its digest.
+/// The demand of a policy, in addition to its digest.
 #[derive(Clone, Copy, PartialEq, Eq)]
 pub enum Demand {
     /// Nothing more.
@@ -169,7 +169,7 @@ impl PolicyState {
         self.digest.as_slice()
     }
 
-    /// What the policy demands in addition to its digest.
+    /// The demand of the policy, in addition to its digest.
     pub fn demand(&self) -> Demand
         ensures { result ≡ self.now.demand }
     {

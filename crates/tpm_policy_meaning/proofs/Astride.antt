@@ -34,7 +34,7 @@ two_ways (x ∷ a) b (y ∷ c) d is =
     let halves = same_first x y (a ++ b) (c ++ d) is in
     one_more x y a b c d halves.0 (two_ways a b c d halves.1)
 
--- if a text occurs within another of the same size, the two are equal
+-- If a text occurs within another of the same size, the two are equal.
 is_whole : (whole front text rest : List ℕ) → whole ≡ front ++ (text ++ rest) → length whole ≡ length text → text ≡ whole
 is_whole whole [] text [] is size = sym (is ∙ append-nil text)
 is_whole whole [] text (x ∷ rest) is size = absurd (omega (arith, ap length is, length-append text (x ∷ rest), size))
@@ -55,7 +55,8 @@ behind_first text first digests none astride = record {
   is_none = none;
 }
 
--- the start of the next digest, after the end of the first
+-- If a text is not in a list of digests of its size, starts within the first digest and ends after
+-- it, then it lies across two digests of the list.
 next_begins : (text first front : List ℕ) (x y : ℕ) (end beginning : List ℕ) (digests : List (List ℕ)) (back : List ℕ) → (IsAmong text (first ∷ digests) → ⊥) → HaveSize (length text) digests → first ≡ front ++ x ∷ end → text ≡ (x ∷ end) ++ y ∷ beginning → joined digests ≡ (y ∷ beginning) ++ back → IsAstride text (first ∷ digests)
 next_begins text first front x y end beginning [] back none sizes is spelled stands = absurd (has_first y (beginning ++ back) (sym stands))
 next_begins text first front x y end beginning (next ∷ digests) back none sizes is spelled stands = by (two_ways next (joined digests) (y ∷ beginning) back stands)

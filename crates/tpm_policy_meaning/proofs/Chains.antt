@@ -1,4 +1,4 @@
--- If two chains of hashes end in the same digest, they have the same steps, or a hash is broken.
+-- If two chains of hashes end in the same digest, they have the same steps, or the hash is broken.
 use Rattle.std.proofs.Common.{◌≡◌, ◌≢◌, ◌⊎◌, ℕ, arith, Bool, true, false, cond, List, [], ◌∷◌, ◌++◌, length, length-append, take, drop, Option, Some, None, is_some, refl, ap, sym, ◌∙◌, inl, inr}
 use Rattle.std.proofs.lemmas.Bool.{false≢true}
 use Rattle.std.proofs.lemmas.List.{drop_at, length-replicate, take_at}
@@ -13,7 +13,7 @@ use Rattle.tpm_policy_meaning.specs.PolicyDigest.{digest_after, with_reference, 
 
 -- ---- lists of texts
 
--- if two texts are split at the same offset and are equal, so are their parts
+-- If two equal texts are split at the same offset, their parts are equal.
 pub same_fronts : (a b c d : List ℕ) → length a ≡ length c → a ++ b ≡ c ++ d → (a ≡ c) × (b ≡ d)
 same_fronts a b c d size is = (
   sym (take_at a b (length a) refl) ∙ ap (take (length a)) is ∙ take_at c d (length a) (sym size),
@@ -58,7 +58,8 @@ is_among_or_not t (u ∷ texts) = by (is_same_or_not t u) (is_among_or_not t tex
     by (inr apart) (inl among) = inl (inr among)
     by (inr apart) (inr none) = inr (none_among t u texts apart none)
 
--- a conclusion that follows unless a hash is broken
+-- If a fact holds unless a hash is broken, and a conclusion follows from it, the conclusion holds
+-- unless a hash is broken.
 pub unless_broken : {A B Broken : Type 0} → A ⊎ Broken → (A → B ⊎ Broken) → B ⊎ Broken
 unless_broken (inl a) next = next a
 unless_broken (inr broken) next = inr broken
@@ -78,13 +79,14 @@ pub length-chain : (hash : HashAlg) (steps : List (List ℕ)) → length (chain 
 length-chain hash [] = length-replicate (digest_size hash) 0
 length-chain hash (step ∷ earlier) = length-hash_of hash _
 
--- A hash is broken by a text of one kind and a text of the other.
+-- The hash is broken if a text of one kind and a different text of the other kind have the same
+-- hash.
 pub record Breaking (hash : HashAlg) (Broken : Type 0) (One Other : List ℕ → Type 0) : Type 0 where
   pub collision : (t u : List ℕ) → One t → Other u → t ≢ u → hash_of hash t ≡ hash_of hash u → Broken
   pub of_zeros : (t : List ℕ) → One t ⊎ Other t → hash_of hash t ≡ zeros hash → Broken
 
 module _ (hash : HashAlg) (Broken : Type 0) (One Other : List ℕ → Type 0) (breaking : Breaking hash Broken One Other) where
-  -- two texts with the same hash are equal, or a hash is broken
+  -- If two texts have the same hash, they are equal, or the hash is broken.
   pub same_hashed : (t u : List ℕ) → One t → Other u → hash_of hash t ≡ hash_of hash u → (t ≡ u) ⊎ Broken
   same_hashed t u one other is = by (is_same_or_not t u)
     where
@@ -108,7 +110,7 @@ module _ (hash : HashAlg) (Broken : Type 0) (One Other : List ℕ → Type 0) (b
 
 -- ---- steps of assertions
 
--- what an assertion says: its policyRef, if it has one, and its text
+-- an assertion as the digest covers it: its policyRef, if it has one, and its encoding
 abbrev pub Said : Type 0
 Said = Option (List ℕ) × List ℕ
 
@@ -120,7 +122,7 @@ abbrev pub all_steps : List Said → List (List ℕ)
 all_steps [] = []
 all_steps (said ∷ earlier) = steps_of said.0 said.1 ++ all_steps earlier
 
--- whether a text is that of TPM2_PolicySecret, the only command with a policyRef
+-- whether an encoding is that of TPM2_PolicySecret, the only command with a policyRef
 abbrev pub is_secret : List ℕ → Bool
 is_secret text = bytes_eq (take 4 text) (to_be_bytes w32 0x151)
 
@@ -158,7 +160,7 @@ latest_aligned (Some r) None t u xs ys st su ax ay is =
     let rest : t ∷ xs ≡ ys = cc in
     absurd (false≢true (sym ay ∙ ap awaits (sym rest) ∙ rw (ax, st) refl))
 
--- if two lists of assertions have the same steps, they say the same
+-- If two lists of assertions have the same steps, they are equal.
 pub aligned : (xs ys : List Said) → AllFit xs → AllFit ys → all_steps xs ≡ all_steps ys → xs ≡ ys
 aligned [] [] fx fy is = refl
 aligned [] (y ∷ ys) fx fy is = absurd (some_steps y.0 y.1 (all_steps ys) (sym is))

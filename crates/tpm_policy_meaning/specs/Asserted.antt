@@ -37,10 +37,10 @@ session_digest hash assertions = (evaluated hash false assertions).digest
 
 -- ---- assertions of a session and of a written policy
 
--- An assertion of a session says the same as one of a written policy. TPM2_PolicyAuthValue and
--- TPM2_PolicyPassword extend the digest in the same way, so each says what the other says. The
--- session's demand decides how a use must prove the authorization value; either way it must prove
--- it (`DemandsValue`).
+-- An assertion of a session asserts the same as one of a written policy. TPM2_PolicyAuthValue and
+-- TPM2_PolicyPassword extend the digest in the same way, so each counts as the other. The
+-- session's demand decides how a use must prove the authorization value; either way the use must
+-- prove it (`DemandsValue`).
 abbrev pub Says : Assertion → PolicyAssertion → Type 0
 Says (assertion.Pcr parts) (PolicyPcr selection digest) =
     (parts.selection ≡ selection_text selection) × (parts.digest ≡ digest)
@@ -59,7 +59,7 @@ Says (assertion.Nv parts) (PolicyNv name operand offset operation) =
     × (parts.operation ≡ operation)
 Says _ _ = ⊥
 
--- One of these assertions says the same as this assertion of a written policy.
+-- One of these assertions asserts the same as this assertion of a written policy.
 abbrev pub IsAsserted : List Assertion → PolicyAssertion → Type 0
 IsAsserted assertions written =
     (one : Assertion) × IsAmong one assertions × Says one written
@@ -89,7 +89,7 @@ AreAccepted hash (latest ∷ earlier) =
 
 -- ---- what a session hashes
 
--- what an assertion contributes to the digest
+-- the contribution of an assertion to the digest
 abbrev pub update_by : HashAlg → Assertion → PolicyUpdate
 update_by hash (assertion.Pcr parts) =
     plain_update command.PolicyPcr (parts.selection ++ parts.digest)

@@ -5,17 +5,15 @@ use Rattle.std.specs.Prelude.{ℕ, Bool, List}
 use Rattle.tpm_types.specs.declared.operation.Operation.{Operation}
 use Rattle.tpm_types.specs.declared.pcr_selection.BankSelection.{BankSelection}
 
--- What one assertion demands of a use:
--- PolicyPcr: the values of the selected PCRs have this digest.
--- PolicyAuthValue: the key of the use's HMAC includes the used entity's authorization value.
--- PolicyPassword: the use presents the used entity's authorization value as a password.
--- PolicyCommandCode: the command has this code.
--- PolicyLocality: the command comes from one of these localities, bit n for locality n.
--- PolicyCpHash: this is the hash of the command, its handles' Names and its parameters.
--- PolicyNvWritten: the entity is a written NV index, or an unwritten one.
--- PolicySecret: the entity with this Name was authorized for this policyRef.
--- PolicyNv: the data of the NV index with this Name, from this offset on, was compared with this
--- operand, and the comparison held.
+-- One assertion, and what it demands of a use of the entity. PolicyPcr: the values of the selected
+-- PCRs have this digest. PolicyAuthValue: the HMAC key includes the entity's authorization value.
+-- PolicyPassword: the entity's authorization value is sent as a password. PolicyCommandCode: the
+-- command has this code. PolicyLocality: the command comes from one of these localities, bit n for
+-- locality n. PolicyCpHash: this is the hash of the command, its handles' Names and its
+-- parameters. PolicyNvWritten: the entity is a written NV index, or an unwritten one.
+-- PolicySecret: the entity with this Name was authorized for this policyRef. PolicyNv: the data of
+-- the NV index with this Name, from this offset on, was compared with this operand, and the
+-- comparison held.
 pub data PolicyAssertion : Type 0 where
   PolicyPcr : (selection : List BankSelection) → (digest : List ℕ) → PolicyAssertion
   PolicyAuthValue : PolicyAssertion

@@ -1,7 +1,7 @@
 -- The meaning of a policy session's digest. TPM 2.0 Library, Part 1, section 19.7. If a session's
--- digest is that of a policy, the session asserted what the policy says, taking one branch at
--- each TPM2_PolicyOR; otherwise texts that can be computed from the policy and the session break
--- the hash.
+-- digest is that of a policy, the session made the assertions that the policy requires, taking one
+-- branch at each TPM2_PolicyOR. Otherwise, texts that can be computed from the policy and the
+-- session break the hash.
 use Rattle.std.specs.Prelude.{◌≡◌, ◌≢◌, ◌⊎◌, ◌<◌, ◌^◌, ℕ, List, [], ◌∷◌, ◌++◌, length}
 use Rattle.tpm_mac.specs.Digest.{digest_size, hash_of}
 use Rattle.tpm_mac.specs.declared.algorithm.HashAlg.{HashAlg}
@@ -96,8 +96,8 @@ pub data BreaksHash (hash : HashAlg) (policy : PolicyExpression) (assertions : L
         → IsAmong digests (branch_lists hash policy) → IsAstride digest digests
         → BreaksHash hash policy assertions
 
--- If a policy session's digest is that of a policy, the session asserted what the policy says, or
--- the hash is broken.
+-- If a policy session's digest is that of a policy, the session made the assertions that the
+-- policy requires, or the hash is broken.
 abbrev pub DigestMeans : Type 0
 DigestMeans =
     (hash : HashAlg) (policy : PolicyExpression) (assertions : List Assertion)

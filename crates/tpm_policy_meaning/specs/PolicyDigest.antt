@@ -20,7 +20,7 @@ use Rattle.tpm_policy_meaning.specs.Expression.{PolicyNv}
 use Rattle.tpm_policy_meaning.specs.Expression.{PolicyExpression, Nothing, Then, PolicyOr}
 use Rattle.tpm_policy_meaning.specs.Expression.{PolicyBranches, NoBranch, Branch}
 
--- what an assertion contributes to the digest: its command code, its data, and policyRef, if it
+-- the contribution of an assertion to the digest: its command code, its data, and policyRef, if it
 -- has one; and if the data is the hash of a text, that text
 pub record PolicyUpdate : Type 0 where
   pub code : CommandCode

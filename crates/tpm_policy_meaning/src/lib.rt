@@ -12,9 +12,10 @@ ghost use Rattle.tpm_policy_meaning.specs.Examples.{ComputesDigests};
 ghost use Rattle.tpm_policy_meaning.specs.Meaning.{DigestMeans};
 ghost use Rattle.tpm_policy_meaning.specs.Trial.{TrialComputes};
 
-/// If the digest of a policy session is that of a policy, the session asserted what the policy
-/// says, taking one branch at each TPM2_PolicyOR; otherwise the hash is broken in one of three
-/// ways. The texts that break it are computed from the policy and the session's assertions.
+/// If the digest of a policy session is that of a policy, the session made the assertions that the
+/// policy requires, taking one branch at each TPM2_PolicyOR. Otherwise the hash is broken in one
+/// of three ways; the texts that break it are computed from the policy and the session's
+/// assertions.
 #[inline(always)]
 pub fn meaning_laws()
     ensures { DigestMeans }

@@ -1,4 +1,4 @@
--- Clears objects slot by slot, and shows which objects are found afterwards.
+-- Clears objects slot by slot. The laws say which objects are found afterwards.
 use Rattle.std.proofs.Common.{◌≡◌, ℕ, zero, suc, ◌≤◌, Bool, true, false, cond, eqb, List, [], ◌∷◌, ◌++◌, length, take, drop, Option, Some, None, refl, sym, ap, ◌∙◌, arith}
 use Rattle.std.specs.Prelude.{IfSome, map, option_and_then, slice_set}
 use Rattle.std.proofs.lemmas.List.Sums.{sum_by-cons}
@@ -21,7 +21,7 @@ rest_cleared : (b : Bool) (p : Option Object) (ps qs : List (Option Object)) →
 rest_cleared true p ps qs = refl
 rest_cleared false p ps qs = refl
 
--- clearing the next slot gives the slots with one more of them cleared
+-- If the next slot is cleared too, one more slot is cleared.
 pub cleared_in_turn : (places : List (Option Object)) (i : ℕ) → cond (is_place_cleared (at_place (cleared_up_to i places) i)) (slice_set (cleared_up_to i places) i None) (cleared_up_to i places) ≡ cleared_up_to (suc i) places
 cleared_in_turn [] zero = refl
 cleared_in_turn [] (suc i) = refl
@@ -30,7 +30,7 @@ cleared_in_turn (p ∷ ps) (suc i) =
     rest_cleared (is_place_cleared (at_place (cleared_up_to i ps) i)) (cleared_place p) (slice_set (cleared_up_to i ps) i None) (cleared_up_to i ps)
     ∙ ap (λ (l : List (Option Object)). cleared_place p ∷ l) (cleared_in_turn ps i)
 
--- the number of slots is unchanged
+-- Clearing does not change the number of slots.
 pub cleared_length : (i : ℕ) (places : List (Option Object)) → length (cleared_up_to i places) ≡ length places
 cleared_length zero [] = refl
 cleared_length (suc i) [] = refl
@@ -51,7 +51,7 @@ at_cleared [] place = refl
 at_cleared (p ∷ ps) zero = refl
 at_cleared (p ∷ ps) (suc place) = at_cleared ps place
 
--- what is found by a number, given the content of its slot
+-- the object that a number finds, given the content of its slot
 abbrev of_number : ℕ → Option Object → Option Object
 of_number number cell = option_and_then (if_of_kind transient_byte number) cell
 
@@ -107,7 +107,7 @@ cleared_few (p ∷ ps) =
     let old = sum_by-cons counted p ps in
     omega (arith, new, old, one_cleared p, cleared_few ps)
 
--- what holds for each object holds for each that is not removed
+-- If a property holds for each object, it holds for each object that is not removed.
 kept_in : (Is : Object → Type 0) (cell : Option Object) → IfSome cell Is → IfSome (cleared_place cell) Is
 kept_in Is None is = tt
 kept_in Is (Some x) is = by (is_cleared x.hierarchy)

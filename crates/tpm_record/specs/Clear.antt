@@ -1,4 +1,4 @@
--- What TPM2_Clear does to transient and persistent objects: it removes those in the owner and
+-- The effect of TPM2_Clear on transient and persistent objects: it removes those in the owner and
 -- endorsement hierarchies. TPM 2.0 Library, Part 3, section 24.6. Its effect on the hierarchies is
 -- defined in Hierarchy, and its effect on NV indices in tpm_nv/Clear.
 use Rattle.std.specs.Prelude.{◌≡◌, ◌≤◌, ℕ, Bool, true, false, not, List, Option, Some, None, map, if◌then◌else◌}
@@ -38,7 +38,7 @@ cleared_persistent objects = kept_entries outlasts objects
 
 -- laws about the objects found after TPM2_Clear
 pub record ClearingLaws : Type 0 where
-  -- an object in a cleared hierarchy is gone, and any other object is unchanged
+  -- an object in a cleared hierarchy is removed, and any other object is unchanged
   pub gone : (places : List (Option Object)) (number : ℕ) (object : Object)
       → at_number transient_byte places number ≡ Some object
       → is_cleared object.hierarchy ≡ true

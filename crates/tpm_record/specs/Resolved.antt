@@ -1,4 +1,4 @@
--- Handles and what they name, which is looked up once.
+-- Handles with the entities that they name. Each entity is looked up once.
 use Rattle.std.specs.Prelude.{◌≡◌, List, map}
 use Rattle.tpm_types.specs.declared.handle.Handle.{Handle}
 use Rattle.tpm_record.specs.Entity.{Entity, entity_at, entity_seen}
@@ -12,7 +12,7 @@ pub record Found : Type 0 where
 abbrev pub found_at : Record → Handle → Found
 found_at r handle = record { handle = handle; entity = entity_at r handle }
 
--- what the handles of a command name
+-- the entities that the handles of a command name
 abbrev pub entities_at : Record → List Handle → List Found
 entities_at r handles = map (found_at r) handles
 
@@ -21,10 +21,10 @@ abbrev pub found_by : Resolved → Found
 found_by resolved =
     record { handle = resolved.handle; entity = entity_seen resolved.entity }
 
--- What the code found for a handle is what the record contains for it.
+-- The code found for a handle the entity that the record contains for it.
 abbrev pub IsFound : Record → Resolved → Type 0
 IsFound r resolved = entity_seen resolved.entity ≡ entity_at r resolved.handle
 
--- What the code found for each of these handles is what the record contains for it.
+-- The code found for each of these handles the entity that the record contains for it.
 abbrev pub AreFound : Record → List Resolved → List Handle → Type 0
 AreFound r resolved handles = map found_by resolved ≡ entities_at r handles

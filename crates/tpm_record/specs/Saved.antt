@@ -45,7 +45,7 @@ restored_from Nothing banks = banks
 restored_from Clear banks = banks
 restored_from (State values) banks = restored_in values banks
 
--- What holds for every saved state.
+-- The conditions that every saved state meets.
 abbrev pub IsSavedState : SavedState → Type 0
 IsSavedState Nothing = Unit {0}
 IsSavedState Clear = Unit {0}

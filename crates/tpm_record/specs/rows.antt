@@ -1,4 +1,4 @@
--- What the rows of all commands share.
+-- The parts that the rows of all commands share.
 pub mod Request
 pub mod Draws
 pub mod Answer

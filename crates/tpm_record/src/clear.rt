@@ -1,4 +1,4 @@
-//! What TPM2_Clear does to transient and persistent objects.
+//! The effect of TPM2_Clear on transient and persistent objects.
 
 ghost use Rattle.std.specs.Prelude.{◌≡◌, None, if◌then◌else◌, length, option_copied, slice_set};
 ghost use Rattle.tpm_containers.specs.Slots.{at_place};

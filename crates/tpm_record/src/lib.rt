@@ -6,14 +6,14 @@
 //! [`keep::Keep`] is the trait. [`kept::Kept`] implements it with any kind of containers, for
 //! example [`kept::ListKeep`] with lists that grow; tpm_slots contains the type with fixed-size
 //! storage, which allocates no memory. [`fixed::Fixed`] is the part of fixed size, which includes
-//! what a shutdown saved ([`saved::Saved`]). [`objects::Objects`] are the transient objects and
-//! [`persistent::PersistentObjects`] the persistent ones; NV indices are in tpm_nv. [`tick::tick`]
-//! and [`cycle::power_cycle`] change a record independently of commands, and [`entity`] looks up
-//! the entity of a handle. The crate uses `tpm_lockout`, `tpm_pcr`, `tpm_session`, `tpm_object`
-//! and `tpm_nv`, and `tpm_containers` for the slots of sessions and transient objects and for the
-//! map of persistent objects. Each call on a type that implements the trait does to the record
-//! what its definition in `specs/` says. [`rows`] contains what is shared by the commands that act
-//! on the record.
+//! the state that a shutdown saved ([`saved::Saved`]). [`objects::Objects`] are the transient
+//! objects and [`persistent::PersistentObjects`] the persistent ones; NV indices are in tpm_nv.
+//! [`tick::tick`] and [`cycle::power_cycle`] change a record independently of commands, and
+//! [`entity`] looks up the entity of a handle. The crate uses `tpm_lockout`, `tpm_pcr`,
+//! `tpm_session`, `tpm_object` and `tpm_nv`, and `tpm_containers` for the slots of sessions and
+//! transient objects and for the map of persistent objects. Each call on a type that implements
+//! the trait does to the record what its definition in `specs/` says. [`rows`] contains what the
+//! rows of all commands share.
 
 pub mod any_object;
 mod clear;

@@ -128,8 +128,8 @@ pub fn object_laws()
     numbered::numbered_laws::<Object>()
 }
 
-/// After TPM2_Clear, the objects in the owner and endorsement hierarchies are gone, and all others
-/// are unchanged. A proof only: it has no effect at run time.
+/// After TPM2_Clear, the objects in the owner and endorsement hierarchies are removed, and all
+/// others are unchanged. A proof only: it has no effect at run time.
 #[tactic(auto, using(crate::proofs::ClearLaws::are_cleared))]
 pub fn clearing_laws()
     ensures { ClearingLaws }

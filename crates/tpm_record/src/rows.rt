@@ -1,4 +1,4 @@
-//! What the rows of all commands share (TPM 2.0 Library, Part 3): the input of a row
+//! The parts that the rows of all commands share (TPM 2.0 Library, Part 3): the input of a row
 //! ([`call::Call`]), its answer ([`answer::Answer`]), the reading of parameters ([`reading`]), the
 //! refusals ([`refusals`]), and the NV index that a command acts on ([`target`]).
 //!

@@ -80,7 +80,7 @@ impl Saved {
         self.kind
     }
 
-    /// Saves what a TPM2_Shutdown of this type has to save.
+    /// Saves the state that a TPM2_Shutdown of this type has to save.
     pub fn shut_down(&mut self, kind: StartupType, banks: &Banks)
         ensures { self.new ≡ saved_by kind banks.now }
     {
@@ -93,7 +93,7 @@ impl Saved {
         }
     }
 
-    /// Cancels what was saved.
+    /// Cancels the saved state.
     pub fn cancel(&mut self)
         ensures { self.new ≡ Nothing }
     {

@@ -1,4 +1,4 @@
--- A device with its secrets erased: erasing them twice is the same as erasing them once. Two such
+-- A device with its secrets erased. Erasing them twice is the same as erasing them once. Two such
 -- devices are equal if all their parts are.
 use Rattle.std.proofs.Common.{ap, refl, sym, ◌∙◌}
 use Rattle.std.proofs.lemmas.Bool.{false≢true}
@@ -83,7 +83,7 @@ module _ (s : Secrecy) where
   pub record_again : (r : Record) → without_secrets s (without_secrets s r) ≡ without_secrets s r
   record_again r = same_parts (without_secrets s r) r (fixed_again r.fixed) (sessions_again r.sessions) (objects_again r.objects) (persistent_again r.persistent) (nv_again r.nv)
 
-  -- a record with one part changed, with the secrets erased before or after the change
+  -- Erasing the secrets before or after one part of a record is changed gives the same record.
   module _ (r : Record) where
     pub with_fixed : (f g : Fixed) → bare_fixed s f ≡ bare_fixed s g → without_secrets s (record (without_secrets s r) { fixed = f }) ≡ without_secrets s (record r { fixed = g })
     with_fixed f g same = same_parts (record (without_secrets s r) { fixed = f }) (record r { fixed = g }) same (sessions_again r.sessions) (objects_again r.objects) (persistent_again r.persistent) (nv_again r.nv)
@@ -100,7 +100,7 @@ module _ (s : Secrecy) where
     pub with_nv : (n m : NvContents) → bare_nv s n ≡ bare_nv s m → without_secrets s (record (without_secrets s r) { nv = n }) ≡ without_secrets s (record r { nv = m })
     with_nv n m same = same_parts (record (without_secrets s r) { nv = n }) (record r { nv = m }) (fixed_again r.fixed) (sessions_again r.sessions) (objects_again r.objects) (persistent_again r.persistent) same
 
-    -- a power cycle
+    -- Erasing the secrets before or after a power cycle gives the same record.
     pub cycled_bare : cycled (without_secrets s r) ≡ without_secrets s (cycled r)
     cycled_bare =
         ap (λ (xs : List (Option Session)). record (cycled (without_secrets s r)) { sessions = xs }) (sym (free_each (bare_session s) session_limit))

@@ -1,5 +1,5 @@
--- Changes of NV indices after some secrets were erased: each change is refused in the same way,
--- or has the same result except for secrets. A counter with a secret value is the exception.
+-- Changes of NV indices after some secrets were erased. Each change is refused in the same way, or
+-- has the same result except for secrets. A counter with a secret value is the exception.
 use Rattle.std.proofs.Common.{ap, refl, subst, sym, ◌∙◌}
 use Rattle.std.proofs.lemmas.Bool.{false≢true}
 use Rattle.std.proofs.lemmas.List.Folds.{fold-map}
@@ -33,7 +33,8 @@ use Rattle.tpm_nv.specs.declared.fault.LockFault.TheVariants as lock_fault
 use Rattle.tpm_types_nv.specs.declared.nv_attributes.NvAttribute.TheVariants as attribute
 use Rattle.tpm_types_nv.specs.declared.nv_type.NvType.TheVariants as type
 
--- bytes that are computed from other bytes are secret if those bytes are
+-- If secret bytes are erased before new bytes are computed from them, and the new bytes are erased
+-- too, the result is the same as erasing only the new bytes.
 unless_made : (b : Bool) (make : List ℕ → List ℕ) (bytes : List ℕ) → unless b (make (unless b bytes)) ≡ unless b (make bytes)
 unless_made true make bytes = refl
 unless_made false make bytes = refl
@@ -172,7 +173,7 @@ module _ (s : Secrecy) where
         alike_step (bare_nv s) (refused_if (nat_le (2 ^ 64) (number_or n.max_count i + 1)) write_fault.Exhausted) _ _ (λ fits.
         alike_end (bare_nv s) _ _ (ap (λ (m : NvContents). counted m (number_or n.max_count i + 1)) (changed_same n handle _ _ (count_same i (to_be_bytes w64 (number_or n.max_count i + 1)))))))
 
-    -- an index that is not a counter is refused
+    -- If an index is not a counter, an increment is refused in the same way on both.
     no_counter : (locked counter : Bool) (f g : Unit {0} → Result NvContents WriteFault) → counter ≡ false → NvAlike ((refused_if locked write_fault.Locked >>= λ unlocked. refused_if (not counter) write_fault.Attributes) >>= f) ((refused_if locked write_fault.Locked >>= λ unlocked. refused_if (not counter) write_fault.Attributes) >>= g)
     no_counter true counter f g is = record { is = refl }
     no_counter false true f g is = absurd (false≢true (sym is))
@@ -201,7 +202,7 @@ module _ (s : Secrecy) where
         refused_if (nat_lt i.public.data_size (offset + size)) read_fault.PastData >>= λ inside.
         Ok (piece_of offset size i.bytes)
 
-    -- a read is refused in the same way, whatever the data is
+    -- Whether a read is refused does not depend on the data.
     pub read_refused_alike : (offset size : ℕ) → Alike success (read_at (bare_nv s n) handle offset size) (read_at n handle offset size)
     unfolding read_at
     read_refused_alike offset size =
@@ -210,7 +211,7 @@ module _ (s : Secrecy) where
         alike_step success (refused_if (nat_lt i.public.data_size (offset + size)) read_fault.PastData) _ _ (λ inside.
         alike_end success _ _ refl)))
 
-    -- data that is not secret is read unchanged
+    -- If data is not secret, a read returns the same on both.
     pub read_shown : (offset size : ℕ) → option_map_or (is_secret_index s) (index_at n handle) false ≡ false → read_at (bare_nv s n) handle offset size ≡ read_at n handle offset size
     unfolding read_at
     read_shown offset size shown = ap (λ (found : Option NvIndex). ok_or found read_fault.Undefined >>= reading offset size) (index_at_bare s n handle) ∙ by (index_at n handle) shown

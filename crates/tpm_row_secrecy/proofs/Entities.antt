@@ -1,4 +1,4 @@
--- What is public about an entity does not depend on secrets.
+-- The public facts about an entity do not depend on secrets.
 use Rattle.std.proofs.Common.{ap, refl, ◌∙◌}
 use Rattle.std.specs.Option.{option_map_or}
 use Rattle.std.specs.Prelude.{Bool, List, None, Option, Some, [], cond, false, is_some, not, option_map, true, ◌||◌, ◌≡◌}
@@ -77,7 +77,8 @@ module _ (s : Secrecy) where
       ∙ ap (cond (is_nv_index handle) (bare_entity (option_map_or AnIndex (index_of r handle) Permanent))) (ap (λ (found : Option Object). option_map_or AnObject found Permanent) (object_of_bare r handle) ∙ of_object (object_of r handle))
       ∙ chosen bare_entity (is_nv_index handle) (option_map_or AnIndex (index_of r handle) Permanent) (option_map_or AnObject (object_of r handle) Permanent)
 
-  -- properties that are the same for an entity with its secrets and with its secrets erased
+  -- If a property is the same for an entity with its secrets and with its secrets erased, it is
+  -- the same on both devices.
   pub seen_bare : {X : Type 0} (see : Entity → X) → ((x : Entity) → see (bare_entity x) ≡ see x) → (r : Record) (handle : Handle) → see (entity_at (without_secrets s r) handle) ≡ see (entity_at r handle)
   seen_bare see same r handle = ap see (entity_bare r handle) ∙ same (entity_at r handle)
 
@@ -171,12 +172,12 @@ module _ (s : Secrecy) where
   value_open r handle (AnIndex i) shown = unless_open _ _ shown
   value_open r handle Permanent shown = permanent_open r.fixed.hierarchies (hierarchy_auth_of handle) shown
 
-  -- the authorization value of an entity, if it is not secret
+  -- If an entity's authorization value is not secret, it is the same on both devices.
   pub value_bare : (r : Record) (handle : Handle) → has_secret_value s r handle ≡ false → auth_value_of (without_secrets s r) handle ≡ auth_value_of r handle
   unfolding auth_value_of
   value_bare r handle shown = ap (entity_auth_value (without_secrets s r) handle) (entity_bare r handle) ∙ value_open r handle (entity_at r handle) shown
 
-  -- if an authorization value is secret, so is the key of a session that was bound to its entity
+  -- If an authorization value is secret, so is the key of a session that was bound to its entity.
   name_covered : CoversKeys s → (handle : Handle) (x : Entity) → entity_has_secret_value s handle x ≡ true → s.bound_names (entity_name handle x) ≡ true
   name_covered covers handle (AnObject o) secret = covers.objects o.public secret
   name_covered covers handle (AnIndex i) secret = covers.indices i.public secret

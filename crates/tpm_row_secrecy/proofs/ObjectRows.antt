@@ -77,7 +77,7 @@ module _ (s : Secrecy) (r : Record) (q : Request) where
   data_shown : (o : Object) → has_secret_data s o ≡ false → bare_object s o ≡ other_value o
   data_shown o shown = rw (unless_open _ o.seed_value shown, unless_open _ o.sensitive shown) refl
 
-  -- a storage parent is not a KEYEDHASH
+  -- If an object is a storage parent, it is not a KEYEDHASH object, so its data is not secret.
   parent_shown : (cipher restricted decrypt sign secret : Bool) → (cipher && restricted && decrypt && sign) ≡ true → (not cipher && secret) ≡ false
   parent_shown true restricted decrypt sign secret is = refl
   parent_shown false restricted decrypt sign secret is = absurd (false≢true is)
@@ -145,7 +145,7 @@ module _ (s : Secrecy) (r : Record) (q : Request) where
   place_same : (check : ActionCheck) → place_for check (without_secrets s r) ≡ place_for check r
   place_same check = ap (λ (found : Option ℕ). ok_or found (action_refusal check (plain code.ObjectMemory))) (lowest_free_each (bare_object s) r.objects)
 
-  -- a new object takes its slot
+  -- If a new object is put into a slot, the rows look the same.
   placed : (one other : ℕ → AnswerParts) (check : ActionCheck) (o : Object) → ((n : ℕ) → one n ≡ other n) → Same s (place_for check (without_secrets s r) >>= λ n. Ok (record { answer = one n; after = record (without_secrets s r) { objects = with_object (places (bare_object s) r.objects) n o } })) (place_for check r >>= λ n. Ok (record { answer = other n; after = record r { objects = with_object r.objects n o } }))
   placed one other check o same =
       same_both s (place_for check (without_secrets s r)) (place_for check r) _ _ (place_same check) (λ n.
@@ -235,14 +235,16 @@ module _ (s : Secrecy) (r : Record) (q : Request) where
 
   -- ---- sealed data, and keys
 
-  -- the object of the first handle, if its data is not secret
+  -- If the data of the first handle's object is not secret, it is enough to compare the rows for
+  -- an object that differs only in its authorization value.
   shown_object : (f g : Object → Result Success Refused) → handle_passes (names_secret_object s r) (first_handle q.handles) ≡ false → ((o : Object) → Same s (f (other_value o)) (g o)) → Same s (first_handle q.handles >>= λ handle. loaded_at (without_secrets s r) handle >>= f) (first_handle q.handles >>= λ handle. loaded_at r handle >>= g)
   shown_object f g shown more =
       alike_step_is (bare_success s) (first_handle q.handles) _ _ (λ handle named.
       same_object s r handle f g (λ o found.
       subst (λ (x : Object). Same s (f x) (g o)) (sym (data_shown o (sym (ap (λ (x : Option Object). option_map_or (has_secret_data s) x false) found) ∙ sym (ap (handle_passes (names_secret_object s r)) named) ∙ shown))) (more o)))
 
-  -- the object of the first handle, if nothing about it is visible
+  -- If only the fact of a success is compared, it is enough to compare the rows for the object
+  -- with its secrets erased.
   any_object : (f g : Object → Result Success Refused) → ((o : Object) → Alike success (f (bare_object s o)) (g o)) → Alike success (first_handle q.handles >>= λ handle. loaded_at (without_secrets s r) handle >>= f) (first_handle q.handles >>= λ handle. loaded_at r handle >>= g)
   any_object f g more =
       alike_step success (first_handle q.handles) _ _ (λ handle.

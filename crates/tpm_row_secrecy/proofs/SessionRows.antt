@@ -29,7 +29,8 @@ use Rattle.tpm_row_secrecy.specs.Secrecy.{CoversKeys, Secrecy, bare_binding, bar
 use Rattle.tpm_types.specs.declared.action_check.ActionCheck.TheVariants as action
 use Rattle.tpm_types.specs.declared.rc.ResponseCode.TheVariants as code
 
--- a binding to an entity that is not secret
+-- If sessions bound to a Name do not have secret keys, erasing the secrets leaves a binding to
+-- that Name unchanged.
 shown_binding : (s : Secrecy) (b : Binding) → s.bound_names b.name ≡ false → bare_binding s b ≡ b
 shown_binding s b shown = ap (λ (value : List ℕ). record b { auth_value = value }) (unless_open _ b.auth_value shown)
 
@@ -39,7 +40,8 @@ module _ (s : Secrecy) (covers : CoversKeys s) (r : Record) (q : Request) where
   abbrev bound : (name value : List ℕ) → Protection → Binding
   bound name value protection = record { name = name; auth_value = value; protection = protection }
 
-  -- if an entity's authorization value is secret, sessions bound to its Name have secret keys
+  -- Unless sessions bound to an entity's Name have secret keys, the entity's authorization value
+  -- is the same on both devices.
   value_open : (bind : Handle) (b : Bool) → s.bound_names (name_of r bind) ≡ b → unless b (auth_value_of (without_secrets s r) bind) ≡ unless b (auth_value_of r bind)
   value_open bind true is = refl
   value_open bind false is = value_bare s r bind (by (has_secret_value s r bind) refl)
@@ -65,7 +67,7 @@ module _ (s : Secrecy) (covers : CoversKeys s) (r : Record) (q : Request) where
   abbrev new : Parameters → Option Binding → Session
   new p b = session_with p b (take (length p.nonce_caller) q.random)
 
-  -- the keys derived from two bindings that differ only in secrets
+  -- If two bindings differ only in secrets, the keys derived from them are equal or secret.
   key_same : (p : Parameters) (b c : Option Binding) → option_map (bare_binding s) b ≡ option_map (bare_binding s) c → unless (has_secret_key s b) (new p b).key ≡ unless (has_secret_key s c) (new p c).key
   key_same p None None same = refl
   key_same p None (Some c) same = absurd cc

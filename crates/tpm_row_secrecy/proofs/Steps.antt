@@ -1,4 +1,4 @@
--- Rows on a device with its secrets erased, and on the device with them.
+-- Rows on a device with its secrets erased, compared with the same rows on the device itself.
 use Rattle.std.proofs.Common.{ap, refl, subst, sym, ◌∙◌}
 use Rattle.std.specs.Prelude.{Err, None, Ok, Option, Result, Some, ok_or, option_map, ◌≡◌}
 use Rattle.tpm_actions_object.specs.Loaded.{loaded_at}
@@ -36,14 +36,16 @@ same_end s answer a b same = alike_end (bare_success s) _ _ (ap (λ (r : Record)
 pub same_unchanged : (s : Secrecy) (r : Record) (answer : AnswerParts) → Same s (Ok (unchanged (without_secrets s r) answer)) (Ok (unchanged r answer))
 same_unchanged s r answer = same_end s answer _ _ (record_again s r)
 
--- a change that neither reads nor changes secrets
+-- If a change gives the same record whether secrets are erased before or after it, both devices
+-- look the same after the change.
 pub change_same : (s : Secrecy) (change : Record → Record) → ((r : Record) → without_secrets s (change r) ≡ change (without_secrets s r)) → (r : Record) → without_secrets s (change (without_secrets s r)) ≡ without_secrets s (change r)
 change_same s change apart r = apart (without_secrets s r) ∙ ap change (record_again s r) ∙ sym (apart r)
 
 pub same_change : (s : Secrecy) (r : Record) (answer : AnswerParts) (change : Record → Record) → ((r : Record) → without_secrets s (change r) ≡ change (without_secrets s r)) → Same s (Ok (record { answer = answer; after = change (without_secrets s r) })) (Ok (record { answer = answer; after = change r }))
 same_change s r answer change apart = same_end s answer _ _ (change_same s change apart r)
 
--- the end of a row that changes only NV indices
+-- If a row ends with a change of NV indices that looks the same on both devices, the rows look the
+-- same.
 pub same_changed : {F : Type 0} (s : Secrecy) (r : Record) (refusal : F → Refused) (x y : Result NvContents F) → NvAlike s x y → Same s (or_refusal refusal x >>= λ nv. Ok (changed_nv (without_secrets s r) nv)) (or_refusal refusal y >>= λ nv. Ok (changed_nv r nv))
 same_changed s r refusal x y alike =
     alike_after (bare_nv s) (bare_success s) _ _ _ _ (alike_refusal (bare_nv s) refusal x y alike)
@@ -57,7 +59,8 @@ same_step s x f g more = alike_step (bare_success s) x f g more
 pub same_both : {A : Type 0} (s : Secrecy) (x y : Result A Refused) (f g : A → Result Success Refused) → x ≡ y → ((a : A) → Same s (f a) (g a)) → Same s (x >>= f) (y >>= g)
 same_both s x y f g same more = alike_both (bare_success s) x y f g same more
 
--- the steps that look up the object, the index or the session with a handle
+-- If a step looks up the object, the index or the session with a handle, it is enough to compare
+-- the rows for what was found.
 pub same_object : (s : Secrecy) (r : Record) (handle : Handle) (f g : Object → Result Success Refused) → ((o : Object) → object_of r handle ≡ Some o → Same s (f (bare_object s o)) (g o)) → Same s (loaded_at (without_secrets s r) handle >>= f) (loaded_at r handle >>= g)
 same_object s r handle f g more = alike_found (bare_success s) (bare_object s) _ _ handle_refusal f g (object_of_bare s r handle) more
 
@@ -93,7 +96,7 @@ target_bare s r q = target_by (first_handle q.handles) (second_handle q.handles)
 pub same_target : (s : Secrecy) (r : Record) (q : Request) (f g : Target → Result Success Refused) → ((t : Target) → Same s (f t) (g t)) → Same s (target_of (without_secrets s r) q >>= f) (target_of r q >>= g)
 same_target s r q f g more = same_both s _ _ f g (target_bare s r q) more
 
--- the target is the index that the second handle names
+-- The target is the index that the second handle names.
 handle_of_target : (b : Handle) (x : Result NvAttributes Refused) (a : Handle) (t : Target) → (x >>= λ c. let y : Result Target Refused = Ok (record { auth_handle = a; handle = b; attributes = c }) in y) ≡ Ok t → b ≡ t.handle
 handle_of_target b (Err e) a t is = absurd cc
 handle_of_target b (Ok c) a t is = ap (λ (x : Result Target Refused). target_handle x) is
@@ -115,5 +118,5 @@ same_target_is s r q f g more =
     subst (λ (x : Result Target Refused). Same s (x >>= f) (target_of r q >>= g)) (sym (target_bare s r q))
     (alike_step_is (bare_success s) (target_of r q) f g (λ t is. more t (target_second r q t is)))
 
--- steps that read no secret, and the end of a row that changes nothing
+-- the steps that read no secret, and the end of a row that changes nothing
 pub ruleset same_steps = (same_step, same_unchanged)

@@ -1,11 +1,11 @@
--- When two rows look the same: both are the same refusal, or both have the same answer and leave
--- records that differ only in secrets.
+-- The definition of two rows that look the same: both are the same refusal, or both have the same
+-- answer and leave records that differ only in secrets.
 use Rattle.std.specs.Prelude.{Err, Ok, Result, ◌≡◌}
 use Rattle.tpm_record.specs.rows.Rows.{Success}
 use Rattle.tpm_types.specs.declared.refused.Refused.{Refused}
 use Rattle.tpm_row_secrecy.specs.Secrecy.{Secrecy, without_secrets}
 
--- a result, of which a success shows only what `see` returns
+-- a result with its success replaced by what `see` shows of it
 abbrev pub outcome : {A B E : Type 0} → (A → B) → Result A E → Result B E
 outcome see (Ok a) = Ok (see a)
 outcome see (Err e) = Err e

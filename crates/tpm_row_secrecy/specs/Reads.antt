@@ -1,4 +1,4 @@
--- Which commands read secret data. TPM 2.0 Library, Part 3, sections 12.7 (TPM2_Unseal), 15.5
+-- The commands that read secret data. TPM 2.0 Library, Part 3, sections 12.7 (TPM2_Unseal), 15.5
 -- (TPM2_HMAC), 23.9 (TPM2_PolicyNV), 31.8 (TPM2_NV_Increment) and 31.13 (TPM2_NV_Read).
 use Rattle.std.specs.Option.{option_map_or}
 use Rattle.std.specs.Prelude.{Bool, Err, Ok, Result, false, is_ok, not, ◌&&◌}

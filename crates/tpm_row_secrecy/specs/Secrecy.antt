@@ -1,4 +1,4 @@
--- What a device keeps secret, and the device with its secrets erased. TPM 2.0 Library, Part 1,
+-- The secrets of a device, and the device with its secrets erased. TPM 2.0 Library, Part 1,
 -- sections 19 (authorizations), 23 (the protected storage hierarchy) and 37 (NV memory).
 use Rattle.std.specs.Option.{option_map_or}
 use Rattle.std.specs.Prelude.{Bool, List, Option, [], false, if◌then◌else◌, map, option_map, true, ℕ, ◌&&◌, ◌≡◌}
@@ -22,7 +22,8 @@ use Rattle.tpm_types_nv.specs.declared.nv_public.NvPublic.{NvPublic}
 use Rattle.tpm_types_object.specs.declared.public.Public.{Public}
 use Rattle.tpm_types.specs.declared.handle.HierarchyAuth.TheVariants as auth
 
--- what is secret on a device; each kind of secret is selected by public facts about its entity
+-- the choice of what is secret on a device; each kind of secret is selected by public facts about
+-- its entity
 pub record Secrecy : Type 0 where
   -- the NV indices whose data is secret, by handle number
   pub index_data : ℕ → Bool
@@ -103,8 +104,8 @@ bare_session s x = record x {
 
 -- ---- the device
 
--- the record with its secrets erased; everything else is unchanged: the entities with their
--- public areas and Names, the sessions and their policies, the PCRs, failed tries, the seeds
+-- the record with its secrets erased; everything else is unchanged: the entities with their public
+-- areas and Names, the sessions and their policies, the PCRs, the count of failed tries, the seeds
 abbrev pub without_secrets : Secrecy → Record → Record
 without_secrets s r = record {
   fixed = bare_fixed s r.fixed;

@@ -1,7 +1,7 @@
 #![tactic(auto)]
 
-//! What a device keeps secret, and what the row of each command reveals about it: nothing, unless
-//! the command reads it.
+//! The secrets of a device, and the law that the row of a command reveals nothing about them
+//! unless the command reads them.
 //!
 //! The secrets are the data of NV indices, the data that objects seal, HMAC keys, and
 //! authorization values. tpm_step requires a law about the row of every command; `proofs/`

@@ -7,9 +7,9 @@
 //! HMACs, keys and encryption, `tpm_types_name` for the Names in a command's hash,
 //! `tpm_containers` for the slots of sessions, and `tpm_types`. Contracts treat
 //! [`sessions::Sessions`] as a list of slots, each free or occupied by a session, whatever
-//! container stores them (`tpm_containers::slots::Slots`). A refused start changes nothing. Only
-//! starting a session, or storing one in a slot, may allocate memory; with fixed slots, nothing
-//! allocates.
+//! container stores them (`tpm_containers::slots::Slots`). If a session is not started, nothing
+//! changes. Only starting a session, or storing one in a slot, may allocate memory; with fixed
+//! slots, no call allocates memory.
 
 pub mod encryption;
 pub mod entry;

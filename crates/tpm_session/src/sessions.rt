@@ -29,7 +29,7 @@ pub struct Start<'a> {
     pub binding: Option<Binding>,
 }
 
-/// Why a session did not start.
+/// The reason why a session did not start.
 #[derive(Clone, Copy, PartialEq, Eq)]
 pub enum StartFault {
     /// The caller's nonce is shorter than 16 bytes, or longer than a digest.

@@ -68,7 +68,8 @@ sessions_err (Err other) old new (Err found) fault left e h = ap Err (sym h ∙ 
 
 -- ---- the authorization area
 
--- an area that was written separately, and is then added to the draft
+-- If an area is written to a draft of its own and then added, the draft is extended by the size of
+-- the entries and the entries.
 area_is : (old area : Option (List ℕ)) (text : List ℕ) → area ≡ grown (Some []) text → with_area old area ≡ grown old (to_be_bytes w32 (length text) ++ text)
 unfolding with_area
 area_is old area text e = by (nat_le (length text) buffer_limit) refl
@@ -105,7 +106,7 @@ not_fitting : (tag : Tag) (code : CommandCode) → finished tag code None ≡ Er
 unfolding finished
 not_fitting tag code = refl
 
--- a draft of at least ten bytes still contains at least ten after more bytes are added
+-- If a draft has at least ten bytes, it has at least ten after more bytes are added.
 pub still_ten : (draft : Option (List ℕ)) (bytes : List ℕ) → IfSome draft (λ text. 10 ≤ length text) → IfSome (grown draft bytes) (λ text. 10 ≤ length text)
 still_ten None bytes h = subst (λ (d : Option (List ℕ)). IfSome d (λ text. 10 ≤ length text)) (sym (none_grows bytes)) tt
 still_ten (Some text) bytes h = by (nat_le (length text + length bytes) buffer_limit) refl
@@ -114,7 +115,7 @@ still_ten (Some text) bytes h = by (nat_le (length text + length bytes) buffer_l
     by true short = subst (λ (d : Option (List ℕ)). IfSome d (λ text. 10 ≤ length text)) (sym (fits text bytes (leb-true _ _ short))) (omega (arith, h, length-append text bytes))
     by false long = subst (λ (d : Option (List ℕ)). IfSome d (λ text. 10 ≤ length text)) (sym (spills text bytes (leb-false _ _ long))) tt
 
--- a draft that has just begun contains ten bytes
+-- If a draft has just begun, it contains ten bytes.
 pub begun : (draft : Option (List ℕ)) → IsSome draft → IfSome draft (λ text. length text ≡ 10) → (ten : List ℕ) × (draft ≡ Some ten) × (length ten ≡ 10)
 begun None is h = absurd cc
 begun (Some ten) is h = (ten, refl, h)
@@ -152,7 +153,7 @@ module _ (line : List ℕ) (code : CommandCode) (one : List Token) (n : name_in 
         unfolding assembled spelled command_size command_text command_body_text body
         whole e = rw (n, h, s, p, e) refl
 
-        -- the text of the command, after ten bytes for the header
+        -- After ten bytes for the header, the draft contains the encoding of the command.
         command_is : ended four ≡ Ok tt → (ten : List ℕ) → length ten ≡ 10 → finished (tag_for entries) code (grown (Some ten) body) ≡ assembled line
         command_is e ten ten_is = by (nat_le (length ten + length body) buffer_limit) refl ∙ sym (whole e)
           where

@@ -5,7 +5,7 @@ use Rattle.std.specs.List.{count_by}
 use Rattle.std.proofs.lemmas.List.Splits.{length-slice_split}
 use Rattle.tpm_text.specs.Pieces.{pieces_of}
 
--- the four octets of a number are those of its low 32 bits
+-- The four octets of a number are those of its low 32 bits.
 low_octets : (n : ℕ) → to_be_bytes w32 (n % 4294967296) ≡ to_be_bytes w32 n
 low_octets n =
     let e3 : (n % 4294967296) / 16777216 % 256 ≡ n / 16777216 % 256 = omega arith in

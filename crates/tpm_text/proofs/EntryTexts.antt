@@ -1,4 +1,4 @@
--- The texts of entries, as the code writes them.
+-- The encodings of entries, as the code writes them.
 use Rattle.std.proofs.Common.{◌≡◌, ℕ, ◌<◌, ◌==◌, List, [], ◌∷◌, ◌++◌, length, Option, Result, Ok, Err, refl, ap, ◌∙◌, arith}
 use Rattle.std.specs.Int.{w8, w32, to_be_bytes}
 use Rattle.std.proofs.lemmas.List.Splits.{length-slice_split}
@@ -15,7 +15,7 @@ use Rattle.tpm_text.proofs.Growing.{grown-grown}
 use Rattle.tpm_number.specs.declared.fault.TokenFault.{TokenFault}
 use Rattle.tpm_number.specs.declared.fault.TokenFault.TheVariants.{Bad}
 
--- the first part of a password's entry, before the size of the password
+-- the first part of the encoding of a password's entry, before the size of the password
 abbrev pub password_front : List ℕ
 password_front = to_be_bytes w32 password_handle.number ++ 0 ∷ 0 ∷ 1 ∷ []
 
@@ -27,7 +27,7 @@ password_text password = by (bytes_in password)
     by (Ok bytes) = refl
     by (Err fault) = refl
 
--- five pieces are not the entry of a session
+-- Five pieces are not the entry of a session.
 five_are_bad : (a b c d : List ℕ) (others : List (List ℕ)) → 0 < length others → session_pieces_of (a ∷ b ∷ c ∷ d ∷ others) ≡ Err Bad
 five_are_bad a b c d [] some = absurd (omega (arith, some))
 five_are_bad a b c d (e ∷ others) some = refl
@@ -35,7 +35,7 @@ five_are_bad a b c d (e ∷ others) some = refl
 pub other_pieces : (text a b c d rest : List ℕ) → pieces_of colon text ≡ a ∷ b ∷ c ∷ d ∷ pieces_of colon rest → session_pieces_of (pieces_of colon text) ≡ Err Bad
 other_pieces text a b c d rest e = ap session_pieces_of e ∙ five_are_bad a b c d (pieces_of colon rest) (omega (arith, length-slice_split (λ byte. byte == 58) rest))
 
--- the text of a session's entry, part by part
+-- the encoding of a session's entry, part by part
 abbrev pub parts_of : SessionPieces → Result (List ℕ) TokenFault
 parts_of pieces =
     handle_in pieces.session >>= λ session.
@@ -61,7 +61,8 @@ pub no_session_text : (text : List ℕ) (fault : TokenFault) → session_pieces_
 unfolding session_entry
 no_session_text text fault e = rw e refl
 
--- the four parts of a session's entry, after they were written
+-- If the four parts of a session's entry are written one after another, the draft is extended by
+-- the entry's encoding.
 pub parts_drafted : (session octet : List ℕ) (nonce : List ℕ) (hmac : Result (List ℕ) TokenFault) (old one two three : Option (List ℕ)) (result : Result (Unit {0}) TokenFault) (new : Option (List ℕ))
     → one ≡ grown old session → two ≡ grown one nonce → three ≡ grown two octet → Drafts hmac three result new
     → Drafts (hmac >>= λ bytes. Ok (session ++ nonce ++ octet ++ bytes)) old result new

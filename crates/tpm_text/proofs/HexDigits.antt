@@ -14,11 +14,11 @@ use Rattle.tpm_text.specs.Draft.{Drafts, grown}
 use Rattle.tpm_number.specs.declared.fault.TokenFault.{TokenFault}
 use Rattle.tpm_number.specs.declared.fault.TokenFault.TheVariants.{Bad}
 
--- an odd number of digits is refused
+-- If the number of digits is odd, they are refused.
 pub odd_is_bad : (digits : List ℕ) → length digits % 2 ≡ 1 → IsChecked (hex_in digits) (Err Bad)
 odd_is_bad digits odd = rw (decode_of-odd digits odd) refl
 
--- the decoder refuses a byte that is not a hex digit
+-- The decoder refuses a byte that is not a hex digit.
 decoded_are_digits : (digits : List ℕ) (read : Result (List ℕ) FromHexError) → decode_of digits ≡ read → list_all is_hex_digit digits ≡ false → IsChecked (or_fault read Bad) (Err Bad)
 decoded_are_digits digits (Ok bytes) e other = let all = list_all-from_AllPass is_hex_digit digits (decode_of-ok digits bytes e).1 in absurd cc
 decoded_are_digits digits (Err fault) e other = refl
@@ -26,22 +26,22 @@ decoded_are_digits digits (Err fault) e other = refl
 pub other_is_bad : (digits : List ℕ) → list_all is_hex_digit digits ≡ false → IsChecked (hex_in digits) (Err Bad)
 other_is_bad digits other = decoded_are_digits digits (decode_of digits) refl other
 
--- pairs of digits encode bytes
+-- An even number of hex digits encodes bytes.
 pub digits_are_good : (digits : List ℕ) → (length digits % 2 ≡ 1 → ⊥) → list_all is_hex_digit digits ≡ true → IsChecked (hex_in digits) (Ok tt)
 digits_are_good digits even all = rw ((decode_of-digits digits (omega (arith, even)) (AllPass-from_list_all is_hex_digit digits all)).1) tt
 
 pub ruleset hex_digits = (odd_is_bad, other_is_bad, digits_are_good)
 
--- no digits encode no bytes
+-- No digits encode no bytes.
 pub none_is_good : hex_in [] ≡ Ok []
 unfolding decode_pairs
 none_is_good = refl
 
--- the number of hex digits is twice the number of bytes
+-- The number of hex digits is twice the number of bytes.
 pub half_of : (digits bytes : List ℕ) → hex_in digits ≡ Ok bytes → length digits ≡ 2 * length bytes
 half_of digits bytes e = (decode_of-ok digits bytes (or_fault_ok _ _ bytes e)).2
 
--- hex digits for more bytes than fit leave the draft without a text
+-- If hex digits encode more bytes than fit, the draft has no text.
 pub hex_too_long : (digits text : List ℕ) (result : Result (Unit {0}) TokenFault) → IsChecked (hex_in digits) result → buffer_limit < length text + length digits / 2
     → Drafts (hex_in digits) (Some text) result None
 unfolding grown

@@ -1,4 +1,4 @@
--- Tokens that are read one after another, and the texts that are written for them.
+-- Tokens that are read one after another, and the encodings that are written for them.
 use Rattle.tpm_types.specs.Limits.{buffer_limit}
 use Rattle.std.proofs.Common.{◌≡◌, ℕ, zero, suc, ◌≤◌, true, false, List, [], ◌∷◌, ◌++◌, length, take, Option, Some, None, Result, Ok, Err, refl, sym, ap, ◌∙◌, append-nil, arith}
 use Rattle.std.specs.Option.{ForSome, option_map}
@@ -25,7 +25,7 @@ use Rattle.tpm_text.proofs.Growing.{fits, grown-grown, none_grows}
 length-take-le-both : (size : ℕ) (bytes : List ℕ) → length (take size bytes) ≤ size
 length-take-le-both size bytes = grind (arith, common_steps)
 
--- adding an empty text leaves the draft unchanged
+-- If no bytes are added to a draft, it is unchanged.
 same_size : (bytes : List ℕ) (used : Option ℕ) → ForSome used (λ size. size ≤ buffer_limit) → (let text = option_map (λ size. take size bytes) used in grown text [] ≡ text)
 same_size bytes None h = none_grows []
 same_size bytes (Some size) h = fits (take size bytes) [] (let small = h size refl in omega (arith, small, length-take-le-both size bytes)) ∙ ap Some (append-nil (take size bytes))
@@ -33,7 +33,8 @@ same_size bytes (Some size) h = fits (take size bytes) [] (let small = h size re
 pub nothing_grows : (draft : Draft) → grown (drafted draft) [] ≡ drafted draft
 nothing_grows draft = same_size draft.bytes draft.used draft.within
 
--- the text of the first part read is written before the texts of the others
+-- If the first part that was read is written before the others, the encoding of the whole has been
+-- written.
 pub laid_behind : {A E : Type 0} (text : A → List ℕ) (front : List ℕ) (join : A → A) → ((x : A) → text (join x) ≡ front ++ text x)
     → (rest : Result (A × List Token) E) (old middle : Option (List ℕ)) (result : Result (Unit {0}) E) (new : Option (List ℕ)) (left : List Token)
     → middle ≡ grown old front → DraftsRead text rest middle result new left → DraftsRead text (rest >>= λ others. Ok (join others.0, others.1)) old result new left

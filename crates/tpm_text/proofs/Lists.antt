@@ -14,7 +14,7 @@ use Rattle.tpm_text.proofs.Growing.{grown-grown}
 
 -- ---- PCRs
 
--- the selection of the PCRs so far, and of those with the remaining numbers
+-- the selection of the PCRs read so far and of those in the remaining pieces
 unfoldable pub pcrs_left : ℕ → List (List ℕ) → Result ℕ TokenFault
 pcrs_left select pieces = each_in (number_in 23) pieces >>= λ pcrs. Ok (fold with_pcr select pcrs)
 
@@ -40,7 +40,7 @@ pcrs_stopped select fault piece pieces e = ap (λ first. first >>= (λ first. ea
 
 -- ---- elements
 
--- a draft extended by the remaining elements
+-- a draft extended by the encodings of the remaining elements
 unfoldable pub elements_left : Element → Option (List ℕ) → List (List ℕ) → Result (Option (List ℕ)) TokenFault
 elements_left element draft pieces = elements_text element pieces >>= λ text. Ok (grown draft text)
 
@@ -60,7 +60,8 @@ elements_last : (element : Element) (draft : Option (List ℕ)) (text piece : Li
 unfolding elements_left elements_text each_in
 elements_last element draft text piece e = ap (λ first. first >>= (λ first. Ok (first ∷ [])) >>= (λ texts. Ok (flat_map (λ text. text) texts)) >>= λ text. Ok (grown draft text)) e ∙ ap (λ l. Ok (grown draft l)) (append-nil text)
 
--- a draft after one more element was written, or the fault of that write
+-- If one more element is written, or a fault occurs, the result for the remaining elements is the
+-- same as before.
 pub put_more : (element : Element) (old new : Option (List ℕ)) (piece : List ℕ) (pieces : List (List ℕ)) (result : Result (Unit {0}) TokenFault) → result ≡ Ok tt → Drafts (element_text element piece) old result new
     → elements_left element old (piece ∷ pieces) ≡ elements_left element new pieces
 put_more element old new piece pieces result e h = by (element_text element piece) refl result e h
@@ -91,7 +92,7 @@ put_stopped element old new piece pieces result fault e h = by (element_text ele
     by (Err other) is (Ok done) e h = absurd h
     by (Err other) is (Err found) e h = elements_stopped element old other piece pieces is ∙ ap Err (sym h ∙ cc)
 
--- the remaining elements determine the result for the whole list
+-- The remaining elements determine the result for the whole list.
 pub elements_drafted : (element : Element) (old : Option (List ℕ)) (pieces : List (List ℕ)) (result : Result (Unit {0}) TokenFault) (new : Option (List ℕ))
     → elements_left element old pieces ≡ (result >>= λ done. Ok new) → Drafts (elements_text element pieces) old result new
 unfolding elements_left

@@ -1,4 +1,4 @@
--- Reading the buffer of a line yields the command that the line encodes.
+-- Parsing the buffer of a line yields the command that the line encodes.
 use Rattle.tpm_types.specs.Limits.{buffer_limit}
 use Rattle.std.proofs.Common.{◌≡◌, ℕ, zero, suc, ◌<◌, ◌≤◌, ◌^◌, Bool, true, false, cond, List, [], ◌∷◌, length, drop, Result, Ok, Err, refl, ap, subst, arith, length-append}
 use Rattle.std.specs.Int.{Width, w8, w32, from_be_bytes, to_be_bytes}
@@ -103,7 +103,7 @@ entries_spell (suc most) (token ∷ tokens) x e = by (entries_spell most tokens)
         subst (λ (x : List Entry × List Token). (length x.0 ≤ suc most) × AllByRecursion Spells x.0) (ok_is (first.0 ∷ others.0.0, others.0.1) x others.2) (omega (arith, rest.0), (one, rest.1))
     by fewer false e = subst (λ (x : List Entry × List Token). (length x.0 ≤ suc most) × AllByRecursion Spells x.0) (ok_is ([], token ∷ tokens) x e) (omega arith, tt)
 
--- if all entries together have this size, their own sizes fit their fields
+-- If all entries together have this size, their own sizes fit their fields.
 sized_entries : (entries : List Entry) → AllByRecursion Spells entries → length (entries_text entries) < 2 ^ 16 → AllByRecursion IsEntry entries
 sized_entries [] each small = tt
 sized_entries (entry ∷ entries) each small =
@@ -153,6 +153,6 @@ spelled_is_command line c e small =
       size = small;
     }
 
--- the text of a command that a line encodes is read as that command
+-- If a line encodes a command, parsing the encoding yields that command.
 pub spelled_again : (line : List ℕ) (c : Whole) → spelled line ≡ Ok c → command_size c ≤ buffer_limit → command_at (command_text c) ≡ Ok (c, [])
 spelled_again line c e small = command_again c (spelled_is_command line c e small)

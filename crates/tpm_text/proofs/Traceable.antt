@@ -21,7 +21,7 @@ use Rattle.tpm_step.specs.Step.{Accepted, Stepped, acceptance, accepted, answer_
 use Rattle.tpm_step.specs.declared.refused_command.RefusedCommand.{RefusedCommand}
 use Rattle.tpm_text.specs.Trace.{IsRow, IsTraceable}
 
--- A refusal names a served command, or none.
+-- A refusal names a supported command, or none.
 abbrev Names : {X : Type 0} → Result X RefusedCommand → Type 0
 Names (Ok x) = Unit {0}
 Names (Err e) = (e.code ≡ 0) ⊎ ((code : CommandCode) × (e.code ≡ code_number code))
@@ -50,7 +50,7 @@ named_accepted r buffer locality random =
     named_on (general r buffer) (λ command. in_command command.code (acceptance r command locality random)) (named_general r buffer)
     (λ command. named_in_command command.code (acceptance r command locality random))
 
--- a response contains a header
+-- A response contains a header.
 framed_long : (tag code : ℕ) (body : List ℕ) → 10 ≤ length (framed tag code body)
 framed_long tag code body = omega arith
 

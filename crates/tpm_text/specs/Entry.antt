@@ -90,7 +90,7 @@ entry_in token =
     if begins_password token then password_entry (drop 3 token)
     else (if begins_session token then session_entry (drop 2 token) else Err Bad)
 
--- the bytes of an entry that was read
+-- the encoding of an entry that was read
 abbrev pub text_of_entry : {E : Type 0} → Result Entry E → Result (List ℕ) E
 text_of_entry read = do
   entry ← read

@@ -53,8 +53,8 @@ entry_tokens_in (suc most) (token ∷ tokens) = cond (begins_entry token.text) (
   Ok (first ∷ others.0, others.1))
     (Ok ([], token ∷ tokens))
 
--- the bytes of parameters of these kinds, one for each of the first tokens, and the tokens after
--- them
+-- the encodings of parameters of these kinds, one for each of the first tokens, and the tokens
+-- after them
 unfoldable pub parameters_in : List ParameterKind → List Token
     → Result (List ℕ × List Token) AsmFault
 parameters_in [] tokens = Ok ([], tokens)
@@ -83,15 +83,16 @@ spelled line = do
     parameters = parameters.0;
   })
 
--- the text of the command that a line encodes; it is too long only if nothing else is wrong
+-- the encoding of the command that a line encodes; the fault TooLong is returned only if nothing
+-- else is wrong
 unfoldable pub assembled : List ℕ → Result (List ℕ) AsmFault
 assembled line = do
   command ← spelled line
   fits ← refused_if (nat_lt buffer_limit (command_size command)) fault.TooLong
   Ok (command_text command)
 
--- A call returned the text of the command that a line encodes; or it returned the fault of the
--- line; or it could not allocate the text.
+-- A call returned the encoding of the command that a line encodes; or it returned the fault of the
+-- line; or it could not allocate the memory.
 abbrev pub Assembles : {X : Type 0} → (X → List ℕ)
     → Result (List ℕ) AsmFault → Result X AsmFault → Type 0
 Assembles view (Ok text) (Ok buffer) = view buffer ≡ text

@@ -1,4 +1,4 @@
--- Parameters in a line: the word for each kind, and its bytes in a command buffer.
+-- Parameters in a line: the word for each kind, and the bytes that it encodes in a command buffer.
 use Rattle.std.specs.Prelude.{ℕ, ◌==◌, ◌+◌, ◌*◌, not, if◌then◌else◌, List, ◌++◌, length, take, drop, codes}
 use Rattle.std.specs.Prelude.{Some, None, Result, Ok, Err, ok_or}
 use Rattle.std.specs.List.{flat_map, fold, position}
@@ -24,7 +24,7 @@ use Rattle.tpm_number.specs.Number.{is_word, number_in}
 use Rattle.tpm_text.specs.Hex.{bytes_in, hex_in}
 use Rattle.tpm_text.specs.Pieces.{colon, comma, each_in, pieces_of, plus}
 
--- the bytes of the number in a token; the number is at most `most`
+-- the encoding of the number in a token; the number is at most `most`
 abbrev pub number_text : Width → (most : ℕ) → List ℕ → Result (List ℕ) TokenFault
 number_text width most token = do
   number ← number_in most token
@@ -35,7 +35,7 @@ hash_in word =
     if is_word (codes "sha1") word then Ok Sha1
     else (if is_word (codes "sha256") word then Ok Sha256 else Err Bad)
 
--- the text of the word for a hash algorithm, or of null
+-- the encoding of a hash algorithm or NULL, from its word
 unfoldable pub hash_text : List ℕ → Result (List ℕ) TokenFault
 hash_text word = do
   algorithm ← if is_word (codes "null") word then Ok None
@@ -50,13 +50,13 @@ symmetric_in word =
     else (if is_word (codes "xor-sha256") word then Ok (symmetric.Xor Sha256)
     else Err Bad)))
 
--- the text of the word for how a session encrypts parameters
+-- the encoding of a symmetric definition, from the word for how a session encrypts parameters
 unfoldable pub symmetric_word_text : List ℕ → Result (List ℕ) TokenFault
 symmetric_word_text word = do
   definition ← symmetric_in word
   Ok (symmetric_text definition)
 
--- the text of a sized buffer (TPM2B), from a token in hex
+-- the encoding of a sized buffer (TPM2B), from a token in hex
 unfoldable pub buffer_text : List ℕ → Result (List ℕ) TokenFault
 buffer_text token = do
   bytes ← bytes_in token
@@ -75,14 +75,14 @@ pcrs_in numbers = do
   pcrs ← each_in (number_in 23) (pieces_of comma numbers)
   Ok (fold with_pcr 0 pcrs)
 
--- the text of a bank's hash algorithm and of its selected PCRs, written as sha256:0,10
+-- the encoding of a bank's hash algorithm and of its selected PCRs, written as sha256:0,10
 unfoldable pub bank_word_text : List ℕ → Result (List ℕ) TokenFault
 bank_word_text piece = do
   bank ← hash_and_rest_in piece
   select ← pcrs_in bank.1
   Ok (bank_text (record { hash = bank.0; select = select }))
 
--- the text of a hash algorithm and of a digest of its size, written as sha1:HEX
+-- the encoding of a hash algorithm and of a digest of its size, written as sha1:HEX
 unfoldable pub digest_word_text : List ℕ → Result (List ℕ) TokenFault
 digest_word_text piece = do
   parts ← hash_and_rest_in piece
@@ -95,25 +95,25 @@ element_text element.Bank piece = bank_word_text piece
 element_text element.Digest piece = digest_word_text piece
 element_text element.Buffer piece = buffer_text piece
 
--- the texts of the elements of a list, one after another
+-- the encodings of the elements of a list, one after another
 unfoldable pub elements_text : Element → List (List ℕ) → Result (List ℕ) TokenFault
 elements_text element pieces = do
   texts ← each_in (element_text element) pieces
   Ok (flat_map (λ text. text) texts)
 
--- the text of a list, whose elements are separated by +: the number of elements, then the
+-- the encoding of a list, whose elements are separated by +: the number of elements, then the
 -- elements
 unfoldable pub list_text : Element → List ℕ → Result (List ℕ) TokenFault
 list_text element token = do
   elements ← elements_text element (pieces_of plus token)
   Ok (to_be_bytes w32 (length (pieces_of plus token)) ++ elements)
 
--- the text of a list; the token - is the empty list
+-- the encoding of a list; the token - is the empty list
 unfoldable pub list_or_none_text : Element → List ℕ → Result (List ℕ) TokenFault
 list_or_none_text element token =
     if is_word (codes "-") token then Ok (to_be_bytes w32 0) else list_text element token
 
--- the text of a parameter of this kind; the device, not this definition, limits the size of a
+-- the encoding of a parameter of this kind; the device, not this definition, limits the size of a
 -- buffer
 unfoldable pub parameter_text : ParameterKind → List ℕ → Result (List ℕ) TokenFault
 parameter_text kind.StartupType token = number_text w16 0xffff token

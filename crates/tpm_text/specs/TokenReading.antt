@@ -1,4 +1,4 @@
--- Reads tokens, and writes the text that they encode.
+-- Reads tokens, and writes the encoding of what they say.
 use Rattle.std.specs.Prelude.{◌≡◌, ℕ, Bool, true, false, List, [], ◌∷◌, Option, Some, None, Result, Ok, Err}
 use Rattle.tpm_types_command.specs.declared.tag.Tag.{Tag}
 use Rattle.tpm_types_command.specs.AuthEntry.{Entry}
@@ -9,7 +9,7 @@ use Rattle.tpm_text.specs.Pieces.{Token}
 use Rattle.tpm_text.specs.declared.fault.AsmFault.{AsmFault}
 use Rattle.tpm_text.specs.declared.fault.AsmFault.TheVariants.{Missing}
 
--- The tokens were read as the definition says. If it returns a value, the text of that value was
+-- The tokens were read as the definition says. If it returns a value, the value's encoding was
 -- written, and the same tokens remain; otherwise its fault was returned.
 abbrev pub DraftsRead : {A E : Type 0} → (A → List ℕ) → Result (A × List Token) E
     → Option (List ℕ) → Result (Unit {0}) E → Option (List ℕ) → List Token → Type 0

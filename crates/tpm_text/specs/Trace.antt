@@ -13,8 +13,8 @@ use Rattle.tpm_step.specs.Events.{PlainEvent, Given, Cycled}
 use Rattle.tpm_step.specs.Step.{Stepped}
 use Rattle.tpm_step.specs.declared.event.Row.{Row}
 
--- A row of the table consists of the number of a served command, or 0 for none, and the number of
--- the check that refused the command, or 0 for none.
+-- A row of the table consists of the number of a supported command, or 0 for none, and the number
+-- of the check that refused the command, or 0 for none.
 abbrev pub IsRow : Row → Type 0
 IsRow row =
     ((row.code ≡ 0) ⊎ ((code : CommandCode) × (row.code ≡ code_number code)))

@@ -14,7 +14,7 @@ use tpm_number::TokenFault;
 use tpm_types::BUFFER_LIMIT;
 use tpm_types_command::{HEADER_SIZE, Tag};
 
-/// The text of a command that is being written, or the fact that it has become too long.
+/// The encoding of a command that is being written, or the fact that it has become too long.
 #[derive(Drop)]
 pub struct Draft {
     bytes: [u8; BUFFER_LIMIT],
@@ -113,7 +113,7 @@ impl Draft {
         }
     }
 
-    /// Writes the header of the command. The fault is TooLong if its text is too long.
+    /// Writes the header of the command. The fault is TooLong if the command is too long.
     #[tactic(auto, unfolding(crate::specs::Draft::finished))]
     pub fn finish(&mut self, tag: Tag, code: CommandCode) -> Result<(), AsmFault>
         requires { IfSome (drafted self.old) (λ text. 10 ≤ length text) }

@@ -1,4 +1,5 @@
-//! The elements of lists in words: selected PCRs, digests with their algorithm, or digests alone.
+//! The elements of lists in words: selected PCRs, digests with their algorithm, or digests without
+//! one.
 
 /// The kinds of elements in a list.
 #[derive(Clone, Copy, PartialEq, Eq)]

@@ -1,4 +1,4 @@
-//! Why a line is not a command: the first fault from the left, with its column.
+//! The reason why a line is not a command: the first fault from the left, with its column.
 
 ghost use Rattle.std.specs.Prelude.{◌≡◌};
 ghost use Rattle.tpm_text.specs.Fault.{fault_at};

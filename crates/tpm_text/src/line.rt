@@ -1,4 +1,4 @@
-//! Assembles a line in words into the buffer of a command. Reading the buffer yields the command
+//! Assembles a line in words into the buffer of a command. Parsing the buffer yields the command
 //! that the line encodes.
 
 ghost use Rattle.tpm_types.specs.Limits.{buffer_limit};
@@ -142,7 +142,7 @@ pub fn assemble(alloc: Global, line: &str) -> Result<Vec<u8>, AsmFault>
     Ok(buffer)
 }
 
-/// Reading the buffer of a line yields the command that the line encodes.
+/// Parsing the buffer of a line yields the command that the line encodes.
 pub fn read_back_laws()
     ensures { (line : List ℕ) (c : Whole) → spelled line ≡ Ok c → command_size c ≤ buffer_limit
         → command_at (command_text c) ≡ Ok (c, []) }

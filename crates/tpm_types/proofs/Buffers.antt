@@ -1,4 +1,4 @@
--- A sized buffer that was read does not exceed its limit.
+-- A sized buffer that was read successfully does not exceed its limit.
 use Rattle.std.proofs.Common.{◌≡◌, ℕ, ◌≤◌, ltb, cond, List, length, take, drop, Result, Ok, Err, subst, arith}
 use Rattle.std.specs.Prelude.{IfOk}
 use Rattle.std.specs.Int.{w16}

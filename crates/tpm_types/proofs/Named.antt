@@ -15,8 +15,8 @@ use Rattle.tpm_types.specs.Algorithm.{hash_named, hash_number, hash_or_null_name
 use Rattle.tpm_types.specs.Rc.{plain}
 use Rattle.tpm_types.proofs.Spelled.{Spelled}
 
--- one link of a chain of tests: the number names the first value if it is that value's number;
--- otherwise it names what the later links find
+-- One link of a chain of tests. If the number is the first value's number, it names that value;
+-- otherwise it names the value that the later links find.
 pub link : {A : Type 0} (number_of : A → ℕ) (number : ℕ) (first : A) (others : Option A) (x : A) → ((o : A) → others ≡ Some o → number ≡ number_of o) → cond (number == number_of first) (Some first) others ≡ Some x → number ≡ number_of x
 link number_of number first others x after = chosen (number == number_of first) refl
   where

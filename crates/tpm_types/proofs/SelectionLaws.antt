@@ -16,7 +16,7 @@ use Rattle.tpm_types.specs.PcrSelection.{IsBank, IsSelection, bank_at, bank_text
 use Rattle.tpm_types.proofs.CountedLaws.{counted_again, counted_takes}
 use Rattle.tpm_types.proofs.HashLaws.{hash_again, hash_takes}
 
--- two numbers are equal if the test for inequality failed
+-- If the test for inequality fails, the two numbers are equal.
 pub is_equal : (m n : ℕ) → not (m == n) ≡ false → m ≡ n
 is_equal m n e = eqb-true m n (same (m == n) e)
   where

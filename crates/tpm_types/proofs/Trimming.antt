@@ -12,13 +12,13 @@ pub trimmed_twice : (bytes : List ℕ) → trimmed (trimmed bytes) ≡ trimmed b
 unfolding trimmed
 trimmed_twice bytes = rw (reverse-reverse (without_first_zeros (reverse bytes)), first_zeros_twice (reverse bytes)) refl
 
--- a trailing zero is removed
+-- If the last byte is zero, it is removed.
 trimmed_zero : (bytes : List ℕ) (last : ℕ) → last ≡ 0 → trimmed (bytes ++ last ∷ []) ≡ trimmed bytes
 unfolding trimmed
 trimmed_zero bytes zero none = rw (reverse-append bytes (0 ∷ [])) refl
 trimmed_zero bytes (suc last) none = absurd (omega arith)
 
--- any other last byte is kept
+-- If the last byte is not zero, the bytes are already trimmed.
 trimmed_other : (bytes : List ℕ) (last : ℕ) → last ≢ 0 → trimmed (bytes ++ last ∷ []) ≡ bytes ++ last ∷ []
 unfolding trimmed
 trimmed_other bytes zero some = absurd (some refl)
@@ -30,11 +30,11 @@ trimmed_other bytes (suc last) some =
 front_more : (bytes : List ℕ) (size : ℕ) → 0 < size → size ≤ length bytes → take size bytes ≡ take (size - 1) bytes ++ get_or bytes (size - 1) 0 ∷ []
 front_more bytes size some within = ap (λ (n : ℕ). take n bytes) (let next : size ≡ size - 1 + 1 = omega arith in next) ∙ take_more bytes (size - 1) 0 (omega arith)
 
--- if a front ends in a zero, it is trimmed to the same bytes as the front without that zero
+-- If the last byte of a front is zero, the front without that byte is trimmed to the same bytes.
 pub front_shorter : (bytes : List ℕ) (size : ℕ) → 0 < size → size ≤ length bytes → get_or bytes (size - 1) 0 ≡ 0 → trimmed (take size bytes) ≡ trimmed (take (size - 1) bytes)
 front_shorter bytes size some within last = ap trimmed (front_more bytes size some within) ∙ trimmed_zero (take (size - 1) bytes) _ last
 
--- a front that ends in any other byte is already trimmed
+-- If the last byte of a front is not zero, the front is already trimmed.
 pub front_stays : (bytes : List ℕ) (size : ℕ) → 0 < size → size ≤ length bytes → get_or bytes (size - 1) 0 ≢ 0 → trimmed (take size bytes) ≡ take size bytes
 front_stays bytes size some within last = ap trimmed (front_more bytes size some within) ∙ trimmed_other (take (size - 1) bytes) _ last ∙ sym (front_more bytes size some within)
 

@@ -20,7 +20,7 @@ hash_number Sha256 = 0x000b
 abbrev pub is_policy_size : HashAlg → (size : ℕ) → Bool
 is_policy_size name_alg size = size == 0 || size == digest_size name_alg
 
--- the hash algorithm with this number, or None if it is not served
+-- the hash algorithm with this number, or None if it is not supported
 abbrev pub hash_named : ℕ → Option HashAlg
 hash_named number = if number == 0x0004 then Some Sha1 else (if number == 0x000b then Some Sha256 else None)
 
@@ -38,7 +38,7 @@ hash_or_null_number (Some algorithm) = hash_number algorithm
 hash_or_null_number None = 0x0010
 
 -- the hash algorithm with this number, or Some None for the number of NULL; None if the algorithm
--- is not served
+-- is not supported
 abbrev pub hash_or_null_named : ℕ → Option (Option HashAlg)
 hash_or_null_named number =
     if number == 0x0010 then Some None else option_map Some (hash_named number)

@@ -55,7 +55,7 @@ endorsement_handle = numbered 0x4000_000b
 abbrev pub platform_handle : Handle
 platform_handle = numbered 0x4000_000c
 
--- what a handle names in an authorization entry: TPM_RS_PW, an HMAC session (02) or a policy
+-- the meaning of a handle in an authorization entry: TPM_RS_PW, an HMAC session (02) or a policy
 -- session (03)
 abbrev pub session_kind : Handle → SessionKind
 session_kind handle =

@@ -59,7 +59,7 @@ code_number code.ReservedBits = 0x0a1
 code_number code.BadAuth = 0x0a2
 code_number code.PolicyCc = 0x0a4
 
--- what the place of a fault adds to the number of its code
+-- the number that the place of a fault adds to the number of its code
 abbrev pub place_number : Place → ℕ
 place_number place.Nowhere = 0
 place_number (place.Handle n) = 0x100 * n

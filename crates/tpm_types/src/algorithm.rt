@@ -31,7 +31,7 @@ pub fn is_policy_size(name_alg: HashAlg, size: usize) -> bool
     size == 0 || size == name_alg.size()
 }
 
-/// The hash algorithm with this number, or None if it is not served.
+/// The hash algorithm with this number, or None if it is not supported.
 pub fn hash_named(number: u16) -> Option<HashAlg>
     ensures { result ≡ hash_named number }
 {
@@ -43,7 +43,7 @@ pub fn hash_named(number: u16) -> Option<HashAlg>
 }
 
 /// Reads a hash algorithm (TPMI_ALG_HASH, Part 2, section 9). The fault is INSUFFICIENT if it is
-/// truncated, HASH if it is not served.
+/// truncated, HASH if it is not supported.
 #[tactic(auto, unfolding(crate::specs::Algorithm::hash_at))]
 pub fn read_hash(text: &mut Cursor) -> Result<HashAlg, Rc>
     ensures { Reads (λ algorithm. algorithm) (hash_at text.old) text.old result text.new }
@@ -70,7 +70,7 @@ pub fn hash_or_null_number(algorithm: Option<HashAlg>) -> u16
 }
 
 /// The hash algorithm with this number, or `Some(None)` for the number of NULL; None if the
-/// algorithm is not served.
+/// algorithm is not supported.
 pub fn hash_or_null_named(number: u16) -> Option<Option<HashAlg>>
     ensures { result ≡ hash_or_null_named number }
 {
@@ -82,7 +82,7 @@ pub fn hash_or_null_named(number: u16) -> Option<Option<HashAlg>>
 }
 
 /// Reads a hash algorithm or NULL (TPMI_ALG_HASH+, Part 2, section 9). The fault is INSUFFICIENT
-/// if it is truncated, HASH if it is neither NULL nor a served algorithm.
+/// if it is truncated, HASH if it is neither NULL nor a supported algorithm.
 #[tactic(auto, unfolding(crate::specs::Algorithm::hash_or_null_at))]
 pub fn read_hash_or_null(text: &mut Cursor) -> Result<Option<HashAlg>, Rc>
     ensures { Reads (λ algorithm. algorithm) (hash_or_null_at text.old) text.old result text.new }

@@ -15,7 +15,7 @@ pub enum Check {
     Tag,
     /// G3: commandSize differs from the length of the buffer.
     Size,
-    /// G4: the command code is not served.
+    /// G4: the command code is not supported.
     Code,
     /// G5: the device is not started and the command is not TPM2_Startup, or the device is started
     /// and the command is TPM2_Startup.

@@ -61,7 +61,7 @@ impl DigestValue {
     }
 
     /// Reads a digest. The fault is INSUFFICIENT if it is truncated, HASH if its algorithm is not
-    /// served.
+    /// supported.
     #[tactic(auto, unfolding(crate::specs::DigestValues::digest_value_at))]
     pub fn read(text: &mut Cursor) -> Result<DigestValue, Rc>
         ensures { Reads (λ value. value) (digest_value_at text.old) text.old result text.new }

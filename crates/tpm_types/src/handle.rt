@@ -12,7 +12,7 @@ pub struct Handle {
     pub number: u32,
 }
 
-/// What the handle of an authorization entry names.
+/// The meaning of the handle of an authorization entry.
 #[derive(Clone, Copy, PartialEq, Eq)]
 pub enum SessionKind {
     /// TPM_RS_PW: a password instead of a session.
@@ -110,7 +110,7 @@ impl Handle {
         }
     }
 
-    /// What the handle names in an authorization entry.
+    /// The meaning of the handle in an authorization entry.
     pub fn session_kind(self) -> SessionKind
         ensures { result ≡ session_kind self }
     {

@@ -6,7 +6,7 @@
 //! `tpm_types_object`, those of NV indices in `tpm_types_nv`. Each structure has a type of its
 //! own, which is read from a [`tpm_bytes::cursor::Cursor`] and written to a
 //! [`tpm_bytes::sink::Sink`]. A refusal by any part of the device is a [`refused::Refused`]: the
-//! response code, the check that found it ([`check`]), and what it counts against dictionary
+//! response code, the check that refused ([`check`]), and how it counts against dictionary
 //! attacks.
 //!
 //! The crate uses `tpm_bytes` for the bytes and `tpm_mac` for digests and hash algorithms. A read

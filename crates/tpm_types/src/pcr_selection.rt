@@ -38,7 +38,7 @@ impl BankSelection {
     ghost use Rattle.tpm_types.specs.PcrSelection.{bank_at, bank_text};
 
     /// Reads the selection of one bank. The fault is INSUFFICIENT if it is truncated, HASH if its
-    /// algorithm is not served, VALUE if it is not three octets long.
+    /// algorithm is not supported, VALUE if it is not three octets long.
     #[tactic(auto, unfolding(crate::specs::PcrSelection::bank_at))]
     pub fn read(text: &mut Cursor) -> Result<BankSelection, Rc>
         ensures { Reads (λ bank. bank) (bank_at text.old) text.old result text.new }

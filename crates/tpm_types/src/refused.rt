@@ -1,4 +1,4 @@
-//! A refusal by any part of the device: the response code, the check that found it, and how it
+//! A refusal by any part of the device: the response code, the check that refused, and how it
 //! counts against dictionary attacks.
 
 ghost use Rattle.std.specs.Prelude.{◌≡◌};
@@ -10,13 +10,13 @@ use crate::rc::Rc;
 #[derive(Clone, Copy, PartialEq, Eq)]
 pub enum Counted {
     None,
-    /// One failed try at a protected entity.
+    /// It counts as one failed try at a protected entity.
     Try,
-    /// A failed try at lockoutAuth, which disables it.
+    /// It counts as a failed try at lockoutAuth, which disables lockoutAuth.
     Lockout,
 }
 
-/// A refusal: the response code, the check that found it, and how it counts against dictionary
+/// A refusal: the response code, the check that refused, and how it counts against dictionary
 /// attacks.
 #[derive(Clone, Copy, PartialEq, Eq)]
 pub struct Refused {

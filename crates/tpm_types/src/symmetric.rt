@@ -27,7 +27,7 @@ impl SymmetricDefinition {
 
     /// Reads a symmetric definition. The fault is INSUFFICIENT if it is truncated; SYMMETRIC if
     /// the algorithm is not NULL, AES or XOR; VALUE if the key is not 128 bits long; MODE if the
-    /// mode is not CFB; and HASH if the hash is not served.
+    /// mode is not CFB; and HASH if the hash is not supported.
     pub fn read(text: &mut Cursor) -> Result<SymmetricDefinition, Rc>
         // The result is the decoded definition, or the first fault.
         ensures exact { Reads (λ definition. definition) (symmetric_at text.old) text.old

@@ -23,7 +23,8 @@ moved : (front : List Entry) (x : Entry) (read : Result (List Entry) Rc) → beh
 moved front x (Err e) = refl
 moved front x (Ok y) = ap Ok (append_assoc front (x ∷ []) y)
 
--- one more entry is read
+-- If one more entry is read, the entries so far, followed by the remaining ones, are still all the
+-- entries.
 pub entry_more : (front : List Entry) (m n : ℕ) (x : Entry) (left rest : List ℕ) → m ≡ suc n → 0 < length left → entry_at left ≡ Ok (x, rest) → behind (front ++ x ∷ []) (entries_in n rest) ≡ behind front (entries_in m left)
 entry_more front m n x [] rest e some is = absurd (omega arith)
 entry_more front m n x (byte ∷ bytes) rest e some is =
@@ -31,7 +32,7 @@ entry_more front m n x (byte ∷ bytes) rest e some is =
     ∙ ap (λ (r : Result (Entry × List ℕ) Rc). behind front (r >>= λ first. entries_in n first.1 >>= λ others. Ok (first.0 ∷ others))) (sym is)
     ∙ ap (λ k. behind front (entries_in k (byte ∷ bytes))) (sym e)
 
--- an entry that cannot be read ends the reading
+-- If an entry cannot be read, the whole read fails with that entry's fault.
 pub entry_refused : (front : List Entry) (m n : ℕ) (fault : Rc) (left : List ℕ) → m ≡ suc n → 0 < length left → entry_at left ≡ Err fault → behind front (entries_in m left) ≡ Err fault
 entry_refused front m n fault [] e some is = absurd (omega arith)
 entry_refused front m n fault (byte ∷ bytes) e some is =
@@ -71,7 +72,7 @@ sizes_push : (entries : List AuthEntry) (entry : AuthEntry) → AllByRecursion H
 sizes_push [] entry all one = (one, tt)
 sizes_push (first ∷ entries) entry all one = (all.0, sizes_push entries entry all.1 one)
 
--- the sizes of one more entry fit, and its length is added to the total
+-- If the sizes of one more entry fit, its length is added to the total.
 pub sizes_more : (entries : List AuthEntry) (i : ℕ) (d : AuthEntry) → i < length entries → AllByRecursion HasSizes (map entry_of (take i entries)) → HasSizes (entry_of (get_or entries i d)) → AllByRecursion HasSizes (map entry_of (take (i + 1) entries))
 sizes_more entries i d below all one = subst (λ (l : List AuthEntry). AllByRecursion HasSizes (map entry_of l)) (sym (take_more entries i d below)) (sizes_push (take i entries) (get_or entries i d) all one)
 

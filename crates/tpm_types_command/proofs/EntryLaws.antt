@@ -18,7 +18,7 @@ use Rattle.tpm_types_command.specs.AuthArea.{area_at, area_text, entries_in, ent
 
 -- ---- an entry
 
--- reading a sized buffer of any length
+-- For a sized buffer of any length: its encoding, and nothing else, decodes to it.
 sized_spelled : Spelled sized_text (λ bytes. length bytes < 2 ^ 16) (λ text. or_fault (sized_at 0xffff text) (plain code.Authsize))
 sized_spelled = record {
   taken = λ bytes x fits e. let t = sized_takes 0xffff (plain code.Authsize) bytes x fits e in (t.0, t.1);
@@ -59,7 +59,7 @@ pub ruleset entry_sizes = (length-auth_entry_text)
 
 -- ---- the entries of an authorization area
 
--- if bytes are left, they start with an entry, which others may follow
+-- If bytes are left, they start with an entry, after which there may be more entries.
 pub entries_in_some : (most : ℕ) (left : List ℕ) → 0 < length left → entries_in (suc most) left ≡ (entry_at left >>= λ first. entries_in most first.1 >>= λ others. Ok (first.0 ∷ others))
 entries_in_some most [] some = absurd (omega arith)
 entries_in_some most (byte ∷ bytes) some = refl

@@ -24,7 +24,7 @@ neither : (a b : Bool) → (a || b) ≡ false → (a ≡ false) × (b ≡ false)
 neither true b e = absurd cc
 neither false b e = (refl, e)
 
--- a number that is not truncated is taken from the front
+-- If a number is not truncated, its encoding is at the front of the bytes.
 field_takes : (w : Width) (limit : ℕ) (wide : IsWide w limit) (bytes : List ℕ) → AreBytes bytes → byte_len w ≤ length bytes → Takes bytes (to_be_bytes w (from_be_bytes w (take (byte_len w) bytes))) (drop (byte_len w) bytes)
 field_takes w limit wide bytes fits long =
     let there : ltb (length bytes) (byte_len w) ≡ false = le-ltb _ _ long in
@@ -71,7 +71,7 @@ header_takes bytes x fits e =
     let made : Header × List ℕ = (record { tag = b.0; code = d.0 }, drop 10 bytes) in
     subst (IsHeader bytes) (ok_is made x d.2) (record { text = t3; least = least; most = most })
 
--- the steps of reading a header, if all of them succeed
+-- If all steps of reading a header succeed, the header is read.
 steps_again : (outside other_size : Bool) (named : Option Tag) (served : Option CommandCode) (tag : Tag) (code : CommandCode) (rest : List ℕ) → outside ≡ false → named ≡ Some tag → other_size ≡ false → served ≡ Some code → (refused_if outside fault.Length >>= λ length_fits. ok_or named fault.Tag >>= λ tag. refused_if other_size fault.Size >>= λ size_is_length. ok_or served fault.Code >>= λ code. Ok (record { tag = tag; code = code }, rest)) ≡ (let done : Result (Header × List ℕ) HeaderFault = Ok (record { tag = tag; code = code }, rest) in done)
 steps_again outside other_size named served tag code rest e0 e1 e2 e3 = rw (e0, e1, e2, e3) refl
 

@@ -9,8 +9,8 @@ use arrayvec::ArrayVec;
 use tpm_bytes::Cursor;
 use tpm_types::{Rc, ResponseCode};
 
-/// The largest number of entries in an authorization area, and the size in bytes of the smallest
-/// entry.
+/// The largest number of entries in an authorization area, and the size of the smallest entry in
+/// bytes.
 pub const ENTRY_LIMIT: usize = 3;
 
 pub const LEAST_AREA: usize = 9;

@@ -30,7 +30,7 @@ pub enum HeaderFault {
     Tag,
     /// commandSize differs from the length of the buffer.
     Size,
-    /// The command code is not served.
+    /// The command code is not supported.
     Code,
 }
 

@@ -3,10 +3,10 @@
 //! Whole commands (TPM 2.0 Library, Part 1, section 18): their headers, handles, authorization
 //! areas and entries.
 //!
-//! The crate uses `tpm_commands` for the served commands, and `tpm_types` for handles and response
-//! codes. A read returns the value, or the first fault as the standard's response code for it; a
-//! read or write that fails changes nothing. Each entry and each command has exactly one encoding,
-//! and nothing else decodes to it. No call here allocates memory.
+//! The crate uses `tpm_commands` for the supported commands, and `tpm_types` for handles and
+//! response codes. A read returns the value, or the first fault as the standard's response code
+//! for it; a read or write that fails changes nothing. Each entry and each command has exactly one
+//! encoding, and nothing else decodes to it. No call here allocates memory.
 
 pub mod auth_area;
 pub mod auth_entry;

@@ -5,7 +5,7 @@ use Rattle.tpm_types_nv.specs.declared.nv_attributes.NvAttributes.{NvAttributes}
 use Rattle.tpm_types_nv.specs.NvAttributes.{IsNvAttributes, attribute_bit, has, index_type, with_attribute, without_attribute}
 
 pub record AreNvAttributes : Type 0 where
-  -- setting an attribute makes it present, clearing it makes it absent, and all others are
+  -- an attribute is present after it was set and absent after it was cleared, and all others are
   -- unchanged
   pub set_there : (attributes : NvAttributes) (one : NvAttribute)
       → has (with_attribute attributes one) one ≡ true
@@ -22,7 +22,7 @@ pub record AreNvAttributes : Type 0 where
       → index_type (with_attribute attributes one) ≡ index_type attributes
   pub cleared_type : (attributes : NvAttributes) (one : NvAttribute)
       → index_type (without_attribute attributes one) ≡ index_type attributes
-  -- attributes that can be encoded still can be after one was set or cleared
+  -- if attributes can be encoded, they still can be after one was set or cleared
   pub set_named : (attributes : NvAttributes) (one : NvAttribute) → IsNvAttributes attributes
       → IsNvAttributes (with_attribute attributes one)
   pub cleared_named : (attributes : NvAttributes) (one : NvAttribute) → IsNvAttributes attributes

@@ -1,5 +1,5 @@
 -- The types of NV indices. TPM 2.0 Library, Part 2, section 13.2 (TPM_NT). PIN indices are not
--- served.
+-- supported.
 use Rattle.std.specs.Prelude.{ℕ, ◌==◌, if◌then◌else◌, Option, Some, None}
 use Rattle.tpm_types_nv.specs.declared.nv_type.NvType.{NvType}
 use Rattle.tpm_types_nv.specs.declared.nv_type.NvType.TheVariants.{Ordinary, Counter, Bits, Extend}

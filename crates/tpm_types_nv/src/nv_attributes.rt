@@ -85,7 +85,7 @@ impl NvAttributes {
         }
     }
 
-    /// The type of the index, or None if it is not served.
+    /// The type of the index, or None if it is not supported.
     pub fn index_type(self) -> Option<NvType>
         ensures { result ≡ index_type self }
     {

@@ -30,7 +30,7 @@ impl NvType {
         }
     }
 
-    /// The type with this number, or None if it is not served.
+    /// The type with this number, or None if it is not supported.
     pub fn named(number: u32) -> Option<NvType>
         ensures { result ≡ nv_type_named number }
     {

@@ -21,11 +21,11 @@ pub object_type_number-small : (type : ObjectType) → object_type_number type <
 object_type_number-small object.KeyedHash = omega arith
 object_type_number-small object.SymCipher = omega arith
 
--- reading an object type
+-- For an object type: its encoding, and nothing else, decodes to it.
 pub object_type_spelled : Spelled object_type_text (λ type. Unit {0}) object_type_at
 unfolding object_type_at
 object_type_spelled = named_spelled object_type_number object_type_named code.Type object_type_named-is object_type_named-again object_type_number-small
 
--- reading an object's attributes
+-- For an object's attributes: their encoding, and nothing else, decodes to them.
 pub attributes_spelled : Spelled attributes_text IsAttributes attributes_at
 attributes_spelled = attribute_bits_spelled reserved_bits

@@ -1,5 +1,5 @@
--- What a caller provides for a new object's sensitive area. TPM 2.0 Library, Part 2, section
--- 11.1.15 (TPMS_SENSITIVE_CREATE).
+-- The values that a caller provides for a new object's sensitive area. TPM 2.0 Library, Part 2,
+-- section 11.1.15 (TPMS_SENSITIVE_CREATE).
 use Rattle.std.specs.Prelude.{ℕ, ◌≤◌, List, ◌++◌, length, Result, Ok}
 use Rattle.tpm_bytes.specs.Reading.{◌>>=◌}
 use Rattle.tpm_bytes.specs.Writing.{sized_text}

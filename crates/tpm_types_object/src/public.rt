@@ -46,7 +46,7 @@ impl ObjectType {
     }
 
     /// Reads an object type. The fault is INSUFFICIENT if it is truncated, TYPE if it is not
-    /// served.
+    /// supported.
     #[tactic(auto, unfolding(crate::specs::Public::object_type_at))]
     pub fn read(text: &mut Cursor) -> Result<ObjectType, Rc>
         ensures { Reads (λ kind. kind) (object_type_at text.old) text.old result text.new }
@@ -77,7 +77,7 @@ impl KeyedHashScheme {
     ghost use Rattle.tpm_types_object.specs.Public.{scheme_at, scheme_text};
 
     /// Reads a scheme. The fault is INSUFFICIENT if it is truncated, SCHEME if it is neither NULL
-    /// nor HMAC, HASH if the hash algorithm of HMAC is not served.
+    /// nor HMAC, HASH if the hash algorithm of HMAC is not supported.
     #[tactic(auto, unfolding(crate::specs::Public::scheme_at))]
     pub fn read(text: &mut Cursor) -> Result<KeyedHashScheme, Rc>
         ensures { Reads (λ scheme. scheme) (scheme_at text.old) text.old result text.new }

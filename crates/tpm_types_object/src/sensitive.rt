@@ -28,7 +28,7 @@ impl Sensitive {
     ghost use Rattle.tpm_types_object.specs.declared.sensitive.Sensitive.{Sensitive};
 
     /// Reads a sensitive area. The fault is INSUFFICIENT if it is truncated, TYPE if its type is
-    /// not served, SIZE if a buffer is too long.
+    /// not supported, SIZE if a buffer is too long.
     pub fn read(text: &mut Cursor) -> Result<Sensitive, Rc>
         // The result is the decoded value, or the first fault.
         ensures exact { Reads (λ area. area) (sensitive_at text.old) text.old result text.new }

@@ -1,5 +1,5 @@
-//! What a caller provides for the sensitive area of a new object (TPMS_SENSITIVE_CREATE; TPM 2.0
-//! Library, Part 2, section 11.1.15).
+//! The values that a caller provides for the sensitive area of a new object
+//! (TPMS_SENSITIVE_CREATE; TPM 2.0 Library, Part 2, section 11.1.15).
 
 ghost use Rattle.std.specs.Prelude.{◌≡◌, ◌≤◌, ℕ, List, ◌++◌, length, Ok, IfOk};
 ghost use Rattle.tpm_bytes.specs.Reading.{AreBytes, Reads};

@@ -1,4 +1,4 @@
--- The check of a script finds the same bad line as a run of it.
+-- Checking a script finds the same bad line as running it.
 use Rattle.std.proofs.Common.{◌≡◌, ℕ, ◌+◌, Bool, true, false, List, [], ◌∷◌, ◌++◌, Option, Some, None, Result, Ok, Err, refl, sym, ap, ◌∙◌, not, cond, ok_or, option_map, option_and_then}
 use Rattle.std.specs.Prelude.{◌^◌, ◌&&◌, nat_le, nat_lt, length}
 use Rattle.std.specs.Result.{result_ok}
@@ -58,7 +58,8 @@ line_checked p line = reading_checked p (nat_le (length line) 65536) (line_readi
 some_is : (x y : ℕ) → Some x ≡ Some y → x ≡ y
 some_is x y e = cc
 
--- the first fault of a line and the lines after it, depending on the result of the line
+-- The result of checking a line decides which is the first fault of that line and the lines after
+-- it.
 first_by : (p : Playing) (number : ℕ) (line : List ℕ) (lines : List (List ℕ)) (checked : Result ℕ BadLine) (effect : Option Effect) → result_ok checked ≡ option_map waited_after effect
     → ((q : Playing) → first_number (faults_of q.waited (number + 1) lines) ≡ (play q (number + 1) lines).bad)
     → first_number (fault_at checked number line ++ faults_of (waited_behind checked p.waited) (number + 1) lines) ≡ (output_with effect number (λ next. play next (number + 1) lines)).bad

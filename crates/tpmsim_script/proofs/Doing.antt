@@ -1,4 +1,4 @@
--- A line with a meaning has that meaning's effect, and a line without one is bad.
+-- If a line has a meaning, it has that meaning's effect; if it has none, it is bad.
 use Rattle.std.proofs.Common.{◌≡◌, ℕ, ◌<◌, ◌≤◌, List, [], ◌++◌, Bool, true, false, cond, length, Option, Some, None, Result, Ok, Err, refl, sym, ap, ◌∙◌, append-nil, append_assoc}
 use Rattle.std.specs.Prelude.{nat_le, option_and_then}
 use Rattle.std.proofs.lemmas.Bool.{false≢true, le-leb, lt-leb}
@@ -31,12 +31,12 @@ pub nothing_printed : (known : Option (List ℕ)) → Appends known known []
 nothing_printed None = tt
 nothing_printed (Some known) = sym (append-nil known)
 
--- a line that is too long is bad
+-- If a line is too long, it is bad.
 pub lt_none : (p : Playing) (line : List ℕ) → 65536 < length line → perform_line p line ≡ None
 unfolding perform_line
 lt_none p line long = ap (λ b. cond b (option_and_then (perform p) (line_meaning line)) None) (lt-leb (length line) 65536 long)
 
--- a line had the effect of its meaning
+-- If a line's meaning had its effect, the line had its effect.
 pub did_said : (p : Playing) (line : List ℕ) (said : Meaning) (old : Option (List ℕ)) (before : Playing) (result : Result (Unit {0}) LineFault) (new : Option (List ℕ)) (after : Playing)
     → length line ≤ 65536 → line_meaning line ≡ Some said → Did (perform p said) old before result new after → Did (perform_line p line) old before result new after
 did_said p line said old before (Ok done) new after short e did = (did.0, said_done p line said short e ∙ did.1, did.2, did.3)
@@ -61,14 +61,15 @@ ok_is_no_write done e = false≢true (ap is_write e)
 save_is_no_write : (let save : Result (Unit {0}) LineFault = Err Save in save ≡ Err Write) → ⊥
 save_is_no_write e = false≢true (ap is_write e)
 
--- two texts were appended, one after the other
+-- If two texts were appended one after the other, both together were appended.
 appended_twice : (old mid new : Option (List ℕ)) (first more : List ℕ) → Appends old mid first → Appends mid new more → Appends old new (first ++ more)
 appended_twice None mid new first more h k = tt
 appended_twice (Some old) None new first more h k = absurd h
 appended_twice (Some old) (Some mid) None first more h k = absurd k
 appended_twice (Some old) (Some mid) (Some new) first more h k = k ∙ ap (λ (l : List ℕ). l ++ more) h ∙ append_assoc old first more
 
--- a command was executed, its trace was printed if requested, and then its response
+-- If a command was executed, its trace was printed if requested, and its response was printed,
+-- then the command had its effect.
 pub executed : (p : Playing) (buffer : List ℕ) (s : Stepped) (old mid : Option (List ℕ)) (result : Result (Unit {0}) LineFault) (new : Option (List ℕ)) (after : Playing)
     → s ≡ step p.device (command_of p buffer) → Appends old mid (printed_trace p.traced (command_of p buffer) s) → OnOk result (Appends mid new (printed_response s.response)) → OnErr result (CutOff mid new)
     → after ≡ (answer p (command_of p buffer) s).next → OnErr result (result ≡ Err Write) → Did (Some (execute p buffer)) old p result new after
@@ -79,7 +80,8 @@ executed p buffer s old mid (Err Write) new after is traced printed cut next err
     (answer p (command_of p buffer) s, ap (λ s. Some (answer p (command_of p buffer) s)) (sym is), cut_after old mid new _ _ traced (cut_longer mid new _ cut), next)
 executed p buffer s old mid (Err Save) new after is traced printed cut next err = absurd (save_is_no_write err)
 
--- a command was executed, but its trace or response could not be printed
+-- If a command was executed, but its trace or response could not be printed, the output was
+-- truncated.
 pub untraced : (p : Playing) (buffer : List ℕ) (s : Stepped) (old : Option (List ℕ)) (result : Result (Unit {0}) LineFault) (new : Option (List ℕ)) (after : Playing)
     → s ≡ step p.device (command_of p buffer) → OnErr result (CutOff old new) → after ≡ (answer p (command_of p buffer) s).next → result ≡ Err Write → Did (Some (execute p buffer)) old p result new after
 untraced p buffer s old (Ok done) new after is cut next e = absurd (ok_is_no_write done e)
@@ -88,7 +90,8 @@ untraced p buffer s old (Err Write) new after is cut next e =
     (answer p (command_of p buffer) s, ap (λ s. Some (answer p (command_of p buffer) s)) (sym is), cut_longer old new _ cut, next)
 untraced p buffer s old (Err Save) new after is cut next e = absurd (save_is_no_write e)
 
--- a power cycle, whose trace was printed if requested
+-- If the device was power-cycled and the trace was printed if requested, the power cycle had its
+-- effect.
 pub cycled : (p : Playing) (s : Stepped) (old : Option (List ℕ)) (result : Result (Unit {0}) LineFault) (new : Option (List ℕ)) (after : Playing)
     → s ≡ step p.device Cycled → OnOk result (Appends old new (printed_trace p.traced Cycled s)) → OnErr result (CutOff old new) → after ≡ (cycle_to p s).next → OnErr result (result ≡ Err Write)
     → Did (Some (cycle p)) old p result new after
@@ -99,7 +102,8 @@ cycled p s old (Err Save) new after is printed cut next err = absurd (save_is_no
 
 -- ---- the saver's notifications
 
--- what the saver was notified of, when only the writer can still fail
+-- If the saver was notified and only the writer can still fail, the notification counts whatever
+-- the result is.
 pub told_then : {S : Type 0} (tells : S → Type 0) (old : S) (result : Result (Unit {0}) LineFault) (new : S) → OnErr result (result ≡ Err Write) → tells new → Told tells old result new
 told_then tells old (Ok done) new err told = told
 told_then tells old (Err Bad) new err told = absurd (bad_is_no_write err)

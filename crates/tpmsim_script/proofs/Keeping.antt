@@ -1,4 +1,4 @@
--- A script that is played line by line keeps its device.
+-- If a script is played line by line, its device is kept.
 use Rattle.std.proofs.Common.{◌≡◌, ℕ, ◌+◌, ◌<◌, List, [], ◌∷◌, ◌++◌, length, Bool, true, false, Option, Some, None, IfSome, refl, sym, ap, subst, ◌∙◌, append_assoc, append-nil, length-append, arith}
 use Rattle.std.proofs.lemmas.Bool.{false≢true}
 use Rattle.std.specs.Prelude.{Result, Ok, Err, OnOk, OnErr}
@@ -22,14 +22,14 @@ use Rattle.tpmsim_script.proofs.Doing.{lt_none}
 
 -- ---- one more line
 
--- A text lost these lines at its beginning.
+-- These lines at the beginning of a text were read.
 abbrev pub LosesLines : Option (List ℕ) → List (List ℕ) → Option (List ℕ) → Type 0
 LosesLines None lines new = Unit {0}
 LosesLines (Some text) lines None = ⊥
 LosesLines (Some text) lines (Some rest) = lines_of text ≡ lines ++ lines_of rest
 
--- The lines of a run so far, up to the one with this number: the rest of the text, and what the
--- lines printed.
+-- The lines of a run so far, up to the one with this number; the rest of the text; and the output
+-- of the lines.
 pub record SoFar {S : Type 0} (saves saves_change : S → Record → S → Type 0) (text here first now : Option (List ℕ)) (number : ℕ) (start at : Kept S) : Type 0 where
   pub lines : List (List ℕ)
   pub print : List ℕ
@@ -52,7 +52,7 @@ begun saves saves_change text first start = record {
   printed = nothing_printed_yet first;
 }
 
--- lines are played, and then one more
+-- If lines are played and then one more, all of these lines are played in order.
 plays_on : {S : Type 0} (saves saves_change : S → Record → S → Type 0) (old : Kept S) (lines : List (List ℕ)) (text : List ℕ) (mid : Kept S) (line more : List ℕ) (new : Kept S)
     → PlaysLines saves saves_change old lines text mid → PlaysLine saves saves_change mid line more new → PlaysLines saves saves_change old (lines ++ line ∷ []) (text ++ more) new
 plays_on saves saves_change old [] text mid line more new h one =
@@ -67,7 +67,7 @@ lost_line (Some text) (Some here) None lines line h k = absurd k
 lost_line (Some text) (Some here) (Some rest) lines line h k =
     h ∙ ap (λ (l : List (List ℕ)). lines ++ l) k ∙ sym (append_assoc lines (line ∷ []) (lines_of rest))
 
--- a line that had its effect, and of which the saver was notified
+-- If a line had its effect and the saver was notified, the line was played.
 played_line : {S : Type 0} (saves saves_change : S → Record → S → Type 0) (at : Kept S) (line : List ℕ) (effect : Effect) (q : Playing) (t : S)
     → perform_line at.playing line ≡ Some effect → q ≡ effect.next → Tells saves saves_change (line_meaning line) q.device at.saver t → PlaysLine saves saves_change at line effect.text (kept q t)
 played_line saves saves_change at line effect q t did next told = record {
@@ -92,7 +92,8 @@ went_on saves saves_change text here rest first now held mid number start at q t
 
 -- ---- a run that ends at a line
 
--- the first remaining line of the text is this one
+-- If lines were read and the remaining text begins with a line, the whole text consists of these
+-- lines, that line and more.
 left_from : (text here rest : Option (List ℕ)) (lines : List (List ℕ)) (line : List ℕ) (P : List (List ℕ) → Type 0) → LosesLines text lines here → LosesFirstLine here line rest → ((others : List (List ℕ)) → P (line ∷ others))
     → IfSome text (λ text. (rest : List (List ℕ)) × (lines_of text ≡ lines ++ rest) × P rest)
 left_from None here rest lines line P h k p = tt
@@ -101,7 +102,7 @@ left_from (Some text) (Some here) None lines line P h k p = absurd k
 left_from (Some text) (Some here) (Some rest) lines line P h k p =
     (line ∷ lines_of rest, h ∙ ap (λ (l : List (List ℕ)). lines ++ l) k, p (lines_of rest))
 
--- these lines remain, whatever they are
+-- If lines were read, the whole text consists of them and of the lines that remain.
 left_any : (text here : Option (List ℕ)) (lines : List (List ℕ)) (P : List (List ℕ) → Type 0) → LosesLines text lines here → ((rest : List (List ℕ)) → P rest)
     → IfSome text (λ text. (rest : List (List ℕ)) × (lines_of text ≡ lines ++ rest) × P rest)
 left_any None here lines P h p = tt
@@ -148,7 +149,7 @@ stopped saves saves_change text left here rest first now held new writer number 
 
 -- ---- a run that ends without a next line
 
--- the first remaining line is too long
+-- If the first remaining line is too long, it and all later lines were not played.
 left_long : (text here left : Option (List ℕ)) (lines : List (List ℕ)) (p : Playing) (number : ℕ) → LosesLines text lines here → IfSome here BeginsTooLong
     → IfSome text (λ text. (rest : List (List ℕ)) × (lines_of text ≡ lines ++ rest) × Leaves (Err (fault.Line number)) left p rest)
 left_long None here left lines p number h k = tt
@@ -160,14 +161,14 @@ left_start None left start h = tt
 left_start (Some here) None start h = absurd h
 left_start (Some here) (Some left) start h = ap lines_of h
 
--- the reader failed after the start of a line
+-- If the reader failed after the start of a line, that line and all later ones were not played.
 left_unread : (text here left : Option (List ℕ)) (lines : List (List ℕ)) (p : Playing) → LosesLines text lines here → LosesStart here left
     → IfSome text (λ text. (rest : List (List ℕ)) × (lines_of text ≡ lines ++ rest) × Leaves (Err fault.Read) left p rest)
 left_unread None here left lines p h k = tt
 left_unread (Some text) None left lines p h k = absurd h
 left_unread (Some text) (Some here) left lines p h k = (lines_of here, h, (k.0, k.1, left_start (Some here) left k.0 k.2))
 
--- no line is left
+-- If no line is left, all lines were played.
 left_none : (text here left : Option (List ℕ)) (lines : List (List ℕ)) (p : Playing) → LosesLines text lines here → IfSome here (λ text. text ≡ [])
     → IfSome text (λ text. (rest : List (List ℕ)) × (lines_of text ≡ lines ++ rest) × Leaves (Ok tt) left p rest)
 left_none None here left lines p h k = tt
@@ -247,7 +248,7 @@ failed saves saves_change text left here rest first now new writer number start 
 
 -- ---- the end after the last line that a script may have
 
--- there is one line more than a script may have
+-- If one line more remains than a script may have, at least one line was not played.
 left_more : (text here rest left : Option (List ℕ)) (lines : List (List ℕ)) (line : List ℕ) (p : Playing) → LosesLines text lines here → LosesFirstLine here line rest
     → IfSome text (λ text. (rest : List (List ℕ)) × (lines_of text ≡ lines ++ rest) × Leaves (Err fault.TooManyLines) left p rest)
 left_more text here rest left lines line p h k = left_from text here rest lines line (Leaves (Err fault.TooManyLines) left p) h k (λ others. (line, others, refl))
@@ -297,7 +298,7 @@ pub told_said : {S : Type 0} (saves saves_change : S → Record → S → Type 0
     → line_meaning line ≡ Some said → Told (Tells saves saves_change (Some said) device old) old result new → Told (Tells saves saves_change (line_meaning line) device old) old result new
 told_said saves saves_change line said device old result new e told = subst (λ m. Told (Tells saves saves_change m device old) old result new) (sym e) told
 
--- the saver was notified of this line at this point of the script
+-- If the saver was notified of a line, it was notified at this point of the script.
 pub told_there : {S : Type 0} (saves saves_change : S → Record → S → Type 0) (line said : List ℕ) (device : Record) (old : S) (result : Result (Unit {0}) LineFault) (new : S)
     → said ≡ line → Told (Tells saves saves_change (line_meaning said) device old) old result new → Told (Tells saves saves_change (line_meaning line) device old) old result new
 told_there saves saves_change line said device old result new e told = subst (λ l. Told (Tells saves saves_change (line_meaning l) device old) old result new) e told
@@ -305,7 +306,7 @@ told_there saves saves_change line said device old result new e told = subst (λ
 -- ---- a whole run: nothing was read or in memory at its start, and then the last lines are
 -- written and the device is saved
 
--- the text that remained at the start is this one
+-- If the text that remained at the start is this one, the run kept its device from there.
 pub begun_at : {S : Type 0} (saves saves_change : S → Record → S → Type 0) (before text left held old new : Option (List ℕ)) (writer : Marks) (q p : Playing) (saver : S) (result : Result (Unit {0}) ScriptFault) (Last : Kept S → Type 0)
     → before ≡ text → held ≡ old → q ≡ p → KeepsDevice saves saves_change before left held new writer (kept q saver) result Last → KeepsDevice saves saves_change text left old new writer (kept p saver) result Last
 begun_at saves saves_change before text left held old new writer q p saver result Last a b c h =
@@ -318,7 +319,7 @@ others_yet : (text : Option (List ℕ)) (lines : List (List ℕ)) (P Q : List (L
 others_yet None lines P Q q h = tt
 others_yet (Some text) lines P Q q h = (h.0, h.1, q h.0)
 
--- the same lines were played, with another end
+-- If lines were played, they were also played with another end that counts the same lines.
 recast : {S : Type 0} (saves saves_change : S → Record → S → Type 0) (text left old mid new : Option (List ℕ)) (start : Kept S) (result other : Result (Unit {0}) ScriptFault) (Last Next : Kept S → Type 0)
     → (h : Played saves saves_change text left old mid start result Last) → Counts other (length h.lines) → ((rest : List (List ℕ)) → Leaves other left h.end.playing rest) → Writes other old new h.print → Next h.end
     → Played saves saves_change text left old new start other Next
@@ -346,7 +347,7 @@ renewed saves saves_change text left old mid new start result Last Next h writte
   last = last;
 }
 
--- all responses were written, and the device was saved
+-- If all responses were written and the device was saved, the run kept its device.
 pub ran_well : {S : Type 0} (saves saves_change : S → Record → S → Type 0) (text left old mid new : Option (List ℕ)) (was writer : Marks) (start at : Kept S) (result : Result (Unit {0}) ScriptFault) (Last : Kept S → Type 0)
     → KeepsDevice saves saves_change text left old mid was start result (λ end. end ≡ at) → Keeps mid new → writer ≡ was → Last at → KeepsDevice saves saves_change text left old new writer start result Last
 ran_well saves saves_change text left old mid new was writer start at (Ok done) Last h same marks last =
@@ -364,7 +365,7 @@ ran_well saves saves_change text left old mid new was writer start at (Err fault
     renewed saves saves_change text left old mid new start (Err fault.Save) (λ end. Unit {0}) (λ end. Unit {0}) all (printed_yet old mid new all.print all.written same) tt
 ran_well saves saves_change text left old mid new was writer start at (Err fault.NoMemory) Last h same marks last = tt
 
--- the last responses were not written, and the device was saved
+-- If the last responses were not written, and the device was saved, the run kept its device.
 last_unwritten : {S : Type 0} (saves saves_change : S → Record → S → Type 0) (text left old mid new : Option (List ℕ)) (was writer : Marks) (start at : Kept S) (result : Result (Unit {0}) ScriptFault) (Last : Kept S → Type 0)
     → KeepsDevice saves saves_change text left old mid was start result (λ end. end ≡ at) → is_unsaved result ≡ false → OnNoMemory result ⊥ → CutOff mid new → Last at
     → KeepsDevice saves saves_change text left old new writer start (Err fault.Write) Last
@@ -388,7 +389,7 @@ ran_unwritten saves saves_change text left old mid new was writer start at resul
     subst (λ r. KeepsDevice saves saves_change text left old new writer start r Last) (sym e)
     (last_unwritten saves saves_change text left old mid new was writer start at result Last h was_saved memory cut last)
 
--- all responses were written, and a save failed
+-- If all responses were written and a save failed, the run kept its device.
 written_unsaved : {S : Type 0} (saves saves_change : S → Record → S → Type 0) (text left old mid new : Option (List ℕ)) (reader was writer : Marks) (unsaved : Bool) (start at : Kept S) (result : Result (Unit {0}) ScriptFault) (Last : Kept S → Type 0)
     → KeepsDevice saves saves_change text left old mid was start result (λ end. end ≡ at) → AreTheirs result reader was unsaved → OnNoMemory result ⊥ → Keeps mid new → writer ≡ was
     → KeepsDevice saves saves_change text left old new writer start (Err fault.Save) Last
@@ -407,7 +408,7 @@ written_unsaved saves saves_change text left old mid new reader was writer unsav
     renewed saves saves_change text left old mid new start (Err fault.Save) (λ end. Unit {0}) (λ end. Unit {0}) all (printed_yet old mid new all.print all.written same) tt
 written_unsaved saves saves_change text left old mid new reader was writer unsaved start at (Err fault.NoMemory) Last h theirs memory same marks = absurd memory
 
--- a save failed, whether or not the last responses were written
+-- If a save failed, whether or not the last responses were written, the run kept its device.
 pub ran_unsaved : {S : Type 0} (saves saves_change : S → Record → S → Type 0) (text left old mid new : Option (List ℕ)) (reader was writer : Marks) (unsaved : Bool) (start at : Kept S) (result flushed : Result (Unit {0}) ScriptFault) (Last : Kept S → Type 0)
     → KeepsDevice saves saves_change text left old mid was start result (λ end. end ≡ at) → AreTheirs result reader was unsaved → OnNoMemory result ⊥
     → OnOk flushed (Keeps mid new) → OnOk flushed (writer ≡ was) → OnErr flushed (writer.failed ≡ true)

@@ -22,12 +22,12 @@ IsWithin byte = is_break byte ≡ false
 onto_line : (byte : ℕ) (text : List ℕ) → is_break byte ≡ false → lines_of (byte ∷ text) ≡ onto_first byte (lines_of text)
 onto_line byte text e = ap (λ b. cond b ([] ∷ lines_of text) (onto_first byte (lines_of text))) e
 
--- the first line of a text that contains a 0a
+-- If a 0a follows bytes that contain none, these bytes are the first line.
 line_ended : (line rest : List ℕ) → IsUnbroken line → lines_of (line ++ 10 ∷ rest) ≡ line ∷ lines_of rest
 line_ended [] rest h = refl
 line_ended (byte ∷ line) rest h = onto_line byte (line ++ 10 ∷ rest) (All-head IsWithin byte line h) ∙ ap (onto_first byte) (line_ended line rest (All-tail IsWithin byte line h))
 
--- the last line, without a 0a
+-- If bytes contain no 0a and nothing follows, they are the last line.
 last_line : (byte : ℕ) (line : List ℕ) → IsUnbroken (byte ∷ line) → lines_of (byte ∷ line) ≡ (byte ∷ line) ∷ []
 last_line byte [] h = onto_line byte [] (All-head IsWithin byte [] h)
 last_line byte (next ∷ line) h =
@@ -45,7 +45,7 @@ begun_first : (byte : ℕ) (lines : List (List ℕ)) → (line : List ℕ) × (r
 begun_first byte [] = (byte ∷ [], [], refl, omega arith)
 begun_first byte (line ∷ lines) = (byte ∷ line, lines, refl, omega arith)
 
--- bytes without a 0a begin a line
+-- If bytes contain no 0a, they begin a line.
 line_begun : (byte : ℕ) (line more : List ℕ) → IsUnbroken (byte ∷ line) → BeginsWith (byte ∷ line ++ more) (length (byte ∷ line))
 line_begun byte [] more h =
     let first = begun_first byte (lines_of more) in
@@ -54,12 +54,12 @@ line_begun byte (next ∷ line) more h =
     let rest = line_begun next line more (All-tail IsWithin byte (next ∷ line) h) in
     (byte ∷ rest.0, rest.1, onto_line byte (next ∷ line ++ more) (All-head IsWithin byte (next ∷ line) h) ∙ ap (onto_first byte) rest.2, omega (arith, rest.3))
 
--- if the start of a line exceeds the limit, the line is too long
+-- If the start of a line exceeds the limit, the line is too long.
 too_long : (line more : List ℕ) → IsUnbroken line → 65536 < length line → BeginsTooLong (line ++ more)
 too_long [] more h l = absurd (omega arith)
 too_long (byte ∷ line) more h l = let begun = line_begun byte line more h in (begun.0, begun.1, begun.2, omega (arith, begun.3))
 
--- the bytes before the first 0a, and those after it
+-- The bytes before the first 0a contain no 0a.
 before_break : (rest : List ℕ) (at : ℕ) → position is_break rest ≡ Some at → IsUnbroken (take at rest)
 before_break rest at e = λ k d l. let found = position-Some is_break rest at d e in
     let short : k < at = omega (arith, length-take-le at rest (omega (arith, found.0))) in
@@ -79,7 +79,7 @@ no_break rest e = λ k d l. fails_before_first is_break rest k d (grind (arith, 
 regrouped : (a b c d : List ℕ) → a ++ ((b ++ c) ++ d) ≡ (a ++ b) ++ (c ++ d)
 regrouped a b c d = simp append_assoc
 
--- a 0a ends the line
+-- If a 0a is found, the line ends there.
 pub found_line : (line rest more : List ℕ) (at : ℕ) → IsUnbroken line → position is_break rest ≡ Some at
     → lines_of (line ++ (rest ++ more)) ≡ (line ++ take at rest) ∷ lines_of (drop (at + 1) rest ++ more)
 found_line line rest more at h e =
@@ -88,7 +88,7 @@ found_line line rest more at h e =
     ap (λ l. line ++ (l ++ more)) (at_break rest at e) ∙ regrouped line (take at rest) (10 ∷ drop (at + 1) rest) more in
     ap lines_of cut ∙ line_ended (line ++ take at rest) (drop (at + 1) rest ++ more) front
 
--- a 0a ends a line that is too long
+-- If a 0a ends a line that exceeds the limit, the line is too long.
 pub found_too_long : (line rest more : List ℕ) (at : ℕ) → IsUnbroken line → position is_break rest ≡ Some at → 65536 < length line + at → BeginsTooLong (line ++ (rest ++ more))
 found_too_long line rest more at h e long =
     let front = All-append IsWithin line (take at rest) h (before_break rest at e) in
@@ -98,30 +98,31 @@ found_too_long line rest more at h e long =
     ap (λ l. line ++ (l ++ more)) (sym (take-append-drop at rest)) ∙ regrouped line (take at rest) (drop at rest) more in
     subst BeginsTooLong (sym cut) (too_long (line ++ take at rest) (drop at rest ++ more) front (omega (arith, size)))
 
--- the line continues after all bytes that were read
+-- If the bytes that were read contain no 0a, the line continues after them.
 pub found_more : (line rest : List ℕ) → IsUnbroken line → position is_break rest ≡ None → IsUnbroken (line ++ rest)
 found_more line rest h e = All-append IsWithin line rest h (no_break rest e)
 
--- a line is too long, although its 0a has not been read
+-- If the bytes that were read contain no 0a and exceed the limit, the line is too long.
 pub found_no_end : (line rest more : List ℕ) → IsUnbroken line → position is_break rest ≡ None → 65536 < length line + length rest → BeginsTooLong (line ++ (rest ++ more))
 found_no_end line rest more h e long =
     let whole = found_more line rest h e in
     subst BeginsTooLong (append_assoc line rest more) (too_long (line ++ rest) more whole (omega (arith, length-append line rest)))
 
--- the line is the last one of the text
+-- If no 0a is found and nothing follows, the line is the last one of the text.
 pub found_last : (line rest more : List ℕ) → IsUnbroken line → position is_break rest ≡ None → more ≡ [] → 0 < length (line ++ rest)
     → lines_of (line ++ (rest ++ more)) ≡ (line ++ rest) ∷ lines_of ([] ++ more)
 found_last line rest more h e none some =
     let cut : line ++ (rest ++ more) ≡ line ++ rest = ap (λ l. line ++ (rest ++ l)) none ∙ ap (λ l. line ++ l) (append-nil rest) in
     ap lines_of cut ∙ only_line (line ++ rest) (found_more line rest h e) some ∙ ap (λ l. (line ++ rest) ∷ lines_of l) (sym none)
 
--- a range of a slice without its first elements is a shorter range
+-- If the first elements of a range are left out, the rest is a shorter range.
 pub rest_behind : (bytes : List ℕ) (from count end : ℕ) → from + count ≤ end → slice_range bytes (from + count) end ≡ drop count (slice_range bytes from end)
 rest_behind bytes from count end h =
     let size : end - from ≡ count + (end - (from + count)) = omega arith in
     sym (ap (λ n. drop count (take n (drop from bytes))) size ∙ drop-take count (end - (from + count)) (drop from bytes) ∙ ap (λ l. take (end - (from + count)) l) (drop-drop count from bytes))
 
--- what is found if the bytes that were read contain no 0a
+-- If the bytes that were read contain no 0a, the line is incomplete, or is the last one, or there
+-- is no line.
 pub stopped_finds : (old new : Lines) (ended : Bool) (line : List ℕ) → old.ended ≡ ended → line_of new ≡ line → line_of new ≡ line_of old ++ rest_of old → rest_of new ≡ []
     → IsUnbroken (line_of old) → position is_break (rest_of old) ≡ None → length (line_of new) ≤ 65536 → Finds old (next_at ended line) new
 stopped_finds old new false line e l whole behind h none short = (whole, behind, subst IsUnbroken (sym whole) (found_more (line_of old) (rest_of old) h none), e, short)
@@ -131,7 +132,7 @@ stopped_finds old new true (byte ∷ line) e l whole behind h none short = λ mo
     found_last (line_of old) (rest_of old) more h none (follows e) some
     ∙ ap (λ (x : List ℕ). x ∷ lines_of ([] ++ more)) (sym whole) ∙ ap (λ (rest : List ℕ). line_of new ∷ lines_of (rest ++ more)) (sym behind)
 
--- if the part that was read begins with a line that is too long, so does the remaining text
+-- If the bytes that were read begin with a line that is too long, so does the remaining text.
 pub too_long_left : (left remaining : Option (List ℕ)) (line rest : List ℕ) → Keeps left (prepend_known (line ++ rest) remaining) → ((more : List ℕ) → BeginsTooLong (line ++ (rest ++ more)))
     → IfSome left BeginsTooLong
 too_long_left None remaining line rest h long = tt

@@ -16,7 +16,7 @@ use Rattle.tpmsim_script.specs.declared.fault.ScriptFault.{ScriptFault}
 use Rattle.tpmsim_script.specs.declared.fault.ScriptFault.TheVariants.{Line, Read, TooManyLines, Write, Save, NoMemory}
 use Rattle.tpmsim_script.specs.Script.{IsOutput, Output, Playing, Plays, Effect, output_with, perform_line, play}
 
--- two texts were appended, and the first may have been empty
+-- If two texts were appended, and the first may have been empty, both together were appended.
 appended : (a b c d : Option (List ℕ)) (first more : List ℕ) → Keeps a b → Appends b c first → Appends c d more → Appends a d (first ++ more)
 appended None b c d first more h k m = tt
 appended (Some a) None c d first more h k m = absurd h
@@ -30,7 +30,7 @@ kept None b h = tt
 kept (Some a) None h = absurd h
 kept (Some a) (Some b) h = h ∙ sym (append-nil a)
 
--- a line had this effect, and then the rest was played
+-- If a line had this effect, and then the rest was played, the whole text was played.
 went_on : (left rest old held mid new : Option (List ℕ)) (p : Playing) (number : ℕ) (line : List ℕ) (did : Effect) (bad : Option ℕ)
     → LosesFirstLine left line rest → Keeps old held → perform_line p line ≡ Some did → Appends held mid did.text → Plays rest mid new did.next (number + 1) bad → Plays left old new p number bad
 went_on None rest old held mid new p number line did bad t k e a h = tt
@@ -41,12 +41,12 @@ went_on (Some text) (Some rest) old held mid new p number line did bad t k e a h
     ap (play p number) t ∙ ap (λ d. output_with d number (λ next. play next (number + 1) (lines_of rest))) e in
     subst (IsOutput old new bad) (sym whole) (appended old held mid new did.text after.text k a h.0, h.1)
 
--- the end of a script
+-- If no text remains, the script was played to its end.
 pub ended : (left old new : Option (List ℕ)) (p : Playing) (number : ℕ) → IfSome left (λ text. text ≡ []) → Keeps old new → Plays left old new p number None
 ended None old new p number e k = tt
 ended (Some text) old new p number e k = subst (λ text. IsOutput old new None (play p number (lines_of text))) (sym e) (kept old new k, refl)
 
--- a bad line stops a script
+-- If a line is bad, it stops the script.
 stopped : (text line : List ℕ) (rest : List (List ℕ)) (old new : Option (List ℕ)) (p : Playing) (number : ℕ) → lines_of text ≡ line ∷ rest → perform_line p line ≡ None → Keeps old new
     → Plays (Some text) old new p number (Some number)
 stopped text line rest old new p number t e k =
@@ -60,19 +60,19 @@ stopped_by_line None rest old held new p number line t k e n = tt
 stopped_by_line (Some text) None old held new p number line t k e n = absurd t
 stopped_by_line (Some text) (Some rest) old held new p number line t k e n = stopped text line (lines_of rest) old new p number t e (subst (Keeps old) (sym n) k)
 
--- a line had its effect on a player that plays a script from p on
+-- If a line had its effect on a player at p, it had that effect from p on.
 pub did_there : (p q : Playing) (line said : List ℕ) (held : Option (List ℕ)) (result : Result (Unit {0}) LineFault) (new : Option (List ℕ)) (next : Playing)
     → q ≡ p → said ≡ line → Did (perform_line q said) held q result new next → Did (perform_line p line) held p result new next
 did_there p q line said held result new next e f did =
     subst (λ l. Did (perform_line p l) held p result new next) f (subst (λ player. Did (perform_line player said) held player result new next) e did)
 
--- a line had its effect, and then the rest was played
+-- If a line had its effect, and then the rest was played, the whole text was played.
 pub did_and_went_on : (left rest old held mid new : Option (List ℕ)) (p next : Playing) (number : ℕ) (line : List ℕ) (done : Unit {0}) (bad : Option ℕ)
     → LosesFirstLine left line rest → Keeps old held → Did (perform_line p line) held p (Ok done) mid next → Plays rest mid new next (number + 1) bad → Plays left old new p number bad
 did_and_went_on left rest old held mid new p next number line done bad t k did h =
     went_on left rest old held mid new p number line did.0 bad t k did.1 did.2 (subst (λ q. Plays rest mid new q (number + 1) bad) did.3 h)
 
--- a fault at a line ends the run
+-- If a fault occurs at a line, the run ends there.
 pub ran_to_line : (left rest old held new : Option (List ℕ)) (p next : Playing) (number : ℕ) (line : List ℕ) (fault : LineFault) (P : Option ℕ → Type 0)
     → LosesFirstLine left line rest → Keeps old held → Did (perform_line p line) held p (Err fault) new next → ((bad : Option ℕ) → Plays left old new p number bad → P bad) → Ran P (Err (fault_at number fault))
 ran_to_line left rest old held new p next number line stop.Bad P t k did whole = whole (Some number) (stopped_by_line left rest old held new p number line t k did.0 did.1)
@@ -83,7 +83,7 @@ pub stopped_by_length : (left old new : Option (List ℕ)) (p : Playing) (number
 stopped_by_length None old new p number t k = tt
 stopped_by_length (Some text) old new p number t k = stopped text t.0 t.1 old new p number t.2 (lt_none p t.0 t.3) k
 
--- a fault before a line was found ends the run
+-- If a fault occurs before a line was found, the run ends there.
 pub ran_to_fault : (left old new rest : Option (List ℕ)) (p : Playing) (number : ℕ) (fault : ScriptFault) (line : List ℕ) (P : Option ℕ → Type 0)
     → NextFound number left (Err fault) line rest → UnlessFailed {X = Bool} (Err fault) (Keeps old new) → ((bad : Option ℕ) → Plays left old new p number bad → P bad) → Ran P (Err fault)
 ran_to_fault left old new rest p number (Line bad) line P found kept whole = whole (Some bad) (subst (λ n. Plays left old new p number (Some n)) (sym found.0) (stopped_by_length left old new p number found.1 kept))
@@ -95,7 +95,8 @@ ran_to_fault left old new rest p number NoMemory line P found kept whole = tt
 
 -- ---- a run up to a line
 
--- a line had this effect, and then the lines before a later one were played
+-- If a line had this effect, and then the lines before a later one were played, all lines before
+-- the later one were played.
 reached_next : (left rest old held mid new : Option (List ℕ)) (p : Playing) (number : ℕ) (line : List ℕ) (did : Effect) (next : ℕ) (behind : List (List ℕ))
     → LosesFirstLine left line rest → Keeps old held → perform_line p line ≡ Some did → Appends held mid did.text → PlaysUpTo rest mid new did.next (number + 1) next behind → PlaysUpTo left old new p number next behind
 reached_next None rest old held mid new p number line did next behind t k e a h = tt
@@ -112,12 +113,12 @@ pub reached_on : (left rest old held mid new : Option (List ℕ)) (p q : Playing
 reached_on left rest old held mid new p q number line done next behind t k did h =
     reached_next left rest old held mid new p number line did.0 next behind t k did.1 did.2 (subst (λ x. PlaysUpTo rest mid new x (number + 1) next behind) did.3 h)
 
--- Playing the lines from here up to a line amounts to playing all lines from the start up to that
--- line.
+-- Playing the lines from here up to a line, after those before, plays all lines from the start up
+-- to that line.
 abbrev pub Leads : Option (List ℕ) → Option (List ℕ) → Playing → ℕ → Option (List ℕ) → Option (List ℕ) → Playing → Option (List ℕ) → Type 0
 Leads here old p number start first q new = (next : ℕ) (behind : List (List ℕ)) → PlaysUpTo here old new p number next behind → PlaysUpTo start first new q 1 next behind
 
--- the reader failed at this point of the script
+-- If the reader fails at this point, the script was played up to the reader's failure.
 stopped_by_reader : (here left old new start first : Option (List ℕ)) (p q : Playing) (number : ℕ) → LosesStart here left → Keeps old new → Leads here old p number start first q new → PlaysToFailure start left first new q
 stopped_by_reader here left old new None first p q number t k leads = tt
 stopped_by_reader None left old new (Some text) first p q number t k leads = absurd (let never : ⊥ = omega (arith, (leads 0 [] tt).2) in never)
@@ -125,7 +126,7 @@ stopped_by_reader (Some rest) None old new (Some text) first p q number t k lead
 stopped_by_reader (Some rest) (Some left) old new (Some text) first p q number t k leads =
     (t.0, number, t.1, leads number (lines_of (t.0 ++ left)) ([], ap lines_of t.2, omega arith, (kept old new k, refl)))
 
--- if no line was found, no other faults than these are possible
+-- If no line was found, only these faults are possible.
 pub failed_read : (here left old new start first : Option (List ℕ)) (p q : Playing) (number : ℕ) (fault : ScriptFault) → OnUnread {X = Bool} (Err fault) (LosesStart here left) → UnlessFailed {X = Bool} (Err fault) (Keeps old new)
     → Leads here old p number start first q new → OnUnread {X = Unit {0}} (Err fault) (PlaysToFailure start left first new q)
 failed_read here left old new start first p q number (Line bad) t k leads = tt
@@ -151,7 +152,7 @@ failed_with_memory here rest number Write line found = tt
 failed_with_memory here rest number Save line found = tt
 failed_with_memory here rest number NoMemory line found = absurd found
 
--- the fault Read does not occur at a line
+-- At a line the fault Read does not occur.
 pub stopped_read : (number : ℕ) (fault : LineFault) (fact : Type 0) → OnUnread {X = Unit {0}} (Err (fault_at number fault)) fact
 stopped_read number stop.Bad fact = tt
 stopped_read number stop.Write fact = tt
@@ -238,7 +239,7 @@ start_lost (Some text) (Some more) None line rest start h k e unbroken = absurd 
 start_lost (Some text) (Some more) (Some last) line rest start h k e unbroken =
     (start, unbroken, sym h ∙ ap (λ (l : List ℕ). l ++ more) (sym e) ∙ ap (λ (l : List ℕ). start ++ l) (sym k))
 
--- a read returned some bytes, or was the last one
+-- A read either returned some bytes or was the last one.
 pub reads_on : (was now : Bool) (line rest longer more : ℕ) → was ≡ false → longer ≡ line + rest → longer ≤ 65536 → now ≡ (more == 0) → cond now 0 (1 + (2 * (65536 - longer) + (1 - more))) < cond was 0 (1 + (2 * (65536 - line) + (1 - rest)))
 reads_on true now line rest longer more w e limit n = absurd (false≢true (sym w))
 reads_on false true line rest longer more w e limit n = omega arith
@@ -294,7 +295,7 @@ ran_too_many start text before old mid written new q p (Err Write) a b c k d h =
 ran_too_many start text before old mid written new q p (Err Save) a b c k d h = tt
 ran_too_many start text before old mid written new q p (Err NoMemory) a b c k d h = tt
 
--- the failure that a fault reports has still occurred, if the writer's marks are unchanged
+-- If the writer's marks are unchanged, the failure that a fault reports still counts.
 pub theirs_yet : (result : Result (Unit {0}) ScriptFault) (reader old new : Marks) (unsaved still : Bool) → new ≡ old → (unsaved ≡ true → still ≡ true) → AreTheirs result reader old unsaved → AreTheirs result reader new still
 theirs_yet (Ok done) reader old new unsaved still e stays h = tt
 theirs_yet (Err (Line bad)) reader old new unsaved still e stays h = tt

@@ -13,7 +13,7 @@ use Rattle.tpmsim_script.specs.Line.{lines_of}
 abbrev pub left : (waited number : ℕ) → (text : List ℕ) → List Fault
 left waited number text = faults_of waited number (take (1048577 - number) (lines_of text))
 
--- one line fewer remains
+-- If a line is checked, one line fewer remains.
 pub left_more : (waited number : ℕ) (text line others : List ℕ) → number ≤ 1048576 → lines_of text ≡ line ∷ lines_of others
     → left waited number text ≡ fault_at (line_check waited line) number line ++ left (waited_behind (line_check waited line) waited) (number + 1) others
 left_more waited number text line others small e =
@@ -24,7 +24,7 @@ take_none : (count : ℕ) → take count (lines_of []) ≡ []
 take_none zero = refl
 take_none (suc count) = refl
 
--- no line of an empty text remains
+-- If a text is empty, no line of it remains.
 pub left_none : (waited number : ℕ) (text : List ℕ) → length text ≡ 0 → left waited number text ≡ []
 left_none waited number [] e = ap (faults_of waited number) (take_none (1048577 - number))
 left_none waited number (byte ∷ text) e = absurd cc
@@ -55,7 +55,7 @@ some_line : (byte : ℕ) (lines : List (List ℕ)) → 0 < length (onto_first by
 some_line byte [] = omega arith
 some_line byte (line ∷ lines) = omega arith
 
--- a non-empty text has a line
+-- If a text is not empty, it has a line.
 pub some_lines : (text : List ℕ) → 0 < length text → 0 < length (lines_of text)
 some_lines [] some = some
 some_lines (byte ∷ text) some = by_break (byte == 10)
@@ -101,7 +101,7 @@ turned old new first next waited after number rest line others whole whole_first
       count_is = count_more rest line others number lines cut sofar.count_is;
     }
 
--- if no fault remains, the faults so far are all
+-- If no fault remains, the faults so far are all.
 all_told : (text : List ℕ) (first : Option ℕ) (waited number : ℕ) (rest whole : List ℕ) (whole_first : Option ℕ) (lines : ℕ)
     → left waited number rest ≡ [] → SoFar text first waited number rest whole whole_first lines → (text ≡ whole) × (first ≡ whole_first)
 all_told text first waited number rest whole whole_first lines none sofar = (
@@ -122,14 +122,15 @@ no_lines : (text : List ℕ) → length text ≡ 0 → length (lines_of text) �
 no_lines [] e = refl
 no_lines (byte ∷ text) e = absurd cc
 
--- if no text remains, a script does not exceed the limit on lines
+-- If no text remains, the script does not exceed the limit on lines.
 pub no_more : (text : List ℕ) (first : Option ℕ) (waited number : ℕ) (rest whole : List ℕ) (whole_first : Option ℕ) (lines : ℕ)
     → number ≤ 1048576 → length rest ≡ 0 → SoFar text first waited number rest whole whole_first lines → nat_lt 1048576 lines ≡ not (length rest == 0)
 no_more text first waited number rest whole whole_first lines small none sofar =
     let gone = no_lines rest none in
     le-ltb 1048576 lines (omega (arith, small, gone, sofar.count_is)) ∙ sym (ap not (eq-eqb (length rest) 0 none))
 
--- whether a script exceeds the limit on lines, given the number of lines before the rest
+-- The number of lines before the rest, and the rest, decide whether a script exceeds the limit on
+-- lines.
 more_by : (rest : List ℕ) (lines : ℕ) → length (lines_of rest) + 1048577 ≡ lines + 1 → nat_lt 1048576 lines ≡ not (length rest == 0)
 more_by [] lines count = le-ltb 1048576 lines (omega (arith, count))
 more_by (byte ∷ rest) lines count =

@@ -10,7 +10,7 @@ pub starts : (traced : Bool) (locality waited : ℕ) (random : List ℕ) (device
 unfolding at_first
 starts traced locality waited random device l w r = λ i. record { traced = traced; locality = l i; waited = w i; random = r i; device = device }
 
--- a list of 256 bytes, each equal to its position, consists of the bytes 00 to ff
+-- If a list has 256 bytes, and each is its own position, they are the bytes 00 to ff.
 pub counted_up : (bytes : List ℕ) → length bytes ≡ 256 → ((place : ℕ) → place < 256 → slice_index bytes place ≡ place) → bytes ≡ script_bytes
 counted_up bytes size each =
     same_number_lists bytes script_bytes (size ∙ sym (length-range_with_len 0 256))

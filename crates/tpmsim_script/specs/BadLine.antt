@@ -1,5 +1,5 @@
--- Why a line is not allowed in a script. Columns are counted in the text after the line's first
--- word and the space.
+-- The reasons why a line is not allowed in a script. Columns are counted in the text after the
+-- line's first word and the space.
 use Rattle.std.specs.Prelude.{List, ℕ, is_some, if◌then◌else◌}
 use Rattle.tpm_number.specs.Number.{numeral}
 use Rattle.tpm_text.specs.declared.fault.AsmFault.{AsmFault}

@@ -1,4 +1,4 @@
--- What is wrong with the lines of a script, found without running them.
+-- The faults in the lines of a script, found without running them.
 use Rattle.std.specs.Prelude.{◌≡◌, ℕ, ◌+◌, ◌^◌, ◌&&◌, nat_le, nat_lt, not, if◌then◌else◌}
 use Rattle.std.specs.Prelude.{List, [], ◌∷◌, ◌++◌, length, Option, Some, None, Result, Ok, Err, ok_or}
 use Rattle.tpm_bytes.specs.Reading.{◌>>=◌, refused_if}
@@ -10,7 +10,8 @@ use Rattle.tpmsim_script.specs.Line.{SetsEntropy, CyclesPower, DoesNothing, byte
 use Rattle.tpmsim_script.specs.declared.bad_line.BadLine.{BadLine}
 use Rattle.tpmsim_script.specs.declared.bad_line.Wanted.TheVariants as wanted
 
--- the elapsed milliseconds for the command after a command in words, or why the line is bad
+-- the elapsed milliseconds for the command after a command in words, or the reason why the line is
+-- bad
 abbrev pub assembly_check : Result (List ℕ) AsmFault → Result ℕ BadLine
 assembly_check (Ok buffer) = Ok 0
 assembly_check (Err fault) = Err (record { fault = fault; wanted = wanted.Command })
@@ -27,8 +28,8 @@ entropy_check waited entropy =
     if nat_lt 0 (length entropy) && nat_le (length entropy) 256 then Ok waited
     else Err (misplaced wanted.Entropy)
 
--- the elapsed milliseconds for the next command after a line, or why the line is bad; `waited` is
--- the elapsed time before the line
+-- the elapsed milliseconds for the next command after a line, or the reason why the line is bad;
+-- `waited` is the elapsed time before the line
 abbrev pub check : (waited : ℕ) → Meaning → Result ℕ BadLine
 check waited (Executes digits) = do
   buffer ← ok_or (bytes_of digits) (misplaced wanted.Hex)
@@ -42,8 +43,8 @@ check waited (SetsEntropy digits) = do
 check waited CyclesPower = Ok waited
 check waited DoesNothing = Ok waited
 
--- the elapsed milliseconds for the next command after a line, or why the line is bad; every line
--- of over 65,536 bytes is bad
+-- the elapsed milliseconds for the next command after a line, or the reason why the line is bad;
+-- every line of over 65,536 bytes is bad
 unfoldable pub line_check : (waited : ℕ) → List ℕ → Result ℕ BadLine
 line_check waited line = do
   short ← refused_if (not (nat_le (length line) 65536)) long_line
@@ -56,7 +57,7 @@ abbrev pub Checks : Result ℕ BadLine → (old : ℕ) → Result (Unit {0}) Bad
 Checks defined old (Ok done) new = defined ≡ Ok new
 Checks defined old (Err bad) new = (defined ≡ Err bad) × (new ≡ old)
 
--- a bad line: its number, its text, and what is wrong with it
+-- a bad line: its number, its text, and its fault
 pub record Fault : Type 0 where
   pub number : ℕ
   pub line : List ℕ

@@ -53,10 +53,10 @@ Counts (Err (fault.Line number)) count = number ≡ count + 1
 Counts (Err fault.TooManyLines) count = count ≡ 1048576
 Counts other count = Unit {0}
 
--- The lines from this state on that were not played. There are none if the run ended well. If it
--- stopped at a bad line, they are that line and all later ones. If the reader failed, they are
--- the line that it had begun to return and all later ones (`left` is what the reader still has).
--- If there were too many lines, at least one was not played.
+-- The lines from this state on that were not played. If the run ended well, there are none. If it
+-- stopped at a bad line, they are that line and all later ones. If the reader failed, they are the
+-- line that it had begun to return and all later ones (`left` is what the reader has not
+-- returned). If there were too many lines, at least one was not played.
 abbrev pub Leaves : Result (Unit {0}) ScriptFault → (left : Option (List ℕ)) → Playing
     → List (List ℕ) → Type 0
 Leaves (Ok done) left p rest = rest ≡ []

@@ -36,7 +36,7 @@ pub data Meaning : Type 0 where
 abbrev pub bytes_of : List ℕ → Option (List ℕ)
 bytes_of digits = result_ok (decode_of digits)
 
--- the meaning of a line of one word, or why it is bad
+-- the meaning of a line of one word, or the reason why it is bad
 unfoldable pub reading_alone : List ℕ → Result Meaning BadLine
 reading_alone word =
     if is_word (codes "cmd") word then Ok (Executes [])
@@ -58,7 +58,7 @@ abbrev pub wait_reading : List ℕ → Result Meaning BadLine
 wait_reading argument = ok_or (option_map Waits (decimal_of argument))
     (number_fault argument wanted.Milliseconds)
 
--- the meaning of a line of a word, a space and an argument, or why it is bad
+-- the meaning of a line of a word, a space and an argument, or the reason why it is bad
 unfoldable pub reading_with : List ℕ → List ℕ → Result Meaning BadLine
 reading_with word argument =
     if is_word (codes "cmd") word then Ok (Executes argument)
@@ -74,8 +74,8 @@ abbrev pub reading_by : Option ℕ → List ℕ → Result Meaning BadLine
 reading_by None text = reading_alone text
 reading_by (Some space) text = reading_with (take space text) (drop (space + 1) text)
 
--- the meaning of a line, or why it is bad; a line that is empty or begins with # is good and has
--- no effect
+-- the meaning of a line, or the reason why it is bad; a line that is empty or begins with # is
+-- good and has no effect
 unfoldable pub line_reading : List ℕ → Result Meaning BadLine
 line_reading [] = Ok DoesNothing
 line_reading (first ∷ text) =

@@ -20,8 +20,8 @@ rest_of lines = slice_range lines.bytes.items lines.next lines.filled
 abbrev pub IsUnbroken : List ℕ → Type 0
 IsUnbroken bytes = All (λ byte. (byte == 10) ≡ false) bytes
 
--- what is found after the last byte that was read: more may come, or the reader has ended, at the
--- end of a line or within one
+-- the finding after the last byte that was read: that more may follow, or that the reader has
+-- ended, at the end of a line or within one
 abbrev pub next_at : Bool → List ℕ → Next
 next_at false line = Incomplete
 next_at true [] = End
@@ -37,8 +37,8 @@ BeginsTooLong text =
     (line : List ℕ) × (rest : List (List ℕ))
     × (lines_of text ≡ line ∷ rest) × (65536 < length line)
 
--- What was found. Whatever the reader returns from now on, the next line is this one, or is too
--- long, or is incomplete, or there is no next line.
+-- The next line is found as follows: whatever the reader returns from now on, the next line is
+-- this one, or is too long, or is incomplete, or there is no next line.
 abbrev pub Finds : Lines → Next → Lines → Type 0
 Finds old Line new = (more : List ℕ) → MayFollow old more
     → lines_of (line_of old ++ (rest_of old ++ more))
@@ -53,16 +53,17 @@ Finds old End new = (line_of old ++ rest_of old ≡ []) × (rest_of new ≡ []) 
 abbrev pub Agrees : Option (List ℕ) → Lines → Type 0
 Agrees remaining lines = lines.ended ≡ true → IsAtEnd remaining
 
--- the rest of a script after the line that was found last, if it is known what the reader returns
+-- the rest of a script after the line that was found last, if it is known what the reader will
+-- return
 abbrev pub text_left : Option (List ℕ) → Lines → Option (List ℕ)
 text_left remaining lines = prepend_known (rest_of lines) remaining
 
--- A text lost its first line, which is this one.
+-- The first line of a text was read, and it is this one.
 abbrev pub LosesFirstLine : Option (List ℕ) → List ℕ → Option (List ℕ) → Type 0
 LosesFirstLine None line new = Unit {0}
 LosesFirstLine (Some text) line None = ⊥
 LosesFirstLine (Some text) line (Some rest) = lines_of text ≡ line ∷ lines_of rest
 
--- A text lost bytes at its beginning, none of which ends a line.
+-- Bytes at the beginning of a text were read, and none of them ends a line.
 abbrev pub LosesStart : Option (List ℕ) → Option (List ℕ) → Type 0
 LosesStart old new = (start : List ℕ) × IsUnbroken start × Consumes old new start

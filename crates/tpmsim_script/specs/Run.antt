@@ -9,7 +9,7 @@ use Rattle.tpmsim_script.specs.declared.fault.ScriptFault.{ScriptFault}
 use Rattle.tpmsim_script.specs.declared.fault.ScriptFault.TheVariants as fault
 
 -- P holds for None if a run ended well, and for the number of the bad line if the run stopped at
--- one. After other faults P is not claimed.
+-- one. If the run ended with another fault, P is not claimed.
 abbrev pub Ran : (Option ℕ → Type 0) → Result (Unit {0}) ScriptFault → Type 0
 Ran P (Ok done) = P None
 Ran P (Err (fault.Line number)) = P (Some number)
@@ -49,9 +49,9 @@ AreTheirs (Err fault.Write) reader writer unsaved = writer.failed ≡ true
 AreTheirs (Err fault.Save) reader writer unsaved = unsaved ≡ true
 AreTheirs other reader writer unsaved = Unit {0}
 
--- The lines before the line `next` were played from `p` on, and `number` is the number of the
--- first. None is bad; their output was written after the old contents of the writer (`old`).
--- `rest` contains the remaining lines.
+-- The lines before the line `next` were played from `p` on; `number` is the number of the first of
+-- them. None is bad; their output was written after the old contents of the writer (`old`). `rest`
+-- contains the remaining lines.
 abbrev pub PlaysUpTo : Option (List ℕ) → Option (List ℕ) → Option (List ℕ)
     → Playing → ℕ → ℕ → List (List ℕ) → Type 0
 PlaysUpTo None old new p number next rest = Unit {0}
@@ -59,8 +59,8 @@ PlaysUpTo (Some text) old new p number next rest =
     (played : List (List ℕ)) × (lines_of text ≡ played ++ rest)
     × (next ≡ number + length played) × IsOutput old new None (play p number played)
 
--- The reader failed with `left` still to be returned. It had returned the lines that were played,
--- none of them bad, and the start of one more.
+-- The reader failed, and has not returned `left`. It had returned the lines that were played, none
+-- of them bad, and the start of one more.
 abbrev pub PlaysToFailure : Option (List ℕ) → Option (List ℕ)
     → Option (List ℕ) → Option (List ℕ) → Playing → Type 0
 PlaysToFailure None left old new p = Unit {0}

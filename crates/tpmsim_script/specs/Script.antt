@@ -1,4 +1,4 @@
--- What a script prints. A device plays the script's lines in order; the response to each command
+-- The output of a script. A device plays the script's lines in order; the response to each command
 -- is a line of hex, preceded by a trace if requested.
 use Rattle.std.specs.Prelude.{◌≡◌, ℕ, ◌+◌, ◌%◌, ◌^◌, ◌&&◌, nat_le, nat_lt, Bool, if◌then◌else◌}
 use Rattle.std.specs.Prelude.{List, [], ◌∷◌, ◌++◌, length, map, replicate, slice_index}
@@ -56,7 +56,7 @@ at_first traced device = record {
   device = device;
 }
 
--- 256 random bytes that repeat these bytes
+-- the 256 bytes of an event's randomness: these bytes, repeated
 unfoldable pub repeated : List ℕ → List ℕ
 repeated entropy =
     map (λ place. slice_index entropy (place % length entropy)) (range_with_len 0 256)
@@ -131,7 +131,7 @@ unfoldable pub perform_line : Playing → List ℕ → Option Effect
 perform_line p line =
     if nat_le (length line) 65536 then option_and_then (perform p) (line_meaning line) else None
 
--- what a script prints, and the number of its first bad line, if any; the lines after that line
+-- the output of a script, and the number of its first bad line, if any; the lines after that line
 -- have no effect
 pub record Output : Type 0 where
   pub text : List ℕ
@@ -144,7 +144,7 @@ abbrev pub output_with : Option Effect → ℕ → (Playing → Output) → Outp
 output_with None number rest = record { text = []; bad = Some number }
 output_with (Some effect) number rest = output_before effect.text (rest effect.next)
 
--- what these lines print; `number` is the number of the first line
+-- the output of these lines; `number` is the number of the first line
 abbrev pub play : Playing → ℕ → List (List ℕ) → Output
 play p number [] = record { text = []; bad = None }
 play p number (line ∷ lines) =

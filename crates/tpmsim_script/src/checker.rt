@@ -12,7 +12,8 @@ use crate::script::Script;
 use std::alloc::{AllocError, Global};
 use tpm_text::AsmFault;
 
-/// Checks lines, one after another. It remembers what the earlier lines set for the next command.
+/// Checks lines, one after another. It remembers the values that the earlier lines set for the
+/// next command.
 #[derive(Drop)]
 pub struct Checker {
     script: Script,

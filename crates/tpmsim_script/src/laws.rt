@@ -1,4 +1,4 @@
-//! The laws of the check: it finds the same bad line of a script as a run does.
+//! Checking a script finds the same bad line as running it.
 
 ghost use Rattle.std.specs.Prelude.{◌≡◌, ℕ, List, option_map};
 ghost use Rattle.std.specs.Result.{result_ok};

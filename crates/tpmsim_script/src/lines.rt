@@ -16,7 +16,7 @@ pub const LINE_LIMIT: usize = 65_536;
 /// The largest number of bytes for one read.
 const CAPACITY: usize = 65_536;
 
-/// What comes next in the bytes that were read.
+/// The next line in the bytes that were read, or the reason why there is none.
 #[derive(Clone, Copy, PartialEq, Eq)]
 pub enum Next {
     /// A whole line, which [`Lines::line`] returns.
@@ -137,7 +137,7 @@ impl Lines {
         self.take(count, count)
     }
 
-    /// What comes next if all bytes that were read belong to the line.
+    /// The finding if all bytes that were read belong to the line.
     fn stopped(&self) -> Next
         ensures { result ≡ next_at self.now.ended (line_of self.now) }
     {
@@ -150,8 +150,8 @@ impl Lines {
         }
     }
 
-    /// Reads more bytes, with one read of the reader. No line of output may be waiting at that
-    /// time: the author of a script may need it before writing the next line.
+    /// Reads more bytes, with one read of the reader. All output must have been written by then:
+    /// the author of a script may need it before writing the next line.
     pub fn fill<R: Read>(&mut self, reader: &mut Tap<R>, _answers: &Answers) -> Result<(), Failed>
         requires rest { rest_of self.old ≡ [] }
         requires written { backlog _answers.now ≡ [] }

@@ -8,7 +8,7 @@ use crate::fault::ScriptFault;
 use crate::findings::Findings;
 use std::alloc::{AllocError, Global};
 
-/// What is wrong with the lines of a script.
+/// The faults in the lines of a script.
 #[derive(Drop)]
 pub struct Report {
     /// One line of text for each bad line.

@@ -79,7 +79,7 @@ impl Script {
     }
 }
 
-/// 256 random bytes that repeat the given bytes.
+/// The given bytes, repeated to 256 bytes.
 pub fn repeated(entropy: &[u8]) -> [u8; 256]
     requires { 0 < length entropy.now }
     ensures { result ≡ repeated entropy.now }

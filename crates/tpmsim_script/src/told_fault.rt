@@ -8,7 +8,7 @@ use std::fmt;
 use tpm_help::word_at;
 use tpm_text::AsmFault;
 
-/// A bad line: its number, what is wrong with it, and what is expected there.
+/// A bad line: its number, its fault, and what is expected there.
 #[derive(Clone, Copy)]
 pub struct ToldFault {
     pub number: u32,

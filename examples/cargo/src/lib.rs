@@ -1,6 +1,7 @@
-//! What is tested: random bytes of a TPM, which is whatever takes a command and answers it.
+//! The code under test: it gets random bytes from a TPM, which is any function from a command
+//! to a response.
 
-/// Sends TPM2_GetRandom; the response code if the TPM refuses.
+/// Sends TPM2_GetRandom. Returns the bytes, or the response code if the TPM refuses.
 pub fn random_bytes(send: &mut dyn FnMut(&[u8]) -> Vec<u8>, count: u16) -> Result<Vec<u8>, u32> {
     let mut command = vec![0x80, 1, 0, 0, 0, 12, 0, 0, 1, 0x7b];
     command.extend(count.to_be_bytes());

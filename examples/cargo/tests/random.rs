@@ -1,4 +1,4 @@
-//! Each test has a device of its own, in parallel.
+//! Each test has its own device, and the tests run in parallel.
 
 use tpmsim::Device;
 use vault::random_bytes;

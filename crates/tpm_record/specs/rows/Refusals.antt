@@ -1,5 +1,5 @@
--- The refusals of rows, except those because of parameters, which are in Rows. TPM 2.0 Library,
--- Part 3: the response codes of each command.
+-- The refusals of rows, except those because of parameters, which are defined in Rows. TPM 2.0
+-- Library, Part 3: the response codes of each command.
 use Rattle.std.specs.Prelude.{ℕ, Result, Ok, Err}
 use Rattle.tpm_types.specs.declared.action_check.ActionCheck.{ActionCheck}
 use Rattle.tpm_types.specs.declared.action_fault.ActionFault.{ActionFault}
