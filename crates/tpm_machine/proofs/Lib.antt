@@ -5,5 +5,6 @@ pub mod Accepting
 pub mod Running
 pub mod Histories
 pub mod Modesty
+pub mod Placing
 pub mod Following
 mod Nonces

@@ -5,7 +5,7 @@ use Rattle.tpm_record.specs.Tick.{ticked}
 use Rattle.tpm_types.specs.Check.{check_number}
 use Rattle.tpm_types.specs.declared.check.Check.{Check}
 use Rattle.tpm_types.specs.declared.check.Check.TheVariants as check
-use Rattle.tpm_step.specs.Events.{PlainEvent, Given, Cycled}
+use Rattle.tpm_step.specs.Events.{PlainEvent, Given, Cycled, Placed}
 use Rattle.tpm_step.specs.Safe.{AcceptsModestly, IsModest, IsModestIfAccepted}
 use Rattle.tpm_step.specs.Step.{Accepted, Stepped, Steps, accepted, answer_where}
 use Rattle.tpm_step.specs.declared.refused_command.RefusedCommand.{RefusedCommand}
@@ -32,6 +32,7 @@ is_accepted true t random (Err e) zero modest = absurd (check_some e.refused.che
 
 pub accepts_modestly : (can : Bool) (r : Record) (event : PlainEvent) (x : Stepped) → Steps can r event x → x.row.check ≡ 0 → IsModestIfAccepted r event → AcceptsModestly r event
 accepts_modestly can r Cycled x steps zero modest = tt
+accepts_modestly can r (Placed object) x steps zero modest = tt
 accepts_modestly can r (Given buffer locality elapsed random) x (refused, only, is) zero modest =
     let t = ticked r elapsed in
     is_accepted refused t random (accepted t buffer locality random) (ap (λ (s : Stepped). s.row.check) (sym is) ∙ zero) modest

@@ -9,7 +9,7 @@ use Rattle.tpm_types.specs.declared.refused.Refused.{Refused}
 use Rattle.tpm_types.specs.Check.{check_number}
 use Rattle.tpm_record.specs.rows.Refusals.{memory_refusal}
 use Rattle.tpm_step.specs.Answer.{refusal_text}
-use Rattle.tpm_step.specs.Events.{PlainEvent, Given, Cycled}
+use Rattle.tpm_step.specs.Events.{PlainEvent, Given, Cycled, Placed}
 use Rattle.tpm_step.specs.General.{in_command}
 use Rattle.tpm_step.specs.Safe.{IsHarmless}
 use Rattle.tpm_step.specs.Step.{Accepted, Answers, RefusesOrWantsMemory, Stepped, Steps, refusal_step, accepted, stepped_of, counted_in, refusal_without_memory, answer_without_memory, step, step_where, success_step}
@@ -37,9 +37,11 @@ step_harmless : (refused : Bool) (r : Record) (event : PlainEvent) → IsHarmles
 step_harmless false r (Given buffer locality elapsed random) =
     answer_leaves (ticked r elapsed) random (accepted (ticked r elapsed) buffer locality random)
 step_harmless false r Cycled = λ refused. absurd (refused refl)
+step_harmless false r (Placed object) = λ refused. absurd (refused refl)
 step_harmless true r (Given buffer locality elapsed random) =
     answer_without_memory_leaves (ticked r elapsed) random (accepted (ticked r elapsed) buffer locality random)
 step_harmless true r Cycled = λ refused. absurd (refused refl)
+step_harmless true r (Placed object) = λ refused. absurd (refused refl)
 
 pub steps_harmless : (can : Bool) (r : Record) (event : PlainEvent) (x : Stepped) → Steps can r event x → IsHarmless r event x
 steps_harmless can r event x (refused, only, is) = rw is (step_harmless refused r event)

@@ -4,7 +4,7 @@ use Rattle.tpm_types_command.specs.AuthEntry.{Entry}
 use Rattle.tpm_record.specs.Record.{Record}
 use Rattle.tpm_record.specs.Tick.{ticked}
 use Rattle.tpm_step.specs.Entries.{entries_rolled}
-use Rattle.tpm_step.specs.Events.{PlainEvent, Given, Cycled}
+use Rattle.tpm_step.specs.Events.{PlainEvent, Given, Cycled, Placed}
 use Rattle.tpm_step.specs.Step.{Accepted, accepted}
 
 -- how many of the random bytes are drawn by a row, which draws `drawn`, and for the new nonces of
@@ -26,3 +26,4 @@ abbrev pub drawn_by : Record → PlainEvent → (check : ℕ) → ℕ
 drawn_by r (Given buffer locality elapsed random) check =
     drawn_by_command random (accepted (ticked r elapsed) buffer locality random) check
 drawn_by r Cycled check = 0
+drawn_by r (Placed object) check = 0

@@ -1,6 +1,8 @@
 pub mod State
 pub mod Latest
 pub mod Drawn
+pub mod Placing
+pub use Rattle.tpm_step.specs.Placing as PlacedObjects
 pub use Rattle.tpm_step.specs.Events
 pub use Rattle.tpm_step.specs.Step
 pub use Rattle.tpm_step.specs.Run

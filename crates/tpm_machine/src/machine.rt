@@ -22,6 +22,8 @@ ghost use Rattle.tpm_step.specs.History.{History};
 ghost use Rattle.tpm_step.specs.PolicyUses.{AllMeetPolicies};
 ghost use Rattle.tpm_step.specs.Replays.{ReplaysRepeat};
 
+mod placing;
+
 use crate::decoding::decode;
 use crate::response::{write_refusal, write_success};
 use crate::table::accept;

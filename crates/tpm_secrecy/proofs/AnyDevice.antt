@@ -24,7 +24,7 @@ use Rattle.tpm_session.specs.declared.session.Session.{Session}
 use Rattle.tpm_step.proofs.Binding.{asked, ok_at, ok_bind_is, ok_checked, ok_then}
 use Rattle.tpm_step.proofs.UseGrounds.{Passes, hash_one, use_passed}
 use Rattle.tpm_step.proofs.rows.Acceptance.{accepted_is}
-use Rattle.tpm_step.specs.Events.{Cycled, Given, PlainEvent}
+use Rattle.tpm_step.specs.Events.{Cycled, Given, Placed, PlainEvent}
 use Rattle.tpm_step.specs.General.{general}
 use Rattle.tpm_step.specs.Step.{Accepted, accepted, request_in}
 use Rattle.tpm_step.specs.rows.Handles.{HandlesFit}
@@ -227,6 +227,7 @@ accepted_reading objects old (Given buffer locality elapsed random) is =
     accepts_reading objects old buffer locality elapsed random
     (read_decoded objects (ticked old elapsed) buffer locality random (general (ticked old elapsed) buffer) refl is)
 accepted_reading objects old Cycled is = absurd (false≢true is)
+accepted_reading objects old (Placed object) is = absurd (false≢true is)
 
 pub sealed_data_need_digest : SealedDataNeedDigest
 sealed_data_need_digest objects can old event x executes =

@@ -1,5 +1,5 @@
 -- If only data is secret, no entry uses a secret, and no entry is a guess.
-use Rattle.std.proofs.Common.{ap, refl, sym, ◌∙◌}
+use Rattle.std.proofs.Common.{ap, inl, inr, refl, subst, sym, ◌∙◌}
 use Rattle.std.proofs.lemmas.Bool.{false≢true}
 use Rattle.std.specs.Option.{option_map_or}
 use Rattle.std.specs.Prelude.{Bool, Err, IfOk, IfSome, List, None, Ok, Option, Result, Some, [], false, option_map, slice_get, true, ℕ, ◌&&◌, ◌+◌, ◌||◌, ◌∷◌, ◌≡◌}
@@ -15,7 +15,7 @@ use Rattle.tpm_record.specs.Tick.{ticked}
 use Rattle.tpm_session.specs.Sessions.{session_at}
 use Rattle.tpm_session.specs.declared.session.Binding.{Binding}
 use Rattle.tpm_session.specs.declared.session.Session.{Session}
-use Rattle.tpm_step.specs.Events.{Cycled, Given, PlainEvent}
+use Rattle.tpm_step.specs.Events.{Cycled, Given, Placed, PlainEvent}
 use Rattle.tpm_step.specs.General.{general}
 use Rattle.tpm_step.specs.Granted.{Granted, granted_entries}
 use Rattle.tpm_step.specs.Step.{request_in, step_where}
@@ -31,9 +31,9 @@ use Rattle.tpm_types_command.specs.Command.{Whole}
 use Rattle.tpm_types_object.specs.declared.public.Public.{Public}
 use Rattle.tpm_row_secrecy.specs.Reads.{reads_secret}
 use Rattle.tpm_row_secrecy.specs.Secrecy.{CoversKeys, DifferInSecrets, Secrecy, entity_has_secret_value, has_secret_key, of_data}
-use Rattle.tpm_secrecy.proofs.Stepping.{authorized_same, general_same, reads_both, requests_same, runs_on, told_nothing}
+use Rattle.tpm_secrecy.proofs.Stepping.{authorized_same, general_same, reads_both, requests_same, runs_on, same_event, told_nothing}
 use Rattle.tpm_secrecy.specs.Guesses.{BindingHolds, BindingsHold, GuessesFail, NoneUses, authorizes_secret, demand_uses, demands_value, guesses_by, is_hmac_session, session_guesses, session_uses, uses_by, uses_encryption}
-use Rattle.tpm_secrecy.specs.Tells.{EventKeepsSecrets, EventTellsNothing, KeepsSecrets, ReadOnBoth, RunTellsNothing, TellsNothing, command_reads, decoded_reads, granted_reads, is_reading}
+use Rattle.tpm_secrecy.specs.Tells.{EventKeepsSecrets, EventTellsNothing, EventsAlike, KeepsSecrets, ReadOnBoth, RunTellsNothing, TellsNothing, command_reads, decoded_reads, granted_reads, is_reading}
 use Rattle.tpm_types.specs.declared.handle.SessionKind.TheVariants as kind
 
 module _ (indices : ℕ → Bool) (objects : Public → Bool) where
@@ -128,6 +128,7 @@ module _ (indices : ℕ → Bool) (objects : Public → Bool) where
       by (Ok c) free = keeps (ticked r elapsed) c locality random free
       by (Err e) free = tt
   event_keeps r Cycled free = tt
+  event_keeps r (Placed object) free = tt
 
   -- ---- an event reads the data on both devices, or on neither
 
@@ -153,20 +154,36 @@ module _ (indices : ℕ → Bool) (objects : Public → Bool) where
       ap (decoded_reads data_alone (ticked r elapsed) locality random) (general_same data_alone (ticked r elapsed) (ticked t elapsed) differs buffer)
       ∙ decoded_both (ticked r elapsed) (ticked t elapsed) differs locality random (general (ticked t elapsed) buffer)
   reading_both r t Cycled differ = refl
+  reading_both r t (Placed object) differ = refl
+
+  reading_alike : (r : Record) (event also : PlainEvent) → EventsAlike data_alone event also → is_reading data_alone r event ≡ is_reading data_alone r also
+  reading_alike r event also alike =
+      elim (same_event data_alone covers event also alike) [
+        | inl same ↦ ap (is_reading data_alone r) same
+        | inr objects ↦ ap (is_reading data_alone r) objects.2 ∙ sym (ap (is_reading data_alone r) objects.3)
+      ]
+
+  pub alike_told_nothing : (one other : Record) (refused : Bool) (event also : PlainEvent) → DifferInSecrets data_alone one other → EventsAlike data_alone event also → is_reading data_alone one event ≡ false → TellsNothing data_alone (step_where refused one event) (step_where refused other also)
+  alike_told_nothing one other refused event also differ alike free =
+      told_nothing data_alone covers refused one other event also differ alike (event_keeps one event free)
+      (event_keeps other also (sym (reading_both one other event differ ∙ reading_alike other event also alike) ∙ free))
 
   pub data_told_nothing : (one other : Record) (refused : Bool) (event : PlainEvent) → DifferInSecrets data_alone one other → is_reading data_alone one event ≡ false → TellsNothing data_alone (step_where refused one event) (step_where refused other event)
-  data_told_nothing one other refused event differ free =
-      told_nothing data_alone covers refused one other event differ (event_keeps one event free)
-      (event_keeps other event (sym (reading_both one other event differ) ∙ free))
+  data_told_nothing one other refused event differ free = alike_told_nothing one other refused event event differ refl free
 
 pub event_tells_nothing : EventTellsNothing
-event_tells_nothing indices objects one other refused event differ free = data_told_nothing indices objects one other refused event differ free
+event_tells_nothing indices objects one other refused event also differ alike free = alike_told_nothing indices objects one other refused event also differ alike free
 
 pub read_on_both : ReadOnBoth
 read_on_both indices objects one other event differ = reading_both indices objects one other event differ
 
 pub run_tells_nothing : RunTellsNothing
-run_tells_nothing indices objects one other [] differ none = record { answers = refl; after = differ }
-run_tells_nothing indices objects one other (e ∷ es) differ none =
-    let this = data_told_nothing indices objects one other e.0 e.1 differ none.0 in
-    runs_on (of_data indices objects) one other e es this (run_tells_nothing indices objects (step_where e.0 one e.1).after (step_where e.0 other e.1).after es this.after none.1)
+run_tells_nothing indices objects one other [] [] differ alike none = record { answers = refl; after = differ }
+run_tells_nothing indices objects one other [] (f ∷ fs) differ alike none = absurd alike
+run_tells_nothing indices objects one other (e ∷ es) [] differ alike none = absurd alike
+run_tells_nothing indices objects one other (e ∷ es) (f ∷ fs) differ (flag, alike, others) none =
+    let s : Secrecy = of_data indices objects in
+    let this : TellsNothing s (step_where e.0 one e.1) (step_where f.0 other f.1) =
+    subst (λ (b : Bool). TellsNothing s (step_where e.0 one e.1) (step_where b other f.1)) flag
+    (alike_told_nothing indices objects one other e.0 e.1 f.1 differ alike none.0) in
+    runs_on s one other e f es fs this (run_tells_nothing indices objects (step_where e.0 one e.1).after (step_where f.0 other f.1).after es fs this.after others none.1)

@@ -18,7 +18,7 @@ use Rattle.tpm_step.proofs.Following.{execution_follows, manufactured_follows, s
 use Rattle.tpm_step.proofs.PolicyReviews.{object_needs}
 use Rattle.tpm_step.proofs.rows.Acceptance.{accepted_is}
 use Rattle.tpm_step.specs.EntryHmacs.{used_in}
-use Rattle.tpm_step.specs.Events.{Cycled, Given, PlainEvent}
+use Rattle.tpm_step.specs.Events.{Cycled, Given, Placed, PlainEvent}
 use Rattle.tpm_step.specs.Execution.{Executes}
 use Rattle.tpm_step.specs.Executions.{Execution, Leads, history_after, with_execution}
 use Rattle.tpm_step.specs.Follows.{Follows}
@@ -37,7 +37,7 @@ use Rattle.tpm_types_command.specs.Command.{Whole}
 use Rattle.tpm_types_object.specs.declared.public.Public.{Public}
 use Rattle.tpm_row_secrecy.specs.Reads.{reads_secret}
 use Rattle.tpm_row_secrecy.specs.Secrecy.{DifferInSecrets}
-use Rattle.tpm_secrecy.proofs.Data.{data_told_nothing}
+use Rattle.tpm_secrecy.proofs.Data.{alike_told_nothing}
 use Rattle.tpm_secrecy.proofs.Reading.{ReadsObject, first_used, first_viewed, never_grows, object_handle_fits, object_viewed, reading_code, reads_object}
 use Rattle.tpm_secrecy.specs.SealedData.{FollowedDataNeedPolicy, FollowedDataStayUntilRead, NoneIs, ReadsSealed, SealedDataNeedPolicy, SealedDataStayUntilRead, StaySealed, TellsNothingSealed, sealed}
 use Rattle.tpm_secrecy.specs.Tells.{TellsNothing, decoded_reads, granted_reads, is_reading}
@@ -46,11 +46,11 @@ use Rattle.tpm_types_object.specs.declared.object_attributes.ObjectAttribute.The
 -- ---- events that reveal nothing
 
 pub unread_tells_nothing : (objects : Public → Bool) (can : Bool) (old : Record) (event : PlainEvent) (x : Stepped) → Steps can old event x → is_reading (sealed objects) old event ≡ false → TellsNothingSealed objects can old event x
-unread_tells_nothing objects can old event x steps free other differ = (
-  step_where steps.0 other event,
+unread_tells_nothing objects can old event x steps free other also differ alike = (
+  step_where steps.0 other also,
   (steps.0, steps.1, refl),
-  subst (λ (z : Stepped). TellsNothing (sealed objects) z (step_where steps.0 other event)) (sym steps.2)
-      (data_told_nothing (λ number. false) objects old other steps.0 event differ free),
+  subst (λ (z : Stepped). TellsNothing (sealed objects) z (step_where steps.0 other also)) (sym steps.2)
+      (alike_told_nothing (λ number. false) objects old other steps.0 event also differ alike free),
 )
 
 -- ---- commands that read sealed data
@@ -166,6 +166,7 @@ module _ (objects : Public → Bool) (can : Bool) (old : Record) (history : Hist
   event_reading (Given buffer locality elapsed bytes) x executes is =
       recorded_reading buffer locality elapsed bytes x executes (read_decoded objects (ticked old elapsed) buffer locality bytes (general (ticked old elapsed) buffer) refl is)
   event_reading Cycled x executes is = absurd (false≢true is)
+  event_reading (Placed object) x executes is = absurd (false≢true is)
 
 pub followed_data_need_policy : FollowedDataNeedPolicy
 followed_data_need_policy objects can old history follows event x executes =
@@ -186,10 +187,10 @@ module _ (objects : Public → Bool) (can : Bool) (Holds : History → AcceptedC
 
   pub all_stay : (old : Record) (history : History) → Follows old history → (executions : List Execution) (new : Record) → Leads can old executions new → NoneIs Holds history executions → StaySealed objects can old executions new
   all_stay old history follows [] new led none other differ = subst (λ (r : Record). DifferInSecrets (sealed objects) r other) (sym led) differ
-  all_stay old history follows (one ∷ executions) new led none other differ =
+  all_stay old history follows (one ∷ executions) new led none other differ = λ also alike.
       let executes : Executes can old one.event one.seen = led.1 in
       let same : with_execution one history ≡ recorded old one.event one.seen.row.check history = ap (λ (r : Record). recorded r one.event one.seen.row.check history) led.0 in
-      let first = one_stays old history follows one.event one.seen executes (λ c is. none.0 c (same ∙ is)) other differ in
+      let first = one_stays old history follows one.event one.seen executes (λ c is. none.0 c (same ∙ is)) other also differ alike in
       let next : Follows one.seen.after (with_execution one history) = subst (Follows one.seen.after) (sym same) (execution_follows can old one.event one.seen history executes follows) in (
         first.0,
         first.1,

@@ -1,7 +1,7 @@
 -- An event that reads no secret data, and in which all guesses fail, reveals nothing about
 -- secrets.
-use Rattle.std.proofs.Common.{ap, refl, subst, sym, ◌∙◌}
-use Rattle.std.specs.Prelude.{Bool, Err, IfOk, List, Ok, Option, Result, [], cond, false, not, true, ℕ, ◌+◌, ◌∷◌, ◌≡◌}
+use Rattle.std.proofs.Common.{ap, inl, inr, refl, subst, sym, ◌∙◌}
+use Rattle.std.specs.Prelude.{Bool, Err, IfOk, List, None, Ok, Option, Result, Some, [], cond, false, not, true, ℕ, ◌+◌, ◌∷◌, ◌≡◌, ◌⊎◌}
 use Rattle.tpm_auth.specs.Grant.{authorize}
 use Rattle.tpm_auth.specs.declared.session_grant.Grant.{Grant}
 use Rattle.tpm_bytes.specs.Many.{each_at}
@@ -10,7 +10,8 @@ use Rattle.tpm_commands.specs.CommandCode.{code_number, shape_of}
 use Rattle.tpm_commands.specs.HandleArea.{allowed_handle_at}
 use Rattle.tpm_commands.specs.declared.command_code.CommandCode.{CommandCode}
 use Rattle.tpm_commands.specs.declared.shape.HandleRule.{HandleRule}
-use Rattle.tpm_containers.specs.Slots.{free}
+use Rattle.tpm_containers.specs.Slots.{free, lowest_free}
+use Rattle.tpm_object.specs.declared.object.Object.{Object}
 use Rattle.tpm_record.specs.Cycle.{cycled}
 use Rattle.tpm_record.specs.Entity.{absence_rc}
 use Rattle.tpm_record.specs.Record.{Record, with_saved}
@@ -23,9 +24,10 @@ use Rattle.tpm_step.proofs.Binding.{ok_bind}
 use Rattle.tpm_step.proofs.rows.Acceptance.{accepted_is}
 use Rattle.tpm_step.proofs.rows.Table.{row_tells}
 use Rattle.tpm_step.specs.Answer.{Answered, answer_to, written_of}
-use Rattle.tpm_step.specs.Events.{Cycled, Given, PlainEvent}
+use Rattle.tpm_step.specs.Events.{Cycled, Given, Placed, PlainEvent}
 use Rattle.tpm_step.specs.General.{body_of, general, in_command, in_header, present_handle_at}
 use Rattle.tpm_step.specs.Granted.{granted_entries}
+use Rattle.tpm_step.specs.Placing.{placed, placed_at}
 use Rattle.tpm_step.specs.Step.{Accepted, Stepped, acceptance, accepted, answer_where, counted_in, refusal_step, refusal_without_memory, request_in, settled, step_where, success_step, success_without_memory}
 use Rattle.tpm_step.specs.Table.{row_of}
 use Rattle.tpm_step.specs.declared.event.Row.{Row}
@@ -36,20 +38,21 @@ use Rattle.tpm_types_command.specs.Command.{Whole}
 use Rattle.tpm_types_command.specs.Header.{header_at}
 use Rattle.tpm_types_command.specs.declared.header.Header.{Header}
 use Rattle.tpm_row_secrecy.proofs.Alike.{alike_after, alike_end, alike_err, alike_step_is}
-use Rattle.tpm_row_secrecy.proofs.Bare.{cycled_bare, record_again}
+use Rattle.tpm_row_secrecy.proofs.Bare.{cycled_bare, object_again, objects_again, record_again, with_objects}
+use Rattle.tpm_row_secrecy.proofs.Each.{lowest_free_each, places, set_same}
 use Rattle.tpm_row_secrecy.proofs.Entities.{present_bare}
 use Rattle.tpm_row_secrecy.proofs.ReadAlike.{reads_same}
 use Rattle.tpm_row_secrecy.proofs.Steps.{change_same}
 use Rattle.tpm_row_secrecy.specs.Alike.{Alike, Same, bare_success, outcome}
 use Rattle.tpm_row_secrecy.specs.Reads.{reads_secret}
-use Rattle.tpm_row_secrecy.specs.Secrecy.{CoversKeys, DifferInSecrets, Secrecy, without_secrets}
+use Rattle.tpm_row_secrecy.specs.Secrecy.{CoversKeys, DifferInSecrets, Secrecy, bare_object, without_secrets}
 use Rattle.tpm_secrecy.proofs.Answering.{answer_same, request_same}
 use Rattle.tpm_secrecy.proofs.AnsweringFree.{answer_free, answering}
 use Rattle.tpm_secrecy.proofs.Authorizing.{then_same}
 use Rattle.tpm_secrecy.proofs.Granted.{granted_free}
 use Rattle.tpm_secrecy.proofs.Guessing.{doubted_authorization, doubted_is}
 use Rattle.tpm_secrecy.specs.Guesses.{BindingsHold, GuessesFail, NoneUses}
-use Rattle.tpm_secrecy.specs.Tells.{Attempts, EventKeepsSecrets, KeepsSecrets, RunOfWrongGuessesTellsNothing, RunsAlike, TellsNothing, WrongGuessesTellNothing, answers_to, granted_reads}
+use Rattle.tpm_secrecy.specs.Tells.{Attempts, EventKeepsSecrets, EventsAlike, KeepsSecrets, RunOfWrongGuessesTellsNothing, RunsAlike, TellsNothing, WrongGuessesTellNothing, answers_to, granted_reads}
 
 -- if each text of a command is decoded in the same way, so are all of them
 each_read_same : {X A E : Type 0} (f g : ℕ → X → List ℕ → Result (A × List ℕ) E) → ((n : ℕ) (x : X) (text : List ℕ) → f n x text ≡ g n x text) → (n : ℕ) (xs : List X) (text : List ℕ) → each_at f n xs text ≡ each_at g n xs text
@@ -243,20 +246,60 @@ module _ (s : Secrecy) (covers : CoversKeys s) where
 
   -- ---- the step
 
-  step_same : (refused : Bool) (one other : Record) (event : PlainEvent) → DifferInSecrets s one other → EventKeepsSecrets s one event → EventKeepsSecrets s other event → bare_step (step_where refused one event) ≡ bare_step (step_where refused other event)
-  step_same refused one other (Given buffer locality elapsed random) differ keeps also =
+  -- two objects that differ only in secrets, on two devices that differ only in secrets
+  placed_bare : (a b : Object) → bare_object s a ≡ bare_object s b → (r : Record) → without_secrets s (placed (without_secrets s r) a) ≡ without_secrets s (placed r b)
+  placed_bare a b same r =
+      with_objects s r _ _ (ap (λ (found : Option ℕ). places (bare_object s) (placed_at found a (places (bare_object s) r.objects))) (lowest_free_each (bare_object s) r.objects) ∙ by (lowest_free r.objects))
+    where
+      by : (found : Option ℕ) → places (bare_object s) (placed_at found a (places (bare_object s) r.objects)) ≡ places (bare_object s) (placed_at found b r.objects)
+      by None = objects_again s r.objects
+      by (Some place) = set_same (bare_object s) (object_again s) r.objects place (Some a) (Some b) (ap (λ (o : Object). let found : Option Object = Some o in found) same)
+
+  placed_same : (one other : Record) (a b : Object) → DifferInSecrets s one other → bare_object s a ≡ bare_object s b → without_secrets s (placed one a) ≡ without_secrets s (placed other b)
+  placed_same one other a b differ same =
+      sym (placed_bare a a refl one) ∙ ap (λ (x : Record). without_secrets s (placed x a)) differ ∙ placed_bare a b same other
+
+  -- one event on two devices
+  event_same : (refused : Bool) (one other : Record) (event : PlainEvent) → DifferInSecrets s one other → EventKeepsSecrets s one event → EventKeepsSecrets s other event → bare_step (step_where refused one event) ≡ bare_step (step_where refused other event)
+  event_same refused one other (Given buffer locality elapsed random) differ keeps also =
       let differs : DifferInSecrets s (ticked one elapsed) (ticked other elapsed) = ap (λ (x : Record). ticked x elapsed) differ in
       answered_same refused (ticked one elapsed) (ticked other elapsed) random (accepted (ticked one elapsed) buffer locality random) (accepted (ticked other elapsed) buffer locality random) differs
       (accepted_alike (ticked one elapsed) (ticked other elapsed) differs buffer locality random keeps also)
       (quiet_accepted (ticked one elapsed) buffer locality random keeps)
       (quiet_accepted (ticked other elapsed) buffer locality random also)
-  step_same refused one other Cycled differ keeps also =
+  event_same refused one other Cycled differ keeps also =
       ap (λ (after : Record). record (bare_step (step_where refused other Cycled)) { after = after })
       (sym (cycled_bare s one) ∙ ap cycled differ ∙ cycled_bare s other)
+  event_same refused one other (Placed object) differ keeps also =
+      ap (λ (after : Record). record (bare_step (step_where refused other Cycled)) { after = after }) (placed_same one other object object differ refl)
 
-  pub told_nothing : (refused : Bool) (one other : Record) (event : PlainEvent) → DifferInSecrets s one other → EventKeepsSecrets s one event → EventKeepsSecrets s other event → TellsNothing s (step_where refused one event) (step_where refused other event)
-  told_nothing refused one other event differ keeps also =
-      let same : bare_step (step_where refused one event) ≡ bare_step (step_where refused other event) = step_same refused one other event differ keeps also in
+  -- two events that are alike are one event, or place two objects
+  pub same_event : (event also : PlainEvent) → EventsAlike s event also → (event ≡ also) ⊎ (a : Object) × (b : Object) × (event ≡ Placed a) × (also ≡ Placed b) × (bare_object s a ≡ bare_object s b)
+  same_event (Given buffer locality elapsed random) (Given others from later bytes) alike = inl alike
+  same_event (Given buffer locality elapsed random) Cycled alike = absurd cc
+  same_event (Given buffer locality elapsed random) (Placed b) alike = absurd cc
+  same_event Cycled (Given buffer locality elapsed random) alike = absurd cc
+  same_event Cycled Cycled alike = inl refl
+  same_event Cycled (Placed b) alike = absurd cc
+  same_event (Placed a) (Given buffer locality elapsed random) alike = absurd cc
+  same_event (Placed a) Cycled alike = absurd cc
+  same_event (Placed a) (Placed b) alike = inr (a, b, refl, refl, cc)
+
+  step_same : (refused : Bool) (one other : Record) (event also : PlainEvent) → EventsAlike s event also → DifferInSecrets s one other → EventKeepsSecrets s one event → EventKeepsSecrets s other also → bare_step (step_where refused one event) ≡ bare_step (step_where refused other also)
+  step_same refused one other event also alike differ keeps keeps_also = by (same_event event also alike)
+    where
+      by : (event ≡ also) ⊎ (a : Object) × (b : Object) × (event ≡ Placed a) × (also ≡ Placed b) × (bare_object s a ≡ bare_object s b) → bare_step (step_where refused one event) ≡ bare_step (step_where refused other also)
+      by (inl same) =
+          event_same refused one other event differ keeps (subst (EventKeepsSecrets s other) (sym same) keeps_also)
+          ∙ ap (λ (e : PlainEvent). bare_step (step_where refused other e)) same
+      by (inr (a, b, is, also_is, same)) =
+          ap (λ (e : PlainEvent). bare_step (step_where refused one e)) is
+          ∙ ap (λ (after : Record). record (bare_step (step_where refused other Cycled)) { after = after }) (placed_same one other a b differ same)
+          ∙ ap (λ (e : PlainEvent). bare_step (step_where refused other e)) (sym also_is)
+
+  pub told_nothing : (refused : Bool) (one other : Record) (event also : PlainEvent) → DifferInSecrets s one other → EventsAlike s event also → EventKeepsSecrets s one event → EventKeepsSecrets s other also → TellsNothing s (step_where refused one event) (step_where refused other also)
+  told_nothing refused one other event also differ alike keeps keeps_also =
+      let same : bare_step (step_where refused one event) ≡ bare_step (step_where refused other also) = step_same refused one other event also alike differ keeps keeps_also in
       record {
         response = ap (λ (x : Stepped). x.response) same;
         row = ap (λ (x : Stepped). x.row) same;
@@ -264,13 +307,13 @@ module _ (s : Secrecy) (covers : CoversKeys s) where
       }
 
 pub wrong_guesses_tell_nothing : WrongGuessesTellNothing
-wrong_guesses_tell_nothing s covers one other refused event differ keeps also = told_nothing s covers refused one other event differ keeps also
+wrong_guesses_tell_nothing s covers one other refused event also differ alike keeps keeps_also = told_nothing s covers refused one other event also differ alike keeps keeps_also
 
 -- one event that reveals nothing, followed by other events that reveal nothing
-pub runs_on : (s : Secrecy) (one other : Record) (e : Bool × PlainEvent) (es : Attempts) → TellsNothing s (step_where e.0 one e.1) (step_where e.0 other e.1) → RunsAlike s (step_where e.0 one e.1).after (step_where e.0 other e.1).after es → RunsAlike s one other (e ∷ es)
-runs_on s one other e es this rest =
+pub runs_on : (s : Secrecy) (one other : Record) (e f : Bool × PlainEvent) (es fs : Attempts) → TellsNothing s (step_where e.0 one e.1) (step_where f.0 other f.1) → RunsAlike s (step_where e.0 one e.1).after (step_where f.0 other f.1).after es fs → RunsAlike s one other (e ∷ es) (f ∷ fs)
+runs_on s one other e f es fs this rest =
     let x : Stepped = step_where e.0 one e.1 in
-    let y : Stepped = step_where e.0 other e.1 in
+    let y : Stepped = step_where f.0 other f.1 in
     record {
       answers =
           ap (λ (text : List ℕ). let z : List (List ℕ × Row) = (text, x.row) ∷ answers_to x.after es in z) this.response
@@ -280,7 +323,11 @@ runs_on s one other e es this rest =
     }
 
 pub run_of_wrong_guesses_tells_nothing : RunOfWrongGuessesTellsNothing
-run_of_wrong_guesses_tells_nothing s covers one other [] differ keeps also = record { answers = refl; after = differ }
-run_of_wrong_guesses_tells_nothing s covers one other (e ∷ es) differ keeps also =
-    let this : TellsNothing s (step_where e.0 one e.1) (step_where e.0 other e.1) = told_nothing s covers e.0 one other e.1 differ keeps.0 also.0 in
-    runs_on s one other e es this (run_of_wrong_guesses_tells_nothing s covers (step_where e.0 one e.1).after (step_where e.0 other e.1).after es this.after keeps.1 also.1)
+run_of_wrong_guesses_tells_nothing s covers one other [] [] differ alike keeps also = record { answers = refl; after = differ }
+run_of_wrong_guesses_tells_nothing s covers one other [] (f ∷ fs) differ alike keeps also = absurd alike
+run_of_wrong_guesses_tells_nothing s covers one other (e ∷ es) [] differ alike keeps also = absurd alike
+run_of_wrong_guesses_tells_nothing s covers one other (e ∷ es) (f ∷ fs) differ (flag, alike, others) keeps also =
+    let this : TellsNothing s (step_where e.0 one e.1) (step_where f.0 other f.1) =
+    subst (λ (b : Bool). TellsNothing s (step_where e.0 one e.1) (step_where b other f.1)) flag
+    (told_nothing s covers e.0 one other e.1 f.1 differ alike keeps.0 also.0) in
+    runs_on s one other e f es fs this (run_of_wrong_guesses_tells_nothing s covers (step_where e.0 one e.1).after (step_where f.0 other f.1).after es fs this.after others keeps.1 also.1)

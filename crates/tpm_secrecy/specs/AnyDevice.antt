@@ -10,7 +10,7 @@ use Rattle.tpm_record.specs.Record.{Record}
 use Rattle.tpm_record.specs.Tick.{ticked}
 use Rattle.tpm_session.specs.Sessions.{session_at}
 use Rattle.tpm_session.specs.declared.session.Session.{Session}
-use Rattle.tpm_step.specs.Events.{Cycled, Given, PlainEvent}
+use Rattle.tpm_step.specs.Events.{Cycled, Given, Placed, PlainEvent}
 use Rattle.tpm_step.specs.Execution.{Executes}
 use Rattle.tpm_step.specs.Step.{Accepted, Stepped, accepted}
 use Rattle.tpm_types.specs.declared.handle.Handle.{Handle}
@@ -57,6 +57,7 @@ abbrev pub IsAcceptedReading : (Public → Bool) → Record → PlainEvent → T
 IsAcceptedReading objects r (Given buffer locality elapsed random) =
     AcceptsReading objects (ticked r elapsed) buffer locality random
 IsAcceptedReading objects r Cycled = ⊥
+IsAcceptedReading objects r (Placed object) = ⊥
 
 -- On any device, even one with an unknown history: an execution reveals nothing about sealed
 -- data, unless it is an accepted command that reads it. The law does not state what the command's

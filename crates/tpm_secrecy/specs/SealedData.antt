@@ -23,7 +23,7 @@ use Rattle.tpm_types.specs.declared.pcr_selection.BankSelection.{BankSelection}
 use Rattle.tpm_types_object.specs.ObjectAttributes.{has}
 use Rattle.tpm_types_object.specs.declared.public.Public.{Public}
 use Rattle.tpm_row_secrecy.specs.Secrecy.{DifferInSecrets, Secrecy, of_data}
-use Rattle.tpm_secrecy.specs.Tells.{TellsNothing}
+use Rattle.tpm_secrecy.specs.Tells.{EventsAlike, TellsNothing}
 use Rattle.tpm_types_object.specs.declared.object_attributes.ObjectAttribute.TheVariants as attribute
 use Rattle.tpm_commands.specs.declared.command_code.CommandCode.TheVariants as command
 
@@ -52,11 +52,13 @@ pub record ReadsSealed (objects : Public → Bool) (history : History) (c : Acce
         → IsUsedBySession history c 0 public.name_alg policy (λ u. IsMet (IsMetBy u) policy)
 
 -- An execution reveals nothing about sealed data: any device that differs only in this data can
--- execute the event with the same response and row, and afterwards differs only in this data.
+-- execute the event with the same response and row, and afterwards differs only in this data. If
+-- the event places an object, so can any other object that differs only in this data.
 abbrev pub TellsNothingSealed : (Public → Bool) → Bool → Record → PlainEvent → Stepped → Type 0
 TellsNothingSealed objects can old event x =
-    (other : Record) → DifferInSecrets (sealed objects) old other
-    → (y : Stepped) × Steps can other event y × TellsNothing (sealed objects) x y
+    (other : Record) (also : PlainEvent) → DifferInSecrets (sealed objects) old other
+    → EventsAlike (sealed objects) event also
+    → (y : Stepped) × Steps can other also y × TellsNothing (sealed objects) x y
 
 -- On a device that follows a history, each execution reveals nothing about sealed data, unless it
 -- is recorded as an accepted command that reads it.
@@ -91,11 +93,13 @@ NoneIs Holds history (one ∷ executions) =
     × NoneIs Holds (with_execution one history) executions
 
 -- From another device the same events lead, with the same responses and rows, to a device that
--- differs from this one only in sealed data.
+-- differs from this one only in sealed data. Objects that the events place there may differ only
+-- in this data.
 abbrev pub LeadsAlike : (Public → Bool) → Bool → Record → List Execution → Record → Type 0
 LeadsAlike objects can other [] new = DifferInSecrets (sealed objects) new other
 LeadsAlike objects can other (one ∷ executions) new =
-    (y : Stepped) × Steps can other one.event y × (y.response ≡ one.seen.response)
+    (also : PlainEvent) → EventsAlike (sealed objects) one.event also
+    → (y : Stepped) × Steps can other also y × (y.response ≡ one.seen.response)
     × (y.row ≡ one.seen.row) × LeadsAlike objects can y.after executions new
 
 -- Executions on this device reveal nothing about sealed data: every device that differs only in

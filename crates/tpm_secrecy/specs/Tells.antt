@@ -4,7 +4,7 @@ use Rattle.tpm_auth.specs.Grant.{authorize}
 use Rattle.tpm_auth.specs.declared.session_grant.Grant.{Grant}
 use Rattle.tpm_record.specs.Record.{Record}
 use Rattle.tpm_record.specs.Tick.{ticked}
-use Rattle.tpm_step.specs.Events.{Cycled, Given, PlainEvent}
+use Rattle.tpm_step.specs.Events.{Cycled, Given, Placed, PlainEvent}
 use Rattle.tpm_step.specs.Executions.{Execution, Leads, history_after}
 use Rattle.tpm_step.specs.General.{general}
 use Rattle.tpm_step.specs.Potential.{IsForgiving}
@@ -16,7 +16,7 @@ use Rattle.tpm_types.specs.declared.refused.Refused.{Refused}
 use Rattle.tpm_types_command.specs.Command.{Whole}
 use Rattle.tpm_types_object.specs.declared.public.Public.{Public}
 use Rattle.tpm_row_secrecy.specs.Reads.{reads_secret}
-use Rattle.tpm_row_secrecy.specs.Secrecy.{CoversKeys, DifferInSecrets, Secrecy, of_data}
+use Rattle.tpm_row_secrecy.specs.Secrecy.{CoversKeys, DifferInSecrets, Secrecy, bare_object, of_data}
 use Rattle.tpm_secrecy.specs.Guesses.{BindingsHold, GuessesFail}
 
 -- ---- an event
@@ -41,11 +41,22 @@ abbrev pub decoded_reads : Secrecy → Record → (locality : ℕ) → (random :
 decoded_reads s r locality random (Ok c) = command_reads s r locality random c
 decoded_reads s r locality random (Err e) = false
 
--- whether an event reads secret data; a power cycle does not
+-- whether an event reads secret data; a power cycle and a placed object do not
 abbrev pub is_reading : Secrecy → Record → PlainEvent → Bool
 is_reading s r (Given buffer locality elapsed random) =
     decoded_reads s (ticked r elapsed) locality random (general (ticked r elapsed) buffer)
 is_reading s r Cycled = false
+is_reading s r (Placed object) = false
+
+-- an event with the secrets of a placed object erased
+abbrev pub bare_event : Secrecy → PlainEvent → PlainEvent
+bare_event s (Given buffer locality elapsed random) = Given buffer locality elapsed random
+bare_event s Cycled = Cycled
+bare_event s (Placed object) = Placed (bare_object s object)
+
+-- Two events are the same, but objects that they place may differ in secrets.
+abbrev pub EventsAlike : Secrecy → PlainEvent → PlainEvent → Type 0
+EventsAlike s event also = bare_event s event ≡ bare_event s also
 
 -- Two steps return the same response, report the same row, and leave two devices that differ only
 -- in secrets.
@@ -55,15 +66,16 @@ pub record TellsNothing (s : Secrecy) (x y : Stepped) : Type 0 where
   pub after : DifferInSecrets s x.after y.after
 
 -- Suppose that only data is secret, and that two devices differ only in this data. An event that
--- does not read it on one device reveals nothing about it. Allocations may fail on both devices,
--- or on neither.
+-- does not read it on one device reveals nothing about it. If the event places an object, the
+-- object that the other device places may differ in this data too. Allocations may fail on both
+-- devices, or on neither.
 abbrev pub EventTellsNothing : Type 0
 EventTellsNothing =
     (indices : ℕ → Bool) (objects : Public → Bool) (one other : Record) (refused : Bool)
-    (event : PlainEvent)
+    (event also : PlainEvent)
     → let s : Secrecy = of_data indices objects in
-    DifferInSecrets s one other → is_reading s one event ≡ false
-    → TellsNothing s (step_where refused one event) (step_where refused other event)
+    DifferInSecrets s one other → EventsAlike s event also → is_reading s one event ≡ false
+    → TellsNothing s (step_where refused one event) (step_where refused other also)
 
 -- An event reads secret data on both of two such devices, or on neither.
 abbrev pub ReadOnBoth : Type 0
@@ -96,19 +108,29 @@ NoneReads s r [] = Unit {0}
 NoneReads s r (e ∷ es) =
     (is_reading s r e.1 ≡ false) × NoneReads s (step_where e.0 r e.1).after es
 
--- Two devices return the same answers and rows for these events, and afterwards differ only in
--- secrets.
-pub record RunsAlike (s : Secrecy) (one other : Record) (events : Attempts) : Type 0 where
-  pub answers : answers_to one events ≡ answers_to other events
-  pub after : DifferInSecrets s (after_all one events) (after_all other events)
+-- These events are the same, with the same failed allocations, but objects that they place may
+-- differ in secrets.
+abbrev pub AttemptsAlike : Secrecy → Attempts → Attempts → Type 0
+AttemptsAlike s [] [] = Unit {0}
+AttemptsAlike s (e ∷ es) (f ∷ fs) =
+    (e.0 ≡ f.0) × EventsAlike s e.1 f.1 × AttemptsAlike s es fs
+AttemptsAlike s [] (f ∷ fs) = ⊥
+AttemptsAlike s (e ∷ es) [] = ⊥
+
+-- Two devices return the same answers and rows, one for these events and the other for the others,
+-- and afterwards differ only in secrets.
+pub record RunsAlike (s : Secrecy) (one other : Record) (events others : Attempts) : Type 0 where
+  pub answers : answers_to one events ≡ answers_to other others
+  pub after : DifferInSecrets s (after_all one events) (after_all other others)
 
 -- Two devices that differ only in secret data return the same answers and rows for all events
 -- before the first one that reads the data.
 abbrev pub RunTellsNothing : Type 0
 RunTellsNothing =
-    (indices : ℕ → Bool) (objects : Public → Bool) (one other : Record) (events : Attempts)
+    (indices : ℕ → Bool) (objects : Public → Bool) (one other : Record) (events others : Attempts)
     → let s : Secrecy = of_data indices objects in
-    DifferInSecrets s one other → NoneReads s one events → RunsAlike s one other events
+    DifferInSecrets s one other → AttemptsAlike s events others → NoneReads s one events
+    → RunsAlike s one other events others
 
 -- ---- wrong guesses
 
@@ -125,15 +147,18 @@ EventKeepsSecrets s r (Given buffer locality elapsed random) =
     IfOk (general (ticked r elapsed) buffer) (λ c.
     KeepsSecrets s (ticked r elapsed) c locality random)
 EventKeepsSecrets s r Cycled = Unit {0}
+EventKeepsSecrets s r (Placed object) = Unit {0}
 
 -- If two devices differ only in secrets, an event reveals nothing about them if, on both, all
 -- guesses of an authorization value fail and no secret data is read. Both devices are mentioned
--- because a guess that is wrong on one may be right on the other.
+-- because a guess that is wrong on one may be right on the other. Objects that the two place may
+-- differ in secrets.
 abbrev pub WrongGuessesTellNothing : Type 0
 WrongGuessesTellNothing =
-    (s : Secrecy) → CoversKeys s → (one other : Record) (refused : Bool) (event : PlainEvent)
-    → DifferInSecrets s one other → EventKeepsSecrets s one event → EventKeepsSecrets s other event
-    → TellsNothing s (step_where refused one event) (step_where refused other event)
+    (s : Secrecy) → CoversKeys s → (one other : Record) (refused : Bool) (event also : PlainEvent)
+    → DifferInSecrets s one other → EventsAlike s event also → EventKeepsSecrets s one event
+    → EventKeepsSecrets s other also
+    → TellsNothing s (step_where refused one event) (step_where refused other also)
 
 -- Each of these events reveals no secrets when it is executed: all its guesses fail, and it reads
 -- no secret data.
@@ -146,9 +171,9 @@ AllKeepSecrets s r (e ∷ es) =
 -- long as every guess fails on both and no event reads secret data.
 abbrev pub RunOfWrongGuessesTellsNothing : Type 0
 RunOfWrongGuessesTellsNothing =
-    (s : Secrecy) → CoversKeys s → (one other : Record) (events : Attempts)
-    → DifferInSecrets s one other → AllKeepSecrets s one events → AllKeepSecrets s other events
-    → RunsAlike s one other events
+    (s : Secrecy) → CoversKeys s → (one other : Record) (events others : Attempts)
+    → DifferInSecrets s one other → AttemptsAlike s events others → AllKeepSecrets s one events
+    → AllKeepSecrets s other others → RunsAlike s one other events others
 
 -- ---- guesses, and failed tries
 
@@ -165,9 +190,9 @@ executions_of r (e ∷ es) =
 -- that encrypts, are not limited.
 abbrev pub WrongTriesAreFew : Type 0
 WrongTriesAreFew =
-    (s : Secrecy) → CoversKeys s → (one other : Record) (events : Attempts)
-    → DifferInSecrets s one other → AllKeepSecrets s one events → AllKeepSecrets s other events
-    → IsForgiving one.fixed.lockout → one.fixed.lockout.fields.recovery_time ≢ 0
+    (s : Secrecy) → CoversKeys s → (one other : Record) (events others : Attempts)
+    → DifferInSecrets s one other → AttemptsAlike s events others → AllKeepSecrets s one events
+    → AllKeepSecrets s other others → IsForgiving one.fixed.lockout → one.fixed.lockout.fields.recovery_time ≢ 0
     → let executions : List Execution = executions_of one events in
     Leads true one executions (after_all one events) → HasNoReset (history_after [] executions)
-    → RunsAlike s one other events × (failures_in executions ≤ tries_within one executions)
+    → RunsAlike s one other events others × (failures_in executions ≤ tries_within one executions)

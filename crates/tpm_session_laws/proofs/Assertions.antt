@@ -20,7 +20,7 @@ use Rattle.tpm_actions_device.specs.StartAuthSession.{Parameters, parameters_in}
 use Rattle.tpm_step.specs.AssertedBy.{Stands, StandsThrough}
 use Rattle.tpm_step.specs.AuthValues.{auth_of}
 use Rattle.tpm_step.specs.HandleMap.{by_handle, with_at}
-use Rattle.tpm_step.specs.History.{AcceptedCommand, Done, History, PastEvent, PowerCycled}
+use Rattle.tpm_step.specs.History.{AcceptedCommand, Done, History, ObjectPlaced, PastEvent, PowerCycled}
 use Rattle.tpm_step.specs.Sessions.{Bound, LiveSession, LiveSessions, bound_in, changed_session, entries_ended, entries_rolled, entry_ended, entry_rolled, nonce_size, restarted, rolled_by, sessions_by, sessions_of, started, started_by, used, used_by, with_nonce, with_started, without_session}
 use Rattle.tpm_step.specs.rows.Draws.{draws_of}
 use Rattle.tpm_step.proofs.HandleMap.{at_other, at_same, same_handle}
@@ -123,6 +123,7 @@ module _ (c : AcceptedCommand) (history : History) (handle : Handle) where
 event_bare : (event : PastEvent) (history : History) (handle : Handle) → LeavesNoAssertion event handle → IsBare (sessions_of (event ∷ history) handle)
 event_bare (Done c) history handle leaves = done_bare c history handle leaves
 event_bare PowerCycled history handle leaves = tt
+event_bare (ObjectPlaced at object) history handle leaves = absurd leaves
 
 among_none : (one : Assertion) (assertions : List Assertion) → assertions ≡ [] → IsAmong one assertions → ⊥
 among_none one [] none among = among

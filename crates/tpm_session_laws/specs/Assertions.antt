@@ -6,7 +6,7 @@ use Rattle.tpm_types.specs.declared.handle.Handle.{Handle}
 use Rattle.tpm_commands.specs.declared.command_code.CommandCode.TheVariants as command
 use Rattle.tpm_record.specs.rows.Request.{first_handle}
 use Rattle.tpm_step.specs.AssertedBy.{StandsThrough}
-use Rattle.tpm_step.specs.History.{Done, History, PastEvent, PowerCycled}
+use Rattle.tpm_step.specs.History.{Done, History, ObjectPlaced, PastEvent, PowerCycled}
 
 -- An event leaves the session with this handle without assertions: TPM2_PolicyRestart of this
 -- session, TPM2_StartAuthSession that starts a session with this handle, or a power cycle.
@@ -15,6 +15,7 @@ LeavesNoAssertion (Done c) handle =
     ((c.command.code ≡ command.PolicyRestart) × (first_handle c.request.handles ≡ Ok handle))
     ⊎ ((c.command.code ≡ command.StartAuthSession) × (c.answer.handle ≡ Some handle))
 LeavesNoAssertion PowerCycled handle = Unit {0}
+LeavesNoAssertion (ObjectPlaced at object) handle = ⊥
 
 -- No assertion survives such an event.
 abbrev pub NoneStandsThrough : Type 0

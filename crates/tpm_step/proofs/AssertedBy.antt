@@ -12,7 +12,7 @@ use Rattle.tpm_step.specs.AcceptedAssertions.{AllAskForTheirHandles}
 use Rattle.tpm_step.specs.AssertedBy.{IsAssertedBy, IsFirstAuthorized, Stands}
 use Rattle.tpm_step.specs.EntryHmacs.{AllShowHmacs, used_in}
 use Rattle.tpm_step.specs.Grounds.{AllHaveGrounds, UsesHaveGrounds}
-use Rattle.tpm_step.specs.History.{AcceptedCommand, Done, History, PastEvent, PowerCycled}
+use Rattle.tpm_step.specs.History.{AcceptedCommand, Done, History, ObjectPlaced, PastEvent, PowerCycled}
 use Rattle.tpm_step.specs.Policies.{assertion_by, with_assertion}
 use Rattle.tpm_step.specs.Sessions.{LiveSession, rolled_by, sessions_of}
 use Rattle.tpm_step.proofs.LivingOn.{Asserted, Begun, Came, Stayed, entries_kept, row_came}
@@ -127,5 +127,7 @@ module _ (c : AcceptedCommand) (history : History) (handle : Handle) (new : Live
 pub have_origins : (history : History) → AllShowHmacs history → AllHaveGrounds history → AllAskForTheirHandles history → (handle : Handle) (s : LiveSession) → sessions_of history handle ≡ Some s → HaveOrigins history handle s
 have_origins [] shows grounds asked handle s lives = absurd cc
 have_origins (PowerCycled ∷ history) shows grounds asked handle s lives = absurd cc
+have_origins (ObjectPlaced at object ∷ history) shows grounds asked handle s lives = λ one among.
+    later_origin (ObjectPlaced at object) history handle one (s, lives, among) (have_origins history shows grounds asked handle s lives one among)
 have_origins (Done c ∷ history) shows grounds asked handle s lives =
     done_origins c history handle s lives grounds.0 asked.0 (have_origins history shows.1 grounds.1 asked.1 handle) (omega (arith, shows.0.left))

@@ -244,8 +244,8 @@ define_sets r q values have = of_success _ r command.NvDefineSpace q (λ s laws.
 
 -- ---- transient objects
 
-placed : (r : Record) (place : ℕ) (object : Object) → length r.objects ≡ object_limit → lowest_free r.objects ≡ Some place → Sets (object_handle place) object.auth_value r (record r { objects = with_object r.objects place object })
-placed r place object all free =
+pub placed_sets : (r : Record) (place : ℕ) (object : Object) → length r.objects ≡ object_limit → lowest_free r.objects ≡ Some place → Sets (object_handle place) object.auth_value r (record r { objects = with_object r.objects place object })
+placed_sets r place object all free =
     object_set r (with_object r.objects place object) (object_handle place) object (eq-eqb (number_of 0x80 place / 2 ^ 24) 0x80 (omega (arith, below)))
     (put_found transient_byte r.objects place object (omega (arith, below)) free)
     (λ n apart. put_others transient_byte r.objects place object n (omega (arith, below)) free apart)
@@ -268,7 +268,7 @@ create_sets r q values all have =
     ok_bind_is _ (place_for action.Seventh r) _ (λ place free.
     let object : Object = derived r hierarchy p in
     let set : created_value q (Some (object_handle place)) ≡ Ok (object_handle place, object.auth_value) = rw (p_is, primary_value r hierarchy p) refl in
-    set_is r (record r { objects = with_object r.objects place object }) values (object_handle place) object.auth_value (created_value q (Some (object_handle place))) set (placed r place object all (some_is _ _ place free)) have))))))
+    set_is r (record r { objects = with_object r.objects place object }) values (object_handle place) object.auth_value (created_value q (Some (object_handle place))) set (placed_sets r place object all (some_is _ _ place free)) have))))))
 
 load_sets : (r : Record) (q : Request) (values : AuthValues) → length r.objects ≡ object_limit → HaveValues r values → IfOk (row_of r command.Load q) (λ s. HaveValues s.after (with_value (loaded_value (if_ok (loaded_sensitive r q)) s.answer.handle) values))
 unfolding row_of load_row loaded_sensitive
@@ -283,7 +283,7 @@ load_sets r q values all have =
     let object : Object = loaded_below parent p.public area in
     let loaded : loaded_sensitive r q ≡ Ok area = rw (handle_is, parent_is, p_is) area_is in
     let set : loaded_value (if_ok (loaded_sensitive r q)) (Some (object_handle place)) ≡ Ok (object_handle place, trimmed area.auth_value) = ap (λ x. loaded_value (if_ok x) (Some (object_handle place))) loaded in
-    set_is r (record r { objects = with_object r.objects place object }) values (object_handle place) (trimmed area.auth_value) (loaded_value (if_ok (loaded_sensitive r q)) (Some (object_handle place))) set (placed r place object all (some_is _ _ place free)) have)))))))
+    set_is r (record r { objects = with_object r.objects place object }) values (object_handle place) (trimmed area.auth_value) (loaded_value (if_ok (loaded_sensitive r q)) (Some (object_handle place))) set (placed_sets r place object all (some_is _ _ place free)) have)))))))
 
 -- ---- persistent objects
 

@@ -8,7 +8,7 @@ use Rattle.tpm_commands.specs.declared.command_code.CommandCode.TheVariants as c
 use Rattle.tpm_record.specs.rows.Request.{Request, second_handle}
 use Rattle.tpm_step.specs.Counters.{AllBelow, CountLaws, Counters, HasNoDefinition, IsDefinition, begun_at, count_at, counted_at, counters_by, counters_of, counts_of, defined_handle, defines, defines_by, is_named, largest, next_count}
 use Rattle.tpm_step.specs.HandleMap.{by_handle}
-use Rattle.tpm_step.specs.History.{Done, History, PastEvent, PowerCycled}
+use Rattle.tpm_step.specs.History.{Done, History, ObjectPlaced, PastEvent, PowerCycled}
 use Rattle.tpm_step.proofs.HandleMap.{at_other, at_same, same_handle}
 use Rattle.tpm_step.proofs.Indices.{some_none, some_same}
 
@@ -51,6 +51,7 @@ command_moves _ q c handle = inl refl
 event_moves : (history : History) (one : PastEvent) (handle : Handle) → Moves (counters_of history) (counters_of (one ∷ history)) (defines one handle) handle
 event_moves history (Done c) handle = command_moves c.command.code c.request (counters_of history) handle
 event_moves history PowerCycled handle = inl refl
+event_moves history (ObjectPlaced at object) handle = inl refl
 
 -- ---- the largest value never falls
 
@@ -70,6 +71,7 @@ command_grows _ q c = omega arith
 event_grows : (history : History) (one : PastEvent) → largest (counts_of history) ≤ largest (counts_of (one ∷ history))
 event_grows history (Done c) = command_grows c.command.code c.request (counters_of history)
 event_grows history PowerCycled = omega arith
+event_grows history (ObjectPlaced at object) = omega arith
 
 history_grows : (old new : History) → largest (counts_of old) ≤ largest (counts_of (new ++ old))
 history_grows old [] = omega arith
@@ -98,6 +100,7 @@ history_within [] handle n some = absurd (some_none n some)
 history_within (Done c ∷ history) handle n some =
     command_within c.command.code c.request (counters_of history) (history_within history) handle n some
 history_within (PowerCycled ∷ history) handle n some = history_within history handle n some
+history_within (ObjectPlaced at object ∷ history) handle n some = history_within history handle n some
 
 -- ---- while no index is defined again
 
@@ -172,6 +175,7 @@ code_begins _ q c handle is = absurd (false≢true is)
 definition_begins : (old : History) (one : PastEvent) (handle : Handle) → defines one handle ≡ true → (count_at (one ∷ old) handle ≡ None) × (counts_of (one ∷ old) ≡ counts_of old)
 definition_begins old (Done c) handle is = code_begins c.command.code c.request (counters_of old) handle is
 definition_begins old PowerCycled handle is = absurd (false≢true is)
+definition_begins old (ObjectPlaced at object) handle is = absurd (false≢true is)
 
 defined_exceeds : (old new : History) (definition : PastEvent) (handle : Handle) (n : ℕ) → defines definition handle ≡ true → count_at (new ++ definition ∷ old) handle ≡ Some n → AllBelow n (counts_of old)
 defined_exceeds old new definition handle n is some =
@@ -187,6 +191,7 @@ is_definition (Done c) handle is =
     let found = code_defines c.command.code c.request handle is in
     record { accepted = c; named = found.1.0; is = refl; code = found.0; defined = found.1.1; same = found.1.2 }
 is_definition PowerCycled handle is = absurd (false≢true is)
+is_definition (ObjectPlaced at object) handle is = absurd (false≢true is)
 
 defines_it : (one : PastEvent) (handle : Handle) → IsDefinition one handle → defines one handle ≡ true
 defines_it one handle d =

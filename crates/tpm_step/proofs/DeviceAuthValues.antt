@@ -10,7 +10,8 @@ use Rattle.tpm_nv.specs.Index.{NvIndex, index_at}
 use Rattle.tpm_object.specs.Object.{transient_byte}
 use Rattle.tpm_object.specs.declared.object.Object.{Object}
 use Rattle.tpm_containers.specs.Numbered.{at_number, if_of_kind, place_of}
-use Rattle.tpm_containers.specs.Slots.{at_place}
+use Rattle.tpm_containers.specs.Slots.{at_place, lowest_free}
+use Rattle.tpm_types.specs.AuthValue.{trimmed}
 use Rattle.tpm_types.specs.Handle.{handle_type, hierarchy_auth_of, is_nv_index, is_persistent, is_session, is_transient}
 use Rattle.tpm_types.specs.Limits.{object_limit}
 use Rattle.tpm_types.specs.declared.handle.Handle.{Handle}
@@ -21,7 +22,7 @@ use Rattle.tpm_commands.specs.declared.shape.HandleRule.{HandleRule}
 use Rattle.tpm_record.specs.Cycle.{cycled}
 use Rattle.tpm_record.specs.Entity.{AnIndex, AnObject, Entity, Permanent, auth_value_of, entity_at, entity_auth_value, hierarchy_auth_value, index_of, is_kept, is_present, names_kept, object_of, permanent_auth_value}
 use Rattle.tpm_record.specs.Hierarchy.{manufactured_hierarchies}
-use Rattle.tpm_record.specs.Objects.{object_at}
+use Rattle.tpm_record.specs.Objects.{object_at, object_handle, with_object}
 use Rattle.tpm_record.specs.Persistent.{persistent_at}
 use Rattle.tpm_record.specs.Record.{Record, manufactured, no_objects}
 use Rattle.tpm_record.specs.rows.Request.{Request}
@@ -33,9 +34,10 @@ use Rattle.tpm_step.proofs.Binding.{ok_at}
 use Rattle.tpm_step.proofs.rows.Leaving.{success_leaves}
 use Rattle.tpm_step.specs.AuthValues.{AuthValues, auth_of, values_by}
 use Rattle.tpm_step.specs.DeviceAuthValues.{HasAuthValues, HaveValues, auth_seen, index_auth, object_auth}
-use Rattle.tpm_step.specs.History.{Done, History, PowerCycled, command_of, sensitive_in}
-use Rattle.tpm_step.proofs.AuthParts.{kept_values, object_kept, parts_keep}
-use Rattle.tpm_step.proofs.AuthRows.{row_sets}
+use Rattle.tpm_step.specs.HandleMap.{with_at}
+use Rattle.tpm_step.specs.History.{Done, History, ObjectPlaced, PowerCycled, command_of, sensitive_in}
+use Rattle.tpm_step.proofs.AuthParts.{kept_values, object_kept, parts_keep, set_values}
+use Rattle.tpm_step.proofs.AuthRows.{placed_sets, row_sets}
 use Rattle.tpm_containers.proofs.FoundNumbers.{free_found}
 
 -- ---- one event
@@ -56,6 +58,13 @@ pub cycled_auth_values : (r : Record) (history : History) → HasAuthValues r hi
 unfolding object_at
 cycled_auth_values r history =
     kept_values r (cycled r) (auth_of history) (λ h. parts_keep r (cycled r) h (λ v is. is) (λ v is. is) (object_kept (object_at r.objects h) (object_at no_objects h) (inr (free_found transient_byte object_limit h.number))) refl)
+
+-- an object from a saved context brings its own authorization value
+pub placed_auth_values : (r : Record) (place : ℕ) (object : Object) (history : History) → length r.objects ≡ object_limit → lowest_free r.objects ≡ Some place → trimmed object.auth_value ≡ object.auth_value → HasAuthValues r history → HasAuthValues (record r { objects = with_object r.objects place object }) (ObjectPlaced (object_handle place) object ∷ history)
+placed_auth_values r place object history all free is has =
+    let new : Record = record r { objects = with_object r.objects place object } in
+    subst (λ (value : List ℕ). HaveValues new (with_at (object_handle place) value (auth_of history))) (sym is)
+    (set_values r new (auth_of history) (object_handle place) object.auth_value (placed_sets r place object all free) has)
 
 -- ---- a manufactured device
 

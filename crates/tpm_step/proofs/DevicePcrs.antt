@@ -29,7 +29,7 @@ use Rattle.tpm_step.proofs.Binding.{ok_at, ok_bind, ok_weaker}
 use Rattle.tpm_step.proofs.rows.Table.{row_touches}
 use Rattle.tpm_step.proofs.rows.Leaving.{answered_only, success_leaves}
 use Rattle.tpm_step.specs.DevicePcrs.{AreSaved, HasPcrs, IsSavedAs, saved_in}
-use Rattle.tpm_step.specs.History.{Done, History, PowerCycled, command_of}
+use Rattle.tpm_step.specs.History.{Done, History, ObjectPlaced, PowerCycled, command_of}
 use Rattle.tpm_step.specs.Pcrs.{Pcrs, before_shutdown, pcr_by, pcr_of, pcrs_after, saved_by, shutdown_or, updates_by}
 use Rattle.tpm_pcr.proofs.OneValue.{new_all, new_values}
 use Rattle.tpm_step.proofs.PcrRows.{SoMeasures, row_measures}
@@ -135,3 +135,4 @@ pub saved_are : (history : History) (bank : HashAlg) (pcr : ℕ) → (pcrs_after
 saved_are [] bank pcr = refl
 saved_are (Done c ∷ history) bank pcr = shutdown_is c.command.code history bank pcr (saved_are history bank pcr)
 saved_are (PowerCycled ∷ history) bank pcr = saved_are history bank pcr
+saved_are (ObjectPlaced at object ∷ history) bank pcr = saved_are history bank pcr

@@ -40,7 +40,7 @@ use Rattle.tpm_auth.specs.Entries.{decrypts, entries_pass, entry_passes, kind_pa
 use Rattle.tpm_auth.specs.Grant.{authorize, grant, grant_by, grants_pass, is_unavailable, password_grant, session_grant_if, undemanding, used_protection}
 use Rattle.tpm_auth.specs.SessionGrant.{comparison_holds, demand_by, demanded, entry_protection, granted_value, session_grant}
 use Rattle.tpm_auth.specs.declared.session_grant.Grant.{Grant}
-use Rattle.tpm_step.specs.Events.{PlainEvent, Given, Cycled}
+use Rattle.tpm_step.specs.Events.{PlainEvent, Given, Cycled, Placed}
 use Rattle.tpm_step.specs.Execution.{Executes}
 use Rattle.tpm_step.specs.General.{general}
 use Rattle.tpm_step.specs.Step.{Accepted, Stepped, acceptance, accepted, answer_where, answer_without_memory, refusal_step, request_in, stepped_of}
@@ -303,10 +303,12 @@ refused_so r buffer locality random f = rw (f.decoded, f.is, refused_as f) refl
 fails_if : (r : Record) (event : PlainEvent) → fails_try r event ≡ true → IsRefusedTry r event
 fails_if r (Given buffer locality elapsed random) tries = try_of (ticked r elapsed) buffer locality random tries
 fails_if r Cycled tries = absurd (false≢true tries)
+fails_if r (Placed object) tries = absurd (false≢true tries)
 
 fails_where : (r : Record) (event : PlainEvent) → IsRefusedTry r event → fails_try r event ≡ true
 fails_where r (Given buffer locality elapsed random) f = ap counts_try (refused_so (ticked r elapsed) buffer locality random f)
 fails_where r Cycled f = absurd f
+fails_where r (Placed object) f = absurd f
 
 pub try_tells : (old : Record) (event : PlainEvent) → (fails_try old event ≡ true → IsRefusedTry old event) × (IsRefusedTry old event → fails_try old event ≡ true)
 try_tells old event = (fails_if old event, fails_where old event)
@@ -324,3 +326,4 @@ execution_tells can old (Given buffer locality elapsed random) x executes tries 
     let seen : x ≡ refusal_step t (refusal_of f) = is ∙ answer_refused refused t random (accepted t buffer locality random) (refusal_of f) (refused_so t buffer locality random f) in
     (f, record { response = ap (λ (y : Stepped). y.response) seen; check = ap (λ (y : Stepped). y.row.check) seen })
 execution_tells can old Cycled x executes tries = absurd (false≢true tries)
+execution_tells can old (Placed object) x executes tries = absurd (false≢true tries)

@@ -10,14 +10,14 @@ use Rattle.tpm_commands.specs.declared.command_code.CommandCode.{CommandCode}
 use Rattle.tpm_commands.specs.declared.command_code.CommandCode.TheVariants as command
 use Rattle.tpm_record.specs.Record.{Record}
 use Rattle.tpm_record.specs.Tick.{ticked}
-use Rattle.tpm_step.specs.Events.{PlainEvent, Given, Cycled}
+use Rattle.tpm_step.specs.Events.{PlainEvent, Given, Cycled, Placed}
 use Rattle.tpm_step.specs.Execution.{Executes}
 use Rattle.tpm_step.specs.Step.{Accepted, Stepped, accepted, answer_where, refusal_without_memory, step_where, success_step}
 use Rattle.tpm_step.specs.declared.refused_command.RefusedCommand.{RefusedCommand}
 use Rattle.tpm_step.specs.rows.Acceptance.{IsAcceptance}
 use Rattle.tpm_step.proofs.rows.Acceptance.{accepted_is}
 use Rattle.tpm_step.specs.Executions.{Execution, Leads, history_after, with_execution}
-use Rattle.tpm_step.specs.History.{Done, PastEvent, PowerCycled, recorded, with_command}
+use Rattle.tpm_step.specs.History.{Done, ObjectPlaced, PastEvent, PowerCycled, recorded, with_command}
 use Rattle.tpm_step.specs.Potential.{IsForgiving, Pays}
 use Rattle.tpm_step.specs.Tries.{FailsFew, FailsWithin, HasNoReset, IsReset, counts_try, elapsed_in, elapsed_of, failures_in, fails_try, is_reset, resets_tries, tries_at_most, tries_within}
 use Rattle.tpm_step.proofs.Balance.{IsPaid, cycle_pays, few_fail, pays_more, refusal_pays, same_pays, tick_pays}
@@ -73,6 +73,10 @@ step_pays refused r (Given buffer locality elapsed random) counts quiet = record
     answers =
         answer_pays refused t a locality random (λ none. counts (sym ticks.recovery_time ∙ none))
         (λ tries. unlocked_of (try_of t buffer locality random tries)) (accepted_is t buffer locality random) quiet
+step_pays refused r (Placed object) counts quiet = record {
+  recovery_time = refl;
+  more = λ failed rest paid. pays_more r.fixed.lockout r.fixed.lockout 0 failed (0 + failed) 0 rest (0 + rest) refl refl (same_pays r.fixed.lockout r.fixed.lockout (refl, refl, refl, refl)) paid;
+}
 step_pays refused r Cycled counts quiet = record {
   recovery_time = refl;
   more = λ failed rest paid. pays_more r.fixed.lockout (times_restarted r.fixed.lockout) 0 failed (0 + failed) 0 rest (0 + rest) refl refl (cycle_pays r.fixed.lockout) paid;
@@ -127,6 +131,7 @@ code_resets _ is = absurd (false≢true is)
 pub resets_so : (one : PastEvent) → is_reset one ≡ true → IsReset one
 resets_so (Done c) is = record { accepted = c; is = refl; code = code_resets c.command.code is }
 resets_so PowerCycled is = absurd (false≢true is)
+resets_so (ObjectPlaced at object) is = absurd (false≢true is)
 
 pub reset_is : (one : PastEvent) → IsReset one → is_reset one ≡ true
 reset_is one r = ap is_reset r.is ∙ by r.code

@@ -1,10 +1,13 @@
 -- Every event leads from a history to the one with that event.
-use Rattle.std.proofs.Common.{arith, ◌≡◌, ◌≤◌, ℕ, Bool, true, false, cond, List, [], ◌∷◌, length, drop, map, Result, Ok, Err, IfOk, Bor, refl, ap, sym, subst, ◌∙◌}
+use Rattle.std.proofs.Common.{arith, ◌≡◌, ◌≤◌, ℕ, Bool, true, false, cond, List, [], ◌∷◌, length, drop, map, Option, Some, None, option_map, Result, Ok, Err, IfOk, Bor, refl, ap, sym, subst, ◌∙◌}
 use Rattle.std.specs.Fn.{Mut}
 use Rattle.tpm_lockout.specs.Lockout.{LockoutState}
 use Rattle.tpm_lockout.specs.Recovery.{lockout_ticked}
 use Rattle.tpm_mac.specs.declared.algorithm.HashAlg.TheVariants as alg
 use Rattle.tpm_nv.specs.IsContents.{AreIndices}
+use Rattle.tpm_containers.specs.Slots.{lowest_free}
+use Rattle.tpm_object.specs.Object.{IsObject}
+use Rattle.tpm_object.specs.declared.object.Object.{Object}
 use Rattle.tpm_pcr.specs.Banks.{HaveAll}
 use Rattle.tpm_pcr.specs.Values.{BankValues, IsBanks}
 use Rattle.tpm_types.specs.declared.refused.Counted.{Counted}
@@ -12,6 +15,7 @@ use Rattle.tpm_commands.specs.CommandCode.{shape_of}
 use Rattle.tpm_record.specs.Cycle.{cycled}
 use Rattle.tpm_record.specs.Entity.{auth_value_of}
 use Rattle.tpm_record.specs.IsRecord.{IsRecord}
+use Rattle.tpm_record.specs.Objects.{next_handle, object_handle}
 use Rattle.tpm_record.specs.Record.{Record, manufactured}
 use Rattle.tpm_record.specs.Tick.{later, ticked}
 use Rattle.tpm_record.specs.rows.Refusals.{memory_refusal}
@@ -21,8 +25,9 @@ use Rattle.tpm_auth.proofs.Granting.{granting}
 use Rattle.tpm_record.specs.rows.Request.{Request}
 use Rattle.tpm_step.specs.Entries.{entries_rolled}
 use Rattle.tpm_step.specs.Safe.{AcceptsModestly, IsModest}
-use Rattle.tpm_step.specs.Events.{PlainEvent, Given, Cycled, IsEvent}
+use Rattle.tpm_step.specs.Events.{PlainEvent, Given, Cycled, Placed, IsEvent}
 use Rattle.tpm_step.specs.Execution.{Executes}
+use Rattle.tpm_step.specs.Placing.{placed, placed_at}
 use Rattle.tpm_step.specs.Run.{Runs}
 use Rattle.tpm_step.specs.Step.{Accepted, Stepped, Steps, accepted, answer_where, counted_in, lockout_counted, outcome_step, refusal_without_memory, step_where, success_step}
 use Rattle.tpm_step.specs.declared.event.Outcome.{Outcome}
@@ -36,8 +41,8 @@ use Rattle.tpm_step.specs.AuthValues.{auth_of}
 use Rattle.tpm_step.specs.Executions.{Execution, Leads, history_after}
 use Rattle.tpm_step.specs.Follows.{Follows, RunFollows, Shape, StretchFollows, Tells}
 use Rattle.tpm_step.specs.Sessions.{rolled_by, sessions_of}
-use Rattle.tpm_step.specs.History.{AcceptedCommand, Done, History, PowerCycled, command_of, recorded, with_command}
-use Rattle.tpm_step.proofs.DeviceAuthValues.{auth_values_done, cycled_auth_values, handles_auth_values, handles_present, manufactured_auth_values}
+use Rattle.tpm_step.specs.History.{AcceptedCommand, Done, History, ObjectPlaced, PastEvent, PowerCycled, command_of, recorded, with_command, with_placed}
+use Rattle.tpm_step.proofs.DeviceAuthValues.{auth_values_done, cycled_auth_values, handles_auth_values, handles_present, manufactured_auth_values, placed_auth_values}
 use Rattle.tpm_step.proofs.DeviceCounters.{begins_above, counters_done, exceeds_earlier, keeps_counter, manufactured_counters}
 use Rattle.tpm_step.proofs.DevicePcrs.{cycled_pcrs, manufactured_pcrs, pcrs_done}
 use Rattle.tpm_step.proofs.DeviceSessions.{cycled_sessions, left_enough, manufactured_sessions, sessions_done}
@@ -45,7 +50,7 @@ use Rattle.tpm_step.proofs.Forgiving.{forgives_counted, forgives_cycled, forgive
 use Rattle.tpm_step.proofs.Leading.{history_apart, leads_keep}
 use Rattle.tpm_step.proofs.FewTries.{fails_few, fails_within}
 use Rattle.tpm_step.proofs.EntryGrounds.{hmacs_shown, uses_have_grounds}
-use Rattle.tpm_step.proofs.RecordedUpdates.{no_updates, updates_done}
+use Rattle.tpm_step.proofs.RecordedUpdates.{no_updates, placed_updates, updates_done}
 use Rattle.tpm_step.specs.EntryHmacs.{ShowsHmacs}
 use Rattle.tpm_step.specs.Grounds.{AllHaveGrounds, UsesHaveGrounds}
 use Rattle.tpm_step.specs.PolicyUses.{AllMeetPolicies}
@@ -158,6 +163,35 @@ cycled_follows r history follows = record {
   indices = follows.indices;
 }
 
+-- ---- an object from a saved context
+
+placed_follows : (r : Record) (object : Object) (history : History) → IsObject object → IsSound (placed r object) → Follows r history → Follows (placed r object) (with_placed (next_handle r.objects) object history)
+placed_follows r object history is sound follows = by (lowest_free r.objects) refl sound
+  where
+    by : (found : Option ℕ) → lowest_free r.objects ≡ found → IsSound (record r { objects = placed_at found object r.objects }) → Follows (record r { objects = placed_at found object r.objects }) (with_placed (option_map object_handle found) object history)
+    by None free sound = follows
+    by (Some place) free sound =
+        let event : PastEvent = ObjectPlaced (object_handle place) object in
+        record {
+          counters = follows.counters;
+          forgiving = follows.forgiving;
+          pcrs = record { all = follows.pcrs.all; values = follows.pcrs.values; updates = follows.pcrs.updates; saved_values = follows.pcrs.saved_values };
+          auth_values = placed_auth_values r place object history follows.shape.objects_many free is.auth_value.1 follows.auth_values;
+          sessions = record { live = follows.sessions.live; asleep = follows.sessions.asleep };
+          hmacs = follows.hmacs;
+          replays = replays_repeat (event ∷ history) follows.hmacs;
+          updates = placed_updates (object_handle place) object history follows.updates;
+          grounds = follows.grounds;
+          found = follows.found;
+          asked = follows.asked;
+          policies = follows.policies;
+          shape = sound.shape;
+          sized = sound.sized;
+          indices = sound.indices;
+        }
+
+-- ---- a manufactured device
+
 pub manufactured_follows : (random : List ℕ) → Follows (manufactured random) []
 manufactured_follows random = record {
   counters = manufactured_counters random;
@@ -197,6 +231,7 @@ answer_follows true r locality random (Ok a) history is leaves sound follows = b
 abbrev LeavesAfter : Record → PlainEvent → (check : ℕ) → Type 0
 LeavesAfter r (Given buffer locality elapsed random) check = LeavesIfAccepted random (accepted (ticked r elapsed) buffer locality random) check
 LeavesAfter r Cycled check = Unit {0}
+LeavesAfter r (Placed object) check = Unit {0}
 
 leaves_after : (r : Record) (event : PlainEvent) (check : ℕ) → IsEvent event → (check ≡ 0 → AcceptsModestly r event) → LeavesAfter r event check
 leaves_after r (Given buffer locality elapsed random) check happens modest = λ passes.
@@ -206,12 +241,14 @@ leaves_after r (Given buffer locality elapsed random) check happens modest = λ 
     some_left : (a : Accepted) → IsModest random a → LeavesSome random a
     some_left a drew = omega (arith, drew.2, happens.2)
 leaves_after r Cycled check happens modest = tt
+leaves_after r (Placed object) check happens modest = tt
 
-step_follows : (refused : Bool) (r : Record) (event : PlainEvent) (history : History) → LeavesAfter r event (step_where refused r event).row.check → IsSound (step_where refused r event).after → Follows r history → Follows (step_where refused r event).after (recorded r event (step_where refused r event).row.check history)
-step_follows refused r (Given buffer locality elapsed random) history leaves sound follows =
+step_follows : (refused : Bool) (r : Record) (event : PlainEvent) (history : History) → IsEvent event → LeavesAfter r event (step_where refused r event).row.check → IsSound (step_where refused r event).after → Follows r history → Follows (step_where refused r event).after (recorded r event (step_where refused r event).row.check history)
+step_follows refused r (Given buffer locality elapsed random) history happens leaves sound follows =
     let t = ticked r elapsed in
     answer_follows refused t locality random (accepted t buffer locality random) history (accepted_is t buffer locality random) leaves sound (ticked_follows r elapsed history follows)
-step_follows refused r Cycled history leaves sound follows = cycled_follows r history follows
+step_follows refused r Cycled history happens leaves sound follows = cycled_follows r history follows
+step_follows refused r (Placed object) history happens leaves sound follows = placed_follows r object history happens sound follows
 
 pub execution_follows : (can : Bool) (old : Record) (event : PlainEvent) (x : Stepped) (history : History) → Executes can old event x → Follows old history → Follows x.after (recorded old event x.row.check history)
 execution_follows can old event x history executes follows =
@@ -225,7 +262,7 @@ execution_follows can old event x history executes follows =
     by : Steps can old event x → IsSound x.after → Follows x.after (recorded old event x.row.check history)
     by (refused, only, same) sound =
         subst (λ (y : Stepped). Follows y.after (recorded old event y.row.check history)) (sym same)
-        (step_follows refused old event history (leaves_after old event (step_where refused old event).row.check executes.happens (λ passes. executes.modest (ap (λ (y : Stepped). y.row.check) same ∙ passes))) (subst (λ (y : Stepped). IsSound y.after) same sound) follows)
+        (step_follows refused old event history executes.happens (leaves_after old event (step_where refused old event).row.check executes.happens (λ passes. executes.modest (ap (λ (y : Stepped). y.row.check) same ∙ passes))) (subst (λ (y : Stepped). IsSound y.after) same sound) follows)
 
 -- ---- a stretch of events, with its history
 

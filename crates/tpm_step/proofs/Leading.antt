@@ -1,13 +1,16 @@
 -- Facts about executions that lead from one history to another.
-use Rattle.std.proofs.Common.{◌≡◌, ℕ, zero, suc, Bool, List, [], ◌∷◌, ◌++◌, append_assoc, Result, Ok, Err, refl, sym, ap, subst, ◌∙◌}
+use Rattle.std.proofs.Common.{◌≡◌, ℕ, zero, suc, Bool, List, [], ◌∷◌, ◌++◌, append_assoc, Option, Some, None, Result, Ok, Err, refl, sym, ap, subst, ◌∙◌}
+use Rattle.tpm_object.specs.declared.object.Object.{Object}
+use Rattle.tpm_types.specs.declared.handle.Handle.{Handle}
+use Rattle.tpm_record.specs.Objects.{next_handle}
 use Rattle.tpm_record.specs.Record.{Record}
 use Rattle.tpm_record.specs.Tick.{ticked}
-use Rattle.tpm_step.specs.Events.{PlainEvent, Given, Cycled}
+use Rattle.tpm_step.specs.Events.{PlainEvent, Given, Cycled, Placed}
 use Rattle.tpm_step.specs.Execution.{Executes}
 use Rattle.tpm_step.specs.Step.{Accepted, Stepped, accepted}
 use Rattle.tpm_step.specs.declared.refused_command.RefusedCommand.{RefusedCommand}
 use Rattle.tpm_step.specs.Executions.{Execution, Leads, history_after, with_execution}
-use Rattle.tpm_step.specs.History.{History, recorded, with_command}
+use Rattle.tpm_step.specs.History.{History, recorded, with_command, with_placed}
 
 -- ---- the part of a history since an earlier one
 
@@ -16,10 +19,15 @@ command_apart r (Ok a) zero history = refl
 command_apart r (Ok a) (suc check) history = refl
 command_apart r (Err e) check history = refl
 
+placed_apart : (handle : Option Handle) (object : Object) (history : History) → with_placed handle object history ≡ with_placed handle object [] ++ history
+placed_apart (Some handle) object history = refl
+placed_apart None object history = refl
+
 recorded_apart : (r : Record) (event : PlainEvent) (check : ℕ) (history : History) → recorded r event check history ≡ recorded r event check [] ++ history
 recorded_apart r (Given buffer locality elapsed random) check history =
     let t = ticked r elapsed in command_apart t (accepted t buffer locality random) check history
 recorded_apart r Cycled check history = refl
+recorded_apart r (Placed object) check history = placed_apart (next_handle r.objects) object history
 
 execution_apart : (one : Execution) (history : History) → with_execution one history ≡ with_execution one [] ++ history
 execution_apart one history = recorded_apart one.before one.event one.seen.row.check history

@@ -27,6 +27,7 @@ pub mod FailedTries
 pub mod Forgiving
 pub mod FewTries
 pub mod PowerCycles
+pub mod Placing
 pub mod SessionStarts
 pub mod FailedRun
 pub mod Following

@@ -26,7 +26,7 @@ use Rattle.tpm_record.specs.declared.entity.Means.TheVariants as means
 use Rattle.tpm_step.specs.AssertedBy.{ComparesIndex, ShowsSecret}
 use Rattle.tpm_step.specs.EntryHmacs.{used_in}
 use Rattle.tpm_step.specs.Grounds.{ByHmac, ByPassword, ByPolicy, Ground, IsPolicyOf, allows, allows_in, policy_at, written_at}
-use Rattle.tpm_step.specs.History.{AcceptedCommand, Done, History, PowerCycled}
+use Rattle.tpm_step.specs.History.{AcceptedCommand, Done, History, ObjectPlaced, PowerCycled}
 use Rattle.tpm_step.specs.Pcrs.{digest_in, values_in}
 use Rattle.tpm_step.specs.PolicyReviews.{HavePcrValues, IsUsedBySession, IsWrittenOnce, NeedsCount, NeedsItsPolicy, NeedsPcrs, NeedsPcrsAndPin, NeedsPinOrSecret, OfEachAccepted, UsesObject, WritesIndex, by_pcrs, by_pin_or_secret}
 use Rattle.tpm_step.specs.PolicyUses.{AllMeetPolicies, HasAuthPolicy, HasPcrsNow, IsMetBy, MeetsPolicies, PolicyUse, ShowsAuthValue, UsesMeetPolicies}
@@ -41,6 +41,7 @@ at_past : (after : History) (c : AcceptedCommand) (before : History) → AllMeet
 at_past [] c before meet = meet.0
 at_past (Done other ∷ after) c before meet = at_past after c before meet.1
 at_past (PowerCycled ∷ after) c before meet = at_past after c before meet
+at_past (ObjectPlaced at object ∷ after) c before meet = at_past after c before meet
 
 -- what follows from meeting its policies holds of each command
 pub of_each : (Holds : History → AcceptedCommand → Type 0) → ((history : History) (c : AcceptedCommand) → UsesMeetPolicies history c → Holds history c) → OfEachAccepted Holds

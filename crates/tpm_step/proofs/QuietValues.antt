@@ -14,7 +14,7 @@ use Rattle.tpm_commands.specs.declared.command_code.CommandCode.TheVariants as c
 use Rattle.tpm_record.specs.rows.Request.{Request}
 use Rattle.tpm_record.specs.rows.Rows.{only}
 use Rattle.tpm_step.specs.General.{is_startup}
-use Rattle.tpm_step.specs.History.{AcceptedCommand, Done, History, PastEvent, PowerCycled}
+use Rattle.tpm_step.specs.History.{AcceptedCommand, Done, History, ObjectPlaced, PastEvent, PowerCycled}
 use Rattle.tpm_step.specs.Pcrs.{count_in, extended_by_all, if_pcr, names_pcr, pcr_by, pcr_of, pcrs_after, writes}
 use Rattle.tpm_step.specs.QuietPcrs.{AreQuietSince, HoldsOf, IsQuiet}
 use Rattle.tpm_step.proofs.Digests.{AgreeBelow, digests_agree}
@@ -65,6 +65,7 @@ unchanged _ q bank pcr saved old below plain none = refl
 pub quiet_event : (event : PastEvent) (history : History) → IsQuiet event → AgreeBelow (pcr_of history) (pcr_of (event ∷ history))
 quiet_event (Done c) history quiet bank pcr below = sym (unchanged c.command.code c.request bank pcr ((pcrs_after history).saved bank pcr) (pcr_of history bank pcr) below quiet.0 quiet.1)
 quiet_event PowerCycled history quiet bank pcr below = absurd quiet
+quiet_event (ObjectPlaced at object) history quiet bank pcr below = refl
 
 -- ---- since TPM2_PolicyPCR
 

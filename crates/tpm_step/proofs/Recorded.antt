@@ -1,13 +1,15 @@
 -- What holds of each acceptance holds of the recorded command.
-use Rattle.std.proofs.Common.{arith, ◌≡◌, ℕ, zero, suc, List, ◌∷◌, length, Result, Ok, Err, IfOk, ap, subst}
+use Rattle.std.proofs.Common.{arith, ◌≡◌, ℕ, zero, suc, List, ◌∷◌, length, Option, Some, None, Result, Ok, Err, IfOk, ap, subst}
+use Rattle.tpm_types.specs.declared.handle.Handle.{Handle}
+use Rattle.tpm_record.specs.Objects.{next_handle}
 use Rattle.tpm_record.specs.Record.{Record}
 use Rattle.tpm_record.specs.Tick.{ticked}
-use Rattle.tpm_step.specs.Events.{PlainEvent, Given, Cycled}
+use Rattle.tpm_step.specs.Events.{PlainEvent, Given, Cycled, Placed}
 use Rattle.tpm_step.specs.Step.{Accepted, accepted}
 use Rattle.tpm_step.specs.declared.refused_command.RefusedCommand.{RefusedCommand}
 use Rattle.tpm_step.specs.rows.Acceptance.{IsAcceptance}
 use Rattle.tpm_step.proofs.rows.Acceptance.{accepted_is}
-use Rattle.tpm_step.specs.History.{AcceptedCommand, Done, History, PastEvent, command_of, recorded, with_command}
+use Rattle.tpm_step.specs.History.{AcceptedCommand, Done, History, ObjectPlaced, PastEvent, command_of, recorded, with_command, with_placed}
 
 no_longer : (one : PastEvent) (history : History) → history ≡ one ∷ history → ⊥
 no_longer one history is = omega (arith, ap length is)
@@ -27,3 +29,8 @@ recorded_is P r (Given buffer locality elapsed random) check history c holds is 
     by (Ok a) (suc check) accepts is = absurd (no_longer (Done c) history is)
     by (Err e) check accepts is = absurd (no_longer (Done c) history is)
 recorded_is P r Cycled check history c holds is = absurd cc
+recorded_is P r (Placed object) check history c holds is = absurd (none_done (next_handle r.objects) is)
+  where
+    none_done : (handle : Option Handle) → with_placed handle object history ≡ Done c ∷ history → ⊥
+    none_done (Some handle) is = cc
+    none_done None is = no_longer (Done c) history is

@@ -28,6 +28,7 @@ use Rattle.tpm_types.specs.declared.session_type.SessionType.{SessionType}
 use Rattle.tpm_types.specs.declared.session_type.SessionType.TheVariants as type
 use Rattle.tpm_commands.specs.declared.command_code.CommandCode.{CommandCode as Code}
 use Rattle.tpm_commands.specs.declared.command_code.CommandCode.TheVariants as command
+use Rattle.tpm_object.specs.declared.object.Object.{Object}
 use Rattle.tpm_record.specs.Record.{Record}
 use Rattle.tpm_record.specs.rows.Request.{Request, first_handle}
 use Rattle.tpm_record.specs.rows.Rows.{only}
@@ -43,7 +44,7 @@ use Rattle.tpm_step.proofs.Binding.{ok_at, ok_bind, ok_bind_is, ok_then, some_is
 use Rattle.tpm_policy_meaning.specs.Asserted.{evaluated}
 use Rattle.tpm_step.specs.DevicePcrs.{HasPcrs}
 use Rattle.tpm_step.specs.DeviceSessions.{HasSessions, SessionFacts, facts_of, session_facts}
-use Rattle.tpm_step.specs.History.{AcceptedCommand, Done, History, PastEvent, command_of}
+use Rattle.tpm_step.specs.History.{AcceptedCommand, Done, History, ObjectPlaced, PastEvent, command_of}
 use Rattle.tpm_step.specs.Pcrs.{updates_by, updates_of, writes}
 use Rattle.tpm_step.specs.Policies.{assertion_by, pcr_parts_in, with_assertion}
 use Rattle.tpm_step.specs.QuietPcrs.{AllRecordUpdates, AreQuietSince, HoldsOf, HoldsPcrs, IsQuiet, RecordsUpdates, asserts_pcrs, has_pcrs, is_pcr}
@@ -366,6 +367,22 @@ module _ (r : Record) (a : Accepted) (locality : ℕ) (random : List ℕ) (histo
           let records = came_recorded handle mid (sym keeps.continues.kind ∙ kind) (sym updates.asserts ∙ asserts_some) now
           (row_came c history (sessions_of history) handle mid c.command.code was) in
           record { count = records.count; recorded = updates.count ∙ records.recorded; within = records.within; hold = λ equal. holds_as handle mid new updates (records.hold equal) }
+
+-- ---- an object from a saved context
+
+pub placed_updates : (at : Handle) (object : Object) (history : History) → AllRecordUpdates history → AllRecordUpdates (ObjectPlaced at object ∷ history)
+placed_updates at object history all handle s lives kind asserts =
+    let event : PastEvent = ObjectPlaced at object in
+    let records : RecordsUpdates handle history s = all handle s lives kind asserts in
+    record {
+      count = records.count;
+      recorded = records.recorded;
+      within = records.within;
+      hold = λ equal. record {
+        quiet = one_more handle event history (live_has (event ∷ history) handle s lives asserts) tt (records.hold equal).quiet;
+        hold = all_hold_on event history s.hash s.assertions tt (records.hold equal).hold;
+      };
+    }
 
 -- ---- without a session
 

@@ -18,7 +18,7 @@ use Rattle.tpm_auth.specs.Entries.{decrypts}
 use Rattle.tpm_auth.specs.SessionGrant.{only_encrypts, other_entries}
 use Rattle.tpm_policy_meaning.specs.Asserted.{IsAmong}
 use Rattle.tpm_step.specs.EntryHmacs.{AllShowHmacs, HasHmac, ShowsHmacs, cp_hash_in, hmac_in, nonce_where, text_in}
-use Rattle.tpm_step.specs.History.{AcceptedCommand, Done, History, PastEvent, PowerCycled}
+use Rattle.tpm_step.specs.History.{AcceptedCommand, Done, History, ObjectPlaced, PastEvent, PowerCycled}
 use Rattle.tpm_step.specs.Replays.{HasNonceAgain, HaveOneHmac, IsReplay, LivesThrough, Repeats, ReplaysRepeat, starts}
 use Rattle.tpm_step.specs.Sessions.{LiveSession, rolled_by, sessions_of}
 use Rattle.tpm_step.proofs.LivingOn.{Asserted, Begun, Came, Continues, Stayed, Was, continues_self, continues_then, entries_kept, entries_renewed, row_came}
@@ -64,6 +64,7 @@ lived_on handle (Done c ∷ events) before new shows through lives =
     let (old, lived, continues) = lived_on handle events before mid shows.1 through.2 was in
     (old, lived, continues_then old mid new continues later)
 lived_on handle (PowerCycled ∷ events) before new shows through lives = absurd cc
+lived_on handle (ObjectPlaced at object ∷ events) before new shows through lives = lived_on handle events before new shows through.2 lives
 
 there_is : (found : Option LiveSession) → found ≢ None → (s : LiveSession) × (found ≡ Some s)
 there_is (Some s) some = (s, refl)
@@ -121,6 +122,7 @@ shows_before : (events history : History) → AllShowHmacs (events ++ history) �
 shows_before [] history shows = shows
 shows_before (Done c ∷ events) history shows = shows_before events history shows.1
 shows_before (PowerCycled ∷ events) history shows = shows_before events history shows
+shows_before (ObjectPlaced at object ∷ events) history shows = shows_before events history shows
 
 -- an HMAC that is not empty is the HMAC of its key and text
 hmac_is : (history : History) (c : AcceptedCommand) (place : ℕ) (e : Entry) (s : LiveSession) → e.hmac ≢ [] → HasHmac history c place e s → e.hmac ≡ hmac_in history c place e s

@@ -8,7 +8,7 @@ use Rattle.tpm_types_command.specs.Command.{Whole, command_at}
 use Rattle.tpm_record.specs.Record.{Record}
 use Rattle.tpm_record.specs.Tick.{ticked}
 use Rattle.tpm_auth.specs.Grant.{authorize}
-use Rattle.tpm_step.specs.Events.{PlainEvent, Given, Cycled}
+use Rattle.tpm_step.specs.Events.{PlainEvent, Given, Cycled, Placed}
 use Rattle.tpm_step.specs.Execution.{Executes}
 use Rattle.tpm_step.specs.General.{general}
 use Rattle.tpm_step.specs.Safe.{AcceptsModestly}
@@ -66,6 +66,7 @@ modestly_accepted r (Given given locality elapsed random) x buffer (a, is, modes
       },
     )
 modestly_accepted r Cycled x buffer modest gives passes = absurd gives
+modestly_accepted r (Placed object) x buffer modest gives passes = absurd gives
 
 accepted_at : (can : Bool) (buffer : List ℕ) (one : Execution) → Executes can one.before one.event one.seen → Gives buffer one.event → one.seen.row.check ≡ 0 → (c : AcceptedCommand) × IsAcceptedAt buffer one c
 accepted_at can buffer one executes gives passes = modestly_accepted one.before one.event one.seen buffer (executes.modest passes) gives passes

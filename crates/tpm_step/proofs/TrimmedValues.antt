@@ -18,7 +18,7 @@ use Rattle.tpm_nvactions.specs.NvDefineSpace as definition
 use Rattle.tpm_step.proofs.Binding.{ok_bind, ok_then}
 use Rattle.tpm_step.specs.AuthValues.{AuthValues, auth_of, changed_value, copied_value, created_value, defined_value, loaded_value, started_values, values_by, with_value}
 use Rattle.tpm_step.specs.HandleMap.{with_at}
-use Rattle.tpm_step.specs.History.{Done, History, PowerCycled}
+use Rattle.tpm_step.specs.History.{Done, History, ObjectPlaced, PowerCycled}
 use Rattle.tpm_step.proofs.AuthReadings.{IsDefinition, IsTrimmed, definition_read, only_trimmed}
 
 abbrev AreTrimmed : AuthValues → Type 0
@@ -79,3 +79,4 @@ pub told_values_are_trimmed : (history : History) (h : Handle) → trimmed (auth
 told_values_are_trimmed [] h = none_trimmed
 told_values_are_trimmed (Done c ∷ history) h = done_trimmed c.command.code c.request c.answer.handle c.sensitive (auth_of history) (told_values_are_trimmed history) h
 told_values_are_trimmed (PowerCycled ∷ history) h = told_values_are_trimmed history h
+told_values_are_trimmed (ObjectPlaced at object ∷ history) h = at_trimmed at (trimmed object.auth_value) (auth_of history) (trimmed_twice object.auth_value) (told_values_are_trimmed history) h

@@ -9,7 +9,7 @@ use Rattle.tpm_policy_meaning.specs.Asserted.{HasWidths, IsAmong, evaluated}
 use Rattle.tpm_types.specs.Buffer.{is_given}
 use Rattle.tpm_types.specs.declared.handle.Handle.{Handle}
 use Rattle.tpm_types.specs.declared.session_type.SessionType.TheVariants as type
-use Rattle.tpm_step.specs.History.{AcceptedCommand, Done, History, PowerCycled}
+use Rattle.tpm_step.specs.History.{AcceptedCommand, Done, History, ObjectPlaced, PowerCycled}
 use Rattle.tpm_step.specs.Sessions.{LiveSession, sessions_of}
 
 -- What an accepted assertion found in the policy before it. TPM2_PolicyOR found the policy's
@@ -47,3 +47,4 @@ AllAskForTheirHandles [] = Unit {0}
 AllAskForTheirHandles (Done c ∷ history) =
     (c.request.handles ≡ c.command.handles) × AllAskForTheirHandles history
 AllAskForTheirHandles (PowerCycled ∷ history) = AllAskForTheirHandles history
+AllAskForTheirHandles (ObjectPlaced at object ∷ history) = AllAskForTheirHandles history

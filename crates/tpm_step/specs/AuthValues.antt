@@ -1,6 +1,6 @@
 -- Authorization values, computed from the history alone. TPM 2.0 Library, Part 1, section 19.6.4,
--- and Part 3, sections 9.3, 12.2, 24.1, 24.6, 24.8, 28.5, 31.3 and 31.15 (the commands that set
--- one).
+-- and Part 3, sections 9.3, 12.2, 24.1, 24.6, 24.8, 28.3, 28.5, 31.3 and 31.15 (the commands that
+-- set one).
 use Rattle.std.specs.Prelude.{ℕ, List, [], ◌∷◌, Option, Result, Ok, Err, ok_or}
 use Rattle.tpm_bytes.specs.Reading.{◌>>=◌}
 use Rattle.tpm_types.specs.AuthValue.{auth_value_at, trimmed}
@@ -20,7 +20,7 @@ use Rattle.tpm_record.specs.rows.Rows.{only}
 use Rattle.tpm_actions_object.specs.Creation as creation
 use Rattle.tpm_nvactions.specs.NvDefineSpace as definition
 use Rattle.tpm_step.specs.HandleMap.{with_at}
-use Rattle.tpm_step.specs.History.{Done, History, PowerCycled}
+use Rattle.tpm_step.specs.History.{Done, History, ObjectPlaced, PowerCycled}
 
 -- an authorization value for each handle
 abbrev pub AuthValues : Type 0
@@ -100,10 +100,13 @@ values_by command.Startup q made area values =
 values_by command.Clear q made area values = cleared_values values
 values_by _ q made area values = values
 
--- the authorization value of each handle after a history; at first all are empty, and a power
--- cycle changes none
+-- the authorization value of each handle after a history; at first all are empty, a power cycle
+-- changes none, and an object that came from a saved context brings its own, without the zeros at
+-- its end
 abbrev pub auth_of : History → AuthValues
 auth_of [] handle = []
 auth_of (Done c ∷ history) handle =
     values_by c.command.code c.request c.answer.handle c.sensitive (auth_of history) handle
 auth_of (PowerCycled ∷ history) handle = auth_of history handle
+auth_of (ObjectPlaced at object ∷ history) handle =
+    with_at at (trimmed object.auth_value) (auth_of history) handle

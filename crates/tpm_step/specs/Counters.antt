@@ -10,7 +10,7 @@ use Rattle.tpm_commands.specs.declared.command_code.CommandCode.TheVariants as c
 use Rattle.tpm_record.specs.rows.Request.{Request, second_handle}
 use Rattle.tpm_nvactions.specs.NvDefineSpace.{parameters_in}
 use Rattle.tpm_step.specs.HandleMap.{by_handle, with_at}
-use Rattle.tpm_step.specs.History.{AcceptedCommand, Done, History, PastEvent, PowerCycled}
+use Rattle.tpm_step.specs.History.{AcceptedCommand, Done, History, ObjectPlaced, PastEvent, PowerCycled}
 
 -- the value of the counter at each handle, which a counter has from its first increment after its
 -- definition; and all values that any counter ever had, the latest first
@@ -63,6 +63,7 @@ abbrev pub counters_of : History → Counters
 counters_of [] = no_counters
 counters_of (Done c ∷ history) = counters_by c.command.code c.request (counters_of history)
 counters_of (PowerCycled ∷ history) = counters_of history
+counters_of (ObjectPlaced at object ∷ history) = counters_of history
 
 -- all values that any counter had, and the value of the counter at a handle
 abbrev pub counts_of : History → List ℕ
@@ -86,6 +87,7 @@ defines_by _ q handle = false
 abbrev pub defines : PastEvent → Handle → Bool
 defines (Done c) handle = defines_by c.command.code c.request handle
 defines PowerCycled handle = false
+defines (ObjectPlaced at object) handle = false
 
 -- The event is an accepted TPM2_NV_DefineSpace of an index with this handle.
 pub record IsDefinition (one : PastEvent) (handle : Handle) : Type 0 where

@@ -21,7 +21,7 @@ use Rattle.tpm_auth.specs.Entries.{decrypts}
 use Rattle.tpm_auth.specs.Grant.{authorized}
 use Rattle.tpm_auth.specs.SessionGrant.{has_value_in_key, only_encrypts, other_entries}
 use Rattle.tpm_step.specs.AuthValues.{auth_of}
-use Rattle.tpm_step.specs.History.{AcceptedCommand, Done, History, PowerCycled}
+use Rattle.tpm_step.specs.History.{AcceptedCommand, Done, History, ObjectPlaced, PowerCycled}
 use Rattle.tpm_step.specs.Sessions.{Bound, LiveSession, policy_in, rolled_by, sessions_of}
 use Rattle.tpm_step.specs.View.{name_in, view_name}
 
@@ -110,3 +110,4 @@ abbrev pub AllShowHmacs : History → Type 0
 AllShowHmacs [] = Unit {0}
 AllShowHmacs (Done c ∷ history) = ShowsHmacs history c × AllShowHmacs history
 AllShowHmacs (PowerCycled ∷ history) = AllShowHmacs history
+AllShowHmacs (ObjectPlaced at object ∷ history) = AllShowHmacs history

@@ -1,7 +1,8 @@
 -- Events one after another, and the history that they make.
 use Rattle.std.specs.Prelude.{◌≡◌, Bool, List, [], ◌∷◌}
 use Rattle.tpm_record.specs.Record.{Record}
-use Rattle.tpm_step.specs.Events.{PlainEvent, Cycled}
+use Rattle.tpm_object.specs.declared.object.Object.{Object}
+use Rattle.tpm_step.specs.Events.{PlainEvent, Cycled, Placed}
 use Rattle.tpm_step.specs.Execution.{Executes}
 use Rattle.tpm_step.specs.Step.{Stepped, step}
 use Rattle.tpm_step.specs.History.{History, recorded}
@@ -23,6 +24,10 @@ Leads can old (one ∷ executions) new =
 -- the execution of a power cycle on this record
 abbrev pub power_cycle : Record → Execution
 power_cycle r = record { before = r; event = Cycled; seen = step r Cycled }
+
+-- the execution that places an object in this record
+abbrev pub placing : Record → Object → Execution
+placing r object = record { before = r; event = Placed object; seen = step r (Placed object) }
 
 -- the history after one more execution, and after a list of executions, in their order
 abbrev pub with_execution : Execution → History → History

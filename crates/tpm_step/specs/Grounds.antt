@@ -18,7 +18,7 @@ use Rattle.tpm_record.specs.declared.entity.Means.{Means}
 use Rattle.tpm_record.specs.declared.entity.Means.TheVariants as means
 use Rattle.tpm_auth.specs.SessionGrant.{is_password_demand}
 use Rattle.tpm_step.specs.EntryHmacs.{HasHmac, HasPassword, cp_hash_in, used_in}
-use Rattle.tpm_step.specs.History.{AcceptedCommand, Done, History, PowerCycled}
+use Rattle.tpm_step.specs.History.{AcceptedCommand, Done, History, ObjectPlaced, PowerCycled}
 use Rattle.tpm_step.specs.QuietPcrs.{HoldsPcrs, asserts_pcrs}
 use Rattle.tpm_step.specs.Sessions.{LiveSession, policy_in, sessions_of}
 use Rattle.tpm_step.specs.View.{View}
@@ -109,3 +109,4 @@ abbrev pub AllHaveGrounds : History → Type 0
 AllHaveGrounds [] = Unit {0}
 AllHaveGrounds (Done c ∷ history) = UsesHaveGrounds history c × AllHaveGrounds history
 AllHaveGrounds (PowerCycled ∷ history) = AllHaveGrounds history
+AllHaveGrounds (ObjectPlaced at object ∷ history) = AllHaveGrounds history

@@ -1,13 +1,16 @@
 -- What a device has accepted. An entry of the history shows only these of the device's state:
--- what the command was answered, what everybody could read of its handles, and the sensitive area
--- that a TPM2_Load loaded.
+-- what the command was answered, what everybody could read of its handles, the sensitive area
+-- that a TPM2_Load loaded, and the object that a saved context contained.
 use Rattle.std.specs.Prelude.{ℕ, zero, suc, List, ◌∷◌, map, Option, Some, None, Result, Ok, Err}
 use Rattle.tpm_bytes.specs.Reading.{◌>>=◌}
+use Rattle.tpm_types.specs.declared.handle.Handle.{Handle}
 use Rattle.tpm_types.specs.declared.refused.Refused.{Refused}
 use Rattle.tpm_types_command.specs.Command.{Whole}
 use Rattle.tpm_commands.specs.declared.command_code.CommandCode.{CommandCode}
 use Rattle.tpm_commands.specs.declared.command_code.CommandCode.TheVariants as command
 use Rattle.tpm_types_object.specs.declared.sensitive.Sensitive.{Sensitive}
+use Rattle.tpm_object.specs.declared.object.Object.{Object}
+use Rattle.tpm_record.specs.Objects.{next_handle}
 use Rattle.tpm_record.specs.Record.{Record}
 use Rattle.tpm_record.specs.Tick.{ticked}
 use Rattle.tpm_auth.specs.declared.session_grant.Grant.{Grant}
@@ -15,7 +18,7 @@ use Rattle.tpm_record.specs.rows.Answer.{AnswerParts}
 use Rattle.tpm_record.specs.rows.Request.{Request, first_handle}
 use Rattle.tpm_actions_object.specs.Load.{parameters_in, sensitive_of}
 use Rattle.tpm_actions_object.specs.Loaded.{loaded_at}
-use Rattle.tpm_step.specs.Events.{PlainEvent, Given, Cycled}
+use Rattle.tpm_step.specs.Events.{PlainEvent, Given, Cycled, Placed}
 use Rattle.tpm_step.specs.Step.{Accepted, accepted}
 use Rattle.tpm_step.specs.declared.refused_command.RefusedCommand.{RefusedCommand}
 use Rattle.tpm_step.specs.View.{View, view_of}
@@ -65,10 +68,12 @@ command_on r command grants q answer = record {
 abbrev pub command_of : Record → Accepted → AcceptedCommand
 command_of r a = command_on r a.command a.grants a.request a.success.answer
 
--- an accepted event: a command, or a power cycle
+-- an accepted event: a command, a power cycle, or an object that came from a saved context and got
+-- this handle
 pub data PastEvent : Type 0 where
   Done : (command : AcceptedCommand) → PastEvent
   PowerCycled : PastEvent
+  ObjectPlaced : (handle : Handle) → (object : Object) → PastEvent
 
 -- what a device accepted since it was manufactured, the latest event first
 abbrev pub History : Type 0
@@ -82,9 +87,17 @@ with_command r (Ok a) zero history = Done (command_of r a) ∷ history
 with_command r (Ok a) (suc check) history = history
 with_command r (Err e) check history = history
 
+-- the history with one more object, which got this handle; without a handle, all slots were taken
+-- and nothing is recorded
+abbrev pub with_placed : Option Handle → Object → History → History
+with_placed (Some handle) object history = ObjectPlaced handle object ∷ history
+with_placed None object history = history
+
 -- the history with one more event, executed on this record, whose row reported this check
 abbrev pub recorded : Record → PlainEvent → (check : ℕ) → History → History
 recorded r (Given buffer locality elapsed random) check history =
     let t = ticked r elapsed in
     with_command t (accepted t buffer locality random) check history
 recorded r Cycled check history = PowerCycled ∷ history
+recorded r (Placed object) check history =
+    with_placed (next_handle r.objects) object history

@@ -3,6 +3,7 @@ pub mod General
 pub mod Table
 pub mod Granted
 pub mod Parameters
+pub mod Placing
 pub mod Entries
 pub mod Answer
 pub mod Step

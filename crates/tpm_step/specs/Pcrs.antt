@@ -21,7 +21,7 @@ use Rattle.tpm_commands.specs.declared.command_code.CommandCode.{CommandCode}
 use Rattle.tpm_commands.specs.declared.command_code.CommandCode.TheVariants as command
 use Rattle.tpm_record.specs.rows.Request.{Request}
 use Rattle.tpm_record.specs.rows.Rows.{only}
-use Rattle.tpm_step.specs.History.{Done, History, PowerCycled}
+use Rattle.tpm_step.specs.History.{Done, History, ObjectPlaced, PowerCycled}
 
 -- the values of all PCRs, now and at the last TPM2_Shutdown
 pub record Pcrs : Type 0 where
@@ -82,6 +82,7 @@ pcrs_after [] = record { values = starting_value; saved = starting_value }
 pcrs_after (Done c ∷ history) = pcrs_by c.command.code c.request (pcrs_after history)
 pcrs_after (PowerCycled ∷ history) =
     record { values = starting_value; saved = (pcrs_after history).saved }
+pcrs_after (ObjectPlaced at object ∷ history) = pcrs_after history
 
 -- the value of each PCR in each bank
 abbrev pub pcr_of : History → PcrValues
@@ -97,6 +98,7 @@ before_shutdown [] = []
 before_shutdown (Done c ∷ history) =
     shutdown_or c.command.code history (before_shutdown history)
 before_shutdown (PowerCycled ∷ history) = before_shutdown history
+before_shutdown (ObjectPlaced at object ∷ history) = before_shutdown history
 
 -- the values of the PCRs that a selection names, and the hash of all of them, which is their
 -- digest
@@ -134,3 +136,4 @@ abbrev pub updates_of : History → ℕ
 updates_of [] = 0
 updates_of (Done c ∷ history) = updates_by c.command.code c.request (updates_of history)
 updates_of (PowerCycled ∷ history) = 0
+updates_of (ObjectPlaced at object ∷ history) = updates_of history

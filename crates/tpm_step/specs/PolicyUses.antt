@@ -18,7 +18,7 @@ use Rattle.tpm_step.specs.AssertedBy.{ComparesIndex, ShowsSecret}
 use Rattle.tpm_step.specs.AuthValues.{auth_of}
 use Rattle.tpm_step.specs.EntryHmacs.{HasHmac, HasPassword, cp_hash_in, used_in, value_in_key}
 use Rattle.tpm_step.specs.Grounds.{ByHmac, ByPassword, ByPolicy, Ground, policy_at, written_at}
-use Rattle.tpm_step.specs.History.{AcceptedCommand, Done, History, PowerCycled}
+use Rattle.tpm_step.specs.History.{AcceptedCommand, Done, History, ObjectPlaced, PowerCycled}
 use Rattle.tpm_step.specs.Pcrs.{digest_in}
 use Rattle.tpm_step.specs.QuietPcrs.{AreQuietSince}
 use Rattle.tpm_step.specs.Sessions.{LiveSession}
@@ -111,3 +111,4 @@ abbrev pub AllMeetPolicies : History → Type 0
 AllMeetPolicies [] = Unit {0}
 AllMeetPolicies (Done c ∷ history) = UsesMeetPolicies history c × AllMeetPolicies history
 AllMeetPolicies (PowerCycled ∷ history) = AllMeetPolicies history
+AllMeetPolicies (ObjectPlaced at object ∷ history) = AllMeetPolicies history

@@ -12,7 +12,7 @@ use Rattle.tpm_types.specs.declared.session_type.SessionType.TheVariants as type
 use Rattle.tpm_commands.specs.declared.command_code.CommandCode.TheVariants as command
 use Rattle.tpm_record.specs.rows.Request.{first_handle}
 use Rattle.tpm_step.specs.General.{is_startup}
-use Rattle.tpm_step.specs.History.{AcceptedCommand, Done, History, PastEvent, PowerCycled}
+use Rattle.tpm_step.specs.History.{AcceptedCommand, Done, History, ObjectPlaced, PastEvent, PowerCycled}
 use Rattle.tpm_step.specs.Pcrs.{digest_in, updates_of, writes}
 use Rattle.tpm_step.specs.Sessions.{LiveSession, policy_in, sessions_of}
 
@@ -33,6 +33,7 @@ abbrev pub IsQuiet : PastEvent → Type 0
 IsQuiet (Done c) =
     (is_startup c.command.code ≡ false) × (writes c.command.code c.request ≡ 0)
 IsQuiet PowerCycled = ⊥
+IsQuiet (ObjectPlaced at object) = Unit {0}
 
 -- After each of these events, the latest first, the session of this handle asserts PCRs.
 abbrev pub KeepsPcrs : Handle → (events before : History) → Type 0

@@ -10,7 +10,7 @@ use Rattle.tpm_commands.specs.declared.command_code.CommandCode.{CommandCode}
 use Rattle.tpm_commands.specs.declared.command_code.CommandCode.TheVariants as command
 use Rattle.tpm_policy_meaning.specs.Asserted.{IsAmong}
 use Rattle.tpm_step.specs.EntryHmacs.{hmac_in, text_in}
-use Rattle.tpm_step.specs.History.{AcceptedCommand, Done, History, PastEvent, PowerCycled}
+use Rattle.tpm_step.specs.History.{AcceptedCommand, Done, History, ObjectPlaced, PastEvent, PowerCycled}
 use Rattle.tpm_step.specs.Sessions.{LiveSession, sessions_of}
 
 -- ---- a session that lives on
@@ -23,6 +23,7 @@ starts_under _ made handle = false
 abbrev pub starts : PastEvent → Handle → Bool
 starts (Done c) handle = starts_under c.command.code c.answer.handle handle
 starts PowerCycled handle = false
+starts (ObjectPlaced at object) handle = false
 
 -- The session at this handle lives through these events, the latest first, after this history. No
 -- event starts a session under the handle, and a session lives there after each.

@@ -7,7 +7,7 @@ use Rattle.tpm_types.specs.declared.session_type.SessionType.TheVariants as type
 use Rattle.tpm_types_command.specs.AuthEntry.{Entry}
 use Rattle.tpm_types_command.specs.Command.{Whole, command_at}
 use Rattle.tpm_record.specs.Record.{Record}
-use Rattle.tpm_step.specs.Events.{PlainEvent, Given, Cycled}
+use Rattle.tpm_step.specs.Events.{PlainEvent, Given, Cycled, Placed}
 use Rattle.tpm_step.specs.Step.{Stepped}
 use Rattle.tpm_step.specs.Executions.{Execution, history_after, with_execution}
 use Rattle.tpm_step.specs.History.{AcceptedCommand, Done, History, recorded}
@@ -25,6 +25,7 @@ pub record IsRecorded (old : Record) (event : PlainEvent) (x : Stepped) (buffer 
 abbrev pub Gives : List ℕ → PlainEvent → Type 0
 Gives buffer (Given given locality elapsed random) = given ≡ buffer
 Gives buffer Cycled = ⊥
+Gives buffer (Placed object) = ⊥
 
 -- Two accepted events, after these earlier ones and with others in between, have one buffer. An
 -- entry of the buffer's command has an HMAC, and names an HMAC session that lives from the first

@@ -10,13 +10,14 @@ use Rattle.tpm_record.specs.rows.Answer.{answer_body_text}
 use Rattle.tpm_record.specs.rows.Draws.{draw_limit}
 use Rattle.tpm_step.specs.Answer.{refusal_text}
 use Rattle.tpm_step.specs.Entries.{DrawsFew}
-use Rattle.tpm_step.specs.Events.{PlainEvent, Given, Cycled}
+use Rattle.tpm_step.specs.Events.{PlainEvent, Given, Cycled, Placed}
 use Rattle.tpm_step.specs.Step.{Accepted, Stepped, accepted, counted_in}
 
--- the record after a command's elapsed time; a power cycle leaves it as it is
+-- the record after a command's elapsed time; a power cycle and a placed object leave it as it is
 abbrev pub only_ticked : Record → PlainEvent → Record
 only_ticked r (Given buffer locality elapsed random) = ticked r elapsed
 only_ticked r Cycled = r
+only_ticked r (Placed object) = r
 
 -- A refusal has a response of ten bytes, its text, and reports its check. It changes only what
 -- time changes and what it counts. Which command the row names is not said here.
@@ -40,9 +41,11 @@ abbrev pub IsModestIfAccepted : Record → PlainEvent → Type 0
 IsModestIfAccepted r (Given buffer locality elapsed random) =
     IfOk (accepted (ticked r elapsed) buffer locality random) (IsModest random)
 IsModestIfAccepted r Cycled = Unit {0}
+IsModestIfAccepted r (Placed object) = Unit {0}
 
 -- A command is accepted, and its success is modest.
 abbrev pub AcceptsModestly : Record → PlainEvent → Type 0
 AcceptsModestly r (Given buffer locality elapsed random) =
     (a : Accepted) × (accepted (ticked r elapsed) buffer locality random ≡ Ok a) × IsModest random a
 AcceptsModestly r Cycled = Unit {0}
+AcceptsModestly r (Placed object) = Unit {0}

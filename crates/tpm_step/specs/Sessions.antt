@@ -32,7 +32,7 @@ use Rattle.tpm_step.specs.rows.Draws.{draws_of}
 use Rattle.tpm_policy_meaning.specs.Asserted.{evaluated}
 use Rattle.tpm_step.specs.AuthValues.{auth_of}
 use Rattle.tpm_step.specs.HandleMap.{by_handle, changed_at, with_at}
-use Rattle.tpm_step.specs.History.{AcceptedCommand, Done, History, PowerCycled}
+use Rattle.tpm_step.specs.History.{AcceptedCommand, Done, History, ObjectPlaced, PowerCycled}
 use Rattle.tpm_step.specs.Policies.{assertion_by, with_assertion}
 use Rattle.tpm_step.specs.View.{View, view_name}
 use Rattle.tpm_step.specs.Views.{view_protection}
@@ -238,6 +238,7 @@ sessions_of (Done c ∷ history) handle =
     entries_ended (rolled_by c history (sessions_of history)).sessions
     (zip c.command.entries c.grants) handle
 sessions_of (PowerCycled ∷ history) handle = None
+sessions_of (ObjectPlaced at object ∷ history) handle = sessions_of history handle
 
 -- the latest nonceTPM, the key and the policy of the session at a handle
 abbrev pub nonce_of : History → Handle → Option (List ℕ)

@@ -26,10 +26,11 @@ use Rattle.tpm_record.specs.rows.Rows.{Success}
 use Rattle.tpm_record.specs.Saved.{Nothing}
 use Rattle.tpm_commands.specs.declared.command_code.CommandCode.{CommandCode}
 use Rattle.tpm_step.specs.Answer.{Answered, answer_to, refusal_text, written_of}
-use Rattle.tpm_step.specs.Events.{PlainEvent, Given, Cycled}
+use Rattle.tpm_step.specs.Events.{PlainEvent, Given, Cycled, Placed}
 use Rattle.tpm_step.specs.General.{general, in_command}
 use Rattle.tpm_step.specs.Granted.{granted_entries}
 use Rattle.tpm_step.specs.Parameters.{plain_parameters}
+use Rattle.tpm_step.specs.Placing.{placed}
 use Rattle.tpm_step.specs.Table.{row_of}
 use Rattle.tpm_step.specs.declared.event.Outcome.{Outcome}
 use Rattle.tpm_step.specs.declared.event.Row.{Row}
@@ -158,12 +159,14 @@ answer_where false r random a = stepped_of r random a
 answer_where true r random a = answer_without_memory r random a
 
 -- the step of an event, when memory is refused (true) or not (false); the time of a command
--- passes first
+-- passes first. A placed object has no response, and if all slots are taken, it changes nothing
 abbrev pub step_where : Bool → Record → PlainEvent → Stepped
 step_where refused r (Given buffer locality elapsed random) =
     let t = ticked r elapsed in answer_where refused t random (accepted t buffer locality random)
 step_where refused r Cycled =
     record { response = []; row = record { code = 0; check = 0 }; after = cycled r }
+step_where refused r (Placed object) =
+    record { response = []; row = record { code = 0; check = 0 }; after = placed r object }
 
 -- the step of an event when no memory is refused
 abbrev pub step : Record → PlainEvent → Stepped

@@ -30,13 +30,13 @@ use Rattle.tpm_auth.specs.Entries.{session_of}
 use Rattle.tpm_auth.specs.Grant.{authorize, used_protection}
 use Rattle.tpm_auth.specs.SessionGrant.{demanded, entry_protection}
 use Rattle.tpm_step.specs.Answer.{refusal_text}
-use Rattle.tpm_step.specs.Events.{PlainEvent, Given, Cycled}
+use Rattle.tpm_step.specs.Events.{PlainEvent, Given, Cycled, Placed}
 use Rattle.tpm_step.specs.General.{general}
 use Rattle.tpm_step.specs.Step.{Accepted, Stepped, accepted}
 use Rattle.tpm_step.specs.declared.refused_command.RefusedCommand.{RefusedCommand}
 use Rattle.tpm_step.specs.EntryHmacs.{used_in}
 use Rattle.tpm_step.specs.Executions.{Execution, Leads, history_after}
-use Rattle.tpm_step.specs.History.{AcceptedCommand, Done, History, PastEvent, PowerCycled}
+use Rattle.tpm_step.specs.History.{AcceptedCommand, Done, History, ObjectPlaced, PastEvent, PowerCycled}
 use Rattle.tpm_step.specs.Potential.{period}
 
 -- ---- an event that fails a try
@@ -57,6 +57,7 @@ abbrev pub fails_try : Record → PlainEvent → Bool
 fails_try r (Given buffer locality elapsed random) =
     counts_try (accepted (ticked r elapsed) buffer locality random)
 fails_try r Cycled = false
+fails_try r (Placed object) = false
 
 -- An entry touches the entity whose authorization value its comparison uses. If that value is
 -- compared with the password, or is part of the HMAC's key, this is the entity that the entry has
@@ -109,6 +110,7 @@ abbrev pub IsRefusedTry : Record → PlainEvent → Type 0
 IsRefusedTry r (Given buffer locality elapsed random) =
     FailsTry (ticked r elapsed) locality buffer
 IsRefusedTry r Cycled = ⊥
+IsRefusedTry r (Placed object) = ⊥
 
 -- ---- how a failed try is answered
 
@@ -133,12 +135,14 @@ IsAnsweredTry r (Given buffer locality elapsed random) x =
     (fails : FailsTry (ticked r elapsed) locality buffer)
     × IsAnsweredFailure (try_refusal fails.command fails.place) x
 IsAnsweredTry r Cycled x = ⊥
+IsAnsweredTry r (Placed object) x = ⊥
 
 -- ---- a stretch of events
 
 abbrev pub elapsed_of : PlainEvent → ℕ
 elapsed_of (Given buffer locality elapsed random) = elapsed
 elapsed_of Cycled = 0
+elapsed_of (Placed object) = 0
 
 -- the milliseconds that pass in a stretch of events, and how many of the events fail a try
 abbrev pub elapsed_in : List Execution → ℕ
@@ -157,6 +161,7 @@ resets_tries _ = false
 abbrev pub is_reset : PastEvent → Bool
 is_reset (Done c) = resets_tries c.command.code
 is_reset PowerCycled = false
+is_reset (ObjectPlaced at object) = false
 
 -- No command of this history clears the failed tries or sets their parameters.
 abbrev pub HasNoReset : History → Type 0

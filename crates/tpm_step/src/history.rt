@@ -10,6 +10,8 @@
 ghost use Rattle.std.specs.Prelude.{◌≡◌, ◌↔◌, ◌+◌, ◌++◌, ℕ, Bool, true, false, List, [], ◌∷◌, None, Some, map};
 ghost use Rattle.tpm_mac.specs.declared.algorithm.HashAlg.{HashAlg};
 ghost use Rattle.tpm_nv.specs.Index.{NvIndex};
+ghost use Rattle.tpm_object.specs.Object.{IsObject};
+ghost use Rattle.tpm_object.specs.declared.object.Object.{Object};
 ghost use Rattle.tpm_session.specs.Sessions.{session_at};
 ghost use Rattle.tpm_session.specs.declared.session.Session.{Session};
 ghost use Rattle.tpm_types.specs.AuthValue.{trimmed};
@@ -30,7 +32,8 @@ ghost use Rattle.tpm_step.specs.DeviceAuthValues.{HasAuthValues};
 ghost use Rattle.tpm_step.specs.DeviceCounters.{BeginsAbove, ExceedsEarlier, HasCounters};
 ghost use Rattle.tpm_step.specs.DeviceCounters.{KeepsCounter};
 ghost use Rattle.tpm_step.specs.DeviceSessions.{HasSessions, IsLive};
-ghost use Rattle.tpm_step.specs.Executions.{Execution, Leads, history_after, power_cycle};
+ghost use Rattle.tpm_step.specs.Executions.{Execution, Leads, history_after, placing};
+ghost use Rattle.tpm_step.specs.Executions.{power_cycle};
 ghost use Rattle.tpm_step.specs.FailedRun.{IsFailedRun};
 ghost use Rattle.tpm_step.specs.Follows.{After, Follows, RunFollows, StretchFollows, Tells};
 ghost use Rattle.tpm_step.specs.Grounds.{AllHaveGrounds};
@@ -38,6 +41,7 @@ ghost use Rattle.tpm_step.specs.History.{AcceptedCommand, Done, History, PastEve
 ghost use Rattle.tpm_step.specs.History.{PowerCycled};
 ghost use Rattle.tpm_step.specs.History.{recorded};
 ghost use Rattle.tpm_step.specs.Pcrs.{before_shutdown, pcr_of, pcrs_after};
+ghost use Rattle.tpm_step.specs.Placing.{placed};
 ghost use Rattle.tpm_step.specs.PolicyLaws.{KeepsQuietValues, UsesItsCommand};
 ghost use Rattle.tpm_step.specs.PolicyLaws.{UsesAsWritten, UsesPcrsAsTheyAre};
 ghost use Rattle.tpm_step.specs.PolicyReviews.{IsWrittenOnce, NeedsCount, NeedsItsPolicy};
@@ -66,13 +70,16 @@ pub fn following_laws()
         → Follows r history → Follows (cycled r) (PowerCycled ∷ history) }
 {}
 
-/// A power cycle is one more execution of a stretch of events, and so is opening what was saved.
+/// A power cycle is one more execution of a stretch of events, and so is opening what was saved. So
+/// is an object that is placed in a record, with what holds for every loaded object.
 /// Two stretches are one if the second begins where the first ended. A stretch in which no memory
 /// can be refused is also one in which it can.
 #[inline(always)]
 pub fn stretch_laws()
     ensures power_cycle { (can : Bool) (r : Record)
         → IsRecord r → Leads can r (power_cycle r ∷ []) (cycled r) }
+    ensures placed { (can : Bool) (r : Record) (object : Object) → IsObject object
+        → IsRecord r → Leads can r (placing r object ∷ []) (placed r object) }
     ensures joined { (can : Bool) (old : Record) (first : List Execution) (mid : Record)
         (second : List Execution) (new : Record)
         → Leads can old first mid → Leads can mid second new → Leads can old (first ++ second) new }

@@ -14,7 +14,7 @@ use Rattle.tpm_commands.specs.declared.command_code.CommandCode.{CommandCode}
 use Rattle.tpm_record.specs.Record.{Record}
 use Rattle.tpm_record.specs.Tick.{ticked}
 use Rattle.tpm_step.specs.Answer.{answer_to, framed, refusal_tag, success_text}
-use Rattle.tpm_step.specs.Events.{PlainEvent, Given, Cycled}
+use Rattle.tpm_step.specs.Events.{PlainEvent, Given, Cycled, Placed}
 use Rattle.tpm_step.specs.Execution.{Executes}
 use Rattle.tpm_step.specs.General.{body_of, general, in_command, in_header}
 use Rattle.tpm_step.specs.Step.{Accepted, Stepped, acceptance, accepted, answer_where, refusal_step, refusal_without_memory, step_where, success_step}
@@ -87,6 +87,7 @@ step_traced : (refused : Bool) (r : Record) (event : PlainEvent) → IsTraceable
 step_traced refused r (Given buffer locality elapsed random) =
     let t = ticked r elapsed in answer_traced refused t random (accepted t buffer locality random) (named_accepted t buffer locality random)
 step_traced refused r Cycled = ((inl refl, inl refl), tt)
+step_traced refused r (Placed object) = ((inl refl, inl refl), tt)
 
 pub executed : (can : Bool) (old : Record) (event : PlainEvent) (x : Stepped) → Executes can old event x → IsTraceable event x
 executed can old event x e = subst (IsTraceable event) (sym e.steps.2) (step_traced e.steps.0 old event)

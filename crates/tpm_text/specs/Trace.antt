@@ -9,7 +9,7 @@ use Rattle.tpm_types.specs.Check.{check_number}
 use Rattle.tpm_types.specs.declared.check.Check.{Check}
 use Rattle.tpm_commands.specs.CommandCode.{code_name, code_named, code_number}
 use Rattle.tpm_commands.specs.declared.command_code.CommandCode.{CommandCode}
-use Rattle.tpm_step.specs.Events.{PlainEvent, Given, Cycled}
+use Rattle.tpm_step.specs.Events.{PlainEvent, Given, Cycled, Placed}
 use Rattle.tpm_step.specs.Step.{Stepped}
 use Rattle.tpm_step.specs.declared.event.Row.{Row}
 
@@ -24,6 +24,7 @@ IsRow row =
 abbrev pub IsAnswered : PlainEvent → List ℕ → Type 0
 IsAnswered (Given buffer locality elapsed random) response = 10 ≤ length response
 IsAnswered Cycled response = Unit {0}
+IsAnswered (Placed object) response = Unit {0}
 
 -- An event and its step can be traced.
 abbrev pub IsTraceable : PlainEvent → Stepped → Type 0
@@ -46,10 +47,11 @@ check_text number =
 abbrev pub response_code_text : List ℕ → List ℕ
 response_code_text response = encode_lower (slice_range response 6 10)
 
--- the trace of an event: `power` for a power cycle; for a command, its name, its locality, the
+-- the trace of an event: `power` for a power cycle and `placed` for a placed object; for a command, its name, its locality, the
 -- milliseconds before it, the check that refused it, and the response code
 abbrev pub trace_text : PlainEvent → Row → (response : List ℕ) → List ℕ
 trace_text Cycled row response = codes "power"
+trace_text (Placed object) row response = codes "placed"
 trace_text (Given buffer locality elapsed random) row response =
     name_text row.code ++ codes " L" ++ decimal locality ++ codes " +" ++ decimal elapsed
     ++ codes " " ++ check_text row.check ++ codes " " ++ response_code_text response

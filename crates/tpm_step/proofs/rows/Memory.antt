@@ -20,7 +20,7 @@ use Rattle.tpm_record.specs.Record.{Record}
 use Rattle.tpm_record.specs.Tick.{ticked}
 use Rattle.tpm_auth.specs.Entries.{entries_pass}
 use Rattle.tpm_auth.specs.Grant.{authorize, grants_pass}
-use Rattle.tpm_step.specs.Events.{PlainEvent, Given, Cycled}
+use Rattle.tpm_step.specs.Events.{PlainEvent, Given, Cycled, Placed}
 use Rattle.tpm_step.specs.Execution.{Executes}
 use Rattle.tpm_step.specs.General.{body_of, both_or_neither, general, in_command, in_header, is_startup, present_handles_at, sessions_pass}
 use Rattle.tpm_step.specs.Step.{Accepted, Stepped, acceptance, accepted, stepped_of, request_in, step}
@@ -124,6 +124,7 @@ step_wants r (Given buffer locality elapsed random) =
     let t = ticked r elapsed in
     answer_wants t random (accepted t buffer locality random) (accepted_wants t buffer locality random)
 step_wants r Cycled = λ same. absurd cc
+step_wants r (Placed object) = λ same. absurd cc
 
 pub execution_wants : (old : Record) (event : PlainEvent) (x : Stepped) → Executes false old event x → x.row.check ≢ check_number check.Memory
 execution_wants old event x executes = subst (λ (y : Stepped). y.row.check ≢ check_number check.Memory) (sym (executes.exactly refl)) (step_wants old event)

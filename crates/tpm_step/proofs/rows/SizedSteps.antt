@@ -21,7 +21,7 @@ use Rattle.tpm_auth.specs.Grant.{authorize}
 use Rattle.tpm_auth.specs.declared.session_grant.Grant.{Grant}
 use Rattle.tpm_step.specs.Answer.{Written, answer_to, written_of}
 use Rattle.tpm_step.specs.Entries.{draw_of, entries_ended, entries_rolled, entry_ended, entry_restarted, entry_rolled, restarted_by}
-use Rattle.tpm_step.specs.Events.{PlainEvent, Given, Cycled, IsEvent}
+use Rattle.tpm_step.specs.Events.{PlainEvent, Given, Cycled, Placed, IsEvent}
 use Rattle.tpm_step.specs.General.{general}
 use Rattle.tpm_step.specs.Granted.{Granted, granted_entries}
 use Rattle.tpm_step.specs.Run.{after_all, Runs}
@@ -180,6 +180,7 @@ step_sized refused r (Given buffer locality elapsed random) happens sized =
     let enough : 256 ≤ length random = omega (arith, happens.2) in
     answer_where_sized refused t random (accepted t buffer locality random) enough sized (accepted_fits t buffer locality random (omega (arith, enough)) sized)
 step_sized refused r Cycled happens sized = cycled_sized r
+step_sized refused r (Placed object) happens sized = sized
 
 pub execution_sized : (can : Bool) (r : Record) (event : PlainEvent) (x : Stepped) → Executes can r event x → AreSized r → AreSized x.after
 execution_sized can r event x executes sized =

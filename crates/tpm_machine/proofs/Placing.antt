@@ -1,0 +1,88 @@
+-- A placed object is an execution of its event.
+use Rattle.std.proofs.Common.{◌≡◌, ◌<◌, ℕ, Bool, true, List, Option, Some, None, option_map, Result, Ok, Err, refl, sym, ap, subst, ◌∙◌}
+use Rattle.tpm_containers.specs.Slots.{lowest_free}
+use Rattle.tpm_containers.specs.declared.slots.SlotFault.{SlotFault}
+use Rattle.tpm_containers.specs.declared.slots.SlotFault.TheVariants.{Full, NoMemory}
+use Rattle.tpm_object.specs.Object.{IsObject}
+use Rattle.tpm_object.specs.declared.object.Object.{Object}
+use Rattle.tpm_types.specs.declared.handle.Handle.{Handle}
+use Rattle.tpm_record.specs.AnyObject.{AddsObject}
+use Rattle.tpm_record.specs.IsRecord.{IsRecord}
+use Rattle.tpm_record.specs.Objects.{object_handle}
+use Rattle.tpm_record.specs.Record.{Record}
+use Rattle.tpm_step.specs.Events.{Placed}
+use Rattle.tpm_step.specs.Execution.{Executes}
+use Rattle.tpm_step.specs.DeviceAuthValues.{HasAuthValues}
+use Rattle.tpm_step.specs.DeviceCounters.{HasCounters}
+use Rattle.tpm_step.specs.DevicePcrs.{HasPcrs}
+use Rattle.tpm_step.specs.DeviceSessions.{HasSessions}
+use Rattle.tpm_step.specs.Follows.{After, Follows}
+use Rattle.tpm_step.specs.Grounds.{AllHaveGrounds}
+use Rattle.tpm_step.specs.PolicyUses.{AllMeetPolicies}
+use Rattle.tpm_step.specs.Replays.{ReplaysRepeat}
+use Rattle.tpm_step.specs.Placing.{placed, placed_at}
+use Rattle.tpm_step.proofs.Placing.{placed_executes}
+use Rattle.tpm_machine.specs.Placing.{IfMemory, Places, placing_seen}
+use Rattle.tpm_machine.proofs.Histories.{TellsHistory, execution_tells}
+
+places : (can : Bool) (old : Record) (object : Object) (result : Result Handle SlotFault) (new : Record) → AddsObject can old object result new → Places can old result new
+places can old object (Ok handle) new (adds, is) = ap (option_map object_handle) adds.1 ∙ ap (λ (h : Handle). let found : Option Handle = Some h in found) (sym adds.2)
+places can old object (Err Full) new (adds, is) = (ap (option_map object_handle) adds.0, is ∙ ap (λ (objects : List (Option Object)). record old { objects = objects }) adds.1)
+places can old object (Err NoMemory) new (adds, is) = (adds.2, is ∙ ap (λ (objects : List (Option Object)). record old { objects = objects }) adds.3)
+
+-- the record after the object was added is that of the event
+placed_is : (old : Record) (object : Object) (found : Option ℕ) → lowest_free old.objects ≡ found → record old { objects = placed_at found object old.objects } ≡ placed old object
+placed_is old object found free = ap (λ (x : Option ℕ). record old { objects = placed_at x object old.objects }) (sym free)
+
+seen_executes : (can : Bool) (old : Record) (object : Object) (new : Record) → IsObject object → IsRecord old → new ≡ placed old object → Executes can old (Placed object) (placing_seen new)
+seen_executes can old object new is record_is same =
+    subst (λ (r : Record). Executes can old (Placed object) (placing_seen r)) (sym same)
+    (placed_executes can old object is record_is)
+
+place_executes : (can : Bool) (old : Record) (object : Object) (result : Result Handle SlotFault) (new : Record) → IsObject object → IsRecord old → AddsObject can old object result new → IfMemory result (Executes can old (Placed object) (placing_seen new))
+place_executes can old object (Ok handle) new is record_is (adds, same) =
+    seen_executes can old object new is record_is
+    (same ∙ ap (λ (objects : List (Option Object)). record old { objects = objects }) adds.3 ∙ placed_is old object (Some adds.0) adds.1)
+place_executes can old object (Err Full) new is record_is (adds, same) =
+    seen_executes can old object new is record_is
+    (same ∙ ap (λ (objects : List (Option Object)). record old { objects = objects }) adds.1 ∙ placed_is old object None adds.0)
+place_executes can old object (Err NoMemory) new is record_is (adds, same) = tt
+
+-- what follows from an execution holds unless an allocation failed
+if_memory : (P Q : Type 0) (result : Result Handle SlotFault) → (P → Q) → IfMemory result P → IfMemory result Q
+if_memory P Q (Ok handle) so holds = so holds
+if_memory P Q (Err Full) so holds = so holds
+if_memory P Q (Err NoMemory) so holds = tt
+
+-- What holds of a device on which an object was placed: everything that holds of an execution.
+pub record Tells (can : Bool) (old : Record) (object : Object) (result : Result Handle SlotFault) (new : Record) : Type 0 where
+  pub places : Places can old result new
+  pub executes : IfMemory result (Executes can old (Placed object) (placing_seen new))
+  pub history : IfMemory result (After Follows old (Placed object) (placing_seen new))
+  pub counters : IfMemory result (After HasCounters old (Placed object) (placing_seen new))
+  pub pcrs : IfMemory result (After HasPcrs old (Placed object) (placing_seen new))
+  pub auth_values : IfMemory result (After HasAuthValues old (Placed object) (placing_seen new))
+  pub sessions : IfMemory result (After HasSessions old (Placed object) (placing_seen new))
+  pub replays : IfMemory result (After (λ r. ReplaysRepeat) old (Placed object) (placing_seen new))
+  pub grounds : IfMemory result (After (λ r. AllHaveGrounds) old (Placed object) (placing_seen new))
+  pub policies : IfMemory result (After (λ r. AllMeetPolicies) old (Placed object) (placing_seen new))
+
+pub place_tells : (can : Bool) (old : Record) (object : Object) (result : Result Handle SlotFault) (new : Record) → IsObject object → IsRecord old → AddsObject can old object result new → Tells can old object result new
+place_tells can old object result new is record_is adds = record {
+  places = places can old object result new adds;
+  executes = executes;
+  history = so _ (λ tells. tells.history);
+  counters = so _ (λ tells. tells.counters);
+  pcrs = so _ (λ tells. tells.pcrs);
+  auth_values = so _ (λ tells. tells.auth_values);
+  sessions = so _ (λ tells. tells.sessions);
+  replays = so _ (λ tells. tells.replays);
+  grounds = so _ (λ tells. tells.grounds);
+  policies = so _ (λ tells. tells.policies);
+}
+  where
+    executes : IfMemory result (Executes can old (Placed object) (placing_seen new))
+    executes = place_executes can old object result new is record_is adds
+
+    so : (Q : Type 0) → (TellsHistory old (Placed object) (placing_seen new) → Q) → IfMemory result Q
+    so Q tells = if_memory (Executes can old (Placed object) (placing_seen new)) Q result (λ done. tells (execution_tells can old (Placed object) (placing_seen new) done)) executes

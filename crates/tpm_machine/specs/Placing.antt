@@ -1,0 +1,26 @@
+-- An object that comes back from a saved context, on a machine.
+use Rattle.std.specs.Prelude.{◌≡◌, Bool, true, [], None, Option, Some, Result, Ok, Err}
+use Rattle.tpm_containers.specs.declared.slots.SlotFault.{SlotFault}
+use Rattle.tpm_containers.specs.declared.slots.SlotFault.TheVariants.{Full, NoMemory}
+use Rattle.tpm_object.specs.declared.object.Object.{Object}
+use Rattle.tpm_types.specs.declared.handle.Handle.{Handle}
+use Rattle.tpm_record.specs.Objects.{next_handle}
+use Rattle.tpm_record.specs.Record.{Record}
+use Rattle.tpm_step.specs.Step.{Stepped}
+
+-- what is seen of a placed object: no response, no code, no check, and this record after it
+abbrev pub placing_seen : Record → Stepped
+placing_seen r = record { response = []; row = record { code = 0; check = 0 }; after = r }
+
+-- The object got the lowest free handle. Or all slots were taken, or an allocation failed if that
+-- can happen; then the record is unchanged.
+abbrev pub Places : Bool → Record → Result Handle SlotFault → Record → Type 0
+Places can old (Ok handle) new = next_handle old.objects ≡ Some handle
+Places can old (Err Full) new = (next_handle old.objects ≡ None) × (new ≡ old)
+Places can old (Err NoMemory) new = (can ≡ true) × (new ≡ old)
+
+-- This holds, unless an allocation failed.
+abbrev pub IfMemory : Result Handle SlotFault → Type 0 → Type 0
+IfMemory (Ok handle) Holds = Holds
+IfMemory (Err Full) Holds = Holds
+IfMemory (Err NoMemory) Holds = Unit {0}

@@ -1,0 +1,68 @@
+//! Objects that come back from saved contexts (TPM 2.0 Library, Part 1, section 30). The device
+//! serves no TPM2_ContextLoad; the completing layer above it puts the object into the state.
+
+ghost use Rattle.std.specs.Prelude.{◌≡◌};
+ghost use Rattle.tpm_machine.specs.Placing.{IfMemory, Places, placing_seen};
+ghost use Rattle.tpm_machine.specs.State.{state_of};
+ghost use Rattle.tpm_step.specs.DeviceAuthValues.{HasAuthValues};
+ghost use Rattle.tpm_step.specs.DeviceCounters.{HasCounters};
+ghost use Rattle.tpm_step.specs.DevicePcrs.{HasPcrs};
+ghost use Rattle.tpm_step.specs.DeviceSessions.{HasSessions};
+ghost use Rattle.tpm_step.specs.Events.{Placed};
+ghost use Rattle.tpm_step.specs.Execution.{Executes};
+ghost use Rattle.tpm_step.specs.Follows.{After, Follows};
+ghost use Rattle.tpm_step.specs.Grounds.{AllHaveGrounds};
+ghost use Rattle.tpm_step.specs.PolicyUses.{AllMeetPolicies};
+ghost use Rattle.tpm_step.specs.Replays.{ReplaysRepeat};
+
+use crate::machine::Machine;
+use tpm_containers::{Sizes, SlotFault};
+use tpm_object::Object;
+use tpm_record::{Keep, add_object, read_widths};
+use tpm_types::Handle;
+
+impl<K: Keep> Machine<K> {
+    ghost use Rattle.tpm_machine.specs.State.{latest_drawn};
+
+    /// Puts an object, which a saved context contained, into the lowest free slot of the transient
+    /// objects, and returns its handle. If all slots are taken or an allocation fails, nothing
+    /// changes.
+    pub fn place(&mut self, object: Object) -> Result<Handle, SlotFault>
+        ensures places { Places K.can_refuse (state_of K.record_of self.old) result
+            (state_of K.record_of self.new) }
+
+        // Unless an allocation failed, this is the execution of an event, which draws no random
+        // bytes.
+        ensures executes { IfMemory result (Executes K.can_refuse (state_of K.record_of self.old)
+            (Placed object) (placing_seen (state_of K.record_of self.new))) }
+        ensures drawn { latest_drawn self.new ≡ 0 }
+
+        // If the device followed a history, it follows the history with the placed object. So
+        // everything that holds of histories holds of this one too.
+        ensures history { IfMemory result (After Follows (state_of K.record_of self.old)
+            (Placed object) (placing_seen (state_of K.record_of self.new))) }
+        ensures counters { IfMemory result (After HasCounters (state_of K.record_of self.old)
+            (Placed object) (placing_seen (state_of K.record_of self.new))) }
+        ensures pcrs { IfMemory result (After HasPcrs (state_of K.record_of self.old)
+            (Placed object) (placing_seen (state_of K.record_of self.new))) }
+        ensures auth_values { IfMemory result (After HasAuthValues
+            (state_of K.record_of self.old) (Placed object)
+            (placing_seen (state_of K.record_of self.new))) }
+        ensures sessions { IfMemory result (After HasSessions (state_of K.record_of self.old)
+            (Placed object) (placing_seen (state_of K.record_of self.new))) }
+        ensures replays { IfMemory result (After (λ r. ReplaysRepeat)
+            (state_of K.record_of self.old) (Placed object)
+            (placing_seen (state_of K.record_of self.new))) }
+        ensures grounds { IfMemory result (After (λ r. AllHaveGrounds)
+            (state_of K.record_of self.old) (Placed object)
+            (placing_seen (state_of K.record_of self.new))) }
+        ensures policies { IfMemory result (After (λ r. AllMeetPolicies)
+            (state_of K.record_of self.old) (Placed object)
+            (placing_seen (state_of K.record_of self.new))) }
+    {
+        object.read_sizes();
+        read_widths(&self.keep);
+        self.drawn = 0;
+        add_object(&mut self.keep, object)
+    }
+}
