@@ -1,6 +1,6 @@
 -- What was made opens again, and what opens was made with the same proof, start and counts, or the
 -- HMAC has a collision.
-use Rattle.std.proofs.Common.{◌≡◌, ◌⊎◌, ℕ, ◌^◌, ◌<◌, Bool, true, false, List, [], ◌++◌, length, take, drop, Result, Ok, refl, sym, ap, ◌∙◌, arith, inl, inr}
+use Rattle.std.proofs.Common.{◌≡◌, ◌⊎◌, ℕ, ◌^◌, ◌<◌, Bool, true, false, List, [], ◌++◌, length, take, drop, Ok, refl, sym, ap, ◌∙◌, arith, inl, inr}
 use Rattle.std.specs.Int.{Width, w32, w64, from_be_bytes, to_be_bytes}
 use Rattle.std.specs.Str.{bytes_eq}
 use Rattle.std.proofs.lemmas.List.{take_at, drop_at}
@@ -19,8 +19,8 @@ use Rattle.tpm_object.specs.declared.object.Object.{Object}
 use Rattle.tpm_record.specs.declared.hierarchy.Hierarchies.{Hierarchies}
 use Rattle.tpm_context.proofs.HeadLaws.{same_saved, saved_small}
 use Rattle.tpm_context.proofs.Reading.{cipher_small, context_opens, decrypted_again, object_again, opened_is, parts_right}
-use Rattle.tpm_context.specs.Context.{context_text, object_cipher, object_in, opened, opened_parts, proof_of}
-use Rattle.tpm_context.specs.Head.{head_of, saved_number, saved_of}
+use Rattle.tpm_context.specs.Context.{context_text, object_cipher, object_in, opened, proof_of}
+use Rattle.tpm_context.specs.Head.{head_of, saved_number}
 use Rattle.tpm_context.specs.Meaning.{AreSame, Collides, CollidesFor, IntegrityMeans, IsBinding, IsMaking, Making, OpensAgain, OpensOnlyAsMade, RefusesAnotherBinding, context_of, covered_text, key_of, made_with, restart_of}
 use Rattle.tpm_context.specs.Protection.{bound_text, cipher_bytes, cipher_iv, cipher_key, decrypted, encrypted, integrity_of, restart_bound}
 use Rattle.tpm_context.specs.declared.binding.Binding.{Binding}

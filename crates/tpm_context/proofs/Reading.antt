@@ -1,10 +1,9 @@
 -- Reading a context: what was made is read again, and what is read was made.
-use Rattle.std.proofs.Common.{◌≡◌, ℕ, ◌+◌, ◌^◌, ◌<◌, ◌≤◌, Bool, true, false, List, [], ◌∷◌, ◌++◌, length, Result, Ok, Err, refl, sym, ap, subst, ◌∙◌, append-nil, append_assoc, length-append, arith}
+use Rattle.std.proofs.Common.{◌≡◌, ℕ, ◌+◌, ◌^◌, ◌<◌, ◌≤◌, Bool, List, [], ◌∷◌, ◌++◌, length, Result, Ok, Err, refl, sym, ap, subst, ◌∙◌, append-nil, length-append, arith}
 use Rattle.std.specs.Prelude.{◌==◌, not, IfOk}
 use Rattle.std.specs.Str.{bytes_eq}
 use Rattle.std.proofs.lemmas.Slice.Eq.{bytes_eq-Decides}
 use Rattle.tpm_aes.proofs.Undone.{cfb_redone, cfb_undone, length-cfb_encrypt_of}
-use Rattle.tpm_aes.specs.Cfb.{cfb_encrypt_of}
 use Rattle.std.specs.Int.{w16, to_be_bytes}
 use Rattle.tpm_bytes.specs.Reading.{◌>>=◌, or_fault, refused_if, sized_at}
 use Rattle.tpm_bytes.specs.Writing.{sized_text}

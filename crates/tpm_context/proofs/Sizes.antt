@@ -1,5 +1,5 @@
 -- The sizes of a contextBlob and its parts.
-use Rattle.std.proofs.Common.{◌≡◌, ℕ, ◌+◌, ◌≤◌, cond, ltb, List, length, take, drop, Result, Ok, Err, subst, arith, length-drop, length-take}
+use Rattle.std.proofs.Common.{◌≡◌, ℕ, ◌+◌, ◌≤◌, cond, ltb, List, length, take, drop, Ok, Err, subst, arith, length-drop, length-take}
 use Rattle.std.specs.Int.{w16, from_be_bytes}
 use Rattle.std.proofs.lemmas.Bool.{ltb-false}
 use Rattle.tpm_bytes.specs.Reading.{bytes_at, number_at, or_fault, sized_at, too_short}

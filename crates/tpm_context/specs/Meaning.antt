@@ -8,7 +8,7 @@ use Rattle.tpm_object.specs.declared.object.Object.{Object}
 use Rattle.tpm_record.specs.declared.hierarchy.Hierarchies.{Hierarchies}
 use Rattle.tpm_context.specs.Context.{context_text, object_cipher, opened, proof_of}
 use Rattle.tpm_context.specs.Head.{head_of, saved_of}
-use Rattle.tpm_context.specs.Protection.{integrity_of, protected_text, restart_bound}
+use Rattle.tpm_context.specs.Protection.{protected_text, restart_bound}
 use Rattle.tpm_context.specs.declared.binding.Binding.{Binding}
 
 -- Bytes are the context of this object, with some sequence.

@@ -5,7 +5,8 @@ ghost use Rattle.tpm_context.specs.Head.{fault_code, fault_rc};
 
 use tpm_types::{Rc, ResponseCode};
 
-/// Why the context of an object is not loaded, in the order in which the faults are found.
+/// Why the context of an object is not loaded. The definition of `opened` says in which order the
+/// faults are found.
 #[derive(Clone, Copy, PartialEq, Eq)]
 pub enum ContextFault {
     /// The bytes end before the context does: TPM_RC_INSUFFICIENT.
