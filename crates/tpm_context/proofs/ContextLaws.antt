@@ -1,0 +1,227 @@
+-- What was made opens again, and what opens was made with the same proof, start and counts, or the
+-- HMAC has a collision.
+use Rattle.std.proofs.Common.{◌≡◌, ◌⊎◌, ℕ, ◌^◌, ◌<◌, Bool, true, false, List, [], ◌++◌, length, take, drop, Ok, refl, sym, ap, ◌∙◌, arith, inl, inr}
+use Rattle.std.specs.Int.{Width, w32, w64, from_be_bytes, to_be_bytes}
+use Rattle.std.specs.Str.{bytes_eq}
+use Rattle.std.proofs.lemmas.List.{take_at, drop_at}
+use Rattle.std.proofs.lemmas.Slice.Eq.{bytes_eq-Decides}
+use Rattle.std.proofs.Common.{append-nil}
+use Rattle.tpm_aes.specs.Cfb.{cfb_decrypt_of}
+use Rattle.tpm_bytes.proofs.Fields.{IsWide, ok_is, wide32}
+use Rattle.tpm_image_text.proofs.FieldSpelling.{wide64}
+use Rattle.tpm_image_text.proofs.ObjectLaws.{object_fields_spelled}
+use Rattle.tpm_image_text.specs.Body.{object_fields_in, object_fields_text}
+use Rattle.tpm_image_text.specs.declared.fault.Malformed.{Malformed}
+use Rattle.tpm_mac.specs.Hmac.{hmac_of}
+use Rattle.tpm_mac.specs.declared.algorithm.HashAlg.TheVariants.{Sha256}
+use Rattle.tpm_object.specs.Object.{IsObject}
+use Rattle.tpm_object.specs.declared.object.Object.{Object}
+use Rattle.tpm_record.specs.declared.hierarchy.Hierarchies.{Hierarchies}
+use Rattle.tpm_context.proofs.HeadLaws.{same_saved, saved_small}
+use Rattle.tpm_context.proofs.Reading.{cipher_small, context_opens, decrypted_again, object_again, opened_is, parts_right}
+use Rattle.tpm_context.specs.Context.{context_text, object_cipher, object_in, opened, proof_of}
+use Rattle.tpm_context.specs.Head.{head_of, saved_number}
+use Rattle.tpm_context.specs.Meaning.{AreSame, Collides, CollidesFor, IntegrityMeans, IsBinding, IsMaking, Making, OpensAgain, OpensOnlyAsMade, RefusesAnotherBinding, context_of, covered_text, key_of, made_with, restart_of}
+use Rattle.tpm_context.specs.Protection.{bound_text, cipher_bytes, cipher_iv, cipher_key, decrypted, encrypted, integrity_of, restart_bound}
+use Rattle.tpm_context.specs.declared.binding.Binding.{Binding}
+use Rattle.tpm_context.specs.declared.fault.ContextFault.{ContextFault}
+use Rattle.tpm_context.specs.declared.head.ContextHead.{ContextHead}
+use Rattle.tpm_context.specs.declared.head.SavedHandle.{SavedHandle}
+use Rattle.tpm_context.specs.declared.head.SavedHandle.TheVariants as saved
+
+pub opens_again : OpensAgain
+opens_again c is = context_opens c.hierarchies c.binding c.sequence c.object is.sequence is.object
+
+-- ---- the fields of a text
+
+-- two texts whose fronts have the same size have the same fronts and the same rests
+parted : (a b c d : List ℕ) → length a ≡ length b → a ++ c ≡ b ++ d → (a ≡ b) × (c ≡ d)
+parted a b c d size e = (
+  sym (take_at a c (length a) refl) ∙ ap (take (length a)) e ∙ take_at b d (length a) (sym size),
+  sym (drop_at a c (length a) refl) ∙ ap (drop (length a)) e ∙ drop_at b d (length a) (sym size),
+)
+
+same_number : (w : Width) (limit : ℕ) → IsWide w limit → (n m : ℕ) → n < limit → m < limit → to_be_bytes w n ≡ to_be_bytes w m → n ≡ m
+same_number w limit wide n m first second e = sym (wide.again n first) ∙ ap (from_be_bytes w) e ∙ wide.again m second
+
+restart_small : (b : Binding) (one : SavedHandle) → IsBinding b → restart_bound b one < 2 ^ 32
+restart_small b saved.Ordinary is = omega arith
+restart_small b saved.StClear is = is.restart_count
+
+-- the fields before the encrypted object are the same
+record SameBound (a b : Binding) (h k : ContextHead) : Type 0 where
+  start : a.start ≡ b.start
+  reset_count : a.reset_count ≡ b.reset_count
+  restart_count : restart_bound a h.saved ≡ restart_bound b k.saved
+  sequence : h.sequence ≡ k.sequence
+  saved : h.saved ≡ k.saved
+
+same_bound : (a b : Binding) (h k : ContextHead) → IsBinding a → IsBinding b → h.sequence < 2 ^ 64 → k.sequence < 2 ^ 64
+    → bound_text a h ≡ bound_text b k → SameBound a b h k
+same_bound a b h k is js counted numbered e =
+    let start = to_be_bytes w64 a.start in
+    let start2 = to_be_bytes w64 b.start in
+    let reset = to_be_bytes w32 a.reset_count in
+    let reset2 = to_be_bytes w32 b.reset_count in
+    let restart = to_be_bytes w32 (restart_bound a h.saved) in
+    let restart2 = to_be_bytes w32 (restart_bound b k.saved) in
+    let sequence = to_be_bytes w64 h.sequence in
+    let sequence2 = to_be_bytes w64 k.sequence in
+    let p = parted (start ++ reset ++ restart ++ sequence) (start2 ++ reset2 ++ restart2 ++ sequence2)
+    (to_be_bytes w32 (saved_number h.saved)) (to_be_bytes w32 (saved_number k.saved)) refl e in
+    let q = parted (start ++ reset ++ restart) (start2 ++ reset2 ++ restart2) sequence sequence2 refl p.0 in
+    let r = parted (start ++ reset) (start2 ++ reset2) restart restart2 refl q.0 in
+    let s = parted start start2 reset reset2 refl r.0 in
+    record {
+      start = same_number w64 (2 ^ 64) wide64 a.start b.start is.start js.start s.0;
+      reset_count = same_number w32 (2 ^ 32) wide32 a.reset_count b.reset_count is.reset_count js.reset_count s.1;
+      restart_count = same_number w32 (2 ^ 32) wide32 (restart_bound a h.saved) (restart_bound b k.saved)
+          (restart_small a h.saved is) (restart_small b k.saved js) r.1;
+      sequence = same_number w64 (2 ^ 64) wide64 h.sequence k.sequence counted numbered q.1;
+      saved = same_saved h.saved k.saved
+          (same_number w32 (2 ^ 32) wide32 (saved_number h.saved) (saved_number k.saved) (saved_small h.saved) (saved_small k.saved) p.1);
+    }
+
+-- ---- the object of a text
+
+same_bytes : (proof other : List ℕ) (h k : ContextHead) → proof ≡ other → h.sequence ≡ k.sequence → h.saved ≡ k.saved → cipher_bytes proof h ≡ cipher_bytes other k
+unfolding cipher_bytes
+same_bytes proof other h k key sequence one =
+    ap (λ (p : List ℕ). cipher_bytes p h) key
+    ∙ ap (λ (n : ℕ). cipher_bytes other (record h { sequence = n })) sequence
+    ∙ ap (λ (s : SavedHandle). cipher_bytes other (record h { sequence = k.sequence; saved = s })) one
+
+-- two texts that are encrypted alike, with the same key and IV, are the same
+same_plain : (proof other : List ℕ) (h k : ContextHead) (plain text : List ℕ) → cipher_bytes proof h ≡ cipher_bytes other k
+    → encrypted proof h plain ≡ encrypted other k text → plain ≡ text
+same_plain proof other h k plain text bytes e =
+    sym (decrypted_again proof h plain)
+    ∙ ap (λ (l : List ℕ). cfb_decrypt_of (cipher_key l) (cipher_iv l) (encrypted proof h plain)) bytes
+    ∙ ap (decrypted other k) e
+    ∙ decrypted_again other k text
+
+object_read : (o : Object) → IsObject o → object_fields_in (object_fields_text o) ≡ Ok (o, [])
+object_read o is = ap object_fields_in (sym (append-nil (object_fields_text o))) ∙ object_fields_spelled.again o [] is
+
+same_object : (o p : Object) → IsObject o → IsObject p → object_fields_text o ≡ object_fields_text p → o ≡ p
+same_object o p is js e =
+    let first : Object × List ℕ = (o, []) in
+    let second : Object × List ℕ = (p, []) in
+    ap (λ (x : Object × List ℕ). x.0)
+    (ok_is {E = Malformed} first second (sym (object_read o is) ∙ ap object_fields_in e ∙ object_read p js))
+
+-- ---- two contexts with the same integrity value
+
+same_making : (c d : Making) → IsMaking c → IsMaking d → key_of c ≡ key_of d → covered_text c.binding c ≡ covered_text d.binding d → AreSame c d
+same_making c d is js key text =
+    let h = head_of c.sequence c.object in
+    let k = head_of d.sequence d.object in
+    let t = parted (bound_text c.binding h) (bound_text d.binding k)
+    (object_cipher c.hierarchies c.sequence c.object) (object_cipher d.hierarchies d.sequence d.object) refl text in
+    let bound = same_bound c.binding d.binding h k is.binding js.binding is.sequence js.sequence t.0 in
+    let bytes = same_bytes (key_of c) (key_of d) h k key bound.sequence bound.saved in
+    let plain = same_plain (key_of c) (key_of d) h k (object_fields_text c.object) (object_fields_text d.object) bytes t.1 in
+    record {
+      key = key;
+      start = bound.start;
+      reset_count = bound.reset_count;
+      restart_count = bound.restart_count;
+      sequence = bound.sequence;
+      object = same_object c.object d.object is.object js.object plain;
+    }
+
+-- two pairs of a key and a text with the same HMAC are the same, or the HMAC has a collision
+abbrev Alike : (key text other_key other_text : List ℕ) → Type 0
+Alike key text other_key other_text =
+    ((key ≡ other_key) × (text ≡ other_text)) ⊎ Collides key text other_key other_text
+
+alike : (key text other_key other_text : List ℕ) → hmac_of Sha256 key text ≡ hmac_of Sha256 other_key other_text → Alike key text other_key other_text
+alike key text other_key other_text e = by (bytes_eq key other_key) refl (bytes_eq text other_text) refl
+  where
+    other : (a b : List ℕ) → bytes_eq a b ≡ false → a ≡ b → ⊥
+    other a b differ same = let is : bytes_eq a b ≡ true = (bytes_eq-Decides a b).1 same in absurd cc
+
+    by : (k : Bool) → bytes_eq key other_key ≡ k → (t : Bool) → bytes_eq text other_text ≡ t → Alike key text other_key other_text
+    by true first true second = inl ((bytes_eq-Decides key other_key).0 first, (bytes_eq-Decides text other_text).0 second)
+    by true first false second = inr (record { differ = λ both. other text other_text second both.1; same = e })
+    by false first t second = inr (record { differ = λ both. other key other_key first both.0; same = e })
+
+pub integrity_means : IntegrityMeans
+integrity_means c d is js e = by (alike (key_of c) (covered_text c.binding c) (key_of d) (covered_text d.binding d) e)
+  where
+    by : Alike (key_of c) (covered_text c.binding c) (key_of d) (covered_text d.binding d)
+        → AreSame c d ⊎ Collides (key_of c) (covered_text c.binding c) (key_of d) (covered_text d.binding d)
+    by (inl same) = inl (same_making c d is js same.0 same.1)
+    by (inr collision) = inr collision
+
+-- ---- a context that opens
+
+-- the object that opens is the one of the context
+opened_object : (proof other : List ℕ) (sequence : ℕ) (o object : Object) → IsObject o → proof ≡ other
+    → object_in (head_of sequence o) (decrypted other (head_of sequence o) (encrypted proof (head_of sequence o) (object_fields_text o))) ≡ Ok object
+    → o ≡ object
+opened_object proof other sequence o object is key e =
+    let head = head_of sequence o in
+    let plain : List ℕ = object_fields_text o in
+    ok_is {E = ContextFault} o object (
+    sym (object_again sequence o is)
+    ∙ ap (object_in head) (sym (decrypted_again proof head plain))
+    ∙ ap (λ (p : List ℕ). object_in head (decrypted p head (encrypted proof head plain))) key
+    ∙ e
+    )
+
+-- what a reader with these hierarchies and this binding finds in a context that opens
+abbrev Finds : Making → Hierarchies → Binding → Object → Type 0
+Finds c h b object =
+    let head = head_of c.sequence c.object in
+    let cipher : List ℕ = object_cipher c.hierarchies c.sequence c.object in
+    let proof : List ℕ = proof_of h c.object.hierarchy in
+    (integrity_of (key_of c) c.binding head cipher ≡ integrity_of proof b head cipher)
+    × (object_in head (decrypted proof head cipher) ≡ Ok object)
+
+finds : (c : Making) (h : Hierarchies) (b : Binding) (object : Object) → IsMaking c → opened h b (context_of c) ≡ Ok object → Finds c h b object
+unfolding context_text
+finds c h b object is e =
+    let head = head_of c.sequence c.object in
+    let cipher : List ℕ = object_cipher c.hierarchies c.sequence c.object in
+    let small = cipher_small c.hierarchies c.sequence c.object is.object in
+    parts_right (proof_of h c.object.hierarchy) b head (integrity_of (key_of c) c.binding head cipher) cipher object
+    (sym (opened_is h c.binding b (key_of c) head cipher is.sequence small) ∙ e)
+
+same_hmac : (c : Making) (h : Hierarchies) (b : Binding) (object : Object) → Finds c h b object
+    → hmac_of Sha256 (key_of c) (covered_text c.binding c) ≡ hmac_of Sha256 (proof_of h c.object.hierarchy) (covered_text b c)
+unfolding integrity_of
+same_hmac c h b object found = found.0
+
+pub opens_only_as_made : OpensOnlyAsMade
+opens_only_as_made c h b object is bound e =
+    let found = finds c h b object is e in
+    by found (alike (key_of c) (covered_text c.binding c) (proof_of h c.object.hierarchy) (covered_text b c) (same_hmac c h b object found))
+  where
+    by : Finds c h b object
+        → Alike (key_of c) (covered_text c.binding c) (proof_of h c.object.hierarchy) (covered_text b c)
+        → AreSame c (made_with h b object c) ⊎ CollidesFor h b c
+    by found (inr collision) = inr collision
+    by found (inl same) =
+        let head = head_of c.sequence c.object in
+        let cipher : List ℕ = object_cipher c.hierarchies c.sequence c.object in
+        let t = parted (bound_text c.binding head) (bound_text b head) cipher cipher refl same.1 in
+        let fields = same_bound c.binding b head head is.binding bound is.sequence is.sequence t.0 in
+        let opens = opened_object (key_of c) (proof_of h c.object.hierarchy) c.sequence c.object object is.object same.0 found.1 in
+        inl (
+        record {
+          key = same.0 ∙ ap (λ (o : Object). proof_of h o.hierarchy) opens;
+          start = fields.start;
+          reset_count = fields.reset_count;
+          restart_count = fields.restart_count ∙ ap (restart_of b) opens;
+          sequence = refl;
+          object = opens;
+        }
+        )
+
+pub refuses_another_binding : RefusesAnotherBinding
+refuses_another_binding c h b object is bound other e = by (opens_only_as_made c h b object is bound e)
+  where
+    by : AreSame c (made_with h b object c) ⊎ CollidesFor h b c → CollidesFor h b c
+    by (inl same) = absurd (other (same.start, same.reset_count))
+    by (inr collision) = collision

@@ -1,0 +1,4 @@
+pub mod HeadLaws
+pub mod Sizes
+pub mod Reading
+pub mod ContextLaws

@@ -1,0 +1,221 @@
+-- Reading a context: what was made is read again, and what is read was made.
+use Rattle.std.proofs.Common.{◌≡◌, ℕ, ◌+◌, ◌^◌, ◌<◌, ◌≤◌, Bool, List, [], ◌∷◌, ◌++◌, length, Result, Ok, Err, refl, sym, ap, subst, ◌∙◌, append-nil, length-append, arith}
+use Rattle.std.specs.Prelude.{◌==◌, not, IfOk}
+use Rattle.std.specs.Str.{bytes_eq}
+use Rattle.std.proofs.lemmas.Slice.Eq.{bytes_eq-Decides}
+use Rattle.tpm_aes.proofs.Undone.{cfb_redone, cfb_undone, length-cfb_encrypt_of}
+use Rattle.std.specs.Int.{w16, to_be_bytes}
+use Rattle.tpm_bytes.specs.Reading.{◌>>=◌, or_fault, refused_if, sized_at}
+use Rattle.tpm_bytes.specs.Writing.{sized_text}
+use Rattle.tpm_bytes.specs.declared.cursor.SizedFault.{SizedFault}
+use Rattle.tpm_bytes.proofs.Fields.{AreBytes, bind_ok, ok_is, or_fault_ok, passed, sized_again, sized_takes}
+use Rattle.tpm_image_text.proofs.FieldSpelling.{not_false}
+use Rattle.tpm_image_text.proofs.ObjectLaws.{object_fields_small, object_fields_spelled}
+use Rattle.tpm_image_text.specs.Body.{object_fields_in, object_fields_text}
+use Rattle.tpm_image_text.specs.Sizes.{object_fields_size}
+use Rattle.tpm_image_text.specs.declared.fault.Malformed.{Malformed}
+use Rattle.tpm_mac.proofs.DigestSize.{length-hmac_of}
+use Rattle.tpm_mac.specs.declared.algorithm.HashAlg.TheVariants.{Sha256}
+use Rattle.tpm_object.specs.Object.{IsObject}
+use Rattle.tpm_object.specs.declared.object.Object.{Object}
+use Rattle.tpm_record.specs.declared.hierarchy.Hierarchies.{Hierarchies}
+use Rattle.tpm_types.proofs.SelectionLaws.{is_equal}
+use Rattle.tpm_types.proofs.Spelled.{rest_fits}
+use Rattle.tpm_context.proofs.HeadLaws.{head_spelled, is_of_head, is_of_own}
+use Rattle.tpm_context.specs.Context.{blob_in, blob_size, blob_text, context_text, object_cipher, object_in, opened, opened_parts, or_blob_fault, parts_in, proof_of, sealed_text}
+use Rattle.tpm_context.specs.Head.{head_at, head_of, head_text, is_of}
+use Rattle.tpm_context.specs.Meaning.{IsContext}
+use Rattle.tpm_context.specs.Protection.{cipher_bytes, cipher_iv, cipher_key, decrypted, encrypted, integrity_of, protected_text}
+use Rattle.tpm_context.specs.declared.binding.Binding.{Binding}
+use Rattle.tpm_context.specs.declared.fault.ContextFault.{ContextFault}
+use Rattle.tpm_context.specs.declared.fault.ContextFault.TheVariants as fault
+use Rattle.tpm_context.specs.declared.head.ContextHead.{ContextHead}
+
+-- ---- sizes
+
+pub integrity_size : (proof : List ℕ) (b : Binding) (head : ContextHead) (cipher : List ℕ) → length (integrity_of proof b head cipher) ≡ 32
+unfolding integrity_of
+integrity_size proof b head cipher = length-hmac_of Sha256 proof (protected_text b head cipher)
+
+pub encrypted_size : (proof : List ℕ) (head : ContextHead) (plain : List ℕ) → length (encrypted proof head plain) ≡ length plain
+encrypted_size proof head plain =
+    length-cfb_encrypt_of (cipher_key (cipher_bytes proof head)) (cipher_iv (cipher_bytes proof head)) plain
+
+pub cipher_small : (h : Hierarchies) (sequence : ℕ) (o : Object) → IsObject o → length (object_cipher h sequence o) ≤ object_fields_size
+cipher_small h sequence o is =
+    subst (λ (n : ℕ). n ≤ object_fields_size)
+    (sym (encrypted_size (proof_of h o.hierarchy) (head_of sequence o) (object_fields_text o)))
+    (object_fields_small o is)
+
+pub decrypted_again : (proof : List ℕ) (head : ContextHead) (plain : List ℕ) → decrypted proof head (encrypted proof head plain) ≡ plain
+decrypted_again proof head plain =
+    cfb_undone (cipher_key (cipher_bytes proof head)) (cipher_iv (cipher_bytes proof head)) plain
+
+pub encrypted_again : (proof : List ℕ) (head : ContextHead) (cipher : List ℕ) → encrypted proof head (decrypted proof head cipher) ≡ cipher
+encrypted_again proof head cipher =
+    cfb_redone (cipher_key (cipher_bytes proof head)) (cipher_iv (cipher_bytes proof head)) cipher
+
+-- ---- the contextBlob
+
+blob_again : (blob : List ℕ) → length blob ≤ blob_size → blob_in (sized_text blob) ≡ Ok blob
+unfolding blob_in
+blob_again blob small =
+    let whole = or_fault_ok (sized_at blob_size (sized_text blob ++ [])) fault.Size (blob, []) (sized_again blob_size fault.Size blob [] (omega arith) small) in
+    let read : sized_at blob_size (sized_text blob) ≡ Ok (blob, []) = ap (sized_at blob_size) (sym (append-nil (sized_text blob))) ∙ whole in
+    ap (λ (r : Result (List ℕ × List ℕ) SizedFault). or_blob_fault r >>= λ x. refused_if (not (length x.1 == 0)) fault.Size >>= λ ended. Ok x.0) read
+
+or_blob_ok : (r : Result (List ℕ × List ℕ) SizedFault) (x : List ℕ × List ℕ) → or_blob_fault r ≡ Ok x → r ≡ Ok x
+or_blob_ok (Ok y) x e = cc
+or_blob_ok (Err d) x e = absurd cc
+
+none_left : (bytes : List ℕ) → length bytes ≡ 0 → bytes ≡ []
+none_left [] e = refl
+none_left (byte ∷ bytes) e = absurd (omega arith)
+
+-- the sized buffer that was read, without a fault of the context's
+sized_read : (limit : ℕ) (bytes : List ℕ) (x : List ℕ × List ℕ) → sized_at limit bytes ≡ Ok x → or_fault (sized_at limit bytes) fault.Size ≡ Ok x
+sized_read limit bytes x e = ap (λ (r : Result (List ℕ × List ℕ) SizedFault). or_fault r fault.Size) e
+
+-- the blob that was read is the whole text
+pub blob_found : (text blob : List ℕ) → AreBytes text → blob_in text ≡ Ok blob → (text ≡ sized_text blob) × (length blob ≤ blob_size) × AreBytes blob
+unfolding blob_in
+blob_found text blob fits e =
+    let a = bind_ok (or_blob_fault (sized_at blob_size text)) (λ x. refused_if (not (length x.1 == 0)) fault.Size >>= λ ended. Ok x.0) blob e in
+    let b = bind_ok (refused_if (not (length a.0.1 == 0)) fault.Size) (λ ended. Ok a.0.0) blob a.2 in
+    let none = none_left a.0.1 (is_equal (length a.0.1) 0 (passed (not (length a.0.1 == 0)) fault.Size b.0 b.1)) in
+    let t = sized_takes blob_size fault.Size text a.0 fits (sized_read blob_size text a.0 (or_blob_ok (sized_at blob_size text) a.0 a.1)) in
+    let parts : text ≡ sized_text a.0.0 = t.0.parts ∙ ap (λ (l : List ℕ). sized_text a.0.0 ++ l) none ∙ append-nil (sized_text a.0.0) in
+    subst (λ (l : List ℕ). (text ≡ sized_text l) × (length l ≤ blob_size) × AreBytes l) (ok_is a.0.0 blob b.2)
+    (parts, t.2, behind a.0.0 (subst AreBytes parts fits))
+  where
+    behind : (l : List ℕ) → AreBytes (sized_text l) → AreBytes l
+    behind l fits = rest_fits (to_be_bytes w16 (length l)) l fits
+
+parts_again : (integrity cipher : List ℕ) → length integrity ≡ 32 → parts_in (blob_text integrity cipher) ≡ Ok (integrity, cipher)
+unfolding parts_in
+parts_again integrity cipher whole =
+    rw (sized_again 32 fault.Size integrity cipher (omega (arith, whole)) (omega (arith, whole)), whole) refl
+
+pub parts_found : (blob integrity cipher : List ℕ) → AreBytes blob → parts_in blob ≡ Ok (integrity, cipher) → (blob ≡ blob_text integrity cipher) × (length integrity ≡ 32)
+unfolding parts_in
+parts_found blob integrity cipher fits e =
+    let a = bind_ok (or_fault (sized_at 32 blob) fault.Size) (λ x. refused_if (not (length x.0 == 32)) fault.Size >>= λ whole. Ok x) (integrity, cipher) e in
+    let b = bind_ok (refused_if (not (length a.0.0 == 32)) fault.Size) (λ whole. Ok a.0) (integrity, cipher) a.2 in
+    let whole = is_equal (length a.0.0) 32 (passed (not (length a.0.0 == 32)) fault.Size b.0 b.1) in
+    let t = sized_takes 32 fault.Size blob a.0 fits a.1 in
+    subst (λ (p : List ℕ × List ℕ). (blob ≡ blob_text p.0 p.1) × (length p.0 ≡ 32)) (ok_is a.0 (integrity, cipher) b.2)
+    (t.0.parts, whole)
+
+-- ---- the object
+
+pub object_again : (sequence : ℕ) (o : Object) → IsObject o → object_in (head_of sequence o) (object_fields_text o) ≡ Ok o
+unfolding object_in
+object_again sequence o is =
+    let text : List ℕ = object_fields_text o in
+    let read : object_fields_in text ≡ Ok (o, []) = ap object_fields_in (sym (append-nil text)) ∙ object_fields_spelled.again o [] is in
+    ap (λ (r : Result (Object × List ℕ) Malformed). or_fault r fault.Integrity >>= λ x. refused_if (not (length x.1 == 0)) fault.Integrity >>= λ ended. refused_if (not (is_of (head_of sequence o) x.0)) fault.Integrity >>= λ same. Ok x.0) read
+    ∙ ap (λ (b : Bool). refused_if (not b) fault.Integrity >>= λ same. Ok o) (is_of_own sequence o)
+
+pub object_found : (head : ContextHead) (plain : List ℕ) (o : Object) → AreBytes plain → object_in head plain ≡ Ok o
+    → IsObject o × (plain ≡ object_fields_text o) × (head_of head.sequence o ≡ head)
+unfolding object_in
+object_found head plain o fits e =
+    let a = bind_ok (or_fault (object_fields_in plain) fault.Integrity) (λ x. refused_if (not (length x.1 == 0)) fault.Integrity >>= λ ended. refused_if (not (is_of head x.0)) fault.Integrity >>= λ same. Ok x.0) o e in
+    let b = bind_ok (refused_if (not (length a.0.1 == 0)) fault.Integrity) (λ ended. refused_if (not (is_of head a.0.0)) fault.Integrity >>= λ same. Ok a.0.0) o a.2 in
+    let c = bind_ok (refused_if (not (is_of head a.0.0)) fault.Integrity) (λ same. Ok a.0.0) o b.2 in
+    let none = none_left a.0.1 (is_equal (length a.0.1) 0 (passed (not (length a.0.1 == 0)) fault.Integrity b.0 b.1)) in
+    let t = object_fields_spelled.taken plain a.0 fits (or_fault_ok (object_fields_in plain) fault.Integrity a.0 a.1) in
+    let parts : plain ≡ object_fields_text a.0.0 = t.0.parts ∙ ap (λ (l : List ℕ). object_fields_text a.0.0 ++ l) none ∙ append-nil (object_fields_text a.0.0) in
+    let same = is_of_head head a.0.0 (not_false (is_of head a.0.0) (passed (not (is_of head a.0.0)) fault.Integrity c.0 c.1)) in
+    subst (λ (p : Object). IsObject p × (plain ≡ object_fields_text p) × (head_of head.sequence p ≡ head)) (ok_is a.0.0 o c.2)
+    (t.1, parts, same)
+
+-- ---- the whole context
+
+-- a context that was made with another binding is read as its parts
+pub opened_is : (h : Hierarchies) (a b : Binding) (proof : List ℕ) (head : ContextHead) (cipher : List ℕ)
+    → head.sequence < 2 ^ 64 → length cipher ≤ object_fields_size
+    → opened h b (sealed_text proof a head cipher) ≡ opened_parts (proof_of h head.hierarchy) b head (integrity_of proof a head cipher) cipher
+unfolding opened
+opened_is h a b proof head cipher counted small =
+    let integrity : List ℕ = integrity_of proof a head cipher in
+    let blob : List ℕ = blob_text integrity cipher in
+    let whole : length integrity ≡ 32 = integrity_size proof a head cipher in
+    let fits : length blob ≤ blob_size = simp length-append (omega (arith, small, whole)) in
+    ap (λ (r : Result (ContextHead × List ℕ) ContextFault). r >>= λ x. blob_in x.1 >>= λ l. parts_in l >>= λ p. opened_parts (proof_of h x.0.hierarchy) b x.0 p.0 p.1) (head_spelled.again head (sized_text blob) counted)
+    ∙ ap (λ (r : Result (List ℕ) ContextFault). r >>= λ l. parts_in l >>= λ p. opened_parts (proof_of h head.hierarchy) b head p.0 p.1) (blob_again blob fits)
+    ∙ ap (λ (r : Result (List ℕ × List ℕ) ContextFault). r >>= λ p. opened_parts (proof_of h head.hierarchy) b head p.0 p.1) (parts_again integrity cipher whole)
+
+-- the parts open as the object if the integrity value is right
+pub parts_open : (proof : List ℕ) (b : Binding) (head : ContextHead) (cipher : List ℕ) → opened_parts proof b head (integrity_of proof b head cipher) cipher ≡ object_in head (decrypted proof head cipher)
+unfolding opened_parts
+parts_open proof b head cipher =
+    let value : List ℕ = integrity_of proof b head cipher in
+    ap (λ (right : Bool). refused_if (not right) fault.Integrity >>= λ passed. object_in head (decrypted proof head cipher)) ((bytes_eq-Decides value value).1 refl)
+
+-- parts that open have the right integrity value
+pub parts_right : (proof : List ℕ) (b : Binding) (head : ContextHead) (integrity cipher : List ℕ) (o : Object)
+    → opened_parts proof b head integrity cipher ≡ Ok o
+    → (integrity ≡ integrity_of proof b head cipher) × (object_in head (decrypted proof head cipher) ≡ Ok o)
+unfolding opened_parts
+parts_right proof b head integrity cipher o e =
+    let value : List ℕ = integrity_of proof b head cipher in
+    let a = bind_ok (refused_if (not (bytes_eq integrity value)) fault.Integrity) (λ right. object_in head (decrypted proof head cipher)) o e in
+    ((bytes_eq-Decides integrity value).0 (not_false _ (passed (not (bytes_eq integrity value)) fault.Integrity a.0 a.1)), a.2)
+
+pub context_opens : (h : Hierarchies) (b : Binding) (sequence : ℕ) (o : Object) → sequence < 2 ^ 64 → IsObject o
+    → opened h b (context_text h b sequence o) ≡ Ok o
+unfolding context_text
+context_opens h b sequence o counted is =
+    let proof : List ℕ = proof_of h o.hierarchy in
+    let head = head_of sequence o in
+    let cipher : List ℕ = object_cipher h sequence o in
+    opened_is h b b proof head cipher counted (cipher_small h sequence o is)
+    ∙ parts_open proof b head cipher
+    ∙ ap (object_in head) (decrypted_again proof head (object_fields_text o))
+    ∙ object_again sequence o is
+
+-- bytes that open are the context of their object
+pub context_found : (h : Hierarchies) (b : Binding) (bytes text blob integrity cipher : List ℕ) (head : ContextHead) (o : Object)
+    → AreBytes bytes → head_at bytes ≡ Ok (head, text) → blob_in text ≡ Ok blob → parts_in blob ≡ Ok (integrity, cipher)
+    → AreBytes (decrypted (proof_of h head.hierarchy) head cipher)
+    → opened_parts (proof_of h head.hierarchy) b head integrity cipher ≡ Ok o
+    → IsContext h b bytes o
+unfolding context_text
+context_found h b bytes text blob integrity cipher head o fits first second third plain e =
+    let t = head_spelled.taken bytes (head, text) fits first in
+    let u = blob_found text blob t.0.rest_fits second in
+    let v = parts_found blob integrity cipher u.2 third in
+    let proof : List ℕ = proof_of h head.hierarchy in
+    let w = parts_right proof b head integrity cipher o e in
+    let f = object_found head (decrypted proof head cipher) o plain w.1 in
+    let again : cipher ≡ encrypted proof head (object_fields_text o) =
+    sym (encrypted_again proof head cipher) ∙ ap (encrypted proof head) f.1 in
+    let whole : bytes ≡ sealed_text proof b head cipher =
+    t.0.parts ∙ ap (λ (l : List ℕ). head_text head ++ l) (u.0 ∙ ap sized_text (v.0 ∙ ap (λ (i : List ℕ). blob_text i cipher) w.0)) in
+    record {
+      sequence = head.sequence;
+      counted = t.1;
+      sized = f.0;
+      text = whole ∙ ap (sealed_text proof b head) again
+          ∙ ap (λ (k : ContextHead). sealed_text (proof_of h k.hierarchy) b k (encrypted (proof_of h k.hierarchy) k (object_fields_text o))) (sym f.2);
+    }
+
+-- ---- what the code finds
+
+-- a text of bytes that equals a decrypted one
+pub if_plain : (r : Result Object ContextFault) (found plain : List ℕ) → AreBytes found → found ≡ plain → IfOk r (λ object. AreBytes plain)
+if_plain (Ok o) found plain are same = subst AreBytes same are
+if_plain (Err e) found plain are same = tt
+
+pub found_if : (h : Hierarchies) (b : Binding) (bytes text blob integrity cipher proof : List ℕ) (head : ContextHead) (r : Result Object ContextFault)
+    → AreBytes bytes → head_at bytes ≡ Ok (head, text) → blob_in text ≡ Ok blob → parts_in blob ≡ Ok (integrity, cipher)
+    → proof ≡ proof_of h head.hierarchy
+    → r ≡ opened_parts proof b head integrity cipher
+    → IfOk r (λ object. AreBytes (decrypted proof head cipher))
+    → IfOk r (λ object. IsContext h b bytes object)
+found_if h b bytes text blob integrity cipher proof head (Ok o) fits first second third same is plain =
+    context_found h b bytes text blob integrity cipher head o fits first second third
+    (subst (λ (p : List ℕ). AreBytes (decrypted p head cipher)) same plain)
+    (ap (λ (p : List ℕ). opened_parts p b head integrity cipher) (sym same) ∙ sym is)
+found_if h b bytes text blob integrity cipher proof head (Err e) fits first second third same is plain = tt

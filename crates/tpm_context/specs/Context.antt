@@ -1,0 +1,111 @@
+-- The context of an object, and the reading of a context. TPM 2.0 Library, Part 1, section 30,
+-- Part 2, section 14 (TPMS_CONTEXT), and Part 3, sections 28.2 and 28.3.
+use Rattle.std.specs.Prelude.{ℕ, ◌+◌, ◌==◌, not, List, ◌++◌, length, Result, Ok, Err}
+use Rattle.std.specs.Str.{bytes_eq}
+use Rattle.tpm_bytes.specs.Reading.{◌>>=◌, or_fault, refused_if, sized_at}
+use Rattle.tpm_bytes.specs.Writing.{sized_text}
+use Rattle.tpm_bytes.specs.declared.cursor.SizedFault.{SizedFault}
+use Rattle.tpm_bytes.specs.declared.cursor.SizedFault.TheVariants as sized
+use Rattle.tpm_image_text.specs.Body.{object_fields_in, object_fields_text}
+use Rattle.tpm_image_text.specs.Sizes.{object_fields_size}
+use Rattle.tpm_object.specs.declared.object.Object.{Object}
+use Rattle.tpm_record.specs.Hierarchy.{secrets_of}
+use Rattle.tpm_record.specs.declared.hierarchy.Hierarchies.{Hierarchies}
+use Rattle.tpm_types.specs.declared.handle.HierarchyHandle.{HierarchyHandle}
+use Rattle.tpm_context.specs.Head.{head_at, head_of, head_text, is_of}
+use Rattle.tpm_context.specs.Protection.{decrypted, encrypted, integrity_of}
+use Rattle.tpm_context.specs.declared.binding.Binding.{Binding}
+use Rattle.tpm_context.specs.declared.fault.ContextFault.{ContextFault}
+use Rattle.tpm_context.specs.declared.fault.ContextFault.TheVariants as fault
+use Rattle.tpm_context.specs.declared.head.ContextHead.{ContextHead}
+
+-- the largest sizes of a contextBlob and of a context
+abbrev pub blob_size : ℕ
+blob_size = 34 + object_fields_size
+
+abbrev pub context_size : ℕ
+context_size = 18 + blob_size
+
+-- the proof of a hierarchy
+abbrev pub proof_of : Hierarchies → HierarchyHandle → List ℕ
+proof_of h hierarchy = (secrets_of h hierarchy).proof
+
+-- ---- writing a context
+
+-- a contextBlob: the integrity value as a sized buffer, then the encrypted object
+abbrev pub blob_text : (integrity cipher : List ℕ) → List ℕ
+blob_text integrity cipher = sized_text integrity ++ cipher
+
+-- the context with this head and this encrypted object
+abbrev pub sealed_text : (proof : List ℕ) → Binding → ContextHead → (cipher : List ℕ) → List ℕ
+sealed_text proof b head cipher =
+    head_text head ++ sized_text (blob_text (integrity_of proof b head cipher) cipher)
+
+-- the encrypted object of a context: its hierarchy, qualified Name, public area and sensitive
+-- area, as in an image
+abbrev pub object_cipher : Hierarchies → (sequence : ℕ) → Object → List ℕ
+object_cipher h sequence object =
+    encrypted (proof_of h object.hierarchy) (head_of sequence object)
+    (object_fields_text object)
+
+-- the context of an object, with this sequence
+unfoldable pub context_text : Hierarchies → Binding → (sequence : ℕ) → Object → List ℕ
+context_text h b sequence object =
+    sealed_text (proof_of h object.hierarchy) b (head_of sequence object)
+    (object_cipher h sequence object)
+
+-- ---- reading a context
+
+-- the fault of a contextBlob: SIZE if it is longer than any object's, otherwise INSUFFICIENT if it
+-- is truncated
+abbrev pub blob_fault : SizedFault → ContextFault
+blob_fault sized.TooLong = fault.Size
+blob_fault sized.Short = fault.Truncated
+
+abbrev pub or_blob_fault : {X : Type 0} → Result X SizedFault → Result X ContextFault
+or_blob_fault (Ok x) = Ok x
+or_blob_fault (Err e) = Err (blob_fault e)
+
+-- the contextBlob in the bytes after the head; SIZE if bytes follow it
+unfoldable pub blob_in : List ℕ → Result (List ℕ) ContextFault
+blob_in text = do
+  blob ← or_blob_fault (sized_at blob_size text)
+  ended ← refused_if (not (length blob.1 == 0)) fault.Size
+  Ok blob.0
+
+-- the integrity value and the encrypted object in a contextBlob; SIZE if the integrity value is
+-- truncated, or is not the size of a SHA-256 digest
+unfoldable pub parts_in : List ℕ → Result (List ℕ × List ℕ) ContextFault
+parts_in blob = do
+  parts ← or_fault (sized_at 32 blob) fault.Size
+  whole ← refused_if (not (length parts.0 == 32)) fault.Size
+  Ok parts
+
+-- the object in a decrypted text, which it fills. Its hierarchy and its stClear must be those of
+-- the head
+unfoldable pub object_in : ContextHead → (plain : List ℕ) → Result Object ContextFault
+object_in head plain = do
+  object ← or_fault (object_fields_in plain) fault.Integrity
+  ended ← refused_if (not (length object.1 == 0)) fault.Integrity
+  same ← refused_if (not (is_of head object.0)) fault.Integrity
+  Ok object.0
+
+-- the object of a context whose parts are these, if the integrity value is correct
+unfoldable pub opened_parts : (proof : List ℕ)
+    → Binding → ContextHead → (integrity cipher : List ℕ)
+    → Result Object ContextFault
+opened_parts proof b head integrity cipher = do
+  right ← refused_if (not (bytes_eq integrity (integrity_of proof b head cipher)))
+      fault.Integrity
+  object_in head (decrypted proof head cipher)
+
+-- the object of a context. The faults, in the order in which they are found: those of the head,
+-- which is read field by field; those of the contextBlob; bytes that are left over; an integrity
+-- value of the wrong size; a wrong integrity value; and an object that cannot be read or does not
+-- match the head
+unfoldable pub opened : Hierarchies → Binding → List ℕ → Result Object ContextFault
+opened h b bytes = do
+  head ← head_at bytes
+  blob ← blob_in head.1
+  parts ← parts_in blob
+  opened_parts (proof_of h head.0.hierarchy) b head.0 parts.0 parts.1

@@ -1,0 +1,103 @@
+-- The head of an object's context, and what a context is bound to. TPM 2.0 Library, Part 2,
+-- section 14.5 (TPMS_CONTEXT: sequence, savedHandle, hierarchy), and Part 3, section 28.3
+-- (TPM2_ContextLoad).
+use Rattle.std.specs.Prelude.{ℕ, ◌==◌, Bool, false, if◌then◌else◌}
+use Rattle.std.specs.Prelude.{List, ◌++◌, ok_or, Option, Some, None, Result, Ok}
+use Rattle.std.specs.Int.{w32, w64, to_be_bytes}
+use Rattle.tpm_bytes.specs.Reading.{◌>>=◌, number_at, or_fault}
+use Rattle.tpm_object.specs.declared.object.Object.{Object}
+use Rattle.tpm_types.specs.Handle.{hierarchy_handle, hierarchy_of, numbered}
+use Rattle.tpm_types.specs.Rc.{at, plain}
+use Rattle.tpm_types.specs.declared.handle.HierarchyHandle.{HierarchyHandle}
+use Rattle.tpm_types.specs.declared.rc.Place.TheVariants as place
+use Rattle.tpm_types.specs.declared.rc.Rc.{Rc}
+use Rattle.tpm_types.specs.declared.rc.ResponseCode.{ResponseCode}
+use Rattle.tpm_types.specs.declared.rc.ResponseCode.TheVariants as code
+use Rattle.tpm_types_object.specs.ObjectAttributes.{has}
+use Rattle.tpm_types_object.specs.declared.object_attributes.ObjectAttribute.TheVariants as attribute
+use Rattle.tpm_types_object.specs.declared.public.Public.{Public}
+use Rattle.tpm_context.specs.declared.fault.ContextFault.{ContextFault}
+use Rattle.tpm_context.specs.declared.fault.ContextFault.TheVariants as fault
+use Rattle.tpm_context.specs.declared.head.ContextHead.{ContextHead}
+use Rattle.tpm_context.specs.declared.head.SavedHandle.{SavedHandle}
+use Rattle.tpm_context.specs.declared.head.SavedHandle.TheVariants as saved
+
+-- ---- faults
+
+-- the code of each fault: INSUFFICIENT (1DA), SIZE (1D5), HANDLE (1CB), VALUE (1C4) or INTEGRITY
+-- (1DF), each for parameter 1
+abbrev pub fault_code : ContextFault → ResponseCode
+fault_code fault.Truncated = code.Insufficient
+fault_code fault.Size = code.Size
+fault_code fault.SavedHandle = code.Handle
+fault_code fault.Hierarchy = code.Value
+fault_code fault.Integrity = code.Integrity
+
+abbrev pub fault_rc : ContextFault → Rc
+fault_rc f = at (place.Parameter 1) (plain (fault_code f))
+
+-- ---- savedHandle
+
+-- the savedHandle of an object (Part 2, section 14.5, table TPMI_DH_SAVED)
+abbrev pub saved_number : SavedHandle → ℕ
+saved_number saved.Ordinary = 0x8000_0000
+saved_number saved.StClear = 0x8000_0002
+
+-- the kind of object that a savedHandle names
+abbrev pub saved_named : ℕ → Option SavedHandle
+saved_named number =
+    if number == 0x8000_0000 then Some saved.Ordinary
+    else (if number == 0x8000_0002 then Some saved.StClear
+    else None)
+
+-- the savedHandle of an object with this public area
+abbrev pub saved_of : Public → SavedHandle
+saved_of p = if has p.attributes attribute.StClear then saved.StClear else saved.Ordinary
+
+-- ---- the head
+
+-- the head of the context of an object
+abbrev pub head_of : (sequence : ℕ) → Object → ContextHead
+head_of sequence object = record {
+  sequence = sequence;
+  saved = saved_of object.public;
+  hierarchy = object.hierarchy;
+}
+
+-- the text of a head: sequence, savedHandle and hierarchy
+abbrev pub head_text : ContextHead → List ℕ
+head_text h =
+    to_be_bytes w64 h.sequence ++ to_be_bytes w32 (saved_number h.saved)
+    ++ to_be_bytes w32 (hierarchy_handle h.hierarchy).number
+
+-- reads a savedHandle
+unfoldable pub saved_at : List ℕ → Result (SavedHandle × List ℕ) ContextFault
+saved_at text = do
+  number ← or_fault (number_at w32 text) fault.Truncated
+  one ← ok_or (saved_named number.0) fault.SavedHandle
+  Ok (one, number.1)
+
+-- reads the handle of a hierarchy
+unfoldable pub hierarchy_at : List ℕ → Result (HierarchyHandle × List ℕ) ContextFault
+hierarchy_at text = do
+  number ← or_fault (number_at w32 text) fault.Truncated
+  one ← ok_or (hierarchy_of (numbered number.0)) fault.Hierarchy
+  Ok (one, number.1)
+
+-- reads a head
+unfoldable pub head_at : List ℕ → Result (ContextHead × List ℕ) ContextFault
+head_at text = do
+  sequence ← or_fault (number_at w64 text) fault.Truncated
+  kind ← saved_at sequence.1
+  hierarchy ← hierarchy_at kind.1
+  Ok (
+    record { sequence = sequence.0; saved = kind.0; hierarchy = hierarchy.0 },
+    hierarchy.1,
+  )
+
+-- whether an object has this hierarchy and savedHandle
+abbrev pub is_of : ContextHead → Object → Bool
+is_of h object =
+    if (hierarchy_handle object.hierarchy).number == (hierarchy_handle h.hierarchy).number then
+    saved_number (saved_of object.public) == saved_number h.saved
+    else false

@@ -1,0 +1,4 @@
+pub mod Head
+pub mod Protection
+pub mod Context
+pub mod Meaning

@@ -1,0 +1,67 @@
+-- How a context is encrypted and authenticated. TPM 2.0 Library, Part 1, section 30.3 (context
+-- protection).
+use Rattle.std.specs.Prelude.{ℕ, List, [], ◌∷◌, ◌++◌, take, drop}
+use Rattle.std.specs.Int.{w32, w64, to_be_bytes}
+use Rattle.tpm_aes.specs.Cfb.{cfb_decrypt_of, cfb_encrypt_of}
+use Rattle.tpm_mac.specs.Hmac.{hmac_of}
+use Rattle.tpm_mac.specs.Kdf.{kdfa_of}
+use Rattle.tpm_mac.specs.declared.algorithm.HashAlg.TheVariants.{Sha256}
+use Rattle.tpm_context.specs.Head.{saved_number}
+use Rattle.tpm_context.specs.declared.binding.Binding.{Binding}
+use Rattle.tpm_context.specs.declared.head.ContextHead.{ContextHead}
+use Rattle.tpm_context.specs.declared.head.SavedHandle.{SavedHandle}
+use Rattle.tpm_context.specs.declared.head.SavedHandle.TheVariants as saved
+
+-- KDFa's label: "CONTEXT"
+abbrev pub context_label : List ℕ
+context_label = 0x43 ∷ 0x4f ∷ 0x4e ∷ 0x54 ∷ 0x45 ∷ 0x58 ∷ 0x54 ∷ []
+
+-- the key and the IV of a context, one after the other: KDFa(SHA-256, the proof of the hierarchy,
+-- "CONTEXT", sequence, savedHandle, 256 bits)
+unfoldable pub cipher_bytes : (proof : List ℕ) → ContextHead → List ℕ
+cipher_bytes proof head =
+    kdfa_of Sha256 proof context_label (to_be_bytes w64 head.sequence)
+    (to_be_bytes w32 (saved_number head.saved)) 32
+
+-- the key, which is the first 128 bits; and the IV, the remaining bits
+abbrev pub cipher_key : List ℕ → List ℕ
+cipher_key bytes = take 16 bytes
+
+abbrev pub cipher_iv : List ℕ → List ℕ
+cipher_iv bytes = drop 16 bytes
+
+-- a text encrypted for a context, and decrypted from it
+abbrev pub encrypted : (proof : List ℕ) → ContextHead → (plain : List ℕ) → List ℕ
+encrypted proof head plain =
+    let bytes : List ℕ = cipher_bytes proof head in
+    cfb_encrypt_of (cipher_key bytes) (cipher_iv bytes) plain
+
+abbrev pub decrypted : (proof : List ℕ) → ContextHead → (cipher : List ℕ) → List ℕ
+decrypted proof head cipher =
+    let bytes : List ℕ = cipher_bytes proof head in
+    cfb_decrypt_of (cipher_key bytes) (cipher_iv bytes) cipher
+
+-- the restartCount that a context is bound to: an object with stClear does not outlive a TPM
+-- Restart. For an object without stClear it is 0
+abbrev pub restart_bound : Binding → SavedHandle → ℕ
+restart_bound b saved.Ordinary = 0
+restart_bound b saved.StClear = b.restart_count
+
+-- the fields before the encrypted object in the text of the integrity value. From Part 1, section
+-- 30.3: resetCount, restartCount for an object with stClear, sequence and savedHandle. This
+-- device's own: the start of the layer, and a 0 as restartCount for an object without stClear, so
+-- that two contexts with different fields have different texts
+abbrev pub bound_text : Binding → ContextHead → List ℕ
+bound_text b head =
+    to_be_bytes w64 b.start ++ to_be_bytes w32 b.reset_count
+    ++ to_be_bytes w32 (restart_bound b head.saved)
+    ++ to_be_bytes w64 head.sequence ++ to_be_bytes w32 (saved_number head.saved)
+
+-- the text of the integrity value
+abbrev pub protected_text : Binding → ContextHead → (cipher : List ℕ) → List ℕ
+protected_text b head cipher = bound_text b head ++ cipher
+
+-- the integrity value: HMAC(SHA-256, the proof of the hierarchy, the text)
+unfoldable pub integrity_of : (proof : List ℕ)
+    → Binding → ContextHead → (cipher : List ℕ) → List ℕ
+integrity_of proof b head cipher = hmac_of Sha256 proof (protected_text b head cipher)

@@ -1,0 +1,44 @@
+//! Why a context is not loaded.
+
+ghost use Rattle.std.specs.Prelude.{◌≡◌};
+ghost use Rattle.tpm_context.specs.Head.{fault_code, fault_rc};
+
+use tpm_types::{Rc, ResponseCode};
+
+/// Why the context of an object is not loaded. The definition of `opened` says in which order the
+/// faults are found.
+#[derive(Clone, Copy, PartialEq, Eq)]
+pub enum ContextFault {
+    /// The bytes end before the context does: TPM_RC_INSUFFICIENT.
+    Truncated,
+    /// The savedHandle is not an object's: TPM_RC_HANDLE.
+    SavedHandle,
+    /// The hierarchy is not a hierarchy: TPM_RC_VALUE.
+    Hierarchy,
+    /// The contextBlob or its integrity value has the wrong size, or bytes are left over:
+    /// TPM_RC_SIZE.
+    Size,
+    /// The integrity value is wrong, or the object does not match the context: TPM_RC_INTEGRITY.
+    Integrity,
+}
+
+impl ContextFault {
+    fn code(self) -> ResponseCode
+        ensures { result ≡ fault_code self }
+    {
+        match self {
+            ContextFault::Truncated => ResponseCode::Insufficient,
+            ContextFault::SavedHandle => ResponseCode::Handle,
+            ContextFault::Hierarchy => ResponseCode::Value,
+            ContextFault::Size => ResponseCode::Size,
+            ContextFault::Integrity => ResponseCode::Integrity,
+        }
+    }
+
+    /// The response code, for parameter 1 of TPM2_ContextLoad.
+    pub fn rc(self) -> Rc
+        ensures { result ≡ fault_rc self }
+    {
+        self.code().anywhere().at_parameter(1)
+    }
+}

@@ -1,0 +1,25 @@
+#![tactic(auto)]
+
+//! The context of a transient object (TPM 2.0 Library, Part 1, section 30): TPM2_ContextSave
+//! returns it, and TPM2_ContextLoad loads the object from it.
+//!
+//! A context holds the whole object, encrypted, and an integrity value, which binds it to the proof
+//! of the object's hierarchy and to the device's count of TPM Resets ([`Binding`]). [`seal`] makes
+//! a context, and [`open`] reads it. No call allocates memory.
+//!
+//! A context that was made opens as its object. Whatever opens was made with the same proof and
+//! the same binding, or the HMAC has a collision ([`laws`]).
+
+mod binding;
+mod fault;
+mod head;
+pub mod laws;
+mod opening;
+mod protection;
+mod sealing;
+
+pub use binding::Binding;
+pub use fault::ContextFault;
+pub use head::{ContextHead, SavedHandle};
+pub use opening::open;
+pub use sealing::{CONTEXT_SIZE, seal};

@@ -1,0 +1,130 @@
+//! Reads the context of an object.
+
+ghost use Rattle.std.specs.Prelude.{◌≡◌, ◌≤◌, ◌+◌, [], IfOk, length};
+ghost use Rattle.tpm_bytes.specs.Reading.{AreBytes, Gives};
+ghost use Rattle.tpm_context.specs.Context.{blob_in, blob_size, object_in, opened, opened_parts, parts_in};
+ghost use Rattle.tpm_context.specs.Meaning.{IsContext};
+ghost use Rattle.tpm_context.specs.Protection.{decrypted};
+
+use crate::binding::Binding;
+use crate::fault::ContextFault;
+use crate::head::ContextHead;
+use crate::protection::{decrypt, integrity};
+use crate::sealing::{BLOB_SIZE, OBJECT_SIZE};
+use tpm_bytes::{Cursor, Sink, SizedFault, is_equal};
+use tpm_image_text::read_object_fields;
+use tpm_object::Object;
+use tpm_record::Hierarchies;
+
+/// The integrity value and the encrypted object of a contextBlob.
+#[derive(Drop)]
+struct BlobParts<'a> {
+    integrity: &'a [u8],
+    cipher: &'a [u8],
+}
+
+/// The contextBlob in the bytes after the head. No bytes may follow it.
+#[tactic(auto, unfolding(crate::specs::Context::blob_in), using(crate::proofs::Sizes::sized_few))]
+fn blob_in<'a>(text: &mut Cursor<'a>) -> Result<&'a [u8], ContextFault>
+    ensures value { Gives (λ blob. blob.now) (blob_in text.old) result }
+    ensures small { IfOk result (λ blob. length blob.now ≤ blob_size) }
+{
+    let blob = match text.sized(BLOB_SIZE) {
+        Ok(blob) => blob,
+        Err(SizedFault::TooLong) => return Err(ContextFault::Size),
+        Err(SizedFault::Short) => return Err(ContextFault::Truncated),
+    };
+    if !text.is_empty() {
+        return Err(ContextFault::Size);
+    }
+    Ok(blob)
+}
+
+/// The integrity value and the encrypted object in a contextBlob.
+#[tactic(auto, unfolding(crate::specs::Context::parts_in), using(crate::proofs::Sizes::sized_rest))]
+fn parts_in<'a>(blob: &'a [u8]) -> Result<BlobParts<'a>, ContextFault>
+    ensures value { Gives (λ parts. (parts.integrity.now, parts.cipher.now))
+        (parts_in blob.now) result }
+    ensures small { IfOk result (λ parts. length parts.cipher.now + 34 ≤ length blob.now) }
+{
+    let mut text = Cursor::new(blob);
+    let Ok(integrity) = text.sized(32) else {
+        return Err(ContextFault::Size);
+    };
+    if integrity.len() != 32 {
+        return Err(ContextFault::Size);
+    }
+    Ok(BlobParts {
+        integrity,
+        cipher: text.rest(),
+    })
+}
+
+/// The object in a decrypted text, which must match the head.
+#[tactic(auto, unfolding(crate::specs::Context::object_in))]
+fn object_in(head: ContextHead, plain: &[u8]) -> Result<Object, ContextFault>
+    ensures value { result ≡ object_in head plain.now }
+    ensures bytes { AreBytes plain.now }
+{
+    let mut text = Cursor::new(plain);
+    let Ok(object) = read_object_fields(&mut text) else {
+        return Err(ContextFault::Integrity);
+    };
+    if !text.is_empty() || !head.is_of(&object) {
+        return Err(ContextFault::Integrity);
+    }
+    Ok(object)
+}
+
+/// Decrypts the object of a context into a buffer.
+fn decrypt_into(proof: &[u8; 32], head: ContextHead, cipher: &[u8], plain: &mut Sink<OBJECT_SIZE>)
+    requires empty { plain.old ≡ [] }
+    requires fits { length cipher.now ≤ OBJECT_SIZE }
+    ensures { plain.new ≡ decrypted proof.now head cipher.now }
+{
+    plain.append(cipher);
+    decrypt(proof, head, plain.as_mut_slice());
+}
+
+/// The object of a context with these parts, if the integrity value is correct. Checks the
+/// integrity value before it decrypts anything.
+#[tactic(auto, unfolding(crate::specs::Context::opened_parts))]
+fn open_parts(
+    proof: &[u8; 32],
+    binding: Binding,
+    head: ContextHead,
+    parts: &BlobParts,
+) -> Result<Object, ContextFault>
+    requires { length parts.now.cipher.now ≤ OBJECT_SIZE }
+    ensures value { result ≡ opened_parts proof.now binding head
+        parts.now.integrity.now parts.now.cipher.now }
+    ensures bytes { IfOk result (λ object. AreBytes
+        (decrypted proof.now head parts.now.cipher.now)) }
+{
+    let right = integrity(proof, binding, head, parts.cipher);
+    if !is_equal(parts.integrity, right.as_slice()) {
+        return Err(ContextFault::Integrity);
+    }
+    let mut plain: Sink<OBJECT_SIZE> = Sink::new();
+    decrypt_into(proof, head, parts.cipher, &mut plain);
+    object_in(head, plain.as_slice())
+}
+
+/// The object of a context, if the device made it with these hierarchies and this binding.
+#[tactic(auto, unfolding(crate::specs::Context::opened))]
+pub fn open(
+    hierarchies: &Hierarchies,
+    binding: Binding,
+    bytes: &[u8],
+) -> Result<Object, ContextFault>
+    ensures value { result ≡ opened hierarchies.now binding bytes.now }
+    // Bytes that open are the context of their object, with the sequence that they contain.
+    ensures made { IfOk result (λ object. IsContext hierarchies.now binding bytes.now object) }
+{
+    let mut text = Cursor::new(bytes);
+    let head = ContextHead::read(&mut text)?;
+    let blob = blob_in(&mut text)?;
+    let parts = parts_in(blob)?;
+    let proof = &hierarchies.secrets(head.hierarchy).proof;
+    open_parts(proof, binding, head, &parts)
+}

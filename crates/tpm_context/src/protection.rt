@@ -1,0 +1,107 @@
+//! How a context is encrypted and authenticated (TPM 2.0 Library, Part 1, section 30.3).
+
+ghost use Rattle.std.specs.Prelude.{◌≡◌, ◌++◌, length};
+ghost use Rattle.tpm_context.specs.Protection.{bound_text, cipher_bytes, cipher_iv, cipher_key, context_label, decrypted, encrypted, integrity_of, protected_text, restart_bound};
+
+use crate::binding::Binding;
+use crate::head::{ContextHead, SavedHandle};
+use tpm_aes::Aes128;
+use tpm_bytes::Sink;
+use tpm_mac::{Digest, HashAlg, hmac_parts, kdfa};
+
+/// The label of KDFa for the key and the IV of a context.
+const CONTEXT_LABEL: &[u8] = b"CONTEXT";
+
+/// The cipher of a context and its IV.
+#[derive(Drop)]
+struct ContextCipher {
+    cipher: Aes128,
+    iv: [u8; 16],
+}
+
+/// The cipher and its IV: the first 16 bytes are the key, the rest is the IV.
+fn cipher_from(bytes: &[u8; 32]) -> ContextCipher
+    ensures key { result.cipher ≡ cipher_key bytes.now }
+    ensures iv { result.iv ≡ cipher_iv bytes.now }
+{
+    let (front, back) = bytes.split_at(16);
+    let (mut key, mut iv) = ([0; 16], [0; 16]);
+    key.copy_from_slice(front);
+    iv.copy_from_slice(back);
+    ContextCipher {
+        cipher: Aes128::new(&key),
+        iv,
+    }
+}
+
+/// The cipher of the context with this head, derived from the proof of its hierarchy.
+#[tactic(auto, unfolding(crate::specs::Protection::cipher_bytes))]
+fn context_cipher(proof: &[u8; 32], head: ContextHead) -> ContextCipher
+    ensures key { result.cipher ≡ cipher_key (cipher_bytes proof.now head) }
+    ensures iv { result.iv ≡ cipher_iv (cipher_bytes proof.now head) }
+{
+    let mut bytes = [0; 32];
+    kdfa(
+        HashAlg::Sha256,
+        proof,
+        CONTEXT_LABEL,
+        &head.sequence.to_be_bytes(),
+        &head.saved.number().to_be_bytes(),
+        &mut bytes,
+    );
+    cipher_from(&bytes)
+}
+
+/// Encrypts a text in place.
+pub(crate) fn encrypt(proof: &[u8; 32], head: ContextHead, text: &mut [u8])
+    ensures { text.new ≡ encrypted proof.now head text.old }
+{
+    let by = context_cipher(proof, head);
+    by.cipher.cfb_encrypt(&by.iv, text);
+}
+
+/// Decrypts a text in place.
+pub(crate) fn decrypt(proof: &[u8; 32], head: ContextHead, text: &mut [u8])
+    ensures { text.new ≡ decrypted proof.now head text.old }
+{
+    let by = context_cipher(proof, head);
+    by.cipher.cfb_decrypt(&by.iv, text);
+}
+
+/// The restartCount that a context is bound to.
+fn restart_bound(binding: Binding, saved: SavedHandle) -> u32
+    ensures { result ≡ restart_bound binding saved }
+{
+    match saved {
+        SavedHandle::Ordinary => 0,
+        SavedHandle::StClear => binding.restart_count,
+    }
+}
+
+/// The fields before the encrypted object in the text of the integrity value.
+fn bound_text(binding: Binding, head: ContextHead) -> Sink<28>
+    ensures { result ≡ bound_text binding head }
+{
+    let mut text = Sink::new();
+    text.append_u64(binding.start);
+    text.append_u32(binding.reset_count);
+    text.append_u32(restart_bound(binding, head.saved));
+    text.append_u64(head.sequence);
+    text.append_u32(head.saved.number());
+    text
+}
+
+/// The integrity value of the context with this head and this encrypted object.
+#[tactic(auto, unfolding(crate::specs::Protection::integrity_of))]
+pub(crate) fn integrity(
+    proof: &[u8; 32],
+    binding: Binding,
+    head: ContextHead,
+    cipher: &[u8],
+) -> Digest
+    ensures value { result.items ≡ integrity_of proof.now binding head cipher.now }
+    ensures size { length result.items ≡ 32 }
+{
+    let bound = bound_text(binding, head);
+    hmac_parts(HashAlg::Sha256, proof, &[bound.as_slice(), cipher])
+}
