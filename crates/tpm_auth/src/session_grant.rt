@@ -1,5 +1,6 @@
-//! What a session's entry authorizes, by its HMAC or by its policy: whether it is allowed to,
-//! whether the entity whose value it uses is locked out, and whether its comparison succeeds.
+//! Decides what a session's entry authorizes, by its HMAC or by its policy: whether the session
+//! may authorize the handle, whether the entity whose value it uses is locked out, and whether its
+//! comparison succeeds.
 
 ghost use Rattle.std.specs.Prelude.{◌≡◌, ◌≤◌, length, option_map};
 ghost use Rattle.std.specs.Option.{ForSome};

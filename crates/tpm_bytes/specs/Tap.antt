@@ -1,4 +1,4 @@
--- The record that a tap makes of its device, the reader or writer that it wraps.
+-- The marks that a tap keeps about its device, the reader or writer that it wraps.
 use Rattle.std.specs.Prelude.{◌≡◌, ℕ, ◌+◌, ◌-◌, ◌^◌, ◌==◌, min, List, ◌++◌}
 use Rattle.std.specs.Prelude.{Bool, true, false, Option, Result, Ok, Err, if◌then◌else◌}
 use Rattle.std.specs.Io.KnownBytes.{Appends}

@@ -19,12 +19,12 @@ filled is_written start size byte bytes =
 abbrev pub opened : (start size : ℕ) → List ℕ → List ℕ
 opened start size bytes = take start bytes ++ (replicate size 0 ++ drop start bytes)
 
--- the bytes after some were removed at an offset
+-- the bytes after `size` of them were removed at an offset
 abbrev pub closed_up : (start size : ℕ) → List ℕ → List ℕ
 closed_up start size bytes = take start bytes ++ drop (start + size) bytes
 
--- the bytes after some were moved from the end to an offset, and after some were moved from an
--- offset to the end
+-- the bytes after `size` of them were moved from the end to an offset; and after `size` of them
+-- were moved from an offset to the end
 unfoldable pub moved_from_end : (start size : ℕ) → List ℕ → List ℕ
 moved_from_end start size bytes =
     let behind : List ℕ = drop start bytes in
@@ -34,7 +34,7 @@ abbrev pub moved_to_end : (start size : ℕ) → List ℕ → List ℕ
 moved_to_end start size bytes =
     take start bytes ++ (drop (start + size) bytes ++ piece_of start size bytes)
 
--- the bytes after some were copied to a lower offset
+-- the bytes after `size` of them were copied to a lower offset
 abbrev pub moved_down : (start size place : ℕ) → List ℕ → List ℕ
 moved_down start size place bytes =
     take place bytes ++ (piece_of start size bytes ++ drop (place + size) bytes)

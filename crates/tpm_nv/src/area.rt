@@ -31,12 +31,12 @@ pub trait Area: Drop + Sized {
         requires { start + length piece.now ≤ length (bytes self.old) }
         ensures { bytes self.new ≡ put_over start piece.now (bytes self.old) };
 
-    /// Sets a number of bytes at an offset to one value.
+    /// Sets `size` bytes at an offset to one value.
     fn fill(&mut self, start: usize, size: usize, byte: u8)
         requires { start + size ≤ length (bytes self.old) }
         ensures { bytes self.new ≡ put_over start (replicate size byte) (bytes self.old) };
 
-    /// Inserts a number of zeros at an offset.
+    /// Inserts `size` zeros at an offset.
     fn open(&mut self, start: usize, size: usize) -> Result<(), NoMemory>
         requires inside { start ≤ length (bytes self.old) }
         requires fits { length (bytes self.old) + size ≤ nv_space_limit }
@@ -44,12 +44,12 @@ pub trait Area: Drop + Sized {
         ensures unchanged { OnErr result (bytes self.new ≡ bytes self.old) }
         ensures refused { OnErr result (can_refuse ≡ true) };
 
-    /// Removes a number of bytes at an offset.
+    /// Removes `size` bytes at an offset.
     fn close_up(&mut self, start: usize, size: usize)
         requires { start + size ≤ length (bytes self.old) }
         ensures { bytes self.new ≡ closed_up start size (bytes self.old) };
 
-    /// Copies a number of bytes from one offset to a lower one.
+    /// Copies `size` bytes from one offset to a lower one.
     fn move_down(&mut self, start: usize, size: usize, place: usize)
         requires inside { start + size ≤ length (bytes self.old) }
         requires lower { place ≤ start }
@@ -69,7 +69,7 @@ pub(crate) fn put_piece(bytes: &mut [u8], start: usize, piece: &[u8])
     bytes[start..start + piece.len()].copy_from_slice(piece);
 }
 
-/// Sets a number of bytes at an offset to one value.
+/// Sets `size` bytes at an offset to one value.
 pub(crate) fn fill_piece(bytes: &mut [u8], start: usize, size: usize, byte: u8)
     requires { start + size ≤ length bytes.old }
     ensures { bytes.new ≡ put_over start (replicate size byte) bytes.old }
@@ -77,7 +77,7 @@ pub(crate) fn fill_piece(bytes: &mut [u8], start: usize, size: usize, byte: u8)
     bytes[start..start + size].fill(byte);
 }
 
-/// Moves a number of bytes from the end to an offset.
+/// Moves `size` bytes from the end to an offset.
 #[tactic(auto, unfolding(crate::specs::Bytes::moved_from_end))]
 pub(crate) fn move_from_end(bytes: &mut [u8], start: usize, size: usize)
     requires { start + size ≤ length bytes.old }
@@ -86,7 +86,7 @@ pub(crate) fn move_from_end(bytes: &mut [u8], start: usize, size: usize)
     bytes[start..].rotate_right(size);
 }
 
-/// Moves a number of bytes from an offset to the end.
+/// Moves `size` bytes from an offset to the end.
 pub(crate) fn move_to_end(bytes: &mut [u8], start: usize, size: usize)
     requires { start + size ≤ length bytes.old }
     ensures { bytes.new ≡ moved_to_end start size bytes.old }
@@ -94,7 +94,7 @@ pub(crate) fn move_to_end(bytes: &mut [u8], start: usize, size: usize)
     bytes[start..].rotate_left(size);
 }
 
-/// Copies a number of bytes from one offset to a lower one.
+/// Copies `size` bytes from one offset to a lower one.
 #[tactic(auto, using(crate::proofs::ByteLaws::moved_by_copying))]
 pub(crate) fn copy_down(bytes: &mut [u8], start: usize, size: usize, place: usize)
     requires inside { start + size ≤ length bytes.old }

@@ -14,7 +14,7 @@ use tpm_types::NV_SPACE_LIMIT;
 
 /// A container of bytes with room for all NV data.
 pub trait ByteItems: Items<NV_SPACE_LIMIT, Item = u8> {
-    /// Appends a number of zeros.
+    /// Appends `size` zeros.
     fn append_zeros(&mut self, size: usize) -> Result<(), NoMemory>
         requires { length (Self.items self.old) + size ≤ nv_space_limit }
         ensures appended { OnOk result

@@ -55,8 +55,8 @@ may_read target = may attribute.OwnerRead attribute.PpRead target
 -- ---- who may read an index, and what is read
 
 -- the checks A1 to A3 of each command that reads an NV index (Part 3, sections 23.9 and 31.13).
--- A1: authHandle may not read the index. A2: the index is locked against reading. A3: the index is
--- not written
+-- Refused by A1 if authHandle may not read the index; by A2 if the index is locked against
+-- reading; by A3 if it is not written
 abbrev pub reading_passes : Target → Result (Unit {0}) ActionFault
 reading_passes target = do
   a1 ← refused_if (not (may_read target)) (plain_fault action.First code.NvAuthorization)
