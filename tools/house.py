@@ -1,7 +1,7 @@
 #!/usr/bin/env python3
-"""Draws docs/house.svg: the crates in layers, from crates.txt. A crate is in the row above the highest
-of the crates that it depends on, so the lowest crates are at the bottom. Its colour is that of its
-group, which is a heading of crates.txt.
+"""Draws docs/house.svg: the crates in layers, from crates.txt. A crate is in the row above the
+highest of the crates that it depends on, so the lowest crates are at the bottom. Its colour is that
+of its group, which is a heading of crates.txt.
 
 `tools/house.py` compares the picture with the new one, and its status is 1 if they differ;
 `tools/house.py --write` writes it.
@@ -75,7 +75,8 @@ def text_at(x: int, y: int, words: str, kind: str = "") -> str:
 
 
 def box_at(x: int, y: int, width: int, fill: str) -> str:
-    return f'<rect class="box" x="{x}" y="{y}" width="{width}" height="{LINE}" rx="3" fill="{fill}"/>'
+    place = f'x="{x}" y="{y}" width="{width}" height="{LINE}"'
+    return f'<rect class="box" {place} rx="3" fill="{fill}"/>'
 
 
 def row_at(y: int, number: int, row: list[Crate], groups: int) -> tuple[list[str], int]:

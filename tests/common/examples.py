@@ -1,8 +1,8 @@
 """A valid example of each command, next to the commands that it needs before it.
 
-The exhaustive scripts of tests/general are made of this table: cut_commands.py, bent_commands.py and
-turned_commands.py. All examples are executed in their order on one device, which is power-cycled
-before each chapter.
+The exhaustive scripts of tests/general are made of this table: cut_commands.py, bent_commands.py
+and turned_commands.py. All examples are executed in their order on one device, which is
+power-cycled before each chapter.
 """
 
 from collections.abc import Sequence
@@ -187,9 +187,7 @@ OBJECTS = [
         "TPM2_CreatePrimary of an HMAC key",
         on_handle(CC.CreatePrimary, RH_OWNER, creation(hmac_key(), b"key")),
     ),
-    Example(
-        "TPM2_HMAC by it", on_object(CC.HMAC, CHILD, sized(b"data") + number(SHA256, 2))
-    ),
+    Example("TPM2_HMAC by it", on_object(CC.HMAC, CHILD, sized(b"data") + number(SHA256, 2))),
 ]
 
 
@@ -280,4 +278,5 @@ CHAPTERS = (
 )
 
 # A new command needs an example.
-assert {it.code for chapter in CHAPTERS for it in chapter.examples if not it.is_step} == set(CC)
+CODES = {it.code for chapter in CHAPTERS for it in chapter.examples if not it.is_step}
+assert CODES == set(CC), f"no example of {set(CC) - CODES}"

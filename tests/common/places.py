@@ -22,8 +22,8 @@ def of_tests() -> list[pathlib.Path]:
 
 @functools.cache
 def folder_of_made() -> pathlib.Path:
-    """The folder of the scripts that are not stored: TPMSIM_MADE, in which tools/scripts.sh has made
-    them, or a temporary one, in which they are made now.
+    """The folder of the scripts that are not stored: TPMSIM_MADE, in which tools/scripts.sh has
+    made them, or a temporary one, in which they are made now.
     """
     told = os.environ.get("TPMSIM_MADE")
     if told:

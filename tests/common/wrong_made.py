@@ -90,9 +90,7 @@ def without_effect(code: CC) -> Any:
 
 ANY_SIZE = "any commandSize is accepted", put(general, "read_header", any_size)
 ATTRIBUTES = "any attributes of entries are accepted", put(general, "check_entry", any_attributes)
-DECRYPTS = "parameters are decrypted before hmacs are compared", put(
-    Model, "authorize", decrypts_first
-)
+DECRYPTS = "parameters are decrypted first", put(Model, "authorize", decrypts_first)
 WRONG = {
     "cut_commands": ANY_SIZE,
     "bent_commands": ANY_SIZE,
@@ -107,7 +105,7 @@ WRONG = {
     "template_refusals": ("any public area", put(object_rules, "check_public", nothing)),
     "sealed_sizes": ("127 bytes of data at most", put(object_rules, "DATA_BYTES", 127)),
     "nv_define_space": ("any size of an index", put(nv_commands, "has_wrong_size", never)),
-    "policy_handles": ("another code of an absent handle", put(general, "read_handles", other_code)),
+    "policy_handles": ("another code for a handle", put(general, "read_handles", other_code)),
     "policy_pcr": ("TPM2_PolicyPCR without effect", without_effect(CC.PolicyPCR)),
     "policy_or": ("TPM2_PolicyOR without effect", without_effect(CC.PolicyOR)),
     "policy_nv": ("TPM2_PolicyNV without effect", without_effect(CC.PolicyNV)),

@@ -60,7 +60,8 @@ def plain_of(script):
 def main():
     for path in scripts():
         script = path.read_bytes()
-        if not path.with_suffix(".out").exists() or len(script) > MOST_BYTES or b" s:0" not in script:
+        is_of_use = path.with_suffix(".out").exists() and b" s:0" in script
+        if not is_of_use or len(script) > MOST_BYTES:
             continue
         asked, answered = plain_of(script)
         if asked or answered:
