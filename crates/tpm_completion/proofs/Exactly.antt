@@ -3,7 +3,7 @@ use Rattle.std.proofs.Common.{◌≡◌, ℕ, Bool, true, false, List, [], Optio
 use Rattle.std.proofs.lemmas.Bool.{false≢true}
 use Rattle.tpm_machine.specs.Drawn.{drawn_by}
 use Rattle.tpm_record.specs.Record.{Record}
-use Rattle.tpm_step.specs.Events.{PlainEvent, Given, Cycled}
+use Rattle.tpm_step.specs.Events.{PlainEvent, Given, Cycled, Placed}
 use Rattle.tpm_step.specs.Step.{Stepped, step}
 use Rattle.tpm_completion.specs.Completed.{again_behind, behind, completed, completed_by, completed_with, done_behind, gave_up_behind, noted_behind, passed}
 use Rattle.tpm_completion.specs.Completion.{forgotten}
@@ -40,6 +40,7 @@ completes_by_exactly c old buffer locality elapsed random None seen (first, p, b
 pub completes_exactly : (c : Completion) (old : Record) (event : PlainEvent) (seen : Seen) → Completes false c old event seen → seen ≡ completed_with c old event
 completes_exactly c old (Given buffer locality elapsed random) seen x = completes_by_exactly c old buffer locality elapsed random (flush_asked c buffer) seen x
 completes_exactly c old Cycled seen x = passes_exactly c old Cycled seen x
+completes_exactly c old (Placed object) seen x = passes_exactly c old (Placed object) seen x
 
 -- with the layer or without it, the effect is that of the function if `can` is false
 pub exactly : (can completes : Bool) (c : Completion) (old : Record) (event : PlainEvent) (seen : Seen) → CompletesIf can completes c old event seen → can ≡ false → seen ≡ completed completes c old event

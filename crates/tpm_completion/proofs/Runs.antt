@@ -3,7 +3,7 @@ use Rattle.std.proofs.Common.{◌≡◌, ℕ, Bool, true, false, List, [], Optio
 use Rattle.tpm_machine.specs.Executions.{Leads}
 use Rattle.tpm_machine.proofs.Following.{stretch_follows}
 use Rattle.tpm_record.specs.Record.{Record}
-use Rattle.tpm_step.specs.Events.{PlainEvent, Given, Cycled}
+use Rattle.tpm_step.specs.Events.{PlainEvent, Given, Cycled, Placed}
 use Rattle.tpm_completion.specs.Execution.{Behind, Completes, CompletesBy, CompletesIf, Seen, given_up_behind}
 use Rattle.tpm_completion.specs.Room.{flush_asked}
 use Rattle.tpm_completion.specs.Run.{RunsFollow, run_behind, run_by, run_of, run_with}
@@ -24,6 +24,7 @@ by_leads can c old buffer locality elapsed random None seen (first, passes, behi
 with_leads : (can : Bool) (c : Completion) (old : Record) (event : PlainEvent) (seen : Seen) (completes : Completes can c old event seen) → Leads can old (run_with can c old event seen completes) seen.step.after
 with_leads can c old (Given buffer locality elapsed random) seen completes = by_leads can c old buffer locality elapsed random (flush_asked c buffer) seen completes
 with_leads can c old Cycled seen passes = (refl, passes.executes, refl)
+with_leads can c old (Placed object) seen passes = (refl, passes.executes, refl)
 
 pub run_leads : (can completes : Bool) (c : Completion) (old : Record) (event : PlainEvent) (seen : Seen) (is : CompletesIf can completes c old event seen) → Leads can old (run_of can completes c old event seen is) seen.step.after
 run_leads can false c old event seen passes = (refl, passes.executes, refl)

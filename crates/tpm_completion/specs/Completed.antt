@@ -3,7 +3,7 @@
 use Rattle.std.specs.Prelude.{ℕ, Bool, true, false, List, [], Option, Some, None}
 use Rattle.tpm_machine.specs.Drawn.{drawn_by}
 use Rattle.tpm_record.specs.Record.{Record}
-use Rattle.tpm_step.specs.Events.{PlainEvent, Given, Cycled}
+use Rattle.tpm_step.specs.Events.{PlainEvent, Given, Cycled, Placed}
 use Rattle.tpm_step.specs.Step.{step}
 use Rattle.tpm_completion.specs.Completion.{forgotten}
 use Rattle.tpm_completion.specs.Execution.{Seen, answered, given_up_behind, no_random, reply_behind}
@@ -58,6 +58,7 @@ abbrev pub completed_with : Completion → Record → PlainEvent → Seen
 completed_with c old (Given buffer locality elapsed random) =
     completed_by c old buffer locality elapsed random (flush_asked c buffer)
 completed_with c old Cycled = passed c old Cycled
+completed_with c old (Placed object) = passed c old (Placed object)
 
 -- the effect of an event with the layer (true), or without it (false)
 abbrev pub completed : (completes : Bool) → Completion → Record → PlainEvent → Seen

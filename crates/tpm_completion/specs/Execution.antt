@@ -6,7 +6,7 @@ use Rattle.tpm_machine.specs.Drawn.{drawn_by}
 use Rattle.tpm_machine.specs.State.{latest_drawn, state_of}
 use Rattle.tpm_machine.specs.declared.machine.Machine.{Machine}
 use Rattle.tpm_record.specs.Record.{Record}
-use Rattle.tpm_step.specs.Events.{PlainEvent, Given, Cycled}
+use Rattle.tpm_step.specs.Events.{PlainEvent, Given, Cycled, Placed}
 use Rattle.tpm_step.specs.Execution.{Executes}
 use Rattle.tpm_step.specs.Step.{Stepped, outcome_step}
 use Rattle.tpm_step.specs.declared.event.Outcome.{Outcome}
@@ -105,11 +105,13 @@ CompletesBy can c old buffer locality elapsed random (Some place) seen =
 CompletesBy can c old buffer locality elapsed random None seen =
     AsksFirst can c old buffer locality elapsed random seen
 
--- An event had this effect with the layer: the device alone executes a power cycle.
+-- An event had this effect with the layer: the device alone executes a power cycle or places an
+-- object.
 abbrev pub Completes : Bool → Completion → Record → PlainEvent → Seen → Type 0
 Completes can c old (Given buffer locality elapsed random) seen =
     CompletesBy can c old buffer locality elapsed random (flush_asked c buffer) seen
 Completes can c old Cycled seen = Passes can c old Cycled seen
+Completes can c old (Placed object) seen = Passes can c old (Placed object) seen
 
 -- An event had this effect with the layer (true), or without it (false).
 abbrev pub CompletesIf : (can completes : Bool) → Completion → Record → PlainEvent → Seen → Type 0

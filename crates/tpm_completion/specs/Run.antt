@@ -5,7 +5,7 @@ use Rattle.tpm_machine.specs.Executions.{Execution}
 use Rattle.tpm_machine.specs.Follows.{Follows, StretchFollows}
 use Rattle.tpm_machine.specs.History.{History}
 use Rattle.tpm_record.specs.Record.{Record}
-use Rattle.tpm_step.specs.Events.{PlainEvent, Given, Cycled}
+use Rattle.tpm_step.specs.Events.{PlainEvent, Given, Cycled, Placed}
 use Rattle.tpm_completion.specs.Execution.{AsksFirst, Behind, Completes, CompletesBy, CompletesIf, Seen, given_up_behind, no_random}
 use Rattle.tpm_completion.specs.Room.{flush_asked, flush_text}
 use Rattle.tpm_completion.specs.declared.completion.Completion.{Completion}
@@ -38,6 +38,7 @@ abbrev pub run_with : (can : Bool) (c : Completion) (old : Record) (event : Plai
 run_with can c old (Given buffer locality elapsed random) seen completes =
     run_by can c old buffer locality elapsed random (flush_asked c buffer) seen completes
 run_with can c old Cycled seen passes = executed old Cycled seen ∷ []
+run_with can c old (Placed object) seen passes = executed old (Placed object) seen ∷ []
 
 -- the executions of an event, with the layer or without it
 abbrev pub run_of : (can completes : Bool) (c : Completion) (old : Record) (event : PlainEvent)

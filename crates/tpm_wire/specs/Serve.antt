@@ -8,7 +8,7 @@ use Rattle.std.specs.List.{FoldsTo, flat_map}
 use Rattle.std.specs.Io.KnownBytes.{Appends, Consumes, Keeps}
 use Rattle.tpm_bytes.specs.Tap.{AppendsFront, Marks, after_read}
 use Rattle.tpm_record.specs.Record.{Record}
-use Rattle.tpm_step.specs.Events.{PlainEvent, Given, Cycled}
+use Rattle.tpm_step.specs.Events.{PlainEvent, Given, Cycled, Placed}
 use Rattle.tpm_machine.specs.Executions.{Execution, Leads}
 use Rattle.tpm_machine.specs.Follows.{Follows, StretchFollows}
 use Rattle.tpm_machine.specs.History.{History}
@@ -22,10 +22,11 @@ use Rattle.tpm_wire.specs.declared.host.Host.{Host}
 
 -- ---- what is executed
 
--- the buffer of an event; a power cycle has none
+-- the buffer of an event; a power cycle and a placed object have none
 abbrev pub buffer_in : PlainEvent → List ℕ
 buffer_in (Given buffer locality elapsed random) = buffer
 buffer_in Cycled = []
+buffer_in (Placed object) = []
 
 -- the buffers of executions, in order
 abbrev pub buffers_of : List Execution → List (List ℕ)
