@@ -73,7 +73,7 @@ each_longer j origin history more (a ∷ answers) h = (
 
 -- ---- a put
 
--- bytes that stand there already are written again, and then others
+-- bytes that are there already are written again, and then others
 again : (same rest : List ℕ) (n : ℕ)
     → take n (same ++ rest) ++ drop (length (take n (same ++ rest))) same ≡ same ++ take (n - length same) rest
 again [] rest n =
@@ -431,7 +431,7 @@ named_file j origin s k laws fresh enough kept text next lives =
       past = tt;
     }
 
--- the history is longer by what the new journal tells
+-- the history is longer by what the new journal adds
 twice_longer : (history some more : List (List ℕ)) → (history ++ some) ++ more ≡ history ++ (some ++ more)
 twice_longer history some more = append_assoc history some more
 

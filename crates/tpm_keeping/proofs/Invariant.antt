@@ -149,7 +149,7 @@ LastIf Execute j origin history answers c response = IsLast j origin history ans
 LastIf Show j origin history answers c response = response ≡ j.head (run j origin history)
 LastIf job j origin history answers c response = Unit {0}
 
--- what was read of the file is what stands there
+-- what was read of the file is what the file has there
 pub record IsReading (j : Journal) (v : Sight) (k : Holder) : Type 0 where
   pub knows : KnowsOf j v k
   pub same : k.file ≡ v.file.number

@@ -11,3 +11,4 @@ pub mod LineLaws
 pub mod Promises
 pub mod Cutting
 pub mod Asked
+pub mod Calling

@@ -13,7 +13,7 @@ use Rattle.tpm_keeping.specs.declared.holder.Phase.{Phase}
 use Rattle.tpm_keeping.specs.declared.holder.Phase.TheVariants.{Ended, Locking, Looking, Reading, Putting, Forcing, Making, Naming, Settling, Leaving}
 
 pub record Holder : Type 0 where
-  -- when it forces, and the size from which on a journal may begin anew
+  -- when it forces, and the size from which on a journal may be restarted
   pub force : Force
   pub limit : ℕ
   pub phase : Phase
@@ -26,7 +26,7 @@ pub record Holder : Type 0 where
   pub place : ℕ
   -- the last of these bytes, which the holder has not itself seen forced
   pub unsure : List ℕ
-  -- how many bytes the file has, how many were read, and those that are not executed yet
+  -- the size of the file, the number of bytes read, and the bytes that are not executed yet
   pub size : ℕ
   pub seen : ℕ
   pub read : List ℕ
@@ -36,7 +36,7 @@ pub record Holder : Type 0 where
   pub out : List ℕ
   pub response : List ℕ
 
--- what the host tells
+-- what the host reports
 pub data Told : Type 0 where
   Done : Told
   Stands : (file size : ℕ) → Told

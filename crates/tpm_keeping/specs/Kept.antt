@@ -101,7 +101,7 @@ HasEnded w p e = ((w.holders p).phase ≡ Ended e) × (w.shared.locked ≡ false
 
 -- ---- a cut
 
--- what a holder has read of the file that it does not know yet, with what the host tells
+-- what a holder has read of the file that it does not know yet, with what the host reports
 abbrev pub text_read : Phase → Holder → Told → List ℕ
 text_read Reading k (Bytes bytes) = k.read ++ bytes
 text_read phase k told = []

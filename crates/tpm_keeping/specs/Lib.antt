@@ -5,3 +5,4 @@ pub mod World
 pub mod Kept
 pub mod Lines
 pub mod Sentence
+pub mod Cutting

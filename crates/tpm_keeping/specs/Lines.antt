@@ -23,8 +23,8 @@ line_at (zero ∷ rest) = None
 line_at (suc zero ∷ rest) = Some ([], rest)
 line_at (suc (suc b) ∷ rest) = with_first b (line_at rest)
 
--- Executes lines: `part` is what is read of a line, `taken` how many bytes the lines before it
--- have, and `far` how many were read.
+-- Executes lines: `part` is what is read of a line, `taken` the size of the lines before it,
+-- and `far` the number of bytes read.
 abbrev pub walk : (state part : List ℕ) → (taken far : ℕ) → List ℕ → List ℕ × ℕ
 walk state part taken far [] = (state, taken)
 walk state part taken far (suc zero ∷ rest) = walk (state ++ part) [] (suc far) (suc far) rest

@@ -19,7 +19,7 @@
 -- a crash that mixes blocks of two contents; a disk that says forced and has not; file systems that
 -- leave a file without bytes and with later ones, as ext4 and XFS may, or take back one of two
 -- renames; a folder whose force fails and then succeeds without the rename; a sector that is torn
--- where bytes stand that were forced before; network file systems, whose locks and renames are seen
+-- over bytes that were forced before; network file systems, whose locks and renames are seen
 -- late; two hosts on one folder; the lock's file removed under its holder; anybody else who writes
 -- to the folder.
 use Rattle.std.specs.Prelude.{◌≡◌, ℕ, zero, suc, ◌+◌, ◌-◌, ◌<◌, ◌≤◌, ◌==◌, ◌&&◌, Bool, true, false, cond, List, [], ◌∷◌, ◌++◌, drop, length, max, min, nat_le, take, Option, Some, None}
@@ -123,7 +123,7 @@ with_holder s holders p k = record { shared = s; holders = λ q. cond (q == p) k
 
 -- ---- what a process does
 
--- bytes are written over those at a place, and behind the end
+-- bytes are written over those at an offset, and after the end
 abbrev pub written : (text : List ℕ) → (at : ℕ) → (bytes : List ℕ) → List ℕ
 written text at bytes = take at text ++ (bytes ++ drop (at + length bytes) text)
 
@@ -137,7 +137,7 @@ abbrev pub leads : Journal → Job → List ℕ → List (List ℕ)
 leads j Execute c = cond (j.is_entered c) [] (c ∷ [])
 leads j job c = []
 
--- so much of a holder's text is put: what is behind the executed bytes is cut first
+-- so much of a holder's text is put: what is after the executed bytes is cut first
 abbrev pub put_more : Journal → Holder → (count : ℕ) → List (List ℕ)
 put_more j k count = cond (nat_le (length k.out) count) (adds j k.job k.command) []
 
@@ -229,7 +229,7 @@ does_asked j asked s k effect = s
 abbrev pub does : Journal → Phase → Shared → Holder → Effect → Shared
 does j phase s k effect = does_asked j (ask_in phase k) s k effect
 
--- what the host then tells
+-- what the host then reports
 abbrev pub tells_asked : Ask → Shared → (more : ℕ) → Told
 tells_asked ask.Look s more =
     cond (s.file.number == 0) Gone (Stands s.file.number (length s.file.now.text))

@@ -22,25 +22,25 @@ pub trait Device: Drop + Sized {
     /// The journal meets what a keeper needs.
     ghost keeps: { IsJournal journal };
 
-    /// A device that begins of random bytes or of a text; None where they are none.
+    /// A device that begins with random bytes or with a text; None if it cannot.
     fn begin(alloc: Global, seed: &[u8]) -> Result<Option<Self>, Exhausted>
         ensures { IfOk result (λ begun. MatchOption begun (journal.begun seed.now ≡ None)
             (λ device. journal.begun seed.now ≡ Some (spot device).state)) };
 
-    /// The device of a journal, and how many bytes it executed; None where the text is no journal.
+    /// The device of a journal, and the size of what it executed; None if the text is no journal.
     fn open(alloc: Global, text: &[u8]) -> Result<Option<(Self, usize)>, Exhausted>
         ensures { IfOk result (λ opened. MatchOption opened (journal.opened text.now ≡ None)
             (λ found. journal.opened text.now ≡ Some (spot found.0, found.1))) };
 
-    /// Executes the entries of a text, and tells how many bytes it executed; None where they do not
-    /// follow.
+    /// Executes the entries of a text, and returns the size of what it executed; None if they do
+    /// not follow.
     fn follow(&mut self, text: &[u8]) -> Result<Option<usize>, Exhausted>
         ensures { IfOk result (λ followed. MatchOption followed
             (journal.followed (spot self.old) text.now ≡ None)
             (λ taken. journal.followed (spot self.old) text.now ≡ Some (spot self.new, taken))) };
 
-    /// The device of the front of a damaged journal that is whole, and how many bytes it executed;
-    /// None where there is none.
+    /// The device of the front of a damaged journal that is whole, and the size of what it
+    /// executed; None if there is none.
     fn salvage(alloc: Global, text: &[u8]) -> Result<Option<(Self, usize)>, Exhausted>
         ensures { IfOk result (λ salvaged. MatchOption salvaged (journal.salvaged text.now ≡ None)
             (λ found. journal.salvaged text.now ≡ Some (spot found.0, found.1))) };

@@ -9,7 +9,7 @@ ghost use Rattle.tpm_keeping.specs.Sentence.{sentence};
 pub enum Force {
     /// Never, but a new journal.
     Never,
-    /// When a journal begins anew, as at a power cycle or a checkpoint.
+    /// When a journal is restarted, as at a power cycle or a checkpoint.
     Power,
     /// Before each answer.
     Always,
@@ -22,7 +22,7 @@ pub enum Job {
     /// grown. The state after a command without an entry, as a power cycle or the restoring of a
     /// snapshot, begins a new journal.
     Execute,
-    /// To begin the journal anew in the same state: a checkpoint.
+    /// To restart the journal in the same state: a checkpoint.
     Renew,
     /// To give the text of the state: a snapshot.
     Show,
@@ -87,7 +87,7 @@ impl Fault {
             Fault::Unreadable => "cannot begin with what is no text of a device",
             Fault::NoCommand => "cannot execute what is no command",
             Fault::Damaged => "is damaged, and stays as it is",
-            Fault::Memory => "wants memory that is not there",
+            Fault::Memory => "needs memory, and the system gives none",
         }
     }
 }

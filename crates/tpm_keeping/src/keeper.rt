@@ -22,8 +22,8 @@ pub enum Ask {
     /// To take the folder's lock, by an open file of this process's own: where that fails, to close
     /// it.
     Lock,
-    /// To open the file that is named journal, unless it is the one that is open, and to tell its
-    /// number and its size.
+    /// To open the file that is named journal, unless it is the one that is open, and to report
+    /// its number and its size.
     Look,
     /// To read the file from this byte on, as much as it likes.
     Read(u64),
@@ -35,7 +35,7 @@ pub enum Ask {
     /// To write the keeper's text to a new file, whole, and to force it to the disk. The device has
     /// executed the first `whole` bytes of the old journal, or 0 where there is none.
     Make { whole: u64 },
-    /// To give the new file the journal's name, and to tell its number.
+    /// To give the new file the journal's name, and to report its number.
     Name,
     /// To force the folder to the disk.
     Settle,
@@ -78,7 +78,7 @@ pub struct Keeper<D: Device> {
 }
 
 impl<D: Device> Keeper<D> {
-    /// A keeper that has seen nothing. A journal begins anew once it has `limit` bytes, and twice
+    /// A keeper that has seen nothing. A journal is restarted once it has `limit` bytes, and twice
     /// what it would begin with.
     pub fn new(alloc: Global, force: Force, limit: u64) -> Keeper<D>
         ensures { holder_of D.spot result ≡ newborn force limit }
@@ -153,17 +153,26 @@ impl<D: Device> Keeper<D> {
         ensures err { OnErr result (holder_of D.spot self.new
             ≡ rests (holder_of D.spot self.old)) }
     {
-        self.rest();
         let Ok(command) = Vec::from_slice(self.alloc, command) else {
+            self.rest();
             return Err(Exhausted);
         };
-        self.command = command;
-        self.job = job;
-        self.phase = Phase::Locking;
+        self.begin_with(job, command);
         Ok(())
     }
 
-    /// Drops all, where something is under way.
+    /// Begins a call with a command that the keeper then owns. What was left in the middle is dropped.
+    pub(crate) fn begin_with(&mut self, job: Job, command: Vec<u8>)
+        ensures { holder_of D.spot self.new
+            ≡ asked (rests (holder_of D.spot self.old)) job command.items }
+    {
+        self.rest();
+        self.command = command;
+        self.job = job;
+        self.phase = Phase::Locking;
+    }
+
+    /// Drops all, if something is under way.
     fn rest(&mut self)
         ensures holder { holder_of D.spot self.new ≡ rests (holder_of D.spot self.old) }
         ensures ended { (e : End) × (self.new.phase ≡ Ended e) }
@@ -189,7 +198,7 @@ impl<D: Device> Keeper<D> {
         self.forget(Phase::Leaving(End::Failed(fault)));
     }
 
-    /// Takes what the host did or saw, and goes on. At `Err` the call ends for want of memory.
+    /// Takes what the host did or saw, and goes on. At `Err` the call ends: memory was refused.
     pub fn next(&mut self, got: Got<'_>) -> Result<(), Exhausted>
         ensures ok { OnOk result (holder_of D.spot self.new
             ≡ next_of D.journal (holder_of D.spot self.old) (told_of got.entry)) }

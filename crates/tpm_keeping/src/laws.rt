@@ -2,6 +2,7 @@
 
 ghost use Rattle.std.specs.Prelude.{◌≡◌, ◌+◌, ◌<◌, ◌≤◌, ◌∷◌, ℕ, Bool, List, None, false, length, true};
 ghost use Rattle.std.specs.List.{AllByRecursion};
+ghost use Rattle.tpm_keeping.specs.Cutting.{Caller, IsOrIsAsked, next_call};
 ghost use Rattle.tpm_keeping.specs.Holder.{Holder, Told, next_of};
 ghost use Rattle.tpm_keeping.specs.Journal.{IsJournal, Journal};
 ghost use Rattle.tpm_keeping.specs.Journal.{run};
@@ -70,13 +71,20 @@ pub fn snapshots_are_true()
         (run j (happen j events start).shared.origin (happen j events start).shared.history) }
 {}
 
-/// What a cut writes in place of a damaged journal is the head of the state to which a front of the
-/// journal leads: that front has as many bytes as the keeper then says that the device executed.
+/// A cut replaces a damaged journal by the head of the state to which a front of the journal leads.
+/// That front has as many bytes as the keeper then says that the device executed.
 pub fn cuts_keep_a_front()
     ensures { (j : Journal) (k : Holder) (told : Told) → IsJournal j → k.job ≡ Cut
         → rank k.phase < 3 → (k.device ≡ None → k.place ≡ 0)
         → (next_of j k told).phase ≡ Making
         → KeepsFront j (text_read k.phase k told) (next_of j k told) }
+{}
+
+/// A step of a keeper that cuts damage is that of a keeper, which may then be asked for a further call.
+/// So what holds after every run of every holder holds with cuts too.
+pub fn cuts_are_calls()
+    ensures { (j : Journal) (c : Caller) (told : Told)
+        → IsOrIsAsked (next_of j c.holder told) (next_call j c told).holder }
 {}
 
 /// There is a journal that meets what a keeper needs.

@@ -2,6 +2,7 @@
 
 //! How a device is kept in a folder: what its holder is to do next, and what holds after a crash.
 
+pub mod caller;
 pub mod device;
 pub mod holder;
 pub mod keeper;

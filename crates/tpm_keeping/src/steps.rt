@@ -16,7 +16,7 @@ use crate::keeper::Keeper;
 use std::mem;
 
 impl<D: Device> Keeper<D> {
-    /// Goes on with the file that stands there: the one that is known, or another one.
+    /// Goes on with the journal's file: the one that is known, or another one.
     pub(crate) fn looked(&mut self, file: u64, size: u64) -> Result<(), Exhausted>
         ensures ok { OnOk result (holder_of D.spot self.new
             ≡ looked D.journal (holder_of D.spot self.old) file size) }

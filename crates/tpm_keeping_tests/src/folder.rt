@@ -81,7 +81,7 @@ impl Folder {
         Ok(())
     }
 
-    /// Does one thing, and tells the keeper. Returns whether that had memory to go on.
+    /// Does one thing, and reports it to the keeper. Returns whether that had memory to go on.
     fn does<D: Device>(&mut self, keeper: &mut Keeper<D>, ask: Ask) -> Result<bool, AllocError> {
         match ask {
             Ask::Read(from) => return Ok(self.reads(keeper, from as usize)),

@@ -54,7 +54,7 @@ pub(crate) enum Command<'a> {
         now_ms: u64,
         start: u64,
     },
-    /// A beginning anew, as the restoring of a snapshot.
+    /// A new beginning, as the restoring of a snapshot.
     Begin {
         seed: &'a [u8],
     },

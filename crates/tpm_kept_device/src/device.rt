@@ -97,7 +97,7 @@ impl KeptDevice {
     ghost use Rattle.tpm_kept_journal.specs.Seed.{begun_in};
     ghost use Rattle.tpm_kept_device.specs.View.{state_of};
 
-    /// Begins anew of a seed, if it is one, and appends whether it did, as a byte.
+    /// Begins again with a seed, if it is one, and appends whether it did, as a byte.
     fn begin_anew(&mut self, seed: &[u8], response: &mut Vec<u8>) -> Result<(), Exhausted>
         ensures state { OnOk result (state_of self.new.parts.value
             ≡ begun_or (begun_in seed.now) (state_of self.old.parts.value)) }

@@ -5,7 +5,7 @@ ghost use Rattle.tpm_kept_journal.specs.Salvage.{entries_size, whole_size};
 
 use tpm_journal_text::{BYTES_ROOM, CONTENT_LIMIT, ENTRY_ROOM, Next, read_entry, read_head};
 
-/// How many bytes at the front of a text are whole: its head, and the entries after it; 0 without a
+/// The size of what is whole at the front of a text: its head, and the entries after it; 0 without a
 /// head. Its buffers are large, so it keeps them out of its caller's frame.
 #[inline(never)]
 pub(crate) fn whole_size(text: &[u8]) -> usize
@@ -20,7 +20,7 @@ pub(crate) fn whole_size(text: &[u8]) -> usize
     head.size + entries_size(head.sum, rest)
 }
 
-/// How many bytes the entries at the front of a text have. `sum` is the sum of the marks before it.
+/// The size of the entries at the front of a text. `sum` is the sum of the marks before it.
 fn entries_size(sum: u64, text: &[u8]) -> usize
     ensures value { result ≡ entries_size sum text.now }
     ensures within { result ≤ length text.now }

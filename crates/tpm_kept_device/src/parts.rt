@@ -72,7 +72,7 @@ impl Parts {
         }
     }
 
-    /// The journal of a device begins anew at this time, with this layer.
+    /// The journal of a device begins again at this time, with this layer.
     fn begin_journal(&mut self, now_ms: u64, layer: Completion)
         ensures { state_of self.new ≡ record (state_of self.old) { time = now_ms; layer = layer } }
     {
@@ -83,7 +83,7 @@ impl Parts {
         };
     }
 
-    /// A device that begins of a seed; None if the seed is none.
+    /// A device that begins with a seed; None if the text is not a seed.
     #[tactic(auto, unfolding(tpm_kept_journal::specs::Seed::begun_of))]
     pub fn begin(alloc: Global, seed: &[u8]) -> Result<Option<Box<Parts>>, Exhausted>
         ensures { IfOk result (BeginsAs (λ b. b.value) (begun_in seed.now)) }
@@ -148,7 +148,7 @@ impl Parts {
         let _time = self.journal.time;
     }
 
-    /// Opens the device of a journal; None if the text is none.
+    /// Opens the device of a journal; None if the text is not a journal.
     pub fn open(alloc: Global, text: &[u8]) -> Result<Option<(Box<Parts>, usize)>, Exhausted>
         ensures { IfOk result (λ opened. MatchOption opened (opened_text text.now ≡ None)
             (λ found. opened_text text.now ≡ Some (spot_in found.0.value, found.1))) }
@@ -171,8 +171,8 @@ impl Parts {
         Parts::open(alloc, front)
     }
 
-    /// Opens the device of a journal in place of a new device of zeros. At None nothing is said of
-    /// the device.
+    /// Opens the device of a journal instead of a new device of zeros. At None the device is
+    /// unspecified.
     fn open_in_place(&mut self, text: &[u8]) -> Option<usize>
         requires { slot_record self.old.machine.keep ≡ manufactured (replicate 256 0) }
         ensures { MatchOption result (opened_text text.now ≡ None)
@@ -280,7 +280,7 @@ impl Parts {
         )
     }
 
-    /// Cycles the power of a device, whose layer begins anew.
+    /// Cycles the power of a device, whose layer begins again.
     pub fn cycle_power(&mut self, now_ms: u64, start: u64)
         ensures { state_of self.new ≡ cycled_at (state_of self.old) now_ms start }
     {

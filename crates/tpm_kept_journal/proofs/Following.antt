@@ -215,7 +215,7 @@ last_is (y ∷ z ∷ front) x = last_is (z ∷ front) x
 
 -- ---- a text that was followed
 
--- What a device did with a text, as the text alone tells it.
+-- What a device did with a text, as a function of the text alone.
 abbrev pub Tells : Option FollowFault → Option (Spot × ℕ) → Spot → (taken : ℕ) → Type 0
 Tells None found p taken = found ≡ Some (p, taken)
 Tells (Some fault) found p taken = found ≡ None

@@ -30,7 +30,7 @@ use Rattle.tpm_kept_journal.specs.State.{DeviceState}
 
 -- ---- the device alone
 
--- the check that the step reports tells how many bytes are drawn, since a refusal draws none
+-- the check that the step reports decides the number of bytes drawn, since a refusal draws none
 drawn_told : (r : Record) (random : List ℕ) (a : Result Accepted RefusedCommand)
     → drawn_by_command random a (stepped_of r random a).row.check ≡ drawn_by_command random a 0
 drawn_told r random (Ok a) = refl
@@ -51,7 +51,7 @@ module _ (c : Completion) (old : Record) (buffer : List ℕ) (locality elapsed :
   abbrev drawn : ℕ
   drawn = drawn_by old (event random) 0
 
-  -- how many bytes were drawn
+  -- the number of bytes drawn
   pub passed_drawn : (passed c old (event random)).drawn ≡ drawn
   unfolding passed
   passed_drawn = drawn_told (ticked old elapsed) random (accepted (ticked old elapsed) buffer locality random)

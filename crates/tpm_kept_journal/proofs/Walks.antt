@@ -98,7 +98,7 @@ module _ (p : Spot) (c : List ℕ) (found : IsEntered c) where
   abbrev entry : DeviceState → PlainEntry
   entry s = entry_of (command s) (effect s (command s))
 
-  -- what is said where the state is told, and where it is not
+  -- what is said if there is a state, and if there is none
   said : {X : Type 0} (other : X) (f : DeviceState → KeptCommand → X) (s : DeviceState) → state_of_bytes p.state ≡ Some s
       → with_both (state_of_bytes p.state) (command_of c) other f ≡ f s given_command
   said other f s is =

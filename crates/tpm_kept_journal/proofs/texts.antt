@@ -1,4 +1,4 @@
--- What a text of a journal tells.
+-- What the text of a journal says.
 pub mod Parts
 pub mod EntryAt
 pub mod HeadAt

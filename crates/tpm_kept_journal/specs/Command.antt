@@ -14,7 +14,7 @@ pub data Moment : Type 0 where
 
 -- A command of the standard: when it comes, its locality, whether the layer completes what the
 -- device does, 256 random bytes, and its buffer. A power cycle: the host's clock in milliseconds,
--- and a number for the layer's start, which no start had before. A beginning anew, as the restoring
+-- and a number for the layer's start, which no start had before. A new beginning, as the restoring
 -- of a snapshot: a seed.
 pub data KeptCommand : Type 0 where
   Executes : Moment → (locality : ℕ) → (completes : Bool) → (random buffer : List ℕ) → KeptCommand

@@ -37,7 +37,7 @@ abbrev pub left_by : DeviceState → (elapsed : ℕ) → Seen → DeviceState
 left_by s elapsed seen =
     record { time = time_after s.time elapsed; layer = seen.layer; device = seen.step.after }
 
--- the state after a power cycle: the completing layer begins anew
+-- the state after a power cycle: the completing layer begins again
 abbrev pub cycled_at : DeviceState → (now start : ℕ) → DeviceState
 cycled_at s now start =
     record { time = now; layer = new_completion start; device = cycled s.device }
@@ -47,7 +47,7 @@ abbrev pub begun_or : Option DeviceState → DeviceState → DeviceState
 begun_or (Some begun) s = begun
 begun_or None s = s
 
--- the state after a command: one of the standard, a power cycle, or a beginning anew, which may be
+-- the state after a command: one of the standard, a power cycle, or a new beginning, which may be
 -- refused
 abbrev pub moved : DeviceState → KeptCommand → DeviceState
 moved s (Executes moment locality completes random buffer) =
@@ -66,7 +66,7 @@ abbrev pub reported : Seen → List ℕ
 reported seen = report_of seen ++ seen.step.response
 
 -- the response: to a command of the standard its report and what the device answers, to a power
--- cycle none, and to a beginning anew a byte, 1 if it began
+-- cycle none, and to a new beginning a byte, 1 if it began
 abbrev pub answer : DeviceState → KeptCommand → List ℕ
 answer s (Executes moment locality completes random buffer) =
     reported (effect s (command_on s moment locality completes random buffer))
@@ -82,7 +82,7 @@ entered s c = None
 
 -- ---- on texts
 
--- what is said of a state and a command, or else this, if one of the texts is none
+-- what is said of a state and a command; `other` if a text is not of one
 abbrev pub with_both : {X : Type 0} → Option DeviceState → Result KeptCommand Malformed → (other : X)
     → (DeviceState → KeptCommand → X) → X
 with_both (Some s) (Ok c) other said = said s c

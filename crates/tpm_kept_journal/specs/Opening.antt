@@ -85,7 +85,7 @@ head_of text =
 unfoldable pub head_sum_of : List ℕ → ℕ
 head_sum_of text = cond (is_state_text text) (head_sum (time_in text) (content_in text)) 0
 
--- the spot after a head by which a device starts, and how many bytes the head has
+-- the spot after a head by which a device starts, and the size of the head
 abbrev pub spot_by : (size : ℕ) → Result Start OpenFault → Option (Spot × ℕ)
 spot_by size (Ok start) = Some (spot_of start.journal start.device, size)
 spot_by size (Err why) = None
@@ -98,7 +98,7 @@ abbrev pub started_no_head : (count : ℕ) → List ℕ → Option (Spot × ℕ)
 started_no_head count text =
     where_so (nat_le count (length text)) (record { state = take count text; chain = 0 }, 2 + count)
 
--- the spot after the head at the front of a text, and how many bytes the head has
+-- the spot after the head at the front of a text, and the size of the head
 abbrev pub started_at : List ℕ → Option (Spot × ℕ)
 started_at [] = None
 started_at (first ∷ []) = None

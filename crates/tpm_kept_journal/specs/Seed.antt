@@ -31,7 +31,7 @@ seed_in text = do
   start ← number_in w64 now.1
   Ok (record { kind = kind.0; now = now.0; start = start.0; content = start.1 })
 
--- the state of a device whose completing layer begins anew
+-- the state of a device whose completing layer begins again
 abbrev pub started_anew : Seed → Record → DeviceState
 started_anew seed device =
     record { time = seed.now; layer = new_completion seed.start; device = device }

@@ -32,7 +32,7 @@ pub record IsDeviceState (s : DeviceState) : Type 0 where
 unfoldable pub bytes_of : DeviceState → List ℕ
 bytes_of s = to_be_bytes w64 s.time ++ state_text (whole_of s)
 
--- the state of a text, if it is one: a state text without a layer is none
+-- the state of a text, if it is of one: a state text without a layer is not
 abbrev pub state_with : (time : ℕ) → Record → Option Layer → Option DeviceState
 state_with time device (Some layer) =
     Some (record { time = time; layer = completion_of (Some layer); device = device })

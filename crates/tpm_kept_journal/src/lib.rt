@@ -6,7 +6,7 @@
 //! that the device and its completing layer are. A command is a text of all that it depends on: what
 //! the client sent, when it comes, and random bytes. A power cycle is one, and so is the
 //! restoring of a snapshot. [`laws`] says that this journal meets what a keeper needs.
-//! [`text_laws`] says what a text of a journal tells.
+//! [`text_laws`] says what can be read from the text of a journal.
 
 pub mod laws;
 pub mod text_laws;

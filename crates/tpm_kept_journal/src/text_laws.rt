@@ -1,4 +1,4 @@
-//! The laws of what a text of a journal tells. Each function does nothing.
+//! The laws of what can be read from the text of a journal. Each function does nothing.
 
 ghost use Rattle.std.specs.Prelude.{◌≡◌, ◌<◌, ◌++◌, ℕ, List, [], Option, Some, None, Ok, Err, Decides, drop, false, length, take, true};
 ghost use Rattle.std.specs.List.{AllByRecursion};

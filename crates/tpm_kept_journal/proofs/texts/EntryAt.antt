@@ -70,7 +70,7 @@ fields_same e f a b c d g h =
     ∙ ap (λ (l : List ℕ). entry_made f.elapsed f.locality f.completes f.drawn l e.answered) g
     ∙ ap (entry_made f.elapsed f.locality f.completes f.drawn f.buffer) h
 
--- an entry that stands in a mark and in a text is the one that they tell
+-- an entry that a mark and a text have is the one that is read from them
 stands_told : (e : PlainEntry) (mark text : List ℕ) → Stands e mark text → entry_by mark text ≡ e
 unfolding entry_by
 stands_told e mark text at =

@@ -56,7 +56,7 @@ mark_is kind clock content rest text t =
 head_made : HeadKind → (clock : ℕ) → (content : List ℕ) → PlainHead
 head_made kind clock content = record { kind = kind; clock = clock; content = content }
 
--- a head that stands in a mark and in a text is the one that they tell
+-- a head that a mark and a text have is the one that is read from them
 stands_told : (kind : HeadKind) (clock : ℕ) (content mark text : List ℕ) → HeadStands kind clock content mark text
     → head_by kind mark text ≡ record { kind = kind; clock = clock; content = content }
 unfolding head_by head_made

@@ -14,7 +14,7 @@ abbrev pub read_or_none : {E : Type 0} → Result (List ℕ) E → List ℕ
 read_or_none (Ok bytes) = bytes
 read_or_none (Err fault) = []
 
--- the bytes that hex digits spell; none where they spell none
+-- the bytes that hex digits encode, if they do
 abbrev pub spelled : (digits : List ℕ) → List ℕ
 spelled digits = read_or_none (decode_of digits)
 

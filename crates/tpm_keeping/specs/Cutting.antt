@@ -1,0 +1,66 @@
+-- A keeper that cuts damage: the calls that it makes one of.
+use Rattle.std.specs.Prelude.{◌≡◌, ℕ, ◌⊎◌, Bool, true, false, List, []}
+use Rattle.tpm_keeping.specs.Holder.{Holder, Told, asked, next_of, rests}
+use Rattle.tpm_keeping.specs.Journal.{Journal, Spot}
+use Rattle.tpm_keeping.specs.View.{holder_of}
+use Rattle.tpm_keeping.specs.declared.caller.CuttingKeeper.{CuttingKeeper}
+use Rattle.tpm_keeping.specs.declared.caller.OnDamage.{OnDamage}
+use Rattle.tpm_keeping.specs.declared.caller.OnDamage.TheVariants.{Ends, IsCut, BeginsAgain}
+use Rattle.tpm_keeping.specs.declared.holder.Fault.TheVariants as fault
+use Rattle.tpm_keeping.specs.declared.holder.End.TheVariants as ending
+use Rattle.tpm_keeping.specs.declared.holder.Job.{Job}
+use Rattle.tpm_keeping.specs.declared.holder.Job.TheVariants.{Show, Cut}
+use Rattle.tpm_keeping.specs.declared.holder.Phase.{Phase}
+use Rattle.tpm_keeping.specs.declared.holder.Phase.TheVariants.{Ended}
+
+-- A holder; what its call does about damage; and the call that then begins again. The command of a
+-- call that is not cut is not kept.
+pub record Caller : Type 0 where
+  pub holder : Holder
+  pub on_damage : OnDamage
+  pub job : Job
+  pub command : List ℕ
+
+abbrev pub caller_of : {D : Type 0} → (D → Spot) → CuttingKeeper D → Caller
+caller_of state k = record {
+  holder = holder_of state k.keeper;
+  on_damage = k.on_damage;
+  job = k.job;
+  command = k.command.items;
+}
+
+-- a holder that has not called
+abbrev pub idle : Holder → Caller
+idle k = record { holder = k; on_damage = Ends; job = Show; command = [] }
+
+-- A call begins. What was left in the middle is dropped.
+abbrev pub called : (cuts : Bool) → Job → List ℕ → Holder → Caller
+called true job command k = record {
+  holder = asked (rests k) job command;
+  on_damage = IsCut;
+  job = job;
+  command = command;
+}
+called false job command k =
+    record { holder = asked (rests k) job command; on_damage = Ends; job = job; command = [] }
+
+-- A call that ended with damage is followed by a cut, if damage is to be cut. A cut that is done is
+-- followed by the call.
+abbrev pub goes_on_in : OnDamage → Phase → Caller → Caller
+goes_on_in IsCut (Ended (ending.Failed fault.Damaged)) c =
+    record c { holder = asked c.holder Cut []; on_damage = BeginsAgain }
+goes_on_in BeginsAgain (Ended ending.Done) c =
+    record c { holder = asked c.holder c.job c.command; on_damage = Ends; command = [] }
+goes_on_in on_damage phase c = c
+
+abbrev pub goes_on : Caller → Caller
+goes_on c = goes_on_in c.on_damage c.holder.phase c
+
+-- the next step
+abbrev pub next_call : Journal → Caller → Told → Caller
+next_call j c told = goes_on (record c { holder = next_of j c.holder told })
+
+-- A holder is another one, or this one was asked for something.
+abbrev pub IsOrIsAsked : (before after : Holder) → Type 0
+IsOrIsAsked before after =
+    (after ≡ before) ⊎ ((job : Job) × (command : List ℕ) × (after ≡ asked before job command))

@@ -1,0 +1,29 @@
+-- The texts of commands to a kept device, and of what one begins with.
+use Rattle.std.specs.Prelude.{ℕ, Bool, List, ◌++◌, ◌∷◌}
+use Rattle.std.specs.Int.{w32, w64, to_be_bytes}
+use Rattle.tpm_image_text.specs.Fields.{yes_no_text}
+
+-- what a command of the standard has after its moment: its locality, whether the completing layer is
+-- on, 256 random bytes, and its buffer
+abbrev pub given_text : (locality : ℕ) → (completes : Bool) → (random buffer : List ℕ) → List ℕ
+given_text locality completes random buffer =
+    locality ∷ (yes_no_text completes ++ (random ++ buffer))
+
+-- the text of a command of the standard at a time of the clock, or so long after the one before it
+abbrev pub text_at : (now locality : ℕ) → (completes : Bool) → (random buffer : List ℕ) → List ℕ
+text_at now locality completes random buffer =
+    0 ∷ (to_be_bytes w64 now ++ given_text locality completes random buffer)
+
+abbrev pub text_after : (elapsed locality : ℕ) → (completes : Bool) → (random buffer : List ℕ)
+    → List ℕ
+text_after elapsed locality completes random buffer =
+    3 ∷ (to_be_bytes w32 elapsed ++ given_text locality completes random buffer)
+
+-- the text of a power cycle
+abbrev pub cycle_text : (now start : ℕ) → List ℕ
+cycle_text now start = 1 ∷ (to_be_bytes w64 now ++ to_be_bytes w64 start)
+
+-- the text of a seed of this kind
+abbrev pub seed_text : (kind now start : ℕ) → (content : List ℕ) → List ℕ
+seed_text kind now start content =
+    kind ∷ (to_be_bytes w64 now ++ (to_be_bytes w64 start ++ content))
