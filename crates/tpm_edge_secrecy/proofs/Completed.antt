@@ -17,7 +17,7 @@ use Rattle.tpm_record.specs.Record.{Record}
 use Rattle.tpm_row_secrecy.specs.Secrecy.{DifferInSecrets, Secrecy, of_data}
 use Rattle.tpm_secrecy.proofs.Data.{data_told_nothing}
 use Rattle.tpm_secrecy.specs.Tells.{TellsNothing, is_reading}
-use Rattle.tpm_step.specs.Events.{Cycled, Given, PlainEvent}
+use Rattle.tpm_step.specs.Events.{Cycled, Given, Placed, PlainEvent}
 use Rattle.tpm_step.specs.Step.{step}
 use Rattle.tpm_step.specs.declared.event.Row.{Row}
 use Rattle.tpm_types_object.specs.declared.public.Public.{Public}
@@ -107,6 +107,7 @@ module _ (indices : ℕ → Bool) (objects : Public → Bool) where
   with_alike : (r t : Record) (c : Completion) → DifferInSecrets s r t → (event : PlainEvent) → is_reading s r event ≡ false → CompletesAlike s (completed_with c r event) (completed_with c t event)
   with_alike r t c differ (Given buffer locality elapsed random) free = by_flush r t c buffer locality elapsed random differ free (flush_asked c buffer)
   with_alike r t c differ Cycled free = passed_alike c c refl r t differ Cycled free
+  with_alike r t c differ (Placed object) free = passed_alike c c refl r t differ (Placed object) free
 
   pub completed_alike : (completes : Bool) (r t : Record) (c : Completion) → DifferInSecrets s r t → (event : PlainEvent) → is_reading s r event ≡ false → CompletesAlike s (completed completes c r event) (completed completes c t event)
   completed_alike false r t c differ event free = passed_alike c c refl r t differ event free

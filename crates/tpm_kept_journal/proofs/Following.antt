@@ -20,7 +20,7 @@ use Rattle.tpm_journal_text.proofs.Standing.{entry_text_some}
 use Rattle.tpm_keeping.specs.Journal.{Spot}
 use Rattle.tpm_record.specs.IsRecord.{IsRecord}
 use Rattle.tpm_record.specs.Record.{Record}
-use Rattle.tpm_step.specs.Events.{Cycled, Given, PlainEvent}
+use Rattle.tpm_step.specs.Events.{Cycled, Given, Placed, PlainEvent}
 use Rattle.tpm_kept_journal.specs.Effect.{left_by}
 use Rattle.tpm_kept_journal.specs.Opening.{Fails, found_at, found_next, performance, performed_on, walk, walked}
 use Rattle.tpm_kept_journal.specs.State.{DeviceState, IsDeviceState, bytes_of, spot_of, state_in, state_of_bytes}
@@ -50,6 +50,7 @@ by_record c old buffer locality elapsed random None seen (first, passes, behind)
 completes_record : (c : Completion) (old : Record) (event : PlainEvent) (seen : Seen) → Completes false c old event seen → IsRecord seen.step.after
 completes_record c old (Given buffer locality elapsed random) seen is = by_record c old buffer locality elapsed random (flush_asked c buffer) seen is
 completes_record c old Cycled seen passes = passes.executes.is_record
+completes_record c old (Placed object) seen passes = passes.executes.is_record
 
 pub record_after : (completes : Bool) (c : Completion) (old : Record) (event : PlainEvent) (seen : Seen) → CompletesIf false completes c old event seen
     → IsRecord seen.step.after

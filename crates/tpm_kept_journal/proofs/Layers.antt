@@ -13,7 +13,7 @@ use Rattle.tpm_record.specs.Record.{Record}
 use Rattle.tpm_types.specs.Handle.{is_transient, numbered}
 use Rattle.tpm_types.specs.declared.handle.Handle.{Handle}
 use Rattle.tpm_types.specs.Limits.{object_limit, session_limit}
-use Rattle.tpm_step.specs.Events.{Cycled, Given, PlainEvent}
+use Rattle.tpm_step.specs.Events.{Cycled, Given, Placed, PlainEvent}
 use Rattle.tpm_step.specs.Step.{step}
 use Rattle.tpm_snapshot.specs.Layer.{completion_of, held_in, held_of, layer_of}
 use Rattle.tpm_snapshot.proofs.Layers.{layer_again}
@@ -346,6 +346,7 @@ by_fine c old buffer locality elapsed random None asked is =
 with_fine : (c : Completion) (old : Record) (event : PlainEvent) → IsFine c → IsFine (completed_with c old event).layer
 with_fine c old (Given buffer locality elapsed random) is = by_fine c old buffer locality elapsed random (flush_asked c buffer) refl is
 with_fine c old Cycled is = passed_fine c old Cycled is
+with_fine c old (Placed object) is = passed_fine c old (Placed object) is
 
 pub completed_fine : (completes : Bool) (c : Completion) (old : Record) (event : PlainEvent) → IsFine c → IsFine (completed completes c old event).layer
 completed_fine false c old event is = passed_fine c old event is

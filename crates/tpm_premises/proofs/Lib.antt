@@ -3,3 +3,4 @@ pub mod Uses
 pub mod Replays
 pub mod Devices
 pub mod Journals
+pub mod Placed

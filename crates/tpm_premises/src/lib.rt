@@ -1,7 +1,7 @@
 #![tactic(auto)]
 
 //! Examples that satisfy the premises of laws: about policies, uses of objects, replays, two
-//! devices with one history, devices that differ in secrets, and journals.
+//! devices with one history, devices that differ in secrets, placed objects, and journals.
 //!
 //! A law whose premise can never be satisfied says nothing. Each example here satisfies one
 //! premise, by computation. Each law is the contract of a function that has no effect at run
@@ -9,6 +9,7 @@
 
 ghost use Rattle.tpm_premises.specs.Devices.{AreTwoDevices, AreTwoSecrets};
 ghost use Rattle.tpm_premises.specs.Journals.{HasOneEntry};
+ghost use Rattle.tpm_premises.specs.Placed.{IsPlaced};
 ghost use Rattle.tpm_premises.specs.Policies.{EachIsWritten};
 ghost use Rattle.tpm_premises.specs.Replays.{HasReplay};
 ghost use Rattle.tpm_premises.specs.Uses.{HasUse};
@@ -43,6 +44,13 @@ pub fn replay_premise()
 pub fn device_premises()
     ensures alike { AreTwoDevices }
     ensures secrets { AreTwoSecrets }
+{}
+
+/// An object from a saved context can be placed on a new device, which records it.
+#[inline(always)]
+#[tactic(auto, using(crate::proofs::Placed::is_placed))]
+pub fn placed_premise()
+    ensures { IsPlaced }
 {}
 
 /// A journal contains an entry for a command that a device executed.

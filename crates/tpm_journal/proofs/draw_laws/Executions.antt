@@ -8,7 +8,7 @@ use Rattle.tpm_record.specs.Record.{Record}
 use Rattle.tpm_record.specs.Tick.{ticked}
 use Rattle.tpm_machine.specs.Drawn.{drawn_by, drawn_by_command}
 use Rattle.tpm_step.specs.Entries.{DrawsFew}
-use Rattle.tpm_step.specs.Events.{Cycled, Given, PlainEvent}
+use Rattle.tpm_step.specs.Events.{Cycled, Given, Placed, PlainEvent}
 use Rattle.tpm_step.specs.Execution.{Executes}
 use Rattle.tpm_step.specs.Safe.{IsModest}
 use Rattle.tpm_step.specs.Step.{Accepted, Stepped, accepted, step_where, stepped_of}
@@ -101,8 +101,10 @@ module _ (r : Record) (buffer : List ℕ) (locality elapsed : ℕ) (random : Lis
 pub replays : (r : Record) (event : PlainEvent) (x : Stepped) → Executes false r event x → Executes false r (replayed r event x.row.check) x
 replays r (Given buffer locality elapsed random) x done = command_replays r buffer locality elapsed random x done
 replays r Cycled x done = done
+replays r (Placed object) x done = done
 
 pub replay_draws : (r : Record) (event : PlainEvent) (x : Stepped) → Executes false r event x
     → drawn_by r (replayed r event x.row.check) x.row.check ≡ drawn_by r event x.row.check
 replay_draws r (Given buffer locality elapsed random) x done = command_draws r buffer locality elapsed random x done
 replay_draws r Cycled x done = refl
+replay_draws r (Placed object) x done = refl

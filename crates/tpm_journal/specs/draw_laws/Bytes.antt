@@ -4,7 +4,7 @@ use Rattle.tpm_record.specs.rows.Request.{Request}
 use Rattle.tpm_record.specs.rows.Rows.{Success}
 use Rattle.tpm_machine.specs.Drawn.{drawn_by}
 use Rattle.tpm_record.specs.Record.{Record}
-use Rattle.tpm_step.specs.Events.{Cycled, Given, PlainEvent}
+use Rattle.tpm_step.specs.Events.{Cycled, Given, Placed, PlainEvent}
 use Rattle.tpm_types.specs.declared.refused.Refused.{Refused}
 
 -- the request of a command with other random bytes
@@ -31,9 +31,10 @@ abbrev pub zeros_behind : (drawn : ℕ) → (random : List ℕ) → List ℕ
 zeros_behind drawn random = take drawn random ++ replicate (256 - drawn) 0
 
 -- the event with only the random bytes that it drew, according to the reported check, followed by
--- zeros; a power cycle has no random bytes
+-- zeros; a power cycle and a placed object have no random bytes
 abbrev pub replayed : Record → PlainEvent → (check : ℕ) → PlainEvent
 replayed r (Given buffer locality elapsed random) check =
     let drawn = drawn_by r (Given buffer locality elapsed random) check in
     Given buffer locality elapsed (zeros_behind drawn random)
 replayed r Cycled check = Cycled
+replayed r (Placed object) check = Placed object

@@ -1,13 +1,13 @@
 -- The entry of an execution.
 use Rattle.std.specs.Prelude.{ℕ, ◌&&◌, nat_le, Bool, false, List, length, take, Option, Some, None}
-use Rattle.tpm_step.specs.Events.{PlainEvent, Given, Cycled}
+use Rattle.tpm_step.specs.Events.{PlainEvent, Given, Cycled, Placed}
 use Rattle.tpm_machine.specs.Executions.{Execution}
 use Rattle.tpm_machine.specs.Drawn.{drawn_by}
 use Rattle.tpm_journal_text.specs.Sum.{sum_of}
 use Rattle.tpm_journal_text.specs.Entry.{PlainEntry, entry_limit}
 
 -- the entry of an event with this response, which drew `drawn` random bytes, with no layer above
--- the device; a power cycle has none
+-- the device; a power cycle and a placed object have none
 abbrev pub entry_by : PlainEvent → (drawn : ℕ) → (response : List ℕ) → Option PlainEntry
 entry_by (Given buffer locality elapsed random) drawn response = Some (record {
   elapsed = elapsed;
@@ -18,6 +18,7 @@ entry_by (Given buffer locality elapsed random) drawn response = Some (record {
   answered = sum_of response;
 })
 entry_by Cycled drawn response = None
+entry_by (Placed object) drawn response = None
 
 -- an entry can have this buffer, and these of the random bytes
 abbrev pub fits_entry : (buffer : List ℕ) → (drawn : ℕ) → (random : List ℕ) → Bool
@@ -28,6 +29,7 @@ fits_entry buffer drawn random =
 abbrev pub has_entry : PlainEvent → (drawn : ℕ) → Bool
 has_entry (Given buffer locality elapsed random) drawn = fits_entry buffer drawn random
 has_entry Cycled drawn = false
+has_entry (Placed object) drawn = false
 
 -- the entry of an execution
 abbrev pub entry_in : Execution → Option PlainEntry
