@@ -49,7 +49,12 @@ def session(chance):
 
 def listing(chance):
     asked = chance.choice((0, 1, 1, 1, 2, 3, 4, 5, 6, 6, 6, 7, 8, 9))
-    first = {0: chance.randrange(80), 7: chance.randrange(0x16), 1: handle_of(chance), 2: chance.randrange(0x11F, 0x194)}
+    first = {
+        0: chance.randrange(80),
+        7: chance.randrange(0x16),
+        1: handle_of(chance),
+        2: chance.randrange(0x11F, 0x194),
+    }
     wanted = first.get(asked, chance.choice((0, 0x100, 0x112, 0x129, 0x200, 0x207, 0x20E)))
     count = chance.choice((0, 1, 3, 64, 100))
     return command(CC.GetCapability, b"".join(number(it, 4) for it in (asked, wanted, count)))

@@ -93,7 +93,9 @@ class Examples(unittest.TestCase):
             with self.subTest(prepared.code.name):
                 buffer = prepared.buffer()
                 self.assertEqual(lines.assemble(lines.line_of(buffer).encode()), buffer)
-                shown = sum(it.front if it.is_group else it.size for it in fields_of_command(buffer))
+                shown = sum(
+                    it.front if it.is_group else it.size for it in fields_of_command(buffer)
+                )
                 self.assertEqual(shown, len(buffer))
 
     def test_wrong_values(self):
@@ -159,7 +161,9 @@ class Words(unittest.TestCase):
                 with self.assertRaisesRegex(BadValue, f"^{next(iter(wrong))} takes "):
                     tpm.session(**wrong)
             tpm.define(area(attributes="ownerread|ownerwrite"))
-            answer = tpm.call("GetCapability", capability="handles", property=2**24, propertyCount=9)
+            answer = tpm.call(
+                "GetCapability", capability="handles", property=2**24, propertyCount=9
+            )
             self.assertEqual(answer.capabilityData.handles, [INDEX])
             self.assertRaises(ValueError, getattr, answer.capabilityData, "properties")
 

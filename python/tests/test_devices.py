@@ -197,8 +197,7 @@ class Devices(unittest.TestCase):
             before = but_clock(image(model))
 
     def test_image_of_one_device(self):
-        """A file belongs to one device at a time, and bytes that are not an image stay as they are.
-        """
+        """A file belongs to one device at a time, and bytes that are not an image stay as they are."""
         path = self.folder / "image"
         with Device(path), self.assertRaises((FileExistsError, DeviceEnded)):
             Device(path).execute(b"")
