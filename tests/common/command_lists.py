@@ -103,7 +103,7 @@ def not_served(texts: Documents) -> List:
 
 
 def named(document: str, before: str, behind: str, is_wanted: Callable[[CC], bool]) -> Check:
-    """Returns the check that a document names exactly the wanted commands between two texts."""
+    """Returns the check that a document names exactly the expected commands between two texts."""
 
     def check(texts: Documents) -> List:
         wanted = [it.name for it in CC if is_wanted(it)]

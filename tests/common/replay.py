@@ -1,6 +1,7 @@
 """Sends a script to a served device, command by command over its socket:
 
-    python3 replay.py prepare SCRIPT  writes `entropy` and `buffers`, and prints the number of buffers
+    python3 replay.py prepare SCRIPT  writes `entropy` and `buffers`, and prints the number of
+                                      buffers
     python3 replay.py send SOCKET     sends each buffer in a connection of its own, and prints the
                                       responses
 

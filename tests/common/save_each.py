@@ -54,8 +54,8 @@ class Run:
         self.client = connected("socket")
 
     def wanted(self, line):
-        """Returns the expected response to the command, with the host's time if the response has a
-        time.
+        """Returns the expected response to the command. The comparison ignores the one to
+        ReadClock, which has the host's time.
         """
         return self.device.execute(buffer_of(line), 0, RANDOM).response
 

@@ -67,7 +67,7 @@ def ended(process, stdin=b""):
 
 
 def end(process, wanted=WELL, label="a run"):
-    """Checks that a run ends as wanted."""
+    """Checks that a run ends as expected."""
     given = ended(process)
     if given != wanted:
         fail(f"{label} ended with {given}, and not {wanted}")

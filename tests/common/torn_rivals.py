@@ -65,7 +65,7 @@ def begin_beside_left():
 
 def check_rivals(program, begin, own, wanted, at_most):
     """Has the first run wait at each of its calls in turn. The second run then has `at_most`
-    seconds before the first one goes on. One of them must end as wanted. Returns the calls at
+    seconds before the first one goes on. One of them must end as expected. Returns the calls at
     which the second run needed the first one.
     """
     begin()
