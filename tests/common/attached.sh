@@ -7,13 +7,14 @@ needs cc nm
 nm --defined-only "$archive" 2>/dev/null | grep -q ' tpmsim_fault_text$' ||
     skip 'the archive has no keeper of a device'
 
-# in_c WORDS..: compiles; each warning is an error.
+# in_c WORDS..: compiles C with these options and files. Each warning is an error.
 in_c() {
     cc -std=c11 -O1 -Wall -Wextra -Werror -Wconversion -I"$dist" -I"$hosts/kept" "$@" || exit 1
 }
 
-# parts WORDS..: the folder with all parts of the kept device, compiled with those of these words that
-# are options; once for all tests that tools/scripts.sh runs, which names the folder TPMSIM_BUILT.
+# parts WORDS..: prints the folder with the compiled parts of the kept device, and compiles them first if
+# necessary. They are compiled with those of these words that are options. tools/scripts.sh names the folder
+# TPMSIM_BUILT; then they are compiled once for all its tests.
 parts() {
     how=$(printf '%s\n' "$@" | grep '^-[fg]')
     built=${TPMSIM_BUILT:-$room/built}/attached-$(echo "$how" | cksum | tr ' ' -)
@@ -23,14 +24,14 @@ parts() {
             # shellcheck disable=SC2086 # they are words
             in_c $how -c -o "$room/parts/$(basename "$part" .c).o" "$part"
         done
-        # Another test may have been faster.
+        # Another test may have built the parts first.
         mv -T "$room/parts" "$built" 2>"$room/moved" || rm -r "$room/parts"
     fi
     echo "$built"
 }
 
-# attach CALLER SOURCE WORDS..: compiles a caller in C, or a source of hosts/tcti, over the parts of the
-# kept device.
+# attach CALLER SOURCE WORDS..: compiles a caller in C, or a source of hosts/tcti, and links it with the parts
+# of the kept device.
 attach() {
     caller=$room/$1
     source=$callers/$2.c
@@ -40,7 +41,7 @@ attach() {
     in_c -O0 -o "$caller" "$source" "$built"/*.o "$@" "$archive"
 }
 
-# attach_both SOURCE WORDS..: compiles a caller twice: as its name, and with sanitizers as
+# attach_both SOURCE WORDS..: compiles a caller twice: as NAME, the name of its source, and with sanitizers as
 # sanitized_NAME.
 attach_both() {
     attach "$1" "$@"
@@ -48,8 +49,8 @@ attach_both() {
     attach "sanitized_$1" "$@" $sanitizers
 }
 
-# both NAME WORDS..: runs both programs of attach_both, each in a folder of its own; prints the output of
-# the first, and says whether that of the second is the same.
+# both NAME WORDS..: runs both programs of attach_both, each in a folder of its own. Prints the output of the
+# first, and whether the second printed the same.
 both() {
     name=$1
     shift
@@ -66,8 +67,7 @@ both() {
     fi
 }
 
-# extended COUNT: prints the values of a PCR of SHA-256 after 0 to COUNT extends by a digest of 32 bytes
-# 5a.
+# extended COUNT: prints the values of a SHA-256 PCR after 0, 1, .. COUNT extends by a digest of 32 bytes 5a.
 extended() {
     python3 -c '
 import hashlib, sys

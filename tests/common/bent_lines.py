@@ -2,11 +2,11 @@
 
     tools/python.sh tests/common/bent_lines.py PROGRAM
 
-It takes the first line of each command from assemble.lines. Each way to bend a token is tried at
-every third token. A line of output for each way says how many lines were bent, how many buffers and
-faults they make, and how many differ from what the program says. Each difference has a line too,
-which begins with DIFFERS. Then some bent lines are played in scripts, and other bytes are put at
-each place of a script's line.
+The test takes the first line of each command from assemble.lines. It applies each way to bend a
+token to every third token. For each way it prints how many lines were bent, how many buffers and
+faults they make, and how many results differ from the program's. Each difference has a line that
+begins with DIFFERS. Then the test plays some bent lines in scripts. At last it inserts and
+replaces single bytes in script lines, at each offset.
 """
 
 import collections
@@ -66,7 +66,7 @@ REPLACEMENTS = {
 }
 
 
-# Lines of scripts, and the bytes that are put at each of their places and replace each of their
+# Lines of scripts. Other bytes are inserted at each of their offsets, and replace each of their
 # bytes.
 SCRIPT_LINES = (
     *(b"cmd 80010000000c0000017b0004", b"do GetRandom 4", b"loc 3", b"wait 1500"),
@@ -131,7 +131,9 @@ def first_lines():
 
 
 def bent(first, bend, begin=0, step=1):
-    """The lines, bent at every `step`-th of all their tokens, from the token `begin` on."""
+    """The lines, each bent at one token. Of all tokens of the lines, every `step`-th one is bent,
+    from token number `begin` on.
+    """
     places = (
         (tokens, at) for tokens in (it.split(b" ") for it in first) for at in range(len(tokens))
     )
@@ -139,11 +141,13 @@ def bent(first, bend, begin=0, step=1):
         yield b" ".join(bend(tokens[:at], tokens[at], tokens[at + 1 :]))
 
 
-# `tpmsim asm`.
+# The tests of `tpmsim asm`.
 
 
 def is_usage(line):
-    """Whether a line is a usage fault: it is not UTF-8, or an option that does not exist."""
+    """Returns whether a line is a usage fault: it is not UTF-8, or it is an option that does not
+    exist.
+    """
     try:
         line.decode("utf-8")
     except UnicodeDecodeError:
@@ -152,7 +156,7 @@ def is_usage(line):
 
 
 def wanted(line):
-    """The name of a line's outcome, and how `tpmsim asm` must end with the line."""
+    """Returns the name of a line's outcome, and how `tpmsim asm` must end with the line."""
     if is_usage(line):
         return "usage", Ending(2, error=b"tpmsim: usage\n")
     return fault_of(line).partition(" ")[0] or "buffers", assembled(line)
@@ -163,7 +167,8 @@ def shown(line):
 
 
 def compared(cases):
-    """How many cases differ. A case is a label, the expected outcome, and the one found."""
+    """Returns how many cases differ. A case is a label, the expected outcome, and the actual one.
+    """
     differ = 0
     for label, want, give in cases:
         if want != give:
@@ -177,7 +182,7 @@ def counted(outcomes):
 
 
 def try_bend(asm, name, bent_lines):
-    """Passes `tpmsim asm` the lines that one way bends."""
+    """Passes to `tpmsim asm` the lines that are bent in one way, and compares the outcomes."""
     want = [wanted(line) for line in bent_lines]
     give = [asm.run(word=line) for line in bent_lines]
     differ = compared(
@@ -187,7 +192,7 @@ def try_bend(asm, name, bent_lines):
     print(f"{name}: {len(bent_lines)} lines: {counted(outcomes)}; {differ} differ")
 
 
-# Scripts.
+# The tests with scripts.
 
 
 def try_faults(scripts, what, bad):
@@ -199,7 +204,7 @@ def try_faults(scripts, what, bad):
 
 
 def try_answers(program, good):
-    """Plays one script of all good lines; the answers must be those of the Python device."""
+    """Plays all good lines as one script. The responses must be those of the Python device."""
     device, random = Model(), bytes(256)
     want = [device.execute(lines.assemble(line), 0, random).response.hex() for line in good]
     with tempfile.NamedTemporaryFile() as script:
@@ -213,7 +218,7 @@ def try_answers(program, good):
 
 
 def try_bytes(traces, what, put):
-    """Plays scripts whose second line has other bytes at one of its places."""
+    """Plays scripts whose second line has other bytes at one of its offsets."""
     bent_lines = [
         line[:at] + put + line[at + taken :]
         for line in SCRIPT_LINES

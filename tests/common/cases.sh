@@ -1,19 +1,18 @@
-# Shared by the shell tests: each runs the program once for each case, in a folder of its own, and prints
-# a line with the result. A test gets the program's path, and reads this file first.
+# Shared by the shell tests. Each test reads this file first, and gets the program's path. It runs the program
+# once for each case, in a folder of its own, and prints a line with the result.
 LC_ALL=C
 # shellcheck disable=SC2154 # a test names its folder before it reads this file
 PYTHONPATH=${tests%/*}/python:${tests%/*}
 export LC_ALL PYTHONPATH
-# tools/scripts.sh has the bytecode of Python in one folder for all tests, whatever the environment says
-# of it; otherwise no bytecode is kept.
+# tools/scripts.sh sets PYTHONPYCACHEPREFIX, one folder for the Python bytecode of all tests. Then bytecode is
+# kept there, even if the environment forbids it. Without the variable, none is kept.
 if [ -n "${PYTHONPYCACHEPREFIX:-}" ]; then
     unset PYTHONDONTWRITEBYTECODE
 else
     export PYTHONDONTWRITEBYTECODE=1
 fi
 
-# Python by itself: it starts sooner if it does not look for other installed packages, which the tests do
-# not need.
+# Runs Python without its site packages. It starts sooner, and the tests need none of them.
 python3() {
     command python3 -S "$@"
 }
@@ -30,7 +29,8 @@ keep_journals() {
     done
 }
 
-# A help has the name by which the program was called. That name is tpmsim here, whatever the file is.
+# The help shows the name by which the program was called. Here that name is always tpmsim, whatever the file
+# is called.
 program=$room/tpmsim
 ln -s "$(cd "$(dirname "$1")" && pwd -P)/$(basename "$1")" "$program" || exit 1
 mkdir "$room/folder" && cd "$room/folder" || exit 1
@@ -44,7 +44,8 @@ skip() {
 
 . "$tests/common/needs.sh"
 
-# make_scripts: makes the scripts that are not stored, in TPMSIM_MADE, if tools/scripts.sh has not done so.
+# make_scripts: makes the scripts that are not stored, in the folder TPMSIM_MADE, unless tools/scripts.sh has
+# made them.
 make_scripts() {
     [ -z "${TPMSIM_MADE:-}" ] || return 0
     TPMSIM_MADE=$room/made
@@ -52,7 +53,7 @@ make_scripts() {
     python3 "$tests/common/made.py" "$TPMSIM_MADE"
 }
 
-# script NAME: the path of a script of tests/.
+# script NAME: prints the path of a script of tests/.
 script() {
     name_of_script=$1
     set -- "$tests"/*/"$name_of_script.tpm"
@@ -65,8 +66,8 @@ script() {
 # shellcheck disable=SC2034 # the tests use it
 startup='cmd 80010000000c000001440000'
 
-# told FILE: prints the lines of a file, each with the number of times that it is repeated in a row.
-# The shell reads a file of few lines itself, which starts no other program.
+# told FILE: prints the lines of a file, each with the number of times that it is repeated in a row. The shell
+# itself reads a file with few lines, so that no other program is started.
 told() {
     [ -s "$1" ] || { printf 'empty'; return; }
     text='' before='' times=0 lines=0
@@ -84,7 +85,7 @@ told() {
     [ -z "$line" ] || printf ' without a line break'
 }
 
-# add_line: adds `line` to the lines that are printed.
+# add_line: counts `line` if it repeats the line before; otherwise prints that line and begins with `line`.
 add_line() {
     if [ "$times" -gt 0 ] && [ "$line" = "$before" ]; then
         times=$((times + 1))
@@ -95,7 +96,7 @@ add_line() {
     times=1
 }
 
-# end_line: prints the previous line, with its number.
+# end_line: prints the previous line, with the number of its repetitions.
 end_line() {
     case $times in
     0) ;;
@@ -104,7 +105,7 @@ end_line() {
     esac
 }
 
-# told_at_length FILE: the same for a file of many lines.
+# told_at_length FILE: does the same as `told`, for a file of many lines.
 told_at_length() {
     awk '
         function tell() {
@@ -120,7 +121,7 @@ told_at_length() {
     [ -z "$(tail -c 1 "$1")" ] || printf ' without a line break'
 }
 
-# report LABEL STATUS: prints a case's line, from the program's output, as far as that was kept.
+# report LABEL STATUS: prints a case's line: the status, and the program's output that was kept.
 report() {
     printf '%s: status %s' "$1" "$2"
     for stream in output error; do
@@ -129,7 +130,7 @@ report() {
     echo
 }
 
-# run LABEL WORDS..: runs the program with these words, for at most a minute.
+# run LABEL WORDS..: runs the program with these words, for a minute at most.
 run() {
     label=$1
     shift

@@ -2,9 +2,9 @@
 
     tools/python.sh tests/common/checked_lines.py PROGRAM
 
-The script has each line of bent_lines.py once. A line of output for each fault says how many bad
-lines have it, and how many of these differ from what `tpmsim check` says. The last one counts the
-good lines. Each difference has a line too, which begins with DIFFERS.
+The script has each line of bent_lines.py once. For each fault the test prints how many bad lines
+have it, and for how many of these `tpmsim check` reports something else. The last line counts
+the good lines. Each difference has a line that begins with DIFFERS.
 """
 
 import collections
@@ -18,7 +18,7 @@ from tests.common import bent_lines
 from tests.common.expected import fault_of
 from tests.common.shims import ran
 
-# The number of entries that a line may have.
+# The maximum number of entries of a line.
 MOST_ENTRIES = 3
 
 WANTED_NAME, WANTED_ENTRY, WANTED_END = "command", "entry", "end of line"
@@ -26,7 +26,9 @@ WANTED_LENGTH = "at most 4096 bytes"
 
 
 def place_of(tokens: list[bytes], fault: str) -> int:
-    """The place of the token at fault; after the last token, if a token is missing."""
+    """Returns the index of the token at fault. If a token is missing, this is the index after the
+    last.
+    """
     if fault == lines.MISSING:
         return len(tokens)
     column = int(fault.split(" ")[1])
@@ -35,7 +37,9 @@ def place_of(tokens: list[bytes], fault: str) -> int:
 
 
 def words_wanted(code: CC, tokens: list[bytes]) -> list[str]:
-    """What a command's form and its entries require in the places of its tokens."""
+    """Returns what must be at each position of a line, by the command's form and the line's
+    entries.
+    """
     name, *words = lines.form_of(code).replace("@", "").split(" ")
     handles = len(code.handles)
     front = tokens[1 + handles : 1 + handles + MOST_ENTRIES]
@@ -62,7 +66,7 @@ def all_lines() -> list[bytes]:
 
 
 def checked(program: str, script: bytes) -> dict[int, str]:
-    """What the program says of a script's lines, by line number."""
+    """Returns what the program reports about a script's lines, by line number."""
     with tempfile.NamedTemporaryFile() as file:
         file.write(script)
         file.flush()

@@ -2,8 +2,8 @@
 
     python3 client.py SOCKET SIZE HEX..
 
-It waits for the socket, sends the bytes in pieces of SIZE bytes, closes its sending side, and
-prints the responses, each on a line of its own.
+The client waits for the socket, and sends the bytes in pieces of SIZE bytes. Then it closes its
+sending side, and prints each response on a line of its own.
 """
 
 import socket
@@ -15,7 +15,7 @@ SECONDS = 60
 
 
 def connected(path, process=None):
-    """A connection to the socket, within a minute; None if the process has ended."""
+    """Connects to the socket within a minute. Returns None if the process has ended."""
     until = time.monotonic() + SECONDS
     while time.monotonic() < until:
         client = socket.socket(socket.AF_UNIX, socket.SOCK_STREAM)
@@ -31,12 +31,12 @@ def connected(path, process=None):
 
 
 def received(client):
-    """All bytes up to the end of the stream."""
+    """Reads all bytes up to the end of the stream."""
     return b"".join(iter(lambda: client.recv(65536), b""))
 
 
 def responses(text):
-    """The responses in a stream, each of the size that its header has."""
+    """Divides a stream into its responses, by the sizes in their headers."""
     at = 0
     while at < len(text):
         size = max(int.from_bytes(text[at + 2 : at + 6], "big"), 1)
@@ -45,7 +45,7 @@ def responses(text):
 
 
 def answer(client):
-    """A whole response; None if the stream ends before."""
+    """Reads a whole response. Returns None if the stream ends before."""
     header = client.recv(HEADER_BYTES, socket.MSG_WAITALL)
     size = max(int.from_bytes(header[2:6], "big"), HEADER_BYTES)
     text = header + client.recv(size - HEADER_BYTES, socket.MSG_WAITALL)

@@ -2,25 +2,25 @@
 
     python3 clients.py KIND SOCKET HEX..
 
-One or two clients send these commands. By KIND:
+One or two clients send these commands. KIND is one of these:
 
     close      closes at once
     read       ends without reading its response, so that the device's next read fails
-    write      sends TPM2_GetRandom after them, until the device reads no more because nobody reads
-               its response; then it ends, so that this write fails
+    write      sends TPM2_GetRandom after the commands and reads no response, until the device
+               reads no more; then it ends, so that the device's write fails
     turns      two clients, whose bytes alternate; prints the responses to each
-    idle       waits next to a client that sends nothing; prints its responses, and whether they
+    idle       connects after a client that sends nothing; prints its responses, and whether they
                came before that client closed
-    unread     the same next to a client that sends TPM2_GetRandom until no more is read
+    unread     the same after a client that sends TPM2_GetRandom until no more is read
     removed    two clients; the path of their socket is removed before they send
     folder     the same, but a folder replaces the socket
-    clock      starts the device, and asks for its time for a second, fifty commands at once. The last
-               answer has to be the whole milliseconds since the start, as far as the host knows
+    clock      starts the device, and reads its time for a second, by fifty commands at once. The
+               last time has to be the whole milliseconds since the start, by the host's clock
 
 `clients.py during SOCKET HEX LINE` runs the shell's LINE after the first command is answered,
-before it closes. `clients.py long SOCKET MILLIONS WRITE` sends this TPM2_NV_Write and
-TPM2_GetRandom by turns until that many million bytes are sent. It reads the responses meanwhile,
-and says what they were.
+before the client closes. `clients.py long SOCKET MILLIONS WRITE` alternates between the command
+WRITE, a TPM2_NV_Write, and TPM2_GetRandom, until it has sent that many million bytes. It reads
+the responses while it sends, and prints what they were.
 """
 
 import collections
@@ -42,14 +42,14 @@ A_WHILE = 0.5
 
 
 def fill(client):
-    """Sends commands until no more is taken."""
+    """Sends commands until the device takes no more."""
     client.setblocking(False)
     while select.select([], [client], [], A_WHILE)[1]:
         client.send(GET_RANDOM)
 
 
 def leave(path, text, before):
-    """A client that ends at once, or after `before`."""
+    """Sends the commands, calls `before`, and ends."""
     client = connected(path)
     client.sendall(text)
     before(client)
@@ -66,7 +66,9 @@ def take_turns(path, text):
 
 
 def beside(path, text, occupy):
-    """A client that occupies the device, and another one that waits for it."""
+    """Connects two clients: the first one occupies the device, and the other one has to wait for
+    it.
+    """
     first = connected(path)
     occupy(first)
     second = connected(path)
@@ -78,7 +80,9 @@ def beside(path, text, occupy):
 
 
 def replaced(path, text, replace):
-    """Two clients. The path of their socket is removed, and `replace` may take it."""
+    """Connects two clients, and removes the path of their socket; `replace` may create something
+    there. Then both send.
+    """
     clients = [connected(path), connected(path)]
     os.unlink(path)
     replace(pathlib.Path(path))
@@ -88,7 +92,7 @@ def replaced(path, text, replace):
 
 
 def asked(client, commands, size):
-    """What is answered, and the host's time in milliseconds before and after."""
+    """Returns the responses, and the host's time in milliseconds before and after."""
     before = time.monotonic() * 1000
     client.sendall(commands)
     text = client.recv(size, socket.MSG_WAITALL)

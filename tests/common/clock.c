@@ -1,5 +1,5 @@
-/* Replaces the C library's clock_gettime. Each clock always shows the time in the file CLOCK: its
- * seconds, and its nanoseconds within them. CLOCK is a variable of the environment. */
+/* Replaces the C library's clock_gettime. Each clock always shows the time that is in a file:
+ * seconds, and nanoseconds within them. The environment variable CLOCK names the file. */
 #include <stdio.h>
 #include <stdlib.h>
 #include <time.h>

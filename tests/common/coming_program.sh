@@ -1,5 +1,5 @@
 #!/bin/sh
-# A program with a help in the form of tpmsim's, which names subcommands and options that no tpmsim has.
+# A program whose help has the form of tpmsim's, but names subcommands and options that tpmsim does not have.
 case $* in
 --version) echo 'tpmsim 0.1.0' ;;
 lines) printf 'Stir @PCR Buffer\n    Stir 00000000 pw:- 00\nStop\n    Stop\n' ;;

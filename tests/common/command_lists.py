@@ -2,9 +2,9 @@
 
     tools/python.sh tests/common/command_lists.py
 
-A line for each list says how many entries it has; a missing or extra entry has a line that begins
-with DIFFERS. Then one place of a document is changed at a time, and the comparison has to find
-that.
+For each list the test prints how many entries it has. A missing or extra entry has a line that
+begins with DIFFERS. Then the test changes one place of a document at a time, and the comparison
+has to find the change.
 """
 
 import re
@@ -34,14 +34,16 @@ def documents() -> Documents:
 
 
 def between(text: str, before: str, behind: str) -> str:
-    """The text between two others; empty, if it is not there."""
+    """Returns the text between two others; empty if they are not there."""
     _, found, rest = text.partition(before)
     return rest.partition(behind)[0] if found else ""
 
 
 @dataclass(frozen=True)
 class List:
-    """A list of a document: what it needs and what it has; `in_order` compares their order."""
+    """A list in a document: the entries that it needs and those that it has. If `in_order` is set,
+    their order counts too.
+    """
 
     wanted: list
     found: list
@@ -59,11 +61,11 @@ class List:
 Check = Callable[[Documents], List]
 
 
-# The lists.
+# The checks of the lists.
 
 
 def the_list(texts: Documents) -> List:
-    """Each command by name, with its section's page and anchor and with its code."""
+    """Each command is in the list, with the page and anchor of its section, and with its code."""
     pages = pages_of(texts)
     wanted = [
         (it.name, pages.get(it.name), f"tpm2_{it.name}-{int(it):x}".lower(), f"{int(it):X}")
@@ -73,7 +75,7 @@ def the_list(texts: Documents) -> List:
 
 
 def pages_of(texts: Documents) -> dict[str, str]:
-    """The page that has the section of each command."""
+    """Returns the page that has the section of each command."""
     return {
         name: path.removeprefix(f"{TABLE}/")
         for path, text in texts.items()
@@ -95,13 +97,13 @@ def groups(texts: Documents) -> List:
 
 
 def not_served(texts: Documents) -> List:
-    """No command that is named as not served is served."""
+    """None of the commands that are listed as not served is served."""
     text = between(texts[REFUSALS], "## Commands that are not served", "\n## ")
     return List([], [it for it in NAME.findall(text) if it in CC.__members__])
 
 
 def named(document: str, before: str, behind: str, is_wanted: Callable[[CC], bool]) -> Check:
-    """The check that a document names exactly these commands between two texts."""
+    """Returns the check that a document names exactly the expected commands between two texts."""
 
     def check(texts: Documents) -> List:
         wanted = [it.name for it in CC if is_wanted(it)]
@@ -128,7 +130,7 @@ def counts(texts: Documents) -> List:
 
 
 def nv_access(texts: Documents) -> List:
-    """Which attributes each command requires of an index that authorizes it."""
+    """The page names the attributes that each command requires of an index that authorizes it."""
     able = [it for it in CC if it.authorized and it.handles[0].kind in NV_KINDS]
     wanted = [(it.name, nv_access_of(it)) for it in able]
     section = between(texts[NV_ACCESS], "## By what an index is authorized", "\n## ")
@@ -138,7 +140,7 @@ def nv_access(texts: Documents) -> List:
 
 
 def nv_access_of(code: CC) -> str:
-    """When the authorization value of an index authorizes a command."""
+    """Returns when the authorization value of an index authorizes a command."""
     if code.has(Fact.ADMIN):
         return "never"
     return "if it has AUTHREAD" if code.has(Fact.READS_NV) else "if it has AUTHWRITE"
@@ -160,7 +162,7 @@ CHECKS: dict[str, Check] = {
         REFUSALS, UNSESSIONED, "|", lambda it: it.has(Fact.NO_SESSIONS)
     ),
     "order_of_refusals.md, commands that are not served": not_served,
-    # TPM2_Shutdown is in the next sentence.
+    # The document names TPM2_Shutdown in the next sentence.
     "state.md, commands that keep what was saved": named(
         STATE, KEEPING, ". ", lambda it: it.has(Fact.KEEPS_SAVED) and it != CC.Shutdown
     ),
@@ -168,7 +170,7 @@ CHECKS: dict[str, Check] = {
     "counts of commands": counts,
 }
 
-# A document, a text in it, and the text that replaces it once.
+# Mistakes to find: a document, a text in it, and the text that replaces it once.
 WRONG = (
     (LIST, "| [TPM2_Clear](", "| [TPM2_Clean]("),
     (LIST, "| [TPM2_Create](", "| TPM2_Create ("),

@@ -1,8 +1,9 @@
 # Shared by the tests of tpmsim.hpp, which read this file after cases.sh and library.sh.
 # shellcheck shell=sh disable=SC2154 # cases.sh has `room` and `tests`, library.sh the rest
 
-# play_header COMPILER: prints the output of tests/cpp/devices.cpp by C++17; and whether it is the same by
-# C++20, and by both without exceptions for the part that throws nothing. Each warning is an error.
+# play_header COMPILER: compiles tests/cpp/devices.cpp as C++17, and prints its output. Then it prints whether
+# the output is the same as C++20. The part that throws nothing is also compiled without exceptions, in both
+# versions. Each warning is an error.
 play_header() {
     for words in -std=c++17 -std=c++20 '-std=c++17 -fno-exceptions' '-std=c++20 -fno-exceptions'; do
         # shellcheck disable=SC2086 # they are words

@@ -1,9 +1,9 @@
 """Finds the public names of a crate, by a small tolerant reader of crates/CRATE/src/*.rt.
 
-A name is that of an item, as `authorize` or `Machine`, or of a member of a type or trait, as
-`Machine::execute` or `Keep::fixed`; modules may precede it. An item counts if its module is public,
-or if `pub use` re-exports it, also from another crate. The reader relies on the layout that `rt
-fmt` makes: items begin in the first column, members in the fifth.
+A name is that of an item, such as `authorize` or `Machine`, or of a member of a type or trait,
+such as `Machine::execute` or `Keep::fixed`. Names of modules may precede it. An item counts if
+its module is public, or if a `pub use` re-exports it, also in another crate. The reader relies
+on the layout that `rt fmt` makes: items begin in the first column, members in the fifth.
 """
 
 import pathlib
@@ -33,7 +33,7 @@ PAIRS = {"(": ")", "{": "}", "[": "]", "<": ">"}
 
 @dataclass(frozen=True)
 class Call:
-    """The types that a call takes and returns, and the clauses that it requires."""
+    """The types that a call takes and returns, and the clauses that the call requires."""
 
     shape: str
     premises: tuple[str, ...]
@@ -52,14 +52,14 @@ class Item:
 
 @dataclass(frozen=True)
 class Found:
-    """A name that was found: its call, if it is one, and its cases, if it is an enum."""
+    """The item of a name: its call, if it is one, and its cases, if it is an enum."""
 
     call: Call | None
     cases: tuple[str, ...]
 
 
 def closing(text: str, start: int) -> int:
-    """The place after the bracket that closes the one at `start`."""
+    """Returns the offset after the bracket that closes the bracket at `start`."""
     opens, closes = text[start], PAIRS[text[start]]
     depth = 0
     for place in range(start, len(text)):
@@ -73,12 +73,12 @@ def closing(text: str, start: int) -> int:
 
 
 def plain(text: str) -> str:
-    """A type or a clause with single spaces and no lifetimes."""
+    """Returns a type or a clause with single spaces and without lifetimes."""
     return " ".join(LIFETIME.sub("", text).replace("<>", "").split())
 
 
 def parts_of(text: str) -> Iterator[str]:
-    """The items of a list with commas; commas within brackets do not separate."""
+    """Yields the items of a comma-separated list. Commas within brackets do not separate."""
     start = place = 0
     while place < len(text):
         if text[place] in PAIRS:
@@ -93,13 +93,14 @@ def parts_of(text: str) -> Iterator[str]:
 
 
 def type_of(parameter: str) -> str:
-    """The type of a parameter, without its name; `self` as it is."""
+    """Returns the type of a parameter, without the parameter's name; `self` is returned as it is.
+    """
     name, colon, kind = parameter.partition(":")
     return plain(kind if colon and "self" not in name else parameter)
 
 
 def premises_of(text: str, start: int) -> Iterator[str]:
-    """The clauses that a call requires, from `start` on."""
+    """Yields the clauses that a call requires, which begin at `start`."""
     while clause := CLAUSE.match(text, start):
         start = closing(text, clause.end())
         if clause[1] == "requires":
@@ -107,7 +108,7 @@ def premises_of(text: str, start: int) -> Iterator[str]:
 
 
 def call_at(text: str, start: int) -> Call:
-    """The call whose name ends at `start`."""
+    """Returns the call whose name ends at `start`."""
     if text[start] == "<":
         start = closing(text, start)
     end = closing(text, start)
@@ -120,7 +121,7 @@ def call_at(text: str, start: int) -> Call:
 
 
 def owner_of(kind: str, head: str) -> str:
-    """The type or trait that a block's members belong to; empty for an impl of a trait."""
+    """Returns the type or trait to which a block's members belong; empty for an impl of a trait."""
     head = head.strip()
     if kind == "impl" and head.startswith("<"):
         head = head[closing(head, 0) :].strip()
@@ -129,7 +130,7 @@ def owner_of(kind: str, head: str) -> str:
 
 
 def uses_of(text: str, before: str = "") -> Iterator[str]:
-    """The paths that a `pub use` re-exports, one by one."""
+    """Yields the paths that a `pub use` re-exports, one by one."""
     text = text.strip()
     if "{" not in text:
         yield before + text
@@ -147,13 +148,15 @@ class Crates:
         self.read: dict[str, Crate] = {}
 
     def crate(self, name: str) -> "Crate":
-        """The crate of a name; one that does not exist has no names."""
+        """Returns the crate with this name. A crate that does not exist has no names."""
         if name not in self.read:
             self.read[name] = Crate(name, self.folder / name / "src")
         return self.read[name]
 
     def find(self, path: str) -> Found | None:
-        """The public item of a path, as `tpm_machine::Machine::run`; None if there is none."""
+        """Returns the public item at a path, such as `tpm_machine::Machine::run`; None if there is
+        none.
+        """
         name, *words = path.split("::")
         crate = self.crate(name)
         modules = []
@@ -169,7 +172,9 @@ class Crates:
         return None
 
     def find_in(self, crate: "Crate", module: str, name: str, members: list[str]) -> Found | None:
-        """What a module has or re-exports by a name, even if the module itself is not public."""
+        """Returns the item that a module has or re-exports by a name, even if the module is not
+        public.
+        """
         for item in crate.items:
             if (item.module, item.name) == (module, name):
                 return member_of(item, members)
@@ -226,7 +231,9 @@ class Crate:
             passed[name] = self.whole_path(path, inside)
 
     def whole_path(self, path: str, inside: str) -> str:
-        """A path with its crate, for a path in a file whose names are prefixed by `inside`."""
+        """Returns a path that begins with its crate. `inside` is the prefix of the names in the
+        path's file.
+        """
         first, _, rest = path.partition("::")
         if first == "crate":
             return f"{self.name}::{rest}"
@@ -236,7 +243,7 @@ class Crate:
         return path
 
     def add_members(self, text: str) -> None:
-        """Adds the public members in a file to their types and traits."""
+        """Adds the public members in a file to the types and traits that they belong to."""
         for block in BLOCK.finditer(text):
             owner = owner_of(block["kind"], block["head"])
             for item in (item for item in self.items if item.name == owner):
@@ -248,7 +255,7 @@ class Crate:
 
 
 def member_of(item: Item, members: list[str]) -> Found | None:
-    """The item itself; or its member or case, if one is named."""
+    """Returns the item itself, or its member or case if `members` names one."""
     if not members:
         return Found(item.call, tuple(item.cases))
     name = members[0]

@@ -5,7 +5,7 @@ import sys
 
 
 def with_digest(text):
-    """The text, with the digest of the bytes before its last 32 at its end."""
+    """Returns the text with its last 32 bytes replaced by the digest of the bytes before them."""
     return text[:-32] + hashlib.sha256(text[:-32]).digest()
 
 

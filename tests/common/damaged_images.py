@@ -5,9 +5,9 @@
     damaged_images.py PROGRAM full [SEED [COUNT]]  the largest image, and COUNT bent bodies of
                                                    a full device
 
-A line for each kind says how many texts there were, and what they are. Each difference has a line
-of its own. The last line is `N agree, M differ`. It works in the current folder, and leaves there
-the first texts that differ, in the files that these lines name.
+For each kind of damage the test prints how many texts there were, and their faults. Each
+difference has a line of its own. The last line is `N agree, M differ`. The test works in the
+current folder. It leaves there the first texts that differ, in the files that these lines name.
 """
 
 import collections
@@ -35,16 +35,16 @@ SEED, BENT = 1, 300
 DEFAULTS = [1, 10_000]
 MOST_LEFT = 100
 
-# The program is given the first texts of a long series, and then one of every `step`, which divides
-# no number of ways to change a byte. The library is given all of them.
+# The program gets the first texts of a long series, and then one of every `step`. STEP divides no
+# number of ways to change a byte. The library gets all texts.
 FIRST, STEP = 100, 11
 
-# The clock of the device whose image is damaged; the time that really passed is left out.
+# The clock of the device whose image is damaged, without the time that really passed.
 CLOCK = 0x0102_0304
 
 
 class Program:
-    """A program that serves a device, each time for one image. `opening` has its runs without a
+    """A program that serves a device, one run for each image. `opening` makes its runs without a
     connection, and `saving` those with one.
     """
 
@@ -54,13 +54,15 @@ class Program:
 
     @staticmethod
     def place(text):
-        """Writes the image as a new file: the old one may be written out if it is shortened."""
+        """Writes the image as a new file. If the old file were shortened, the system might write it
+        to disk.
+        """
         path = pathlib.Path("image")
         path.unlink(missing_ok=True)
         path.write_bytes(text)
 
     def end(self, runs):
-        """The fault of the image; None if the run ended well."""
+        """Returns the fault that the program reported; None if the run ended well."""
         given = runs.ended()
         fault = given.error.decode("ascii", "replace").removeprefix(FAULT).removesuffix("\n")
         if given == Ending(STATUS_OF_FAULT, error=f"{FAULT}{fault}\n".encode()):
@@ -68,13 +70,13 @@ class Program:
         return None if given == WELL else f"{given}"
 
     def fault_of(self, text):
-        """The program's fault for an image. If it opens the image, it saves nothing."""
+        """Returns the program's fault for an image. If it opens the image, it saves nothing."""
         self.place(text)
         self.opening.begin()
         return self.end(self.opening)
 
     def saved(self, commands):
-        """What the program saves after a connection with these commands."""
+        """Returns the image that the program saves after a connection with these commands."""
         self.saving.begin()
         connection = client.connected("socket")
         connection.sendall(commands)
@@ -90,7 +92,9 @@ class Program:
 
 
 class Comparison:
-    """It takes the first texts of a long series, and one of every `step` of the others."""
+    """Compares the program with the Python device. It takes the first texts of a long series, and
+    one of every `step` of the others.
+    """
 
     def __init__(self, program, step):
         self.program, self.step, self.agree, self.differ = program, step, 0, 0
@@ -108,14 +112,16 @@ class Comparison:
             print(f"    {name}", flush=True)
 
     def fault_of(self, words, text):
-        """The fault of the Python device, which the program must have too."""
+        """Returns the Python device's fault for a text, and checks that the program reports the
+        same.
+        """
         wanted, given = image.fault_of(text), self.program.fault_of(text)
         words = f"{words}: {wanted or 'opened'} is wanted, {given or 'opened'} is given"
         self.count(given == wanted, words, text)
         return wanted or "opened"
 
     def kind(self, name, texts):
-        """Prints a line on texts of a kind, each with words for it."""
+        """Prints the faults of the texts of one kind of damage. Each text has a description."""
         faults = collections.Counter(self.fault_of(f"{name}, {words}", it) for words, it in texts)
         told = ", ".join(f"{count:,} {fault}" for fault, count in sorted(faults.items()))
         print(f"{name}: {sum(faults.values()):,} texts: {told}", flush=True)
@@ -124,8 +130,9 @@ class Comparison:
         self.kind(name, (it for at, it in enumerate(texts) if at < FIRST or at % self.step == 0))
 
     def is_saved_again(self, words, text):
-        """Whether the device of an image saves that image again, or the same one in version 2. Each
-        text is tried once. One that the program does not open is already counted.
+        """Checks that a device that opens an image saves that image again, or the same one in
+        version 2. Each text is tried once. A text that the program does not open is already
+        counted.
         """
         if text in self.saved or self.program.fault_of(text) is not None:
             return
@@ -134,7 +141,9 @@ class Comparison:
         self.count(again == wanted, f"{words}: another image is saved", text)
 
     def case(self, case):
-        """A case in words; a good image is opened, and saved again unchanged."""
+        """Checks a described case: a good image is opened, and saved again unchanged; a bad one has
+        the fault Body.
+        """
         wanted = "opened" if case.is_good else "Body"
         given = self.fault_of(case.words, case.text)
         self.count(given == wanted, f"{case.words}: by the device in Python {given}", case.text)
@@ -143,7 +152,7 @@ class Comparison:
         return f"{wanted}: {case.words}"
 
 
-# Damage.
+# The kinds of damage.
 
 
 def prefixes(text):
@@ -151,7 +160,7 @@ def prefixes(text):
 
 
 def changed(text, places, changes):
-    """The text with each of these bytes changed in each of these ways."""
+    """The texts in which one of the bytes at `places` is changed, in each of these ways."""
     for at in places:
         for change in changes:
             value = change(text[at])
@@ -160,8 +169,8 @@ def changed(text, places, changes):
 
 ALL_WAYS = [lambda byte, added=added: byte + added & 0xFF for added in range(1, 256)]
 
-# Changes of the lowest bit, of the highest one, and by one in the direction that is not the lowest
-# bit's.
+# Changes of a byte: of its lowest bit, of its highest bit, and by one (up if the lowest bit is set,
+# else down), so that more than the lowest bit changes.
 THREE_WAYS = (
     *(lambda byte: byte ^ 0x01, lambda byte: byte ^ 0x80),
     lambda byte: byte + (1 if byte & 1 else -1) & 0xFF,
@@ -186,7 +195,7 @@ def damage(comparison, text):
 
 
 def device_that_saved(program):
-    """The Python device after the lines; the program must save the same image."""
+    """Returns the Python device after the lines. The program must save the same image."""
     device = Model()
     commands = [lines.assemble(line.encode("ascii")) for line in LINES]
     for buffer in commands:
@@ -212,7 +221,7 @@ def in_the_gate(comparison):
     told = []
     for case in image_bodies.cases():
         told.append(comparison.case(case))
-        # The good image that is next to the bad ones comes after them.
+        # The good image that belongs to some bad ones comes after them.
         if case.is_good:
             print("; ".join(told))
             told = []

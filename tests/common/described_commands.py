@@ -2,9 +2,10 @@
 
     tools/python.sh tests/common/described_commands.py PROGRAM
 
-It asks the program about each fact of each command. A line for each kind of fact says how often the
-program was asked; each difference has a line that begins with DIFFERS. Then one fact of a command
-is described wrongly, one kind of fact after the other, and the comparison must find it.
+The test asks the program about each fact of each command. For each kind of fact it prints how
+often it asked the program. Each difference has a line that begins with DIFFERS. Then the test
+describes one fact of a command wrongly, for one kind of fact after the other, and the comparison
+must find the mistake.
 """
 
 import concurrent.futures
@@ -29,8 +30,9 @@ from tests.common.shims import Ending, fail, ran
 TESTS = pathlib.Path(__file__).resolve().parent.parent
 AT_ONCE = 4
 
-# The device that is asked: its index and its object have the policy digest of a session without
-# assertions, and of two more indices one can be authorized for reading only, one for writing only.
+# The entities of the device that is asked. The index and the object have the policy digest of a
+# session without assertions. Two more indices can be authorized: one only for reading, one only for
+# writing.
 PCR, AES_SESSION, POLICY_SESSION = 16, 0x0200_0000, 0x0300_0001
 OBJECT, PERSISTENT = 0x8000_0000, 0x8100_0000
 INDEX, READ_INDEX, WRITE_INDEX = range(0x0100_0000, 0x0100_0003)
@@ -42,7 +44,7 @@ NO_HANDLES = RS_PW, 24, 0x0400_0000, 0xFFFF_FFFF
 
 NONCE, NO_POLICY, UNTOLD = "00" * 16, b"", bytes(32)
 
-# Tokens of each kind of parameter, and those at which two kinds begin to differ.
+# Tokens of each kind of parameter, and tokens that one kind accepts and another one does not.
 TOKENS = (
     *("7", "00", "00+01", "-", "255", "256", "65535", "65536", "0xffffffff", "0x100000000"),
     *("18446744073709551615", "18446744073709551616", "sha256:0", "sha1:" + "00" * 20, "sha256"),
@@ -55,7 +57,7 @@ class Program:
     path: str
 
     def run(self, script: Iterable[str], *options: str) -> list[str]:
-        """What the program prints for a script."""
+        """Returns the lines that the program prints for a script."""
         text = "".join(f"{it}\n" for it in script).encode("ascii")
         done = ran(self.path, "run", *options, "-", stdin=text)
         if done.status:
@@ -64,20 +66,20 @@ class Program:
 
     @functools.cache
     def told(self, word: str, argument: str) -> Ending:
-        """How `asm` or `line` ends."""
+        """Returns how `asm` or `line` ends."""
         return ran(self.path, word, argument)
 
 
 @dataclass(frozen=True)
 class Asked:
-    """What the program was asked, what the description says of it, and what the program says."""
+    """A question to the program, the answer by the description, and the program's answer."""
 
     what: str
     described: object
     found: object
 
 
-# The device that is asked, and what it is asked.
+# The device that is asked, and the questions.
 
 
 def index_line(index: int, attributes: int, auth_policy: bytes) -> str:
@@ -104,7 +106,7 @@ def setup() -> list[str]:
 
 @dataclass(frozen=True)
 class Answer:
-    """The check that refused a command, or `ok`, and the response code."""
+    """The result of a command: the check that refused it, or `ok`, and the response code."""
 
     check: str
     code: int
@@ -113,7 +115,7 @@ class Answer:
         return (self.check, self.code) == (check, frames.code_of(name))
 
     def is_behind(self, check: str, refusal: str) -> bool | str:
-        """Whether the command passed a check, which refuses it by this code alone."""
+        """Returns whether the command passed a check. Only that check refuses with this code."""
         if self.is_refusal(check, refusal):
             return False
         order = [*(f"G{it}" for it in range(1, 12)), *(f"A{it}" for it in range(1, 8)), "ok"]
@@ -121,7 +123,9 @@ class Answer:
 
 
 def answers_of(program: Program, code: CC, buffers: list[bytes]) -> list[Answer]:
-    """The outcomes of buffers of a command, with only TPM2_Startup before each."""
+    """Executes the buffers one after another, and returns the results. Other commands than
+    TPM2_Startup come after `setup`.
+    """
     before = [] if code == CC.Startup else setup()
     printed = program.run([*before, *(f"cmd {it.hex()}" for it in buffers)], "--trace")[::2]
     answers = [Answer(it.split(" ")[3], int(it.split(" ")[4], 16)) for it in printed]
@@ -134,22 +138,23 @@ def takes(handle: Handle, number: int) -> bool:
 
 
 def right_handles(code: CC) -> list[int]:
-    """Handles of entities that exist, of the kinds that the command expects."""
+    """Returns handles of existing entities, of the kinds that the command expects."""
     return [next(it for it in THERE if takes(wanted, it)) for wanted in code.handles]
 
 
 def buffer_of(code: CC, handles: list[int], *entries: bytes) -> bytes:
-    """A command with one byte of parameters, so that hardly any succeeds."""
+    """Returns a command with one byte of parameters, so that hardly any command succeeds."""
     if entries:
         return frames.on_handles(code, handles, b"\0", list(entries))
     return frames.buffer_of(code, handles, [], b"\0")
 
 
-# Facts. Each function yields what the program was asked about some of the commands.
+# The facts. Each function yields the questions to the program about some of the commands.
 
 
 def attributes(program: Program, codes: list[CC]) -> Iterator[Asked]:
-    """Numbers, counts of handles, and whether a handle is returned, by TPM2_GetCapability."""
+    """Compares numbers, counts of handles, and whether a handle is returned, by TPM2_GetCapability.
+    """
     asking = [f"do GetCapability {COMMANDS} {it:#x} 1" for it in codes]
     total = f"do GetCapability 6 {TOTAL_COMMANDS:#x} 1"
     printed = program.run(["do Startup 0", *asking, total])[1:]
@@ -159,7 +164,7 @@ def attributes(program: Program, codes: list[CC]) -> Iterator[Asked]:
 
 
 def served(program: Program, codes: list[CC]) -> Iterator[Asked]:
-    """Which command codes are served, and which a policy can name."""
+    """Compares which command codes are served, and which of them a policy can name."""
     numbers = range(0x100, 0x200) if len(codes) == len(CC) else [int(it) for it in codes]
     for wanted, refusal, buffer in (
         ("served", "COMMAND_CODE", lambda it: frames.command(it, b"\0")),
@@ -181,21 +186,21 @@ def naming(code: int) -> bytes:
 
 
 def told(program: Program, word: str, said: list[str], wanted: Callable) -> Iterator[Asked]:
-    """How `asm` or `line` ends with each of these."""
+    """Compares how `asm` or `line` ends with each of these arguments."""
     with concurrent.futures.ThreadPoolExecutor(AT_ONCE) as pool:
         for it, found in zip(said, pool.map(lambda it: program.told(word, it), said)):
             yield Asked(f"{word} {it}", wanted(it), found)
 
 
 def parameters(program: Program, codes: list[CC]) -> Iterator[Asked]:
-    """Names of commands, and the number and kinds of their parameters, by `tpmsim asm`."""
+    """Compares names of commands, and the number and kinds of their parameters, by `tpmsim asm`."""
     said = [line for code in codes for line in parameter_lines(code)]
     return told(program, "asm", said, lambda it: assembled(it.encode()))
 
 
 def parameter_lines(code: CC) -> Iterator[str]:
-    """Lines of a command: with each token as each parameter, cut before each word, and with a word
-    too many.
+    """Yields lines of a command: with each token as each parameter, cut before each word, and with
+    one word too many.
     """
     words = [code.name, *("01000000" for _ in code.handles), *map(sample, code.parameters)]
     front = len(words) - len(code.parameters)
@@ -208,7 +213,7 @@ def parameter_lines(code: CC) -> Iterator[str]:
 
 
 def sample(parameter) -> str:
-    """A token that this kind accepts."""
+    """Returns a token that is valid for this kind of parameter."""
     for token in TOKENS:
         try:
             lines.WORDS[parameter.kind].spelled(token.encode())
@@ -219,14 +224,15 @@ def sample(parameter) -> str:
 
 
 def words(program: Program, codes: list[CC]) -> Iterator[Asked]:
-    """Which parameters `tpmsim line` shows in hex."""
+    """Compares which parameters `tpmsim line` prints in hex."""
     ended = [assembled(line.encode()) for code in codes for line in parameter_lines(code)]
     buffers = list(dict.fromkeys(it.output.decode().strip() for it in ended if not it.status))
     return told(program, "line", buffers, lambda it: line_told(bytes.fromhex(it)))
 
 
 def kinds_of_handles(program: Program, codes: list[CC]) -> Iterator[Asked]:
-    """Which handles a command accepts, among all that exist and some that do not."""
+    """Compares which handles a command accepts, among all handles that exist and some that do not.
+    """
     for code in codes:
         right, wanted, buffers = right_handles(code), [], []
         for place, handle in enumerate(code.handles, 1):
@@ -239,8 +245,8 @@ def kinds_of_handles(program: Program, codes: list[CC]) -> Iterator[Asked]:
 
 
 def authorizations(program: Program, codes: list[CC]) -> Iterator[Asked]:
-    """Which handles need authorization, and whether a command may have entries: a password that
-    authorizes nothing is refused at its own check.
+    """Compares which handles need authorization, and whether a command may have entries. A password
+    that authorizes nothing has its own refusal.
     """
     for code in codes:
         handles = right_handles(code)
@@ -256,7 +262,7 @@ def authorizations(program: Program, codes: list[CC]) -> Iterator[Asked]:
 
 
 def encryption(program: Program, codes: list[CC]) -> Iterator[Asked]:
-    """Which first parameters are sized buffers, so that a session may decrypt or encrypt them."""
+    """Compares which first parameters are sized buffers, which a session may decrypt or encrypt."""
     for code in codes:
         if code.has(Fact.NO_SESSIONS):
             continue
@@ -274,8 +280,8 @@ def encryption(program: Program, codes: list[CC]) -> Iterator[Asked]:
 
 
 def roles(program: Program, codes: list[CC]) -> Iterator[Asked]:
-    """The ADMIN role, if an object or an index can authorize: it needs a policy that names the
-    command; the USER role does not.
+    """Compares which commands have the ADMIN role, if an object or an index can authorize them. The
+    ADMIN role needs a policy that names the command; the USER role does not.
     """
     untold = frames.entry(POLICY_SESSION, bytes(16))
     for code in codes:
@@ -289,8 +295,8 @@ def roles(program: Program, codes: list[CC]) -> Iterator[Asked]:
 
 
 def nv_attributes(program: Program, codes: list[CC]) -> Iterator[Asked]:
-    """Whether the command checks the attributes for reading or those for writing of an index that
-    authorizes it. In the ADMIN role the value of an index authorizes nothing.
+    """Compares whether a command checks the attributes for reading or those for writing of an index
+    that authorizes it. In the ADMIN role an index's authorization value authorizes nothing.
     """
     for code in codes:
         if not code.authorized or not takes(code.handles[0], READ_INDEX):
@@ -304,12 +310,14 @@ def nv_attributes(program: Program, codes: list[CC]) -> Iterator[Asked]:
             yield Asked(f"{code.name} is authorized by {it:08x}", wanted, is_able)
 
 
-# The results of tests/general/saved_state.tpm: each command succeeds between a shutdown and a
-# start.
+# The events of tests/general/saved_state.tpm, where each command succeeds between TPM2_Shutdown and
+# TPM2_Startup.
 
 
 def saved_state(program: Program) -> list[tuple[CC, str, str]]:
-    """Its events: the command, or None for a power cycle; the check; and the response."""
+    """Returns the script's events. An event is the command, or None for a power cycle; the check;
+    and the response.
+    """
     script = (TESTS / "general/saved_state.tpm").read_text("ascii").splitlines()
     printed = iter(program.run(script, "--trace"))
     events = []
@@ -324,7 +332,9 @@ def saved_state(program: Program) -> list[tuple[CC, str, str]]:
 
 
 def keeping(program: Program, codes: list[CC]) -> Iterator[Asked]:
-    """Which commands keep a saved state valid, so that the next start can resume it."""
+    """Compares which commands keep a saved state valid, so that the next TPM2_Startup can resume
+    it.
+    """
     events = saved_state(program)
     kept = {CC.Startup: is_kept_by(program, ["power", "do Startup 1"])}
     kept[CC.Shutdown] = is_kept_by(program, ["do Shutdown 1"])
@@ -342,7 +352,8 @@ def is_kept_by(program: Program, between: list[str]) -> bool:
 
 
 def answers(program: Program, codes: list[CC]) -> Iterator[Asked]:
-    """The handles and parameters of responses: the description reads them to the end."""
+    """Compares the handles and parameters of responses: the description must read them to the end.
+    """
     responses = {
         code: bytes.fromhex(answer)
         for code, check, answer in saved_state(program)
@@ -371,7 +382,7 @@ def read_answer(code: CC, response: bytes | None) -> str:
 
 
 def read_capability(fields: Fields) -> None:
-    """Reads moreData, a capability and its list; ValueError if bytes are left."""
+    """Reads moreData, a capability and its list. ValueError if bytes are left."""
     _, kind = fields.take(1), fields.number(4)
     if kind == PCRS:
         lines.WORDS[Kind.SELECTION].word(fields)
@@ -396,7 +407,7 @@ CHECKS = {
 }
 
 
-# Wrong descriptions, of one command each.
+# Wrong descriptions, each of one fact of one command.
 
 
 def with_handle(code: CC, **changes) -> dict:
@@ -460,7 +471,7 @@ WRONG = (
 
 
 def is_missing_one_found(program: Program) -> bool:
-    """Whether the comparison finds a command that is served and not described."""
+    """Returns whether the comparison finds a command that is served but not described."""
     with mock.patch.dict(NUMBERED):
         del NUMBERED[READ]
         return any(it.described != it.found for it in served(program, [READ]))

@@ -1,7 +1,7 @@
-"""A valid example of each command, next to the commands that it needs before it.
+"""A valid example of each command, with the commands that it needs before it.
 
-The exhaustive scripts of tests/general are made of this table: cut_commands.py, bent_commands.py
-and turned_commands.py. All examples are executed in their order on one device, which is
+cut_commands.py, bent_commands.py and turned_commands.py of tests/general make their exhaustive
+scripts from this table. All examples are executed in this order on one device, which is
 power-cycled before each chapter.
 """
 
@@ -21,7 +21,9 @@ from tests.common.script import SUCCESS
 
 
 class Example(NamedTuple):
-    """A command and its outcome. A step only prepares others: an example like it comes before."""
+    """A command and its outcome. A step only prepares other commands; another example of its
+    command precedes it.
+    """
 
     name: str
     whole: bytes
@@ -43,7 +45,7 @@ class Chapter(NamedTuple):
 
 step = partial(Example, is_step=True)
 
-# A session that is bound to nothing, and so has neither a key nor an HMAC.
+# A session that is not bound and has no salt, and so has neither a key nor an HMAC.
 SESSION, OTHER, POLICY = 0x0200_0000, 0x0200_0001, 0x0300_0000
 BY_SESSION = [entry(SESSION, nonce=bytes(16))]
 BY_POLICY = [entry(POLICY, nonce=bytes(16))]
@@ -51,12 +53,12 @@ BY_POLICY = [entry(POLICY, nonce=bytes(16))]
 # The same session, which decrypts the first parameter.
 BY_DECRYPTING = [entry(SESSION, bytes(16), frames.CONTINUE_SESSION | frames.DECRYPT)]
 
-# Three entries. The last session ends when they are accepted, and a trial session gets its slot.
+# Three entries. The last session ends when they are accepted. A trial session then gets its slot.
 BY_THREE = [entry(), *BY_SESSION, entry(OTHER, nonce=bytes(16), attributes=0)]
 
 
 def start(**choices: object) -> bytes:
-    """TPM2_StartAuthSession."""
+    """Returns a TPM2_StartAuthSession."""
     handles, parameters = frames.start_auth_session(bytes(16), **choices)
     return command(CC.StartAuthSession, b"".join(number(it, 4) for it in handles) + parameters)
 
@@ -77,13 +79,13 @@ def reading(*banks: tuple[int, Sequence[int]]) -> bytes:
 
 
 def secret(password: bytes) -> bytes:
-    """TPM2_PolicySecret of TPM_RH_OWNER."""
+    """Returns a TPM2_PolicySecret with TPM_RH_OWNER."""
     parameters = frames.policy_secret(b"nonce", bytes(32), b"policyRef")
     return on_handles(CC.PolicySecret, (RH_OWNER, POLICY), parameters, [entry(hmac=password)])
 
 
 def owner_auth(value: bytes, password: bytes = b"") -> bytes:
-    """TPM2_HierarchyChangeAuth of TPM_RH_OWNER."""
+    """Returns a TPM2_HierarchyChangeAuth of TPM_RH_OWNER."""
     return on_handle(CC.HierarchyChangeAuth, RH_OWNER, sized(value), [entry(hmac=password)])
 
 
@@ -140,7 +142,7 @@ DEVICE = [
 ]
 
 
-# Objects: a storage key, and data sealed under it, with random bytes that are zeros.
+# Objects: a storage key, and data sealed under it. All random bytes are zeros.
 
 PARENT, CHILD = 0x8000_0000, 0x8000_0001
 PCR_0 = [(SHA256, [0])]
@@ -151,14 +153,14 @@ def template(public: Public, data: bytes = b"") -> object_rules.Template:
 
 
 def creation(public: Public, data: bytes = b"") -> bytes:
-    """The parameters that create an object."""
+    """Returns the parameters that create an object."""
     asked = template(public, data)
     sensitive = frames.sensitive_create(b"abc", data)
     return frames.creation(sensitive, sized(public.text), asked.outside_info, asked.pcrs)
 
 
 def loading(data: bytes) -> bytes:
-    """The parameters of TPM2_Load of an object that was created below the storage key."""
+    """Returns the parameters of TPM2_Load, for an object that was created below the storage key."""
     seed = MANUFACTURED[:SECRET_BYTES]
     parent = object_rules.primary(template(storage_key()), RH_OWNER, seed)
     public, sensitive, _ = object_rules.created(template(sealed(), data), bytes(256))
@@ -204,7 +206,7 @@ def defining(name: str, public: nv.Public) -> Example:
 
 
 def by_owner(code: CC, index: int, parameters: bytes = b"") -> Example:
-    """A command on an index, authorized by the owner."""
+    """Returns a command on an index, authorized by the owner."""
     return Example(f"TPM2_{code.name}", on_handles(code, [RH_OWNER, index], parameters))
 
 
@@ -243,7 +245,7 @@ INDICES = [
 ]
 
 
-# What the device keeps. TPM2_Clear comes last.
+# The commands for what the device keeps. TPM2_Clear comes last.
 
 OBJECT, KEPT = 0x8000_0000, 0x8100_0000
 PRIMARY = frames.creation(frames.sensitive_create(), sized(storage_key().text))
@@ -277,6 +279,6 @@ CHAPTERS = (
     Chapter("What the device keeps", frames.PERSISTENT, STATE),
 )
 
-# A new command needs an example.
+# Each command needs an example, also a new one.
 CODES = {it.code for chapter in CHAPTERS for it in chapter.examples if not it.is_step}
 assert CODES == set(CC), f"no example of {set(CC) - CODES}"

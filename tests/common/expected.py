@@ -1,13 +1,13 @@
-"""Writes the expected output NAME.out next to scripts NAME.tpm, without running the simulator; and
-NAME.trace, which `--trace` prints, if there is such a file already, even an empty one.
+"""Writes the expected output NAME.out next to scripts NAME.tpm, without running the simulator. Also
+writes NAME.trace, the output of `--trace`, if such a file exists already, even an empty one.
 
     tools/python.sh tests/common/expected.py                    for every script in tests/
     tools/python.sh tests/common/expected.py tests/general/startup.tpm  for these
 
-The comment above one or more commands names their outcome: `: SUCCESS`, or a response code with its
-number, as in `: VALUE/p1 (1C4)`. It applies up to the next comment or empty line. The Python device
-computes the answers. If one has another outcome than its comment names, that is a fault, and
-nothing is written.
+The comment above one or more commands names their outcome: `: SUCCESS`, or a response code with
+its number, such as `: VALUE/p1 (1C4)`. It applies up to the next comment or empty line. The
+Python device computes the responses. If a command's outcome differs from its comment, that is a
+fault, and nothing is written.
 """
 
 import pathlib
@@ -27,7 +27,9 @@ OUTCOMES = {"SUCCESS", *frames.CODES}
 
 
 def wanted_of(comment):
-    """The outcome that a comment names: None for a success, else the name of a response code."""
+    """Returns the outcome that a comment names: None for a success, else the name of a response
+    code.
+    """
     named = [it for it in WANTED.findall(comment) if it[0].partition("/")[0] in OUTCOMES]
     if len(named) != 1:
         raise ValueError(f"the comment names {len(named)} outcomes:{comment}")
@@ -41,7 +43,7 @@ def wanted_of(comment):
 
 
 def buffer_of(line):
-    """The buffer of a script's line; None if it has none."""
+    """Returns the buffer of a script's line; None if it has none."""
     word, _, argument = line.partition(" ")
     if word == "do":
         return lines.assemble(argument.encode("ascii"))
@@ -50,8 +52,8 @@ def buffer_of(line):
 
 @dataclass(frozen=True)
 class Command:
-    """A command of a script with its locality, its random bytes, the milliseconds since the one
-    before; and the comment that names its outcome.
+    """A command of a script, with its locality, its random bytes, and the milliseconds since the
+    command before. Also the comment that names its outcome.
     """
 
     buffer: bytes
@@ -62,7 +64,8 @@ class Command:
 
 
 def events_of(script):
-    """The commands of a script, and None for each power cycle, up to its end or a bad line."""
+    """Yields the commands of a script, and None for each power cycle, up to its end or a bad line.
+    """
     locality, random = 0, bytes(RANDOM_BYTES)
     comment, in_comment, elapsed = "", False, 0
     for line in script.splitlines():
@@ -92,7 +95,9 @@ def events_of(script):
 
 
 def played_by(script, device):
-    """The outcomes of a script's events, which have to be those that its comments name."""
+    """Yields the outcomes of a script's events. They have to be the outcomes that its comments
+    name.
+    """
     for it in events_of(script):
         if it is None:
             device.power_cycle()
@@ -107,7 +112,7 @@ def played_by(script, device):
 
 
 def device_behind(script):
-    """The device that a script leaves."""
+    """Returns the device after a script."""
     device = Model()
     for _ in played_by(script, device):
         pass
@@ -118,7 +123,7 @@ def device_behind(script):
 
 
 def fault_of(line):
-    """The fault of a line, with its column; empty if the line is good."""
+    """Returns the fault of a line, with its column; empty if the line is good."""
     try:
         lines.assemble(line)
         return ""
@@ -127,7 +132,7 @@ def fault_of(line):
 
 
 def assembled(line):
-    """How `tpmsim asm` ends with a line."""
+    """Returns how `tpmsim asm` ends with a line."""
     fault = fault_of(line)
     if fault:
         return Ending(2, error=f"tpmsim: asm {fault}\n".encode("ascii"))
@@ -135,7 +140,7 @@ def assembled(line):
 
 
 def line_told(buffer):
-    """How `tpmsim line` ends with a buffer."""
+    """Returns how `tpmsim line` ends with a buffer."""
     line = lines.line_of(buffer)
     if line is None:
         return Ending(2, error=b"tpmsim: line NoLine\n")
@@ -143,7 +148,7 @@ def line_told(buffer):
 
 
 def traced(script):
-    """How `tpmsim run --trace` ends with a script, whose lines may be arbitrary bytes."""
+    """Returns how `tpmsim run --trace` ends with a script, whose lines may be arbitrary bytes."""
     printed, error = player.played(script)
     status = {"": 0, "tpmsim: file": 3}.get(error, 2)
     output = "".join(f"{line}\n" for _, line in printed).encode("ascii")

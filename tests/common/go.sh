@@ -1,10 +1,10 @@
-# Shared by the tests of the Go module, which read this file after cases.sh and library.sh: a copy of the
-# module, over the archive under test, and the folders in which go works.
+# Shared by the tests of the Go module, which read this file after cases.sh and library.sh. It makes a copy of
+# the module, which is linked with the archive under test, and sets the folders in which go works.
 # shellcheck shell=sh disable=SC2154 # cases.sh has `room` and `tests`, library.sh `dist`
 export CGO_ENABLED=1 GOFLAGS=-buildvcs=false GOPROXY=off GOSUMDB=off
 export GOCACHE="${TPMSIM_BUILT:-$room}/go" GOPATH="$room/path" CGO_LDFLAGS="-L$dist"
 
-# copy_module: makes the copy `module`.
+# copy_module: makes the copy, in the folder `module`.
 copy_module() {
     cp -rL "$tests/../go" module && rm -rf module/native && cp "$dist/tpmsim.h" module/
 }

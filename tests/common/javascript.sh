@@ -10,7 +10,7 @@ node -e 'process.exit(process.getBuiltinModule ? 0 : 1)' ||
     is_proved 'web module' "$(checksum <dist/tpmsim.wasm)") ||
     skip 'dist/tpmsim.wasm was proved of other sources than these'
 
-# all_pass FOLDER: runs the tests of a package by node's runner, and prints its output if one fails.
+# all_pass FOLDER: runs the tests of a package with node's test runner, and prints its output if a test fails.
 all_pass() {
     if TPMSIM_REPOSITORY=$top TPMSIM_MODULE=$top/dist/tpmsim.wasm node --test "$1/tests/" >"$room/said" 2>&1; then
         echo 'all tests pass'

@@ -1,4 +1,4 @@
-# The hosts of a kept device, and the shims that make their calls fail and log them. A test is given the
+# Builds the hosts of a kept device, and the shims that log their calls and make calls fail. A test gets the
 # archive, and reads this file after cases.sh and library.sh. tests/keeping/hosts.py says where it looks for
 # the hosts.
 # shellcheck shell=sh disable=SC2154 # library.sh has `archive` and `dist`
@@ -19,16 +19,16 @@ make_shims() {
     done
 }
 
-# They are built once for all tests that tools/scripts.sh runs, which names the folder TPMSIM_BUILT.
+# tools/scripts.sh names the folder TPMSIM_BUILT. Then the hosts and shims are built once for all its tests.
 built=${TPMSIM_BUILT:-$room/shared}/keeping
 if [ ! -d "$built" ]; then
     { mkdir -p "${built%/*}" && make_hosts "$room/new" && make_shims "$room/new"; } >"$room/made" 2>&1 ||
         { cat "$room/made"; exit 1; }
-    # Another test may have been faster.
+    # Another test may have built them first.
     mv -T "$room/new" "$built" 2>"$room/moved" || rm -r "$room/new"
 fi
 
-# against SHIM NAME WORDS..: runs a program of this folder with a shim.
+# against SHIM NAME WORDS..: runs a program of tests/keeping with a shim.
 against() {
     shim=$built/$1.so
     played=$tests/keeping/$2.py

@@ -1,4 +1,4 @@
-"""The image that a run of the program keeps, and the Python device whose image it has to be."""
+"""Compares the image that a run of the program keeps with the image of the Python device."""
 
 import pathlib
 
@@ -13,7 +13,7 @@ def opened():
 
 
 def identity():
-    """What differs after each save; None if there is no image."""
+    """Returns values that change with each save; None if there is no image."""
     try:
         told = IMAGE.stat()
     except FileNotFoundError:
@@ -22,7 +22,9 @@ def identity():
 
 
 def check_image(label, device, compared=bytes):
-    """Checks that the image is the device's, by what `compared` makes of both."""
+    """Checks that the image is the device's. `compared` selects the parts of both that are
+    compared.
+    """
     if not IMAGE.exists():
         fail(f"{label}: there is no image")
     if compared(IMAGE.read_bytes()) != compared(image(device)):
@@ -32,7 +34,9 @@ def check_image(label, device, compared=bytes):
 
 
 def check_save(label, device, changes, old, compared=bytes):
-    """The same after a change; without one, checks that the image still has its old identity."""
+    """Checks the image after a command. If the command changes the device, the image must be the
+    device's; otherwise the image must still have its old identity.
+    """
     if changes:
         check_image(label, device, compared)
     elif identity() != old:

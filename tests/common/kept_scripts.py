@@ -2,7 +2,8 @@
 
     python3 kept_scripts.py PROGRAM
 
-The Python device plays the same lines, and says after each one which image the file has to contain.
+The Python device plays the same lines. After each line it determines the image that the file has
+to contain.
 """
 
 import pathlib
@@ -19,7 +20,7 @@ from tests.common.shims import FILE, begun, end, ended, fail
 PROGRAM = sys.argv[1]
 RUN = [PROGRAM, "run", "--trace", "--image", IMAGE]
 
-# Scripts whose devices change in everything that is kept.
+# Scripts that together change every part of the kept state.
 SCRIPTS = [
     *sorted(places.EXAMPLES.glob("*.tpm")),
     *map(
@@ -35,7 +36,7 @@ INCREMENT = b"do NV_Increment OWNER 01000002 pw:-"
 
 
 class Run:
-    """A run, and the same device in Python."""
+    """A run of the program, and the same device in Python."""
 
     def __init__(self, device=None, *words):
         self.player, self.is_saved = player.Player(device), device is not None
@@ -47,7 +48,7 @@ class Run:
         self.process.stdin.flush()
 
     def read(self, line):
-        """Reads what a line makes the run print."""
+        """Reads the output of the run for a line."""
         wanted = self.player.play(line)
         given = [self.process.stdout.readline().decode().rstrip("\n") for _ in wanted]
         if given != wanted:
@@ -83,7 +84,7 @@ class Run:
 
 
 def watch(script):
-    """Plays a script line by line, and again on the image that it left."""
+    """Plays a script line by line, and then again from the image that the first run left."""
     for again in ("", ", on its image"):
         run = Run(opened() if again else None)
         run.tell(*script.read_bytes().splitlines())
@@ -92,7 +93,8 @@ def watch(script):
 
 
 def check_powers():
-    """A power cycle also saves the clock, if no command did because nothing else changed."""
+    """A power cycle saves the clock too, even if no command before it changed and saved anything.
+    """
     run = Run()
     run.tell(b"do Startup 0", b"wait 5000", b"do ReadClock", b"power", b"do ReadClock")
     device = opened()
@@ -103,7 +105,7 @@ def check_powers():
 
 
 def check_kills():
-    """Kills the program after each response in turn."""
+    """Kills the program after the first response, then in a new run after the second, and so on."""
     lines = [b"do Startup 0", DEFINE, INCREMENT, INCREMENT, EXTEND, b"do Shutdown 1", INCREMENT]
     for count in range(1, len(lines) + 1):
         run = Run()
@@ -117,7 +119,7 @@ def check_kills():
 
 
 def check_entropy():
-    """A new device is made from the first random bytes. A device that is opened needs none."""
+    """A new device is made from the first random bytes. Opening an existing device needs none."""
     random = bytes(range(255, -1, -1))
     pathlib.Path("entropy").write_bytes(random + b"left over")
     run = Run(None, "--entropy", "entropy")

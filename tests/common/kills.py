@@ -3,14 +3,18 @@
     python3 kills.py PROGRAM COUNT SEED          says that all was right, or what was not
     python3 kills.py PROGRAM COUNT SEED counts   says in a second line when the kills happened
 
-It works in the current folder. The device has a counter and an index of 8 bytes. A connection reads
-both, increments the counter, and writes the counter's new number to the other index. So the two
-numbers, which are always the same, count the connections that the device has had. After a client
-has read all responses, it closes its sending side, and reads to the end of the stream. The device
-is saved only after that. So a client knows that a connection has ended, with the device saved, only
-when a later connection is answered, or when the program has ended by itself. An image has to be the
-device after the last connection that is known to have ended. If the client had closed the next one
-before the kill, the image may also be the device after that one.
+The test works in the current folder. The device has a counter and an index of 8 bytes. A
+connection reads both, increments the counter, and writes the counter's new number to the other
+index. So both numbers are always the same: the number of connections that the device has had.
+
+After a client has read all responses, it closes its sending side, and reads to the end of the
+stream. The device is saved only after that. So a client knows that a connection has ended, with
+the device saved, only when a later connection is answered, or when the program has ended by
+itself.
+
+An image has to be the device after the last connection that is known to have ended. If the
+client had closed the next connection before the kill, the image may also be the device after
+that one.
 """
 
 import collections
@@ -39,14 +43,18 @@ class Wrong(Exception):
 
 
 class Client(Caller):
-    """A caller in a connection of its own."""
+    """A caller with a connection of its own."""
 
     def answers(self):
-        """Starts the device, unless it is started; DeviceEnded if the stream ends before."""
+        """Sends TPM2_Startup(CLEAR), whether or not the device is started. DeviceEnded if the
+        stream ends first.
+        """
         self.device.execute(self.starting(CLEAR).buffer())
 
     def number(self):
-        """The number of connections that the device has had, by both of its indices."""
+        """Returns the number of connections that the device has had. Both of its indices must
+        contain it.
+        """
         counter, number = (
             int.from_bytes(self.send(self.reading(it, 8, by=RH_OWNER))["data"], "big")
             for it in (COUNTER, NUMBER)
@@ -56,7 +64,7 @@ class Client(Caller):
         return counter
 
     def more(self, number):
-        """Adds one to both indices."""
+        """Adds one to the numbers in both indices."""
         self.send(self.incrementing(COUNTER, by=RH_OWNER))
         self.send(self.writing(NUMBER, (number + 1).to_bytes(8, "big"), by=RH_OWNER))
 
@@ -69,7 +77,7 @@ class Client(Caller):
 
 
 def connected(process):
-    """A client, as soon as the socket is there; None if the program has ended."""
+    """Connects a client as soon as the socket exists. Returns None if the program has ended."""
     while process.poll() is None:
         try:
             return Client(ServedDevice("socket"))
@@ -85,7 +93,7 @@ def ends_so(process, wanted):
 
 
 def manufacture(program):
-    """Makes the image of a device that has both indices, at 1."""
+    """Makes the image of a device whose two indices contain 1."""
     process = begun([program, *SERVE, "1"])
     client = connected(process)
     client.start_up()
@@ -97,13 +105,13 @@ def manufacture(program):
 
 
 def serve(process, known):
-    """Serves connections as long as the program runs. Yields after each step the last number that
-    is known to be saved, and whether one more may be.
+    """Serves connections as long as the program runs. After each step it yields the last number
+    that is known to be saved, and whether the next number may be saved too.
     """
     may_be_saved = False
     while client := connected(process):
         client.answers()
-        # The connection is answered, so the one before it has ended.
+        # This connection is answered, so the connection before it has ended.
         known, may_be_saved = known + may_be_saved, False
         yield known, may_be_saved
         number = client.number()
@@ -116,7 +124,9 @@ def serve(process, known):
 
 
 def until_killed(program, known, life):
-    """Serves until the program is killed: the last of these, and whether one was answered."""
+    """Serves until the program is killed. Returns the last values of `serve`, and whether a
+    connection was answered.
+    """
     process = begun([program, *SERVE, "4294967295"])
     killed = threading.Event()
 
@@ -140,7 +150,7 @@ def until_killed(program, known, life):
 
 
 def looked_at(program):
-    """The number in the image that a killed run left, after checking that it is whole and opens."""
+    """Checks that the image of a killed run is whole and opens, and returns the number in it."""
     image = pathlib.Path("image").read_bytes()
     if hashlib.sha256(image[:-DIGEST_SIZE]).digest() != image[-DIGEST_SIZE:]:
         raise Wrong("the image is not whole")
@@ -155,8 +165,8 @@ def looked_at(program):
 
 
 def tidy():
-    """Removes the folders that killed runs left, at most a hundred, and returns whether there were
-    any."""
+    """Removes the folders that killed runs left, at most a hundred. Returns whether there were any.
+    """
     left = list(pathlib.Path().glob(".[0-9]*"))
     for folder in left:
         shutil.rmtree(folder)

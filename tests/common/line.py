@@ -2,12 +2,12 @@
 
     python3 line.py PROGRAM
 
-Two checks apply to the buffer of each `do` line of tests/ and examples/. Taken apart as the device
-does and put together by frames.py, it must be the same; and the line that the Python device finds
-for it must assemble to it. In a script that a program wrote, no words may encode a `cmd` line,
-unless the script says that its commands are bytes. The program must find the same lines. It is
-asked for the first buffers of each command and for a tenth of the others; for a twentieth of the
-`cmd` lines, as bent scripts have many.
+Two checks apply to the buffer of each `do` line of tests/ and examples/. If it is divided as the
+device does and joined again by frames.py, it must be the same. The line that the Python device
+finds for it must assemble to it. In a script that a program wrote, each `cmd` line must be a
+command that no words can encode, unless the script says that its commands are bytes. The program
+must find the same lines. It is asked for the first buffers of each command and for a tenth of
+the others. Of the `cmd` lines it is asked for a twentieth, because bent scripts have many.
 """
 
 import collections
@@ -26,13 +26,13 @@ FIRST, STEP = 25, 10
 AS_BYTES = "All commands are in bytes"
 
 
-# Many scripts have the same lines.
+# Many scripts have the same lines, so results are cached.
 line_of = functools.cache(lines.line_of)
 
 
 @functools.cache
 def assembled(line):
-    """The buffer of a line; None for a bad line."""
+    """Returns the buffer of a line; None for a bad line."""
     try:
         return lines.assemble(line)
     except lines.Fault:
@@ -40,7 +40,7 @@ def assembled(line):
 
 
 def put_together(buffer):
-    """A buffer that is put together again from its parts, as the device reads them."""
+    """Divides a buffer into its parts, as the device does, and joins them again."""
     fields = Fields(buffer)
     tag, code = general.read_header(fields, len(buffer))
     handles = [fields.number(4) for _ in code.handles]
@@ -58,7 +58,7 @@ def is_right(line):
 
 
 def faults(text):
-    """The numbers of the lines at which a script is wrong."""
+    """Yields the numbers of the lines at which a script is wrong."""
     told = text.replace("\n# ", " ")
     is_written = (WROTE_THIS in told or MADE_THIS in told) and AS_BYTES not in told
     for number, line in enumerate(text.splitlines(), 1):
@@ -70,7 +70,7 @@ def faults(text):
 
 
 def arguments(word):
-    """What follows this word in the scripts, each once."""
+    """Returns each different text that follows this word in the scripts."""
     told = (
         line.partition(b" ") for it in places.scripts() for line in it.read_bytes().splitlines()
     )
@@ -78,7 +78,7 @@ def arguments(word):
 
 
 def check(turns, buffer):
-    """Whether the program finds the right line; if not, prints which it should be."""
+    """Returns whether the program finds the right line. If it does not, prints the right line."""
     told, wanted = turns.run(word=buffer.hex().encode("ascii")), line_told(buffer)
     if told != wanted:
         print(f"FAILED: {buffer.hex()}: {told}, and not {wanted}")
@@ -86,7 +86,7 @@ def check(turns, buffer):
 
 
 def some(buffers):
-    """The first buffers of each command, and one of every few others."""
+    """Yields the first buffers of each command, and one of every few others."""
     seen = collections.Counter()
     for buffer in buffers:
         code = buffer[6:10]
@@ -95,7 +95,7 @@ def some(buffers):
         seen[code] += 1
 
 
-# A line that does not assemble may be a bad one.
+# A line that does not assemble may be the bad line of a script that must fail.
 ending_well = [it for it in places.scripts() if not it.with_suffix(".status").exists()]
 wrong = [f"{it}:{at}" for it in ending_well for at in faults(it.read_text("ascii"))]
 print("\n".join(f"FAILED: {it}" for it in wrong) or "each do line comes back as a line")

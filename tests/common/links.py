@@ -2,10 +2,11 @@
 
     python3 tests/common/links.py [--count] FOLDER DOCUMENT..
 
-Each link to a file of FOLDER must lead to an existing file or folder, and each #anchor to a heading
-of the document, by the anchors that GitHub makes of headings. A link that leads nowhere has a line.
-Links to other sites are not followed. With --count the last line has the exact numbers, else only
-that there are some. The status is 1 if a link leads nowhere.
+Each link to a file of FOLDER must lead to an existing file or folder. Each #anchor must lead to
+a heading of the document; GitHub's rule makes anchors from headings. A link that leads nowhere
+has a line. Links to other sites are not followed. With --count the last line has the exact
+numbers; without it, the line says only that there are some. The status is 1 if a link leads
+nowhere.
 """
 
 import pathlib
@@ -21,18 +22,20 @@ SITE = re.compile(r"^[a-z]+:")
 
 
 def blank(found: re.Match[str]) -> str:
-    """The line breaks of a match, so that line numbers stay."""
+    """Returns only the line breaks of a match, so that line numbers stay the same."""
     return "\n" * found[0].count("\n")
 
 
 def anchor_of(heading: str) -> str:
-    """The anchor that GitHub makes of a heading, without the number of a repeated one."""
+    """Returns GitHub's anchor of a heading, without the number that a repeated heading gets."""
     words = re.sub(r"\[([^]]*)\]\([^)]*\)", r"\1", heading)
     return re.sub(r"[^\w\- ]", "", words.lower()).replace(" ", "-")
 
 
 def anchors_of(text: str) -> set[str]:
-    """All anchors of a document; the second heading of a name ends with -1."""
+    """Returns all anchors of a document. A second heading of the same name has an anchor that ends
+    with -1.
+    """
     times: dict[str, int] = {}
     anchors = set()
     for heading in HEADING.findall(FENCE.sub(blank, text)):
@@ -44,14 +47,14 @@ def anchors_of(text: str) -> set[str]:
 
 
 def links_of(text: str) -> Iterator[tuple[int, str]]:
-    """Each link of a document with its line, outside of code."""
+    """Yields each link of a document with its line. Links in code do not count."""
     prose = CODE.sub(blank, FENCE.sub(blank, text))
     for found in LINK.finditer(prose):
         yield prose.count("\n", 0, found.start()) + 1, found[1]
 
 
 def fault_of(document: pathlib.Path, target: str) -> str:
-    """Why a link leads nowhere; empty if it leads somewhere."""
+    """Returns why a link leads nowhere; empty if it leads somewhere."""
     name, _, anchor = target.partition("#")
     path = document.parent / name if name else document
     if not path.exists():

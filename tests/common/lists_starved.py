@@ -1,11 +1,12 @@
-"""Refuses memory to a device that keeps its state in lists:
+"""Makes allocations fail in a device that keeps its state in lists:
 
     python3 lists_starved.py TPMSIM_LISTS
 
-Each allocation is refused in turn, alone and with all that follow. Either the image is opened and
-the line executed, or the run ends with status 3 and `tpmsim_lists: memory`. A script that has begun
-goes on: a command that needed the memory is answered MEMORY. All answers have to be those of the
-Python device, to which the same commands are starved.
+Each allocation fails in turn: in one run only that one, in another also all that follow. Then
+either the image is opened and the line executed, or the run ends with status 3 and
+`tpmsim_lists: memory`. A script that has begun goes on: a command that needed the memory gets
+the response MEMORY. All responses have to be those of the Python device, in which the same
+commands get no memory.
 """
 
 import collections
@@ -22,23 +23,23 @@ MEMORY = Ending(3, error=b"tpmsim_lists: memory\n")
 STARVED, SUCCESS = machine.STARVED.hex(), bytes(4).hex()
 CODE = slice(12, 20)
 
-# The commands that may be answered MEMORY, and the script. It has all commands, and each of these
-# at each size at which a list grows.
+# The commands that may get the response MEMORY, and the script. It has all commands. The list of
+# each of these commands grows at several sizes, and the script has the command at each of them.
 GROWING = {CC.StartAuthSession, CC.CreatePrimary, CC.Load, CC.NV_DefineSpace, CC.EvictControl}
 SCRIPT = (HERE / "growing.tpm").read_bytes()
 LINES = SCRIPT.splitlines()
 
 
 def printed(starved=()):
-    """What the script prints, by the Python device, if these commands get no memory."""
+    """Returns the Python device's responses to the script, if these commands get no memory."""
     player = Player(starved=starved)
     told = [player.play(line) for line in LINES]
     return [it[-1] for it in told if it and it[-1] != "power"]
 
 
 class Script:
-    """The script, its commands, and how often each was answered MEMORY when a single allocation was
-    refused.
+    """The script and its commands. Also counts how often each command got MEMORY when a single
+    allocation failed.
     """
 
     def __init__(self, program):
@@ -66,14 +67,18 @@ class Script:
         return ending.output.decode("ascii").splitlines()
 
     def check_all_succeed(self):
-        """Checks that the script has each command of the device, and that each succeeds once."""
+        """Checks that the script has each command of the device, and that each command succeeds at
+        least once.
+        """
         answered = zip(self.codes, self.whole)
         succeeded = {code for code, answer in answered if answer[CODE] == SUCCESS}
         if succeeded != set(machine.ROWS):
             fail("the script does not have every command")
 
     def check_run(self, turn, ending):
-        """Returns which commands got no memory: they may; all answers must be those of Python."""
+        """Compares all responses with those of the Python device. Returns the commands that got no
+        memory; each must be one that may.
+        """
         if ending == MEMORY:
             return []
         answers = self.answers(ending)
@@ -86,7 +91,9 @@ class Script:
         return starved
 
     def check_alone(self, turn, ending):
-        """A single refused allocation starves at most one command, which succeeds the next time."""
+        """Checks that one failed allocation starves at most one command, which succeeds the next
+        time.
+        """
         starved = self.check_run(turn, ending)
         if len(starved) > 1:
             fail(f"allocation {turn} refused, the commands {starved} starved")
@@ -108,7 +115,7 @@ class Script:
 
 
 def full_image():
-    """The image of the device when the script has filled it."""
+    """Returns the image of the device when the script has filled it."""
     player = Player()
     for line in LINES:
         if line.startswith(b"do Clear "):
@@ -118,9 +125,10 @@ def full_image():
 
 
 def check_image(program, label, text):
-    """Opens an image and two bad ones. One is refused by its digest, before the device needs
-    memory. The other has an extra byte after everything that the device needs memory for. Once the
-    file has been read, the run reports it as no image, whatever memory there is.
+    """Opens an image and two bad ones. The digest of the first bad image is wrong, which is found
+    before the device allocates. The second bad image has an extra byte at its end, after
+    everything for which the device allocates. Once the file has been read, the run reports a bad
+    image, whatever memory there is.
     """
     path, words = pathlib.Path("image"), ["open", "image"]
     path.write_bytes(text)

@@ -3,9 +3,10 @@
     python3 logged.py PROGRAM COUNT
     python3 logged.py PROGRAM --full FOLDER
 
-What a caller was answered is compared with what `tpmsim run` answers to the image of the start and
-the log, and with how the log is explained: over sessions, indices, a lockout and restarts, with a
-log that is cut, and after COUNT kills; or with the log in a folder on a disk that gets full.
+The responses that a caller received are compared with those that `tpmsim run` prints for the
+first image and the log, and with the explanation of the log. The first form does so over
+sessions, indices, a lockout and restarts; with a log that is cut; and after COUNT kills. The
+second form does so with the log in a folder on a disk that gets full.
 """
 
 import contextlib
@@ -33,7 +34,7 @@ INDEX, COUNTER = 0x0100_0001, 0x0100_0002
 
 
 class Run:
-    """A run of the program on the image that is there, with its own log."""
+    """A run of the program on the present image, with its own log."""
 
     def __init__(self, program, name, connections, *options, folder=""):
         self.program, self.log = program, pathlib.Path(folder, f"{name}.log")
@@ -43,7 +44,7 @@ class Run:
         self.process = begun([program, *words])
 
     def played(self, log):
-        """The responses that `tpmsim run` prints on a copy of the image of the start."""
+        """Returns the responses that `tpmsim run` prints on a copy of the run's first image."""
         shutil.copy(self.start, "played")
         printed = ran(self.program, "run", "--image", "played", str(log)).output
         return [bytes.fromhex(line) for line in printed.decode("ascii").split()]
@@ -101,7 +102,9 @@ def draw(tpm):
 
 
 def count_on(tpm, *others):
-    """Starts, and increments after the other uses each time, until the device has ended."""
+    """Starts the device. Then calls the other uses and increments the counter, again and again,
+    until the device has ended.
+    """
     with contextlib.suppress(DeviceEnded):
         tpm.start_up()
         while True:
@@ -111,7 +114,7 @@ def count_on(tpm, *others):
 
 
 def answered(*parts):
-    """What was answered over several connections, one after another."""
+    """Returns the responses over several connections, one after another."""
     responses = []
     for part in parts:
         connected("socket").close()
@@ -122,7 +125,7 @@ def answered(*parts):
 
 
 def check_uses(program, *options):
-    """Uses a device over three starts, each with its own log; returns the last run."""
+    """Uses a device in three runs, each with its own log. Returns the last run."""
     for use in (use_sessions, use_indices, use_lockout):
         run = Run(program, "_".join([use.__name__, *options]), 4, *options)
         responses = answered(use, draw)
@@ -133,7 +136,7 @@ def check_uses(program, *options):
 
 
 def check_cut(run, responses, chance):
-    """A log that is cut off at any place is good up to there."""
+    """A log that is cut at any offset is valid up to the cut."""
     text = run.log.read_bytes()
     lines = text.splitlines(keepends=True)
     ends = [
@@ -167,7 +170,7 @@ def check_killed(program, number, chance):
 
 
 def check_full(program, folder, *options):
-    """If a disk gets full, the log and the image have all that was answered."""
+    """If a disk gets full, the log and the image contain all answered commands."""
     run = Run(program, "_".join(["full", *options]), 2, *options, folder=folder)
     responses = answered(count_on)
     end(run.process, FILE)
@@ -178,7 +181,7 @@ def check_full(program, folder, *options):
     [*_, number] = answered(lambda tpm: (tpm.start_up(), tpm.send(tpm.reading(COUNTER, 8))))
     end(again.process)
     again.log.unlink()
-    # The start is one of the responses; five increments were made before.
+    # One of the responses is that of TPM2_Startup. Five increments were made before.
     more = int.from_bytes(number[16:24], "big") - 5 - (len(responses) - 1)
     label = " ".join(options) or "no option"
     print(f"{label}: commands that are in the image and were not answered: {more}")

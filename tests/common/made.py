@@ -19,7 +19,9 @@ MAKES = re.compile(r'"""Makes (\w+)\.tpm\b')
 
 
 def programs() -> dict[str, pathlib.Path]:
-    """The programs of made scripts by their names; the largest programs take longest."""
+    """Returns the programs of made scripts by their names, the largest first, since they take
+    longest.
+    """
     found = {}
     for path in sorted(TOP.glob("tests/*/*.py"), key=lambda it: -it.stat().st_size):
         told = MAKES.match(path.read_text("utf-8"))
@@ -30,7 +32,9 @@ def programs() -> dict[str, pathlib.Path]:
 
 
 def make(program: pathlib.Path, folder: pathlib.Path) -> None:
-    """Makes the script of a program, which has a `script`, or a caller `tpm` that has it."""
+    """Makes the script of a program. The program's module has a `script`, or a caller `tpm` with a
+    script.
+    """
     name = ".".join(program.relative_to(TOP).with_suffix("").parts)
     found = importlib.import_module(name)
     script = found.script if hasattr(found, "script") else found.tpm.script
@@ -38,7 +42,7 @@ def make(program: pathlib.Path, folder: pathlib.Path) -> None:
 
 
 def make_all(folder: pathlib.Path, *names: str) -> None:
-    """Makes the scripts of these names, or all of them."""
+    """Makes the scripts of these names, or all scripts if there are no names."""
     known = programs()
     asked = [(known[it], folder) for it in names or known]
     jobs = int(os.environ.get("JOBS") or os.cpu_count() or 1)

@@ -1,8 +1,8 @@
-# How a test says what it needs. cases.sh reads this file.
+# Functions by which a test declares the tools that it needs. cases.sh reads this file.
 # shellcheck shell=sh disable=SC2154 # cases.sh has `room` and `tests`
 . "$tests/../tools/lib/python.sh"
 
-# package_of NAME: the packages of Debian that have a tool or a header.
+# package_of NAME: prints the Debian packages that have a tool or a header.
 package_of() {
     case $1 in
     cargo-clippy) echo rust-clippy ;;
@@ -26,13 +26,13 @@ package_of() {
     esac
 }
 
-# has_tool TOOL: whether it is on the path.
+# has_tool TOOL: succeeds if the tool is on the path.
 has_tool() {
     (unset -f "$1"; command -v "$1") >"$room/found"
 }
 
-# has_header HEADER: whether the C compiler finds it or, without a compiler, whether Debian's package is
-# installed.
+# has_header HEADER: succeeds if the C compiler finds the header. Without a compiler, succeeds if Debian's
+# package is installed.
 has_header() {
     if has_tool cc; then
         echo "#include <$1>" | cc -E - >"$room/found" 2>&1
@@ -41,8 +41,8 @@ has_header() {
     fi
 }
 
-# is_there NAME: whether a tool or a header is installed. A C compiler includes the C library's headers, and
-# python3 its standard library.
+# is_there NAME: succeeds if a tool or a header is installed. A C compiler must have the headers of the C
+# library, and python3 its standard library.
 is_there() {
     case $1 in
     *.h) has_header "$1" ;;
@@ -52,7 +52,7 @@ is_there() {
     esac
 }
 
-# lack_of TOOL: what is missing of a tool that is_there finds incomplete.
+# lack_of TOOL: prints which part of an installed tool is missing, if `is_there TOOL` fails.
 lack_of() {
     case $1 in
     cc) echo 'the headers of the C library' ;;
@@ -60,9 +60,9 @@ lack_of() {
     esac
 }
 
-# needs NAME..: skips the test if a tool or a header is missing. The reason ends with the packages that
-# have it: tools/scripts.sh gathers them. It begins with `there is no`, which .ci/run allows, unless all
-# tools are there and one lacks its library.
+# needs NAME..: skips the test if a tool or a header is missing. The reason ends with the packages that have
+# it; tools/scripts.sh gathers them. The reason begins with `there is no`, which .ci/run allows. It begins
+# otherwise if all tools are installed and only the library of one is missing.
 needs() {
     absent='' poor='' packages=''
     for name do

@@ -1,5 +1,5 @@
-"""A teller of the order of refusals: each command has many faults, which are repaired one by one.
-The answer is always the first fault that is left.
+"""A caller for scripts about the order of refusals. Each command has many faults, which are
+repaired one by one. The response always reports the first fault that is left.
 """
 
 from collections.abc import Sequence
@@ -21,8 +21,9 @@ class OrderTeller(Teller):
         closed: int | None = None,
         both: str = "BAD_AUTH/s1",
     ) -> None:
-        """The authorization area, the entries, and their hmacs, with parameters that are `cut`. No
-        password can use the index `closed`. `both` is the outcome of two wrong entries.
+        """Sends the faults of the authorization area, of the entries, and of their HMACs. The
+        parameters are `cut`. No password can authorize the index `closed`. `both` is the outcome
+        of two wrong entries.
         """
         text, last = b"".join(number(it, 4) for it in handles), len(uses)
         if code.authorized:
@@ -44,8 +45,8 @@ class OrderTeller(Teller):
     def in_order(
         self, code: CC, uses: Sequence[Means], *cases: tuple[str, str, Sequence[int], bytes]
     ) -> None:
-        """The remaining faults, each with its outcome, handles and parameters. The first handle's
-        authorization value authorizes the command.
+        """Sends the remaining faults, each with its outcome, handles and parameters. The first
+        handle's authorization value authorizes the command.
         """
         for what, outcome, handles, parameters in cases:
             by_value = self.auth_value(handles[0])

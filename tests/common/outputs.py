@@ -1,4 +1,4 @@
-"""What a script prints, by the Python device: NAME.out, and NAME.trace if there is one."""
+"""Writes the output of a script by the Python device: NAME.out, and NAME.trace if there is one."""
 
 import pathlib
 from dataclasses import dataclass
@@ -11,13 +11,13 @@ RANDOM_BYTES = 256
 
 
 def repeated(random: bytes) -> bytes:
-    """The random bytes of a command, which repeat those of an `entropy` line."""
+    """Returns the random bytes of a command: the bytes of an `entropy` line, repeated."""
     return (random * RANDOM_BYTES)[:RANDOM_BYTES]
 
 
 @dataclass(frozen=True)
 class Played:
-    """The outcome of a command, with its locality and the milliseconds since the one before. A
+    """The outcome of a command, with its locality and the milliseconds since the command before. A
     power cycle has no outcome, and prints only its line of the trace.
     """
 

@@ -15,15 +15,17 @@ EXAMPLES = TOP / "examples"
 
 
 def of_tests() -> list[pathlib.Path]:
-    """The scripts of the folders of tests/ by name, without parts of other tests."""
+    """Returns the scripts in the folders of tests/, sorted by name. tests/common does not count,
+    because its scripts are parts of tests.
+    """
     found = (it for it in TESTS.glob("*/*.tpm") if it.parent.name != "common")
     return sorted(found, key=lambda it: it.name)
 
 
 @functools.cache
 def folder_of_made() -> pathlib.Path:
-    """The folder of the scripts that are not stored: TPMSIM_MADE, in which tools/scripts.sh has
-    made them, or a temporary one, in which they are made now.
+    """Returns the folder of the scripts that are not stored. This is TPMSIM_MADE, where
+    tools/scripts.sh has made them, or a temporary folder, where this function makes them.
     """
     told = os.environ.get("TPMSIM_MADE")
     if told:
@@ -35,15 +37,15 @@ def folder_of_made() -> pathlib.Path:
 
 
 def stored() -> list[pathlib.Path]:
-    """The scripts in the repository: those of tests/, and then the examples."""
+    """Returns the scripts in the repository: those of tests/, and then the examples."""
     return [*of_tests(), *sorted(EXAMPLES.glob("*.tpm"))]
 
 
 def scripts() -> list[pathlib.Path]:
-    """All scripts; those that are made come last."""
+    """Returns all scripts; the made ones come last."""
     return [*stored(), *sorted(folder_of_made().glob("*/*.tpm"), key=lambda it: it.name)]
 
 
 def script(name: str) -> pathlib.Path:
-    """The stored script of a name; KeyError if there is none."""
+    """Returns the stored script with this name; KeyError if there is none."""
     return {it.stem: it for it in stored()}[name]

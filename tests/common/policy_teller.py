@@ -1,5 +1,5 @@
-"""A caller that compares its device with the device's history: the state of a policy session
-follows from the commands that were accepted.
+"""A caller that compares its device with the device's history. The state of a policy session
+follows from the accepted commands.
 """
 
 from typing import Any, Callable, Sequence
@@ -25,11 +25,13 @@ class PolicyTeller(Teller):
         self.script.device.tell = self.history.add
 
     def digest_of(self, session: Session) -> bytes:
-        """The digest that the accepted assertions produce."""
+        """Returns the policy digest that the accepted assertions produce."""
         return self.history.sessions.live[session.handle].policy.digest
 
     def digest_is(self, what: str, session: Session, wanted: bytes | None = None) -> None:
-        """Asks for the digest. A `wanted` one must be the one that the assertions make."""
+        """Reads the policy digest by TPM2_PolicyGetDigest, and compares it with the assertions. It
+        must also be `wanted`, if that is given.
+        """
         told = self.digest_of(session)
         assert wanted in (None, told), what
         assert not list(self.history.differences(self.script.device)), what
@@ -43,10 +45,10 @@ class PolicyTeller(Teller):
         self.digest_is(digest, session)
 
     def texts(self, words: str, code: CC, session: Session, *texts: bytes) -> None:
-        """Sends a command of a policy with each of these parameters, whatever they are."""
+        """Sends a policy command with each of these parameter encodings, valid or not."""
         self.says(words, *(self.told(code, session, it) for it in texts))
 
-    # Commands whose HMACs follow other rules.
+    # Commands whose HMACs are computed in another way.
 
     def with_key(self, key: bytes, prepare: Callable[..., Prepared], *those: Any) -> Prepared:
         with self.breaking(key=lambda *_: key):

@@ -2,10 +2,10 @@
 
     python3 tests/common/public_calls.py ASKED PAGE FOLDER
 
-ASKED lists what was asked for; PAGE has tables of what differs from that in the crates of FOLDER.
-Each thing asked for must be in its crate by name; or PAGE names what replaces it, and that must be
-there. Whatever PAGE lists must really differ from what was asked for. Each difference has a line;
-the status is 1 if there is one.
+ASKED lists the requested items. PAGE has tables of the differences between the list and the
+crates of FOLDER. Each requested item must be in its crate by name; or PAGE names its
+replacement, which must exist. Whatever PAGE lists must really differ from the request. Each
+difference has a line. The status is 1 if there is one.
 """
 
 import pathlib
@@ -29,8 +29,8 @@ TABLE = re.compile(r"^\|(.+)\|\n\|[-|]+\|\n((?:\|.*\|\n)*)", re.M)
 
 @dataclass
 class Asked:
-    """What was asked for: crates with their limits of lines, calls with their shapes, as far as
-    these are known, and types with their cases.
+    """The request: crates with their limits of lines, calls with their shapes as far as known, and
+    types with their cases.
     """
 
     limits: dict[str, int] = field(default_factory=dict)
@@ -38,7 +38,7 @@ class Asked:
     types: dict[str, list[str]] = field(default_factory=dict)
 
     def calls_of(self, crate: str) -> list[str]:
-        """The calls of a crate."""
+        """Returns the requested calls of a crate."""
         return [call for call in self.calls if call.startswith(f"{crate}::")]
 
 
@@ -63,7 +63,7 @@ Row = tuple[str, ...]
 
 
 def tables_of(text: str) -> dict[Row, list[Row]]:
-    """The rows of all tables of a page, by the words of their headers."""
+    """Returns the rows of all tables of a page, by the words of their headers."""
     tables: dict[Row, list[Row]] = {}
     for head, rows in TABLE.findall(text):
         cells = tuple(cell.strip() for cell in head.split("|"))
@@ -73,7 +73,9 @@ def tables_of(text: str) -> dict[Row, list[Row]]:
 
 
 def names_in(cell: str) -> list[str]:
-    """The names in a cell; one without `::` belongs to the crate or type of the name before it."""
+    """Returns the names in a cell. A name without `::` belongs to the crate or type of the name
+    before it.
+    """
     names: list[str] = []
     for name in SPAN.findall(cell):
         if "::" not in name and names:
@@ -83,7 +85,7 @@ def names_in(cell: str) -> list[str]:
 
 
 class Comparison:
-    """What was asked for, the crates and the page; each method yields the differences."""
+    """Compares the request, the crates and the page. Each method yields differences of one kind."""
 
     def __init__(self, asked: Asked, page: str, crates: Crates) -> None:
         self.asked = asked
@@ -97,18 +99,22 @@ class Comparison:
         self.known = [self.standing(call) for call in asked.calls]
 
     def rows(self, head: Row) -> list[Row]:
-        """The rows of the tables with this header."""
+        """Returns the rows of the tables with this header."""
         return self.tables.get(head, [])
 
     def standing(self, name: str) -> str:
-        """What replaces a name that was asked for, by the page; else the name itself."""
+        """Returns the replacement of a requested name, by the page, or the name itself if there is
+        none.
+        """
         if name in self.others:
             return self.others[name][0]
         owner, _, member = name.rpartition("::")
         return f"{self.others[owner][0]}::{member}" if owner in self.others else name
 
     def calls_in(self, cell: str) -> list[str]:
-        """The calls that a cell names, after replacement; a listed crate means all its calls."""
+        """Returns the calls that a cell names, with replacements. A cell that names only crates
+        means all their calls.
+        """
         if set(SPAN.findall(cell)) <= set(self.asked.limits):
             calls = [call for crate in SPAN.findall(cell) for call in self.asked.calls_of(crate)]
         else:
@@ -116,12 +122,12 @@ class Comparison:
         return [self.standing(call) for call in calls]
 
     def call(self, name: str) -> Call | None:
-        """The call of this name, if it is there."""
+        """Returns the call of this name, if it exists."""
         found = self.crates.find(name)
         return found.call if found else None
 
     def names(self) -> Iterator[str]:
-        """Names of the list or the page that the crates do not have."""
+        """Yields the names of the list or the page that the crates do not have."""
         for name in [*self.asked.calls, *self.asked.types]:
             if not self.crates.find(self.standing(name)):
                 yield f"{name}: neither as asked for nor by the page"
@@ -136,7 +142,7 @@ class Comparison:
                     yield f"{name}: not there, as the page says"
 
     def is_as_asked(self, call: Call, asked: str) -> bool:
-        """Whether a call has the shape that was asked for, with the present names of its types."""
+        """Returns whether a call has the requested shape, with the present names of its types."""
         for name, others in self.others.items():
             old, new = name.rpartition("::")[2], others[0].rpartition("::")[2]
             asked = re.sub(rf"\b{old}\b", new, asked)
@@ -144,7 +150,7 @@ class Comparison:
         return bool(re.fullmatch(re.escape(asked).replace("_", ".+") or ".*", shape))
 
     def shapes(self) -> Iterator[str]:
-        """Calls whose shape is neither the one that was asked for nor the one of the page."""
+        """Yields the calls whose shape is neither the requested one nor the one of the page."""
         told = {name: row for row in self.rows(SHAPES) for name in self.calls_in(row[0])}
         for name, asked in self.asked.calls.items():
             row, call = told.pop(self.standing(name), None), self.call(self.standing(name))
@@ -161,12 +167,14 @@ class Comparison:
             yield f"{name}: the page says its shape, and it was not asked for"
 
     def cases_of(self, name: str) -> list[str]:
-        """The cases of everything that replaces a type that was asked for."""
+        """Returns the cases of all types that replace a requested type."""
         found = map(self.crates.find, self.others.get(name, [name]))
         return [case for one in found if one for case in one.cases]
 
     def cases(self) -> Iterator[str]:
-        """Faults and other enums whose cases are neither those asked for nor those of the page."""
+        """Yields the faults and other enums whose cases are neither the requested ones nor those of
+        the page.
+        """
         told = {names_in(row[0])[0]: row for row in self.rows(FAULTS)}
         for name, asked in self.asked.types.items():
             row, cases = told.pop(name, None), self.cases_of(name)
@@ -180,7 +188,9 @@ class Comparison:
             yield f"{name}: the page says its cases, and it was not asked for"
 
     def premises(self) -> Iterator[str]:
-        """Premises of calls that the page does not name, and named ones that do not exist."""
+        """Yields the premises of calls that the page does not name, and the named premises that do
+        not exist.
+        """
         told: dict[str, list[str]] = {}
         for row in self.rows(PREMISES):
             for name in self.calls_in(row[0]):
@@ -198,7 +208,9 @@ class Comparison:
             yield f"{name}: the page names its premise, and it was not asked for"
 
     def lines(self) -> Iterator[str]:
-        """Crates that do not exist, or have more lines than were asked for or the page says."""
+        """Yields crates that do not exist, or have more lines than requested and than the page
+        says.
+        """
         told = {SPAN.findall(row[0])[0]: row for row in self.rows(LINES)}
         for name, limit in self.asked.limits.items():
             lines = self.crates.crate(name).lines
@@ -218,7 +230,7 @@ class Comparison:
 
 
 def numbers_of(row: Row) -> tuple[int, int]:
-    """The lines of a row: how many were asked for, and how many there are."""
+    """Returns two numbers of lines from a row: the requested number, and the present one."""
     return int(row[1].replace(",", "")), int(row[2].replace(",", ""))
 
 

@@ -2,10 +2,10 @@
 
     python3 tests/common/quoted_theorems.py DOCUMENT FOLDER
 
-The first line of each code block names a file of FOLDER. The lines after it must be in that file
-one after another, apart from white space at the beginning of lines. Each heading of the third level
-must have such a block. Then one letter of each block is changed, and the comparison must find it.
-The status is 1 if something differs.
+The first line of each code block names a file of FOLDER. The block's other lines must be in that
+file one after another, apart from white space at the beginning of lines. Each heading of the
+third level must have such a block. Then the test changes one letter of each block, and the
+comparison must find the change. The status is 1 if something differs.
 """
 
 import pathlib
@@ -17,18 +17,18 @@ SECTION = re.compile(r"^### (.+?)\n(.*?)(?=^##|\Z)", re.M | re.S)
 
 
 def bare(text: str) -> str:
-    """A text without the white space before and after its lines."""
+    """Returns a text without the white space before and after its lines."""
     return "\n".join(line.strip() for line in text.splitlines())
 
 
 def stands(quote: str, text: str) -> bool:
-    """Whether a quote, which is not empty, is in a text as whole lines."""
+    """Returns whether a quote is in a text as whole lines. An empty quote is not."""
     lines = bare(quote).strip("\n")
     return lines != "" and f"\n{lines}\n" in f"\n{bare(text)}\n"
 
 
 def changed(quote: str) -> str:
-    """The quote with its last letter replaced."""
+    """Returns the quote with its last letter or digit replaced."""
     place = max(i for i, letter in enumerate(quote) if letter.isalnum())
     return quote[:place] + ("x" if quote[place] != "x" else "y") + quote[place + 1 :]
 

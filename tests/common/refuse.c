@@ -1,5 +1,5 @@
-/* Replaces the C library's malloc and realloc. It refuses the calls from the first number of a turn to
- * the second, and marks the run when it refuses the first of them. */
+/* Replaces the C library's malloc and realloc. The calls from the first number of a turn to the
+ * second fail. The shim marks the run when it makes the first of them fail. */
 #define _GNU_SOURCE
 #include <dlfcn.h>
 #include <errno.h>

@@ -1,11 +1,13 @@
 """Sends a script to a served device, command by command over its socket:
 
-    python3 replay.py prepare SCRIPT  writes `entropy` and `buffers`, and prints how many
+    python3 replay.py prepare SCRIPT  writes `entropy` and `buffers`, and prints the number of
+                                      buffers
     python3 replay.py send SOCKET     sends each buffer in a connection of its own, and prints the
                                       responses
 
 The commands are those before the first `power` line; there must be no `loc` or `wait` line among
-them. The file of random bytes has those of a script's device, followed by those of each command.
+them. The file `entropy` has the random bytes of a script's device, followed by those of each
+command.
 """
 
 import itertools

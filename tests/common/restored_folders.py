@@ -2,9 +2,10 @@
 
     python3 restored_folders.py PROGRAM
 
-The folder then has either its old device or the one of the state text; never another one, and never
-none. After a run that ended well it has the one of the text. After a run that failed it has that
-one only if the call came after the rename. The shim tear.c notes the calls.
+After a run, the folder has either its old device or the device of the state text. It never has
+another device, and never none. After a run that ended well it has the device of the text. After
+a run that failed it has that device only if the failed call came after the rename. The shim
+tear.c notes the calls.
 """
 
 import errno
@@ -23,7 +24,7 @@ AT_MOST_SECONDS = 30
 
 
 def device(program: str, folder: pathlib.Path, script: bytes) -> bytes:
-    """The state text of a device that a script was played on."""
+    """Returns the state text of a device after a script."""
     play = ran(program, "run", "--state", str(folder), "-", stdin=script)
     if play.status != 0:
         fail(f"{folder} was not played on: {play}")
@@ -31,7 +32,7 @@ def device(program: str, folder: pathlib.Path, script: bytes) -> bytes:
 
 
 def snapshot(program: str, folder: pathlib.Path) -> bytes:
-    """The state text of the device in a folder."""
+    """Returns the state text of the device in a folder."""
     told = ran(program, "snapshot", str(folder))
     if told.status != 0:
         fail(f"there is no device: {told}")
@@ -39,19 +40,19 @@ def snapshot(program: str, folder: pathlib.Path) -> bytes:
 
 
 def fresh(there: bool) -> None:
-    """The folder as it was, or no folder."""
+    """Restores the folder with its old device if `there` is true; else removes the folder."""
     shutil.rmtree(FOLDER, ignore_errors=True)
     if there:
         shutil.copytree(KEPT, FOLDER)
 
 
 def is_renamed(at: int) -> bool:
-    """Whether the call of this number comes after the new journal was renamed."""
+    """Returns whether call number `at` comes after the rename of the new journal."""
     return any(call.startswith("rename") for call in Tears.noted()[: at - 1])
 
 
 def killed(program: Tears, at: int) -> bool:
-    """Kills a run before the call of this number; false if the run makes fewer calls."""
+    """Kills a run before call number `at`. Returns false if the run makes fewer calls."""
     run = program.begun(WORDS, at=at, WAIT_FOR=NEVER)
     ending = time.monotonic() + AT_MOST_SECONDS
     while run.poll() is None and time.monotonic() < ending:
@@ -65,12 +66,12 @@ def killed(program: Tears, at: int) -> bool:
 
 
 def failed(program: Tears, at: int) -> Ending:
-    """How a run ends in which the call of this number fails."""
+    """Returns how a run ends in which call number `at` fails."""
     return ended(program.begun(WORDS, at=at, error=errno.EIO))
 
 
 def kills(program: Tears, old: bytes, new: bytes) -> None:
-    """Kills a run before each call, with and without an old device."""
+    """Kills a run before each call, once with and once without an old device."""
     for there in (True, False):
         at = 0
         fresh(there)
@@ -90,7 +91,7 @@ def kills(program: Tears, old: bytes, new: bytes) -> None:
 
 
 def failures(program: Tears, old: bytes, new: bytes) -> None:
-    """Makes each call of a run fail, with an old device."""
+    """Makes each call of a run fail. The folder has an old device."""
     at, told = 0, set()
     while True:
         at += 1
@@ -108,7 +109,7 @@ def failures(program: Tears, old: bytes, new: bytes) -> None:
 
 
 def main() -> None:
-    """Tries all of this in the current folder."""
+    """Runs all these tests in the current folder."""
     (path,) = sys.argv[1:]
     program = Tears(path)
     old = device(path, KEPT, b"do Startup 0\ndo GetRandom 4\n")

@@ -1,5 +1,5 @@
-# Shared by the tests of the Rust package, which read this file after cases.sh and library.sh: a copy of the
-# package, over the archive under test, in the folder where cargo works.
+# Shared by the tests of the Rust package, which read this file after cases.sh and library.sh. It makes a copy
+# of the package, which is linked with the archive under test, and sets the folder in which cargo works.
 # shellcheck shell=sh disable=SC2154 # cases.sh has `room` and `tests`, library.sh `dist`
 PATH=$PATH:${HOME:-/root}/.cargo/bin
 CARGO_TARGET_DIR=$room/target
@@ -7,7 +7,7 @@ CARGO_NET_OFFLINE=true
 TPMSIM_LIB_DIR=$dist
 export CARGO_TARGET_DIR CARGO_NET_OFFLINE TPMSIM_LIB_DIR
 
-# copy_package: makes the copy `package`.
+# copy_package: makes the copy, in the folder `package`.
 copy_package() {
     cp -rL "$tests/../rust" package && rm -rf package/target package/Cargo.lock package/native
 }

@@ -2,8 +2,9 @@
 
     python3 save_each.py PROGRAM COUNT
 
-The image is checked after each response, and after COUNT kills, each immediately after a response.
-The Python device executes the same commands, and says which image has to be there.
+The image is checked after each response. It is checked again after COUNT kills, each immediately
+after a response. The Python device executes the same commands, and determines the expected
+image.
 """
 
 import os
@@ -53,7 +54,9 @@ class Run:
         self.client = connected("socket")
 
     def wanted(self, line):
-        """The expected answer to the command. The time in an answer is the host's."""
+        """Returns the expected response to the command. The comparison ignores the one to
+        ReadClock, which has the host's time.
+        """
         return self.device.execute(buffer_of(line), 0, RANDOM).response
 
     def tell(self, *lines):
@@ -65,7 +68,7 @@ class Run:
                 fail(f"{line}: {given}, and not {wanted}")
 
     def tell_and_look(self, line):
-        """Sends a command, and checks the image after it; returns whether it was saved."""
+        """Sends a command, and checks the image after it. Returns whether the image was saved."""
         old, saved = identity(), self.saved
         self.tell(line)
         self.saved = device_told(self.device)
@@ -76,7 +79,7 @@ class Run:
         check_image(label, self.device, image_told)
 
     def connect(self):
-        """Closes the connection, and opens another one."""
+        """Closes the connection, and opens another connection."""
         self.close()
         self.client = connected("socket")
 
@@ -93,7 +96,9 @@ class Run:
 
 
 def check_each(program):
-    """Over two connections each change is saved before its answer is sent, and nothing else is."""
+    """In two connections, each change is saved before its response is sent, and nothing else is
+    saved.
+    """
     run = Run(program, 2)
     first = sum([run.tell_and_look(line) for line in LINES])
     old = identity()
@@ -108,7 +113,9 @@ def check_each(program):
 
 
 def check_kills(program, count):
-    """The image has what was answered, after whichever response the program is killed."""
+    """If the program is killed after any response, the image has the effects of all answered
+    commands.
+    """
     for number in range(count):
         run, told = Run(program), LINES[: number % len(LINES) + 1]
         run.tell(*told)
@@ -118,7 +125,9 @@ def check_kills(program, count):
 
 
 def check_pieces(program):
-    """Of many commands at once, the answered ones are in the image, even if others follow."""
+    """If many commands arrive at once, the image has the effects of the answered ones, even if
+    others follow.
+    """
     run = Run(program)
     told = ["Startup 0", *[INCREMENT] * 100]
     run.client.sendall(b"".join(map(buffer_of, told)))
@@ -136,8 +145,9 @@ def check_pieces(program):
 
 
 def check_unsaved(program):
-    """A change that cannot be saved is not answered, and ends the program. A command that needs no
-    save is answered."""
+    """If a change cannot be saved, its command is not answered, and the program ends. A command
+    that needs no save is answered.
+    """
     run = Run(program)
     run.tell(*LINES[:4])
     BESIDE.mkdir()

@@ -1,4 +1,5 @@
-"""A script that a program writes: NAME.tpm, and NAME.out with the answers of the Python device."""
+"""A script that a program writes: NAME.tpm, and NAME.out with the responses of the Python device.
+"""
 
 import hashlib
 import os
@@ -13,20 +14,21 @@ from tests.common.outputs import Played, POWER, RANDOM_BYTES, repeated, write_ou
 
 COLUMNS = 100
 
-# The size of each command's `entropy` line, in bytes: no two nonces of a command are then the same.
+# The size of each command's `entropy` line, in bytes. With this size the nonces of a command all
+# differ.
 SEED_BYTES = 7
 
 # The end of a script's first comment, which begins with the name of its program.
 WROTE_THIS, MADE_THIS = ", next to it, wrote this.", " made this."
 
-# An outcome in words: after a colon, and before a comma or the end.
+# An outcome in a description: it comes after a colon, and before a comma or the end.
 SUCCESS = "SUCCESS"
 OUTCOME = re.compile(r"(?:^|: )([A-Z][A-Z0-9_]+)(/[hps][1-9])?(?=,|$)")
 
 
 def told_outcome(words: str) -> tuple[str, str, str]:
-    """The one outcome that words name, with the words before it and after it. ValueError if they
-    name none, or more than one.
+    """Returns the outcome in a description, with the words before it and after it. ValueError if
+    there is no outcome, or more than one.
     """
     named = [it for it in OUTCOME.finditer(words) if it[1] == SUCCESS or it[1] in frames.CODES]
     if len(named) != 1:
@@ -36,13 +38,16 @@ def told_outcome(words: str) -> tuple[str, str, str]:
 
 
 def told_head(told: str) -> str:
-    """What the first paragraph of a program says of its script, after the script's name."""
+    """Returns the first paragraph of a program's description of its script, without the script's
+    name.
+    """
     return " ".join(told.split("\n\n")[0].partition(".tpm. ")[2].split())
 
 
 class Script:
-    """Lines, and a device that executes them as they are written. The script has the name of its
-    program unless it has its own. It is stored next to the program, or made when it is played.
+    """The lines of a script, and a device that executes them while they are written. The script has
+    the name of its program unless it has its own. It is stored next to the program, or made when
+    it is played.
     """
 
     def __init__(
@@ -58,7 +63,7 @@ class Script:
 
     @property
     def last(self) -> Outcome:
-        """The outcome of the last command."""
+        """Returns the outcome of the last command."""
         return next(it.outcome for it in reversed(self.played) if it.outcome)
 
     def write_comment(self, text: str) -> None:
@@ -80,7 +85,7 @@ class Script:
         self.lines += ["", "power"]
 
     def wait(self, milliseconds: int) -> None:
-        """Lets milliseconds pass before the next command."""
+        """Lets this many milliseconds pass before the next command."""
         if self.lines[-1].startswith(("cmd", "do ")):
             self.lines.append("")
         self.let_pass(milliseconds)
@@ -94,16 +99,16 @@ class Script:
         self.lines.append(f"entropy {seed.hex()}")
 
     def fresh(self) -> None:
-        """Gives the device random bytes that it did not have before."""
+        """Gives the device random bytes that it has not had before."""
         self.seeds += 1
         self.entropy(hashlib.sha256(b"entropy %d" % self.seeds).digest()[:SEED_BYTES])
 
     def command(
         self, words: str, *buffers: bytes, fresh: bool = False, as_bytes: bool = False
     ) -> bytes:
-        """Adds commands with the one outcome that their words name after a colon; returns the last
-        one's response. The words become a comment; if they are the outcome alone, the last comment
-        goes on. ValueError if a command has another outcome.
+        """Adds commands, all with the outcome that `words` names after a colon. Returns the last
+        response. The words become a comment. If they are only the outcome, the last comment is
+        continued. ValueError if a command has another outcome.
         """
         before, outcome, after = told_outcome(words)
         if before:
@@ -127,8 +132,9 @@ class Script:
         return self.command("TPM2_Startup(CLEAR): SUCCESS", startup)
 
     def allow_tries(self) -> None:
-        """For scripts with wrong authorization values that are not about dictionary attack
-        protection. Without it the device would refuse right values too, after the third wrong one.
+        """Sets the dictionary attack parameters for scripts with wrong authorization values that
+        are not about that protection. Without these parameters the device would refuse right
+        values too after the third wrong one.
         """
         self.command(
             "TPM2_DictionaryAttackParameters: maxTries and recoveryTime are 1,000, lockoutRecovery "
@@ -141,7 +147,9 @@ class Script:
         )
 
     def wait_each_time(self) -> None:
-        """For wrong tries at lockoutAuth, after allow_tries."""
+        """Lets time pass after authorization attempts for lockoutAuth with a wrong value.
+        allow_tries must come first.
+        """
         self.chapter(
             "A wrong try at lockoutAuth closes it for lockoutRecovery. So a second passes before "
             "each command from here on."
@@ -149,8 +157,8 @@ class Script:
         self.pause = 1000
 
     def write_below(self, folder: pathlib.Path) -> None:
-        """Writes the script with its responses and its trace, in FOLDER/GROUP. GROUP is the folder
-        of its program.
+        """Writes the script with its responses and its trace, in FOLDER/GROUP. GROUP is the name of
+        its program's folder.
         """
         self.path = folder / self.path.parent.name / self.path.name
         self.path.parent.mkdir(parents=True, exist_ok=True)

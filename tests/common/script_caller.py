@@ -1,5 +1,6 @@
-"""A caller whose commands become a script: each has words, and an expected outcome. The caller
-checks each response, and stops if it is not the one that it computes itself.
+"""A caller whose commands become a script. Each command has a description and an expected outcome.
+The caller checks each response, and stops if it differs from the response that it computes
+itself.
 """
 
 import hashlib
@@ -21,7 +22,7 @@ FIRST, SECOND, THIRD, FOURTH = range(0x0100_0001, 0x0100_0005)
 
 
 def zeros(session: Session) -> bytes:
-    """The digest that a policy begins with."""
+    """Returns the digest of a policy without assertions."""
     return bytes(digest_bytes(session.algorithm))
 
 
@@ -30,8 +31,8 @@ def is_trial(session: Session) -> bool:
 
 
 class ScriptCaller(PreparedCommands):
-    """Its commands take their words first. If a command may be refused, the words name its outcome,
-    as in "By another password: BAD_AUTH/s1".
+    """A caller each of whose commands takes its description first. If the command may be refused,
+    the description names its outcome, such as "By another password: BAD_AUTH/s1".
     """
 
     def __init__(self, script: Script) -> None:
@@ -40,18 +41,18 @@ class ScriptCaller(PreparedCommands):
         self.ticket, self.creation_data = (0, b""), b""
 
     def next_nonce(self, size: int = NONCE_BYTES) -> bytes:
-        """The next nonce, which is the same in each script."""
+        """Returns the next nonce. The nonces are the same in each script."""
         self.nonces += 1
         return hashlib.sha256(b"nonce %d" % self.nonces).digest()[:size]
 
-    # Sending.
+    # Methods that send commands.
 
     def refused(self, words: str, *prepared: Prepared) -> None:
-        """Sends commands that must be refused; sessions then stay as they were."""
+        """Sends commands that must be refused. Sessions then stay as they were."""
         self.script.command(words, *(it.buffer() for it in prepared), fresh=True)
 
     def says(self, words: str, *prepared: Prepared) -> bytes:
-        """Sends commands in which no session has an entry, and which draw no random bytes."""
+        """Sends commands that have no entry of a session and draw no random bytes."""
         return self.script.command(words, *(it.buffer() for it in prepared))
 
     @staticmethod
@@ -59,27 +60,29 @@ class ScriptCaller(PreparedCommands):
         return any(isinstance(it, Use) for it in prepared.uses)
 
     def fails(self, words: str, *prepared: Prepared) -> None:
-        """Sends commands, with fresh random bytes if a session has an entry."""
+        """Sends commands. The device gets fresh random bytes if a session has an entry."""
         buffers = [it.buffer() for it in prepared]
         self.script.command(words, *buffers, fresh=any(map(self.draws, prepared)))
 
     def accepted(
         self, what: str, prepared: Prepared, fresh: bool = True
     ) -> tuple[int | None, bytes]:
-        """Sends a command that must be accepted, checks its response, and returns the handle and
-        the parameters of it, decrypted. Without words the last comment goes on. What follows a `|`
-        in the words comes after the outcome.
+        """Sends a command that must be accepted, and checks its response. Returns the handle and
+        the decrypted parameters. Without a description the last comment is continued. The part
+        of `what` after a `|` comes after the outcome.
         """
         before, bar, after = what.partition("|")
         words = f"{before}: {SUCCESS}{bar and ', '}{after}"
         return self.received(prepared, self.script.command(words, prepared.buffer(), fresh=fresh))
 
     def does(self, what: str, prepared: Prepared) -> bytes:
-        """The same, with fresh random bytes if a session has an entry; returns the parameters."""
+        """Sends a command that must be accepted, with fresh random bytes if a session has an entry.
+        Returns the parameters.
+        """
         return self.accepted(what, prepared, self.draws(prepared))[1]
 
     def response(self, what: str, prepared: Prepared) -> Response:
-        """The same for a command whose answer is read field by field."""
+        """Sends a command that must be accepted, and returns its response as fields."""
         return Response(prepared.code, *self.accepted(what, prepared))
 
     # Sessions.
@@ -95,7 +98,7 @@ class ScriptCaller(PreparedCommands):
         kind: int = SE_HMAC,
         xor: bool = False,
     ) -> Session:
-        """Starts a session, and returns it as this caller knows it."""
+        """Starts a session, and returns the caller's record of it."""
         nonce, cipher = self.nonce(size), XOR if xor else AES if aes else ALG_NULL
         handles, parameters = frames.start_auth_session(
             *(nonce, bind, algorithm, aes), kind=kind, xor=algorithm if xor else None
@@ -110,7 +113,9 @@ class ScriptCaller(PreparedCommands):
         return self.start(what, kind=SE_TRIAL, **choices)
 
     def each_session(self, **choices: Any) -> Iterator[Session]:
-        """A policy and a trial session of each hash in turn, each in its own chapter."""
+        """Yields a policy session and a trial session for each hash in turn, each in its own
+        chapter.
+        """
         for algorithm, hash_name in HASHES:
             for kind, name in KINDS:
                 self.script.chapter(f"A {name} session of {hash_name}.")
@@ -125,7 +130,9 @@ class ScriptCaller(PreparedCommands):
     # Objects.
 
     def creation_answer(self, response: Response) -> Public:
-        """The public area of a response. Its creation data must have the creation hash."""
+        """Returns the public area in a response. The response's creation data must have its
+        creation hash.
+        """
         public, ticket = Public.read(response["outPublic"]), response["creationTicket"]
         self.creation_data = response["creationData"]
         assert response["creationHash"] == digest(public.name_algorithm, self.creation_data)
@@ -163,7 +170,9 @@ class ScriptCaller(PreparedCommands):
         return response.handle
 
     def read_public(self, what: str, handle: int, *uses: Means) -> tuple[Public, bytes]:
-        """The public area and the qualified name of an object whose Name the caller knows."""
+        """Reads the public area of an object, whose Name the caller knows. Returns the area and the
+        qualified name.
+        """
         response = self.response(what, self.public(handle, *uses))
         public = Public.read(response["outPublic"])
         assert response["name"] == public.name == self.names[handle]
@@ -178,7 +187,7 @@ class ScriptCaller(PreparedCommands):
             self.accepted(what if handle == handles[0] else "", self.flush(handle))
 
     def keep(self, what: str, asker: int, handle: int, wanted: int, *uses: Means) -> int:
-        """Makes a persistent object of a transient one, and returns its handle."""
+        """Makes a transient object persistent, and returns the persistent handle."""
         self.does(what, self.evicting(asker, handle, wanted, *uses))
         return wanted
 
@@ -203,12 +212,14 @@ class ScriptCaller(PreparedCommands):
         offset: int = 0,
         by: int | None = None,
     ) -> None:
-        """Reads bytes of the index, which must be these data."""
+        """Reads bytes of the index. They must be `data`."""
         prepared = self.reading(index, len(data), *uses, offset=offset, by=by)
         assert self.does(what, prepared) == sized(data), what
 
     def read_index_public(self, what: str, index: int, *uses: Means) -> nv.Public:
-        """Reads the public area. The caller notes it, because a start may have changed it."""
+        """Reads an index's public area. The caller records it, because TPM2_Startup may have
+        changed it.
+        """
         fields = Fields(self.does(what, self.index_public(index, *uses)))
         fields.sized()
         public = self.publics[index]
@@ -216,15 +227,15 @@ class ScriptCaller(PreparedCommands):
         return public
 
     def is_now(self, what: str, index: int, *uses: Means, added: int = 0, cleared: int = 0) -> None:
-        """Reads a public area, in which only these attributes must have changed."""
+        """Reads a public area. Only these attributes must have changed since it was read last."""
         wanted = self.publics[index].but(added, cleared)
         public = self.read_index_public(what, index, *uses)
         assert public == wanted, f"{what}: {public.attributes:08x}"
 
-    # What the device keeps.
+    # Commands for what the device keeps.
 
     def start_up(self, what: str, kind: int = CLEAR) -> None:
-        """TPM2_Startup; CLEAR removes the platform's authorization value."""
+        """Sends TPM2_Startup. With CLEAR, the platform's authorization value becomes empty."""
         self.does(what, self.starting(kind))
 
     def set_protection(

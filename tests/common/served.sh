@@ -1,21 +1,22 @@
-# Shared by the tests of a served device, which read it after cases.sh, which sets `program` and `room`. A
+# Shared by the tests of a served device. They read it after cases.sh, which sets `program` and `room`. A
 # client in Python sends the commands, and prints each response on a line.
 needs python3
 client=$tests/common/client.py
 
-# bytes_of COUNT OCTAL: prints COUNT bytes of this value.
+# bytes_of COUNT OCTAL: prints COUNT bytes, each with this value.
 bytes_of() {
     head -c "$1" /dev/zero | tr '\0' "\\$2"
 }
 
-# The random bytes of the manufacture are zeros; those of the first command are ones, and so on.
+# The random bytes of the manufacture are zeros. Those of the first command are ones, those of the second
+# command twos, and so on.
 bytes_of 256 000 >entropy
 for octal in 001 002 003 004 005 006 007 010 011 012 013 014 015; do
     bytes_of 256 "$octal" >>entropy
 done
 
-# begin CONNECTIONS: serves CONNECTIONS connections in the background, with the test's further options;
-# from locality 0 and with `image`, unless the test sets others.
+# begin CONNECTIONS: serves CONNECTIONS connections in the background, with the test's further options. The
+# locality is 0 and the image is `image`, unless the test sets other values.
 begin() {
     rm -f "$room/output" "$room/error"
     # shellcheck disable=SC2086 # the options are words
@@ -24,19 +25,19 @@ begin() {
         2>"$room/error" &
 }
 
-# there: waits until the socket is there.
+# there: waits until the socket exists.
 there() {
     until [ -S socket ]; do sleep 0.01; done
 }
 
-# talk LABEL SIZE HEX..: a connection that sends these bytes in pieces of SIZE bytes.
+# talk LABEL SIZE HEX..: connects, and sends these bytes in pieces of SIZE bytes.
 talk() {
     echo "$1:"
     shift
     python3 "$client" socket "$@" | sed 's/^/    /'
 }
 
-# ended LABEL: prints how the program ended, and whether it left its socket.
+# ended LABEL: prints how the program ended, and whether its socket still exists.
 ended() {
     status=0
     wait "$!" || status=$?
@@ -44,7 +45,7 @@ ended() {
     [ ! -e socket ] || echo '    the socket is still there'
 }
 
-# words LINE: the buffer of a command in words.
+# words LINE: prints the buffer of a command in words.
 words() {
     "$program" asm "$1"
 }

@@ -18,10 +18,10 @@ AT_MOST = 60
 SHOWN = 2000
 SERVE = "serve --socket socket --image image --entropy entropy --locality 0 --connections".split()
 
-# The files of a run that always stay.
+# The files that a run may always leave.
 OWN = {"image", "image.lock", "entropy"}
 
-# Other functions that get memory than the two that the shim refuse.c replaces.
+# Functions that allocate, other than the two that the shim refuse.c replaces.
 OTHERS = (
     "aligned_alloc calloc memalign mmap mmap64 mremap posix_memalign pvalloc reallocarray"
     " brk sbrk valloc".split()
@@ -30,13 +30,14 @@ OTHERS = (
 FOREVER = 1_000_000_000
 CALLS = pathlib.Path("calls")
 
-# What turns.h reads and writes: the two numbers of a run; later its status and its mark.
+# The data that turns.h reads and writes: first the two numbers of a run, and after the run its
+# status and its mark.
 TURN, REPORT = struct.Struct("ll"), struct.Struct("ii")
 
 
 @dataclass(frozen=True)
 class Ending:
-    """How a run ended, and what it printed."""
+    """The status with which a run ended, and its output."""
 
     status: int
     output: bytes = b""
@@ -49,7 +50,7 @@ ENTROPY = Ending(3, error=b"tpmsim: entropy\n")
 
 
 def fail(words):
-    """Says what is wrong, cut off at a readable length."""
+    """Ends the test with a description of what is wrong, cut off at a readable length."""
     sys.exit(f"WRONG: {words[:SHOWN]}")
 
 
@@ -66,26 +67,28 @@ def ended(process, stdin=b""):
 
 
 def end(process, wanted=WELL, label="a run"):
-    """Checks that a run ends like this."""
+    """Checks that a run ends as expected."""
     given = ended(process)
     if given != wanted:
         fail(f"{label} ended with {given}, and not {wanted}")
 
 
 def ran(*words, stdin=b""):
-    """Runs a program to its end."""
+    """Runs a program to its end, and returns the ending."""
     done = subprocess.run(words, input=stdin, capture_output=True, timeout=AT_MOST, check=False)
     return Ending(done.returncode, done.stdout, done.stderr)
 
 
 class Room:
-    """A folder in which a run finds its image, if any, and its random bytes."""
+    """A folder with the files of a run: its image, if any, and its random bytes."""
 
     def __init__(self, name):
         self.path = pathlib.Path(name)
 
     def furnish(self, image, entropy):
-        """Removes what is there, but not the folder: runs may have been begun in it."""
+        """Empties the folder, and adds the image and the random bytes. The folder itself stays,
+        because runs may have begun in it.
+        """
         self.path.mkdir(exist_ok=True)
         for path in self.path.iterdir():
             if path.is_dir():
@@ -103,7 +106,7 @@ class Room:
 
     @property
     def left(self):
-        """The other files that a run has left."""
+        """Returns the other files that a run has left."""
         return tuple(sorted({path.name for path in self.path.iterdir()} - OWN))
 
 
@@ -116,7 +119,9 @@ class Shim:
         subprocess.run(words, check=True)
 
     def check_calls(self, others):
-        """Checks that the program calls no other functions that do what those of the shim do."""
+        """Checks that the program calls none of the other functions that do the same as the shim's
+        functions. Returns the functions that it calls.
+        """
         words = ["nm", "-D", "--undefined-only", self.program]
         told = subprocess.run(words, check=True, capture_output=True, text=True).stdout
         called = {line.split()[-1].partition("@")[0] for line in told.splitlines()}
@@ -129,7 +134,7 @@ class Shim:
 
 
 class MemoryFile:
-    """A standard stream of runs; each run begins to read or write it at its beginning."""
+    """A standard stream of runs. Each run reads or writes it from its beginning."""
 
     def __init__(self, name):
         self.name, self.file = name, open(os.memfd_create(name), "w+b", buffering=0)
@@ -148,8 +153,8 @@ class MemoryFile:
 
 
 class Turns:
-    """Runs in a folder, one after another, of a program with a shim that has turns.h. They have the
-    same words; only the last word may differ from run to run.
+    """Runs in a folder, one after another, of a program with a shim that includes turns.h. All runs
+    have the same words, except that the last word may differ.
     """
 
     def __init__(self, shim, words, folder="."):
@@ -174,13 +179,13 @@ class Turns:
         self.process.wait()
 
     def begin(self, first=0, second=0, word=None, stdin=b""):
-        """Begins a run, with the two numbers for its shim, and perhaps a last word."""
+        """Begins a run with the two numbers for its shim, and with a last word if there is one."""
         for stream, content in zip(self.streams, (stdin, b"", b"")):
             stream.fill(content)
         self.socket.send(TURN.pack(first, second) + (b"" if word is None else word + b"\0"))
 
     def poll(self):
-        """None as long as the run goes on, like a process's `poll`."""
+        """Returns None while the run goes on, like a process's `poll`."""
         ready, _, _ = select.select([self.socket], [], [], 0)
         return ready or None
 
@@ -199,26 +204,28 @@ class Turns:
 
 
 class Tears(Shim):
-    """A program whose calls the shim tear.c notes; the shim makes one of them fail."""
+    """A program with the shim tear.c, which notes its calls and makes one of them fail."""
 
     def __init__(self, program):
         super().__init__(program, "tear")
 
     def begun(self, words, folder=".", at=0, error=0, calls=CALLS, **told):
-        """A run whose call `at` fails with an error, or moves half its bytes if that is 0."""
+        """Begins a run whose call number `at` fails with an error. If the error is 0, the call
+        moves half its bytes.
+        """
         calls.unlink(missing_ok=True)
         told |= {"AT": at, "ERROR": error, "CALLS": calls.resolve()}
         return super().begun(words, folder, **told)
 
     @staticmethod
     def noted(calls=CALLS):
-        """The calls so far, each with its file."""
+        """Returns the calls so far, each with its file."""
         return [call.strip() for call in calls.read_text("ascii").splitlines()]
 
 
 class Refusals(Shim):
-    """A program to which the shim refuse.c refuses memory: a run's allocations from the first
-    number to the second.
+    """A program with the shim refuse.c, which makes allocations fail. In a run these are the
+    allocations from the first number to the second.
     """
 
     def __init__(self, program):
@@ -227,14 +234,15 @@ class Refusals(Shim):
             fail("the program does not get its memory by malloc")
 
     def whole(self, words, stdin=b""):
-        """How the program ends if nothing is refused."""
+        """Returns how the program ends if no allocation fails."""
         with Turns(self, words) as turns:
             return turns.run(stdin=stdin)
 
     @staticmethod
     def each(turns, run):
-        """Refuses each allocation in turn, alone and with all that follow. `run` makes a run of the
-        two numbers. Yields each allocation's number, with the results of both runs.
+        """Makes each allocation fail in turn: in one run only that one, and in another also all
+        that follow. `run` makes a run from the two numbers. Yields each allocation's number,
+        with the results of both runs.
         """
         turn = 1
         while True:
@@ -247,9 +255,9 @@ class Refusals(Shim):
             fail("nothing could be refused")
 
     def compare(self, label, turns, run, whole, starved, needed=FOREVER):
-        """Checks that a run comes to `starved` if memory is refused to it. If a single allocation
-        is refused, it may also come to the same as with nothing refused. After the first `needed`
-        allocations it always comes to that. Returns how many allocations there are.
+        """Checks that a run results in `starved` if all allocations from one on fail. If a single
+        allocation fails, the result may also be `whole`. After the first `needed` allocations
+        the result is always `whole`. Returns the number of allocations.
         """
         for turn, alone, rest in self.each(turns, run):
             if alone not in ((whole, starved) if turn <= needed else (whole,)):
@@ -259,7 +267,9 @@ class Refusals(Shim):
         return turn
 
     def check(self, label, words, whole, memory, stdin=b"", needed=FOREVER):
-        """The same for how a run ends, which must be `whole` with nothing refused."""
+        """Does the same as `compare` for how a run ends. The ending must be `whole` if no
+        allocation fails.
+        """
         with Turns(self, words) as turns:
             run = functools.partial(turns.run, stdin=stdin)
             given = run()

@@ -1,10 +1,11 @@
-"""Refuses memory to `tpmsim`:
+"""Makes allocations of `tpmsim` fail:
 
     python3 starved.py PROGRAM
 
-Each allocation is refused in turn, alone and with all that follow. If all are refused, the run has
-to end with status 3 and `tpmsim: memory`. If one alone is refused, it has to end so too, or exactly
-as it does with nothing refused: some collections ask again, for less.
+Each allocation fails in turn: in one run only that one, in another also all that follow. If all
+that follow fail too, the run has to end with status 3 and `tpmsim: memory`. If only one fails,
+the run has to end so too, or exactly as without a failure, because some collections ask again
+for less.
 """
 
 import functools
@@ -21,7 +22,8 @@ TOP = HERE.parent.parent
 SCRIPT = TOP / "examples/measured_boot.tpm"
 MEMORY = Ending(3, error=b"tpmsim: memory\n")
 
-# TPM2_Startup(CLEAR), TPM2_GetRandom of 4 bytes, and a new ownerAuth: what a connection sends.
+# The bytes that a connection sends: TPM2_Startup(CLEAR), TPM2_GetRandom of 4 bytes, and a new
+# ownerAuth.
 SENT = bytes.fromhex(
     "80010000000c000001440000"
     "80010000000c0000017b0004"
@@ -30,7 +32,7 @@ SENT = bytes.fromhex(
 )
 ROOM = Room("served")
 
-# Most runs leave the image that they found.
+# Results are cached, because most runs leave the image that they found.
 image_told = functools.cache(streams.image_told)
 
 
@@ -39,7 +41,7 @@ def out_of(name):
 
 
 def check_words(program):
-    """Runs that need only their words."""
+    """Tests runs that need only their words."""
     script, line = str(SCRIPT), "Startup 0"
     pathlib.Path("bad").write_text("do Startup 3 3\n", "ascii")
     pathlib.Path("startup").write_text("do Startup 0\n", "ascii")
@@ -74,7 +76,8 @@ def check_words(program):
 
 @dataclass(frozen=True)
 class Service:
-    """The result of a serving run: how it ended, what it answered, and what is in its folder."""
+    """The result of a run that serves: how it ended, its responses, and the contents of its folder.
+    """
 
     ending: Ending
     answers: bytes
@@ -83,7 +86,7 @@ class Service:
 
 
 def talked(turns):
-    """What a connection is answered; None if the run ends before it."""
+    """Returns the responses to a connection; empty if the run ends before it."""
     client = connected(ROOM.path / "socket", turns)
     if not client:
         return b""
@@ -96,8 +99,9 @@ def talked(turns):
 
 
 def check_service(program, label, image, connections):
-    """A run that serves this many connections, with or without an image. It gets its memory before
-    it makes its socket. So a starved run answers nothing, and leaves only the lock of its image.
+    """Tests runs that serve this many connections, with or without an image. A run allocates before
+    it makes its socket. So a run whose allocation fails answers nothing, and leaves only the
+    lock of its image.
     """
 
     def run(*refused):

@@ -2,8 +2,8 @@
 
     python3 state_processes.py PROGRAM
 
-Each command extends PCR 16. What was answered is in the journal: PCR 16 has at least as many
-extends as were answered, and at most one more for each process that was killed.
+Each command extends PCR 16. The journal has all answered commands: PCR 16 has had at least as
+many extends as were answered, and at most one more for each process that was killed.
 """
 
 import hashlib
@@ -21,7 +21,7 @@ SUCCESS = "80020000001300000000000000000000010000"
 
 
 def begun(program: str, script: str) -> "subprocess.Popen[bytes]":
-    """A run that has started, and reads its script from a pipe."""
+    """Begins a run that reads its script from a pipe."""
     run = shims.begun([program, "run", "--state", "state", "-"])
     run.stdin.write(script.encode("ascii"))
     run.stdin.close()
@@ -30,12 +30,12 @@ def begun(program: str, script: str) -> "subprocess.Popen[bytes]":
 
 
 def answers(run: "subprocess.Popen[bytes]") -> list[str]:
-    """The answers of a run, up to its end."""
+    """Returns the responses of a run up to its end."""
     return run.communicate()[0].decode("ascii").splitlines()
 
 
 def extends(program: str) -> int:
-    """The number of extends that PCR 16 has had."""
+    """Returns the number of extends that PCR 16 has had."""
     (line,) = answers(begun(program, READ))
     value = bytes.fromhex(line)[-32:]
     count = 0
@@ -49,7 +49,7 @@ def extends(program: str) -> int:
 
 
 def together(program: str, processes: int, each: int) -> None:
-    """Several processes at once, each with as many extends as `each` says."""
+    """Runs several processes at once, each of which makes `each` extends."""
     before = extends(program)
     runs = [begun(program, EXTEND * each) for _ in range(processes)]
     said = [line for run in runs for line in answers(run)]
@@ -59,7 +59,7 @@ def together(program: str, processes: int, each: int) -> None:
 
 
 def killed(program: str, times: int) -> None:
-    """Kills processes at random moments, while others go on."""
+    """Kills processes at random moments while others go on."""
     rolls = random.Random(57)
     lost = 0
     for _ in range(times):
@@ -73,7 +73,7 @@ def killed(program: str, times: int) -> None:
 
 
 def main() -> None:
-    """Plays all of this in the current folder."""
+    """Runs all these tests in the current folder."""
     (program,) = sys.argv[1:]
     print(answers(begun(program, "do Startup 0\n"))[0])
     together(program, 4, 25)

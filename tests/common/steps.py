@@ -1,4 +1,5 @@
-"""A teller with the steps that many scripts take, and values that the steps use."""
+"""A caller of scripts with the steps that many scripts take, and the values that these steps use.
+"""
 
 import contextlib
 import functools
@@ -21,7 +22,7 @@ HIERARCHIES = (
     (RH_NULL, "TPM_RH_NULL"),
 )
 
-# What a changeable value authorizes, with a value for each.
+# The entities with an authorization value that can change, each with a value.
 AUTHORIZED = (
     (RH_OWNER, "TPM_RH_OWNER", b"owner"),
     (RH_ENDORSEMENT, "TPM_RH_ENDORSEMENT", b"endorsement"),
@@ -29,11 +30,12 @@ AUTHORIZED = (
     (RH_LOCKOUT, "TPM_RH_LOCKOUT", b"lockout"),
 )
 
-# The attributes of an object with dictionary attack protection, and of one whose key is generated.
+# Attributes of two objects: one with dictionary attack protection, and one whose key the device
+# generates.
 PROTECTED = HERE | Attribute.USER_WITH_AUTH
 GENERATED = HERE | OPEN | Attribute.SENSITIVE_DATA_ORIGIN
 
-# The digest of a policy that demands the authorization value, by its hash algorithm.
+# For each hash algorithm, the digest of a policy that demands the authorization value.
 AFTER_AUTH_VALUE = {
     algorithm: policy.after_auth_value(algorithm, bytes(digest_bytes(algorithm)))
     for algorithm in (SHA1, SHA256)
@@ -41,11 +43,12 @@ AFTER_AUTH_VALUE = {
 
 RESTRICTED_KEY = hmac_key(attributes=HERE | OPEN | Attribute.RESTRICTED)
 
-# Handles that are not of objects, and the outcome of a command that needs an object.
+# Handles that do not name objects, and the outcome of a command that needs an object.
 OTHERS = RH_OWNER, RH_NULL, 0, 0x0100_0000, 0x0200_0000, 0x0300_0000
 NO_OBJECT = "No object's handle: TPM_RH_OWNER, TPM_RH_NULL, PCR 0, an NV index, sessions: VALUE/h1"
 
-# Uses of a session whose policy demands the authorization value: in the HMAC's key, or in plain.
+# Uses of a session whose policy demands the authorization value, in the HMAC's key or as a
+# password.
 with_value = functools.partial(Use, demand=AUTH_VALUE)
 in_plain = functools.partial(Use, demand=PASSWORD)
 
@@ -53,14 +56,17 @@ in_plain = functools.partial(Use, demand=PASSWORD)
 def aes_key(
     attributes: int = Attribute.SIGN | Attribute.DECRYPT, algorithm: int = SHA256
 ) -> Public:
-    """The template of an AES key that the caller provides, with its further attributes."""
+    """Returns the template of an AES key that the caller provides, with these further attributes.
+    """
     return Public(SYMCIPHER, algorithm, HERE | OPEN | attributes)
 
 
 class Steps(Teller):
-    """A step sends commands. Their outcome is the one in its words, or else the one in its name."""
+    """A caller whose steps send commands. Their outcome is in the step's description, or else in
+    the step's name.
+    """
 
-    # Commands that need an object.
+    # Steps for commands that need an object.
 
     def refuses_others(
         self,
@@ -69,7 +75,9 @@ class Steps(Teller):
         transient: Sequence[int] = (0x8000_0000, 0x8000_0008, 0x80FF_FFFF),
         persistent: Sequence[int] = (0x8100_0000,),
     ) -> None:
-        """While there is no object: a command on other handles, and on handles of objects."""
+        """Sends a command while there is no object: on handles of other kinds, and on handles of
+        objects.
+        """
         self.says(NO_OBJECT, *map(prepare, (*OTHERS, *more)))
         words = "A transient object, while there is none: REFERENCE_H0"
         self.says(words, *map(prepare, transient))
@@ -79,7 +87,7 @@ class Steps(Teller):
         words = "It has to be authorized: no sessions (tag 8001): AUTH_MISSING"
         self.raw(words, command(code, number(handle, 4) + parameters))
 
-    # Objects, sessions and indices that exist for a while.
+    # Steps for objects, sessions and indices that exist for a while.
 
     def owned(self, what: str, public: Public, *uses: Means, **more: Any) -> int:
         """Makes a primary object of the owner's hierarchy, and returns its handle."""
@@ -99,7 +107,7 @@ class Steps(Teller):
         flushed: str = "It is flushed",
         **more: Any,
     ) -> Iterator[int]:
-        """A primary object, which is flushed at the end."""
+        """Makes a primary object, and flushes it at the end."""
         handle = self.create_primary(what, hierarchy, public, *uses, **more)
         yield handle
         self.flush_objects(flushed, handle)
@@ -108,7 +116,7 @@ class Steps(Teller):
     def loaded(
         self, what: str, parent: int, made: Made, *uses: Means, flushed: str = "It is flushed"
     ) -> Iterator[int]:
-        """An object below its parent, which is flushed at the end."""
+        """Loads an object below its parent, and flushes it at the end."""
         handle = self.load(what, parent, made, *uses)
         yield handle
         self.flush_objects(flushed, handle)
@@ -116,34 +124,36 @@ class Steps(Teller):
     def written(
         self, what: str, public: nv.Public, data: bytes, auth: bytes = b"", by: int | None = None
     ) -> None:
-        """An index that the owner defines, and that is written."""
+        """Defines an index by the owner, and writes it."""
         self.define(what, public, auth=auth)
         self.does("It is written", self.writing(public.index, data, by=by))
 
     def flushes(self, what: str, *sessions: Session) -> None:
-        """Flushes sessions, with the same words for each."""
+        """Flushes sessions, with the same description for each."""
         for session in sessions:
             self.does(what, self.flush(session))
 
-    # Policies that demand the authorization value.
+    # Steps for policies that demand the authorization value.
 
     def by_value(self, session: Session, attributes: int = CONTINUE_SESSION) -> Use:
-        """TPM2_PolicyAuthValue, and the use of the session that its policy then demands."""
+        """Sends TPM2_PolicyAuthValue, and returns the use of the session that its policy then
+        demands.
+        """
         self.does("TPM2_PolicyAuthValue", self.auth_value_told(session))
         return with_value(session, attributes)
 
     def by_password(self, session: Session, attributes: int = CONTINUE_SESSION) -> Use:
-        """The same with TPM2_PolicyPassword."""
+        """Does the same with TPM2_PolicyPassword."""
         self.does("TPM2_PolicyPassword", self.password_told(session))
         return in_plain(session, attributes)
 
     def encrypts_nothing(self, prepare: Callable[[], Prepared]) -> None:
-        """A command by a session that could encrypt, when there is nothing to encrypt."""
+        """Sends a command by a session that could encrypt, when there is nothing to encrypt."""
         for attribute, words in ((DECRYPT, "decrypted"), (ENCRYPT, "encrypted")):
             bent = prepare().but_entry(1, attributes=CONTINUE_SESSION | attribute)
             self.refused(f"Nothing can be {words}: ATTRIBUTES/s1", bent)
 
-    # What the device keeps.
+    # Steps for what the device keeps.
 
     def saves(self) -> None:
         self.does("TPM2_Shutdown(STATE)", self.shutting_down(STATE))
@@ -172,14 +182,16 @@ class Steps(Teller):
         elements: Sequence[int | tuple[int, int]],
         more: bool = False,
     ) -> None:
-        """TPM2_GetCapability returns these numbers or pairs, and whether there are more."""
+        """Checks that TPM2_GetCapability returns these numbers or pairs, and whether there are
+        more.
+        """
         numbers = itertools.chain(*(it if isinstance(it, tuple) else (it,) for it in elements))
         listed = number(len(elements), 4) + b"".join(number(it, 4) for it in numbers)
         answer = self.does(what, self.capability(kind, first, count))
         assert answer == number(more, 1) + number(kind, 4) + listed, what
 
     def clock_is(self, what: str, time: int, clock: int, resets: int, restarts: int) -> None:
-        """TPM2_ReadClock returns these numbers."""
+        """Checks that TPM2_ReadClock returns these numbers."""
         counts = number(resets, 4) + number(restarts, 4)
         answer = number(time, 8) + number(clock, 8) + counts + b"\1"
         assert self.does(what, self.clock()) == answer, what

@@ -1,9 +1,9 @@
-"""Devices on a socket: what `tpmsim serve` answers to the bytes of connections, in consecutive runs
-on one image. Lines say what happens:
+"""Devices on a socket: the expected responses of `tpmsim serve` to the bytes of connections, in
+consecutive runs on one image. Lines say what happens:
 
-    new HEX        removes the image; the next run makes a device of these random bytes
-    image HEX      replaces the image by these bytes
-    run N          begins a run from locality N, on the image
+    new HEX        removes the image; the next run makes a device from these random bytes
+    image HEX      replaces the image with these bytes
+    run N          begins a run on the image, from locality N
     connection N   begins a connection, which sends its bytes in pieces of N
     send HEX       sends some of its bytes
     dry            from here on, this run has no random bytes for another command
@@ -18,22 +18,22 @@ from tpmsim.model.machine import Model, Outcome
 from tpmsim.standard import CC, COMMAND_BYTES, frames, HEADER_BYTES
 from tests.common.outputs import RANDOM_BYTES, repeated
 
-# Where commandSize ends.
+# The offset at which commandSize ends.
 SIZE_END = 6
 
-# TPM2_ReadClock answers the host's time, which the comparison leaves out.
+# The response to TPM2_ReadClock contains the host's time, which the comparison leaves out.
 CLOCK_ANSWER_BYTES, TIMES = 35, slice(10, 26)
 
 
 def random_of(buffer: bytes) -> bytes:
-    """The random bytes of a command. They depend on its bytes alone, so that they stay the same if
-    other commands are left out.
+    """Returns the random bytes of a command. They depend only on the command's bytes, so they stay
+    the same if other commands are left out.
     """
     return repeated(hashlib.sha256(buffer).digest()[:7])
 
 
 def without_times(buffer: bytes, response: bytes) -> bytes:
-    """A response without the times that the comparison leaves out."""
+    """Returns a response without the times that the comparison leaves out."""
     is_clock = buffer[6:10] == frames.number(CC.ReadClock, 4)
     if is_clock and len(response) == CLOCK_ANSWER_BYTES:
         return response[: TIMES.start] + bytes(16) + response[TIMES.stop :]
@@ -41,7 +41,7 @@ def without_times(buffer: bytes, response: bytes) -> bytes:
 
 
 def without_clock(device: Model) -> bytes:
-    """An image without the clock, which the comparison leaves out."""
+    """Returns an image without the clock, which the comparison leaves out."""
     clock, device.clock = device.clock, 0
     text = image(device)
     device.clock = clock
@@ -49,8 +49,9 @@ def without_clock(device: Model) -> bytes:
 
 
 class Connection:
-    """The bytes that a connection sends, in pieces of a size; the bytes left of them; and the
-    commands cut from them, each with the number of the line that completes it and its response.
+    """The bytes that a connection sends, in pieces of one size. Also the bytes that are not yet a
+    command, and the commands so far. Each command has the number of the line that completes it,
+    and its response.
     """
 
     def __init__(self, piece: int) -> None:
@@ -58,8 +59,8 @@ class Connection:
         self.answered: list[tuple[int, bytes, bytes]] = []
 
     def send(self, data: bytes) -> Iterator[bytes]:
-        """The commands that these bytes complete. A size that no command can have also completes
-        one: it has the bytes up to the size, and is the last one.
+        """Yields the commands that these bytes complete. A size field that no command can have also
+        ends a command: it consists of the bytes up to that field, and is the last command.
         """
         self.sent += data
         self.left += data
@@ -74,7 +75,9 @@ class Connection:
 
 
 def image_told(text: bytes | None) -> str:
-    """What a file contains, for comparison: no image, one of a version, or something else."""
+    """Describes the contents of a file for comparison: no image, an image of some version, or
+    something else.
+    """
     if text is None:
         return "no image"
     try:
@@ -84,15 +87,16 @@ def image_told(text: bytes | None) -> str:
 
 
 def device_told(device: Model) -> str:
-    """The same for the image of a device."""
+    """Describes the image of a device in the same way."""
     return image_told(image(device))
 
 
 @dataclass
 class Run:
-    """A run: the number of its line, its locality, its image, and whether a line gave it instead of
-    the run before; its file of random bytes, its connections, its standard error, and a description
-    of the image that it leaves. It is over if random bytes are missing, or if its image is not one.
+    """A run. `number` is the number of its line. The image before the run comes from a line, or
+    from the run before it. A run also has its locality, random bytes, connections, standard
+    error, and a description of the image that it leaves. It is over if random bytes are missing,
+    or if its file is not an image.
     """
 
     number: int
@@ -111,8 +115,8 @@ class Run:
 
 
 class Served:
-    """The device in its runs, as the lines say, and the contents of its image's file. A line in a
-    wrong place does nothing.
+    """The device in its runs, and the contents of its image's file, as the lines determine them. A
+    line at which it makes no sense does nothing.
     """
 
     def __init__(self) -> None:
@@ -122,7 +126,7 @@ class Served:
         self.made_of, self.is_given = bytes(RANDOM_BYTES), False
 
     def play(self, number: int, line: str) -> list[tuple[bytes, Outcome]]:
-        """Plays a line, by its number. Returns the executed commands, with their outcomes."""
+        """Plays line number `number`. Returns the executed commands with their outcomes."""
         word, _, argument = line.partition(" ")
         if word in ("new", "image"):
             self.end()
@@ -148,8 +152,8 @@ class Served:
             self.image, self.made_of = None, repeated(data)
 
     def begin(self, number: int, locality: int) -> None:
-        """Makes a device if there is no image. After a run the device goes on, without a power
-        cycle.
+        """Begins a run. Makes a device if there is no image. After an earlier run the device
+        continues without a power cycle.
         """
         self.run = Run(number, locality, self.image, self.is_given)
         self.runs.append(self.run)
@@ -164,7 +168,7 @@ class Served:
                 self.run.error = f"tpmsim: image {fault}"
 
     def end(self) -> None:
-        """Ends a run, which saves its device if it had a connection."""
+        """Ends a run. Its device is saved if the run had a connection."""
         if self.run:
             if self.run.connections:
                 self.image, self.is_given = without_clock(self.device), False
@@ -185,7 +189,7 @@ class Served:
 
 
 def played(script: Iterable[str]) -> list[Run]:
-    """The runs that lines describe."""
+    """Returns the runs that the lines describe."""
     served = Served()
     for number, line in enumerate(script, 1):
         served.play(number, line)

@@ -1,6 +1,6 @@
-# Shared by the tests of hosts/libtpms. Each is given the archive of the library, and reads this file after
-# cases.sh. It builds libtpms.so.0 over that archive, and a caller that replaces swtpm, and both again with
-# sanitizers.
+# Shared by the tests of hosts/libtpms, which read this file after cases.sh. Each test gets the archive of the
+# library. This file builds libtpms.so.0 from that archive, and a caller that replaces swtpm; then it builds
+# both again with sanitizers.
 # shellcheck shell=sh disable=SC2154 # cases.sh has `program`, `room` and `tests`
 needs cc nm strip python3 libtpms/tpm_library.h
 TPMSIM_ARCHIVE=$(readlink -f "$program")
@@ -9,7 +9,7 @@ unset CFLAGS
 assemble=${TPMSIM_ARCHIVE%/*}/tpmsim
 sanitizers='-g -fsanitize=address,undefined -fno-sanitize-recover=all'
 
-# build FOLDER: makes all of these in a folder.
+# build FOLDER: builds all of these in a folder.
 build() {
     mkdir -p "$1" || exit 1
     "$tests/../hosts/build.sh" libtpms "$1/swtpm" >"$room/built" 2>&1 || { cat "$room/built" && exit 1; }
@@ -22,16 +22,16 @@ build() {
     done
 }
 
-# They are built once for all tests that tools/scripts.sh runs, which names the folder TPMSIM_BUILT.
+# tools/scripts.sh names the folder TPMSIM_BUILT. Then everything is built once for all its tests.
 built=${TPMSIM_BUILT:-$room/shared}/swtpm
 if [ ! -d "$built" ]; then
     mkdir -p "${built%/*}" && build "$room/new"
-    # Another test may have been faster.
+    # Another test may have built them first.
     mv -T "$room/new" "$built" 2>"$room/moved" || rm -r "$room/new"
 fi
 cp -R "$built/." "$room" || exit 1
 
-# spell: prints the lines of standard input; a command in words, `do WORDS`, becomes its buffer.
+# spell: prints the lines of standard input. A command in words, `do WORDS`, is replaced by its buffer.
 spell() {
     awk -v assemble="$assemble" '
         $1 == "do" {
@@ -46,8 +46,8 @@ spell() {
     '
 }
 
-# play: plays the lines of standard input with libtpms.so.0, and prints the output. Each is played with
-# sanitizers too, in an equal folder, and has to print the same.
+# play: plays the lines of standard input with libtpms.so.0, and prints the output. It also plays them with
+# sanitizers, in a copy of the folder; the output has to be the same.
 play() {
     spell >"$room/lines"
     rm -rf "$room/again"
@@ -61,7 +61,7 @@ play() {
     diff "$room/given" "$room/sanitized_given" | sed 's/^/    with sanitizers: /'
 }
 
-# label TEXT: prints a line above what follows.
+# label TEXT: prints a line above the output that follows.
 label() {
     echo "$1:"
 }

@@ -1,8 +1,8 @@
-/* Replaces the functions of the C library by which the program reaches files, sockets and the clock.
- * The call of number AT fails with the error ERROR; if ERROR is 0 and the call moves bytes, it moves
- * half of them. If there is a WAIT_FOR, the call first waits until a file of this name exists. The
- * file CALLS gets a line for each call: its function, and the file that it is about. All these are
- * variables of the environment. */
+/* Replaces the functions of the C library by which the program reaches files, sockets and the
+ * clock. Call number AT fails with the error ERROR. If ERROR is 0 and the call moves bytes, the
+ * call moves half of them. If WAIT_FOR is set, the call first waits until a file of that name
+ * exists. For each call, the file CALLS gets a line with the function and its file. AT, ERROR,
+ * WAIT_FOR and CALLS are environment variables. */
 #define _GNU_SOURCE
 #include <dlfcn.h>
 #include <errno.h>
@@ -29,7 +29,7 @@ static void note(const char *call, const char *file) {
     syscall(SYS_close, log);
 }
 
-/* Whether this call is the one to be torn. */
+/* Returns whether this call is the one that fails or is cut. */
 static int is_the_one(const char *call, const char *file) {
     note(call, file);
     if (++calls != atol(getenv("AT"))) return 0;
@@ -38,7 +38,7 @@ static int is_the_one(const char *call, const char *file) {
     return 1;
 }
 
-/* Whether this call has to fail; sets the error. */
+/* Returns whether this call has to fail; if so, sets errno. */
 static int fails(const char *call, const char *file) {
     int error = atoi(getenv("ERROR"));
     if (!is_the_one(call, file) || error == 0) return 0;
@@ -46,7 +46,7 @@ static int fails(const char *call, const char *file) {
     return 1;
 }
 
-/* The name of an open file, or its kind if it has none. */
+/* Returns the name of an open file, or its kind if it has no name. */
 static const char *name_of(int file, char *room, size_t size) {
     char link[64];
     if (file <= 1) return file ? "output" : "input";
@@ -59,7 +59,8 @@ static const char *name_of(int file, char *room, size_t size) {
     return slash ? slash + 1 : room;
 }
 
-/* The number of bytes that a call must move, or -1 if it has to fail. Standard error is left alone. */
+/* Returns the number of bytes that a call must move, or -1 if the call has to fail. Standard
+   error is left alone. */
 static ssize_t left_of(const char *call, int file, size_t size) {
     char room[256];
     if (file == 2) return size;
@@ -80,7 +81,7 @@ ssize_t write(int file, const void *bytes, size_t size) {
     return left < 0 ? -1 : NEXT(ssize_t (*)(int, const void *, size_t), "write")(file, bytes, left);
 }
 
-/* The program uses this name as well. */
+/* The program also calls `write` by this name. */
 ssize_t __write(int file, const void *bytes, size_t size) {
     return write(file, bytes, size);
 }
@@ -112,7 +113,7 @@ int fsync(int file) {
     return NEXT(int (*)(int), "fsync")(file);
 }
 
-/* The four below are for a device in a folder, which no run of these tests has. */
+/* The four functions below are for a device in a folder. No run of these tests has one. */
 ssize_t pread(int file, void *bytes, size_t size, off_t place) {
     ssize_t left = left_of("pread", file, size);
     return left < 0

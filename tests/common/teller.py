@@ -23,8 +23,8 @@ from tests.common.script_caller import ScriptCaller
 
 
 def wrong_in(prepared: Prepared, *places: int) -> Prepared:
-    """The command with a bit changed in the HMAC of each of these entries; an empty one gets a
-    zero.
+    """Returns the command with one bit changed in the HMAC of each of these entries. An empty HMAC
+    becomes a zero byte.
     """
     for place in places or (1,):
         hmac = prepared.entries[place - 1].hmac
@@ -33,17 +33,18 @@ def wrong_in(prepared: Prepared, *places: int) -> Prepared:
 
 
 def others_in(prepared: Prepared, *places: int) -> Prepared:
-    """The command with other bytes instead of these HMACs."""
+    """Returns the command with other bytes in the HMACs of these entries."""
     for place in places:
         prepared = prepared.but_entry(place, hmac=b"wrong")
     return prepared
 
 
 class Teller(ScriptCaller):
-    """A caller with the script of a program. `name` is that of the program's module, and `told` its
-    first words: the name of the script, a full stop, and what the script says of itself. If it
-    `starts`, the script begins with TPM2_Startup(CLEAR). If `tries` are allowed, no wrong one locks
-    anything. `tests/anew.py` writes the script, or tests/common/made.py if it begins with "Makes".
+    """A caller that has the script of a program. `name` is the name of the program's module. `told`
+    is the script's description: the script's name, a full stop, and what it is about. If
+    `starts` is true, the script begins with TPM2_Startup(CLEAR). If `tries` is true, wrong
+    authorization values never lock anything. `tests/anew.py` writes the script; if the
+    description begins with "Makes", tests/common/made.py does.
     """
 
     written_by = ".tpm"
@@ -63,8 +64,8 @@ class Teller(ScriptCaller):
         return Said(self, words)
 
     def comes_to(self, words: str, prepared: Prepared) -> bytes:
-        """Sends a command with the outcome that the words name; returns its answer, decrypted, if
-        any. It has fresh random bytes if a session has an entry.
+        """Sends a command with the outcome that `words` names. Returns the decrypted parameters of
+        its response, if any. The device gets fresh random bytes if a session has an entry.
         """
         named = [it[1] for it in OUTCOME.finditer(words) if it[1] in frames.CODES]
         if not named:
@@ -74,7 +75,7 @@ class Teller(ScriptCaller):
         self.fails(words, prepared)
         return b""
 
-    # Steps of many scripts.
+    # The steps of many scripts.
 
     def restarts(self, session: Session) -> None:
         self.does("TPM2_PolicyRestart", self.restart(session))
@@ -86,7 +87,7 @@ class Teller(ScriptCaller):
         for index in indices:
             self.does("It is undefined" if index == indices[0] else "", self.undefining(index))
 
-    # The script's events.
+    # The events of the script.
 
     @property
     def last(self) -> Outcome:
@@ -99,7 +100,7 @@ class Teller(ScriptCaller):
         self.script.chapter(text)
 
     def raw(self, words: str, *buffers: bytes, fresh: bool = False) -> bytes:
-        """Sends buffers with the outcome that the words name; returns the last one's response."""
+        """Sends buffers with the outcome that `words` names. Returns the last response."""
         return self.script.command(words, *buffers, fresh=fresh)
 
     def locality_is(self, locality: int) -> None:
@@ -109,7 +110,7 @@ class Teller(ScriptCaller):
         self.script.power()
 
     def power_cycle(self) -> None:
-        """A power cycle, and TPM2_Startup(CLEAR)."""
+        """Makes a power cycle, and sends TPM2_Startup(CLEAR)."""
         self.power()
         self.startup()
 
@@ -118,7 +119,7 @@ class Teller(ScriptCaller):
 
 
 class Example(Teller):
-    """The same for a script of examples/, whose first command is its own."""
+    """A caller for a script of examples/, which sends its first command itself."""
 
     written_by = ".py"
 
@@ -129,14 +130,14 @@ class Example(Teller):
         return self.create_primary(what, RH_OWNER, storage_key())
 
     def measure(self, *measurements: tuple[int, str, bytes]) -> None:
-        """Extends PCRs with measurements, each with its words."""
+        """Extends PCRs with measurements, each with its description."""
         for pcr, what, data in measurements:
             self.accepted(what, self.event(data, b"", pcr=pcr))
 
 
 class Said:
-    """Words, followed by any method of their caller. A method that takes words gets these; a
-    command that another one prepares is sent at once.
+    """A description, followed by any method of its caller. A method that takes a description gets
+    this one. A command that another method prepares is sent at once.
     """
 
     def __init__(self, tpm: Teller, words: str) -> None:

@@ -1,12 +1,13 @@
-"""Makes calls of `tpmsim` fail, one by one, by which it reaches files, its socket and the clock:
+"""Makes the calls of `tpmsim` fail, one by one, by which it reaches files, its socket and the
+clock:
 
     python3 torn.py PROGRAM
 
-The shim tear.c notes the calls of a run in order. Each of them is made to fail in turn, in a run of
-its own; if the call moves bytes, another run has it move half of them. The table ENDINGS says what
-has to follow. A client sends one command after another, and waits for each answer; so it is known
-which commands were executed. The Python device says what they are answered, and which device is in
-the image.
+The shim tear.c notes the calls of a run in order. Then each call is made to fail, in a run of
+its own. If the call moves bytes, it moves half of them in another run. The table ENDINGS has the
+expected results. A client sends one command after another, and waits for each response, so that
+it knows which commands were executed. The Python device determines the responses and the device
+in the image.
 """
 
 import collections
@@ -41,21 +42,23 @@ SCRIPT = TOP / "examples/measured_boot.tpm"
 ROOM = Room("torn")
 HALF = 0
 
-# Calls that reach files, sockets and the clock and are unknown to the shim.
+# Calls that reach files, sockets or the clock, and that the shim does not replace.
 OTHERS = (
     "accept clock_nanosleep creat dup dup2 fopen fstat lseek lstat mmap open64"
     " openat openat64 poll pread64 pwrite64 readv recvfrom recvmsg renameat renameat2"
     " sendfile sendmsg sendto shutdown splice stat sync unlinkat writev"
 ).split()
 
-# What else holds after a call has failed.
+# Further results of a failed call.
 NONE, ALONE = "", ", that connection alone ends"
 OLD, NEW = ", the old image stays", ", the new image is there"
 
 
 @dataclass(frozen=True)
 class End:
-    """The result of a call that fails: how the run ends, what else is left, and more."""
+    """The result of a call that fails: how the run ends, the files that it leaves, and further
+    results.
+    """
 
     ending: Ending
     left: tuple = ()
@@ -66,7 +69,7 @@ class End:
         return (self.ending.error.decode().strip() or "the run goes on") + self.more
 
 
-# By the function and its file. `.0` is the folder next to the socket, and `s` the socket in it.
+# The results by function and file. `.0` is the folder next to the socket, and `s` the socket in it.
 UNSAVED = End(FILE, ("image.new",), OLD)
 ENDINGS = {
     call: end
@@ -93,8 +96,8 @@ ERRORS = {
     "write image.new": errno.ENOSPC,
 }
 
-# What the connections send: commands in words, or bytes that are no command: with another tag, with
-# a byte too few, and with a size that ends the connection.
+# The bytes that the connections send: commands in words, or bytes that are no command. These have a
+# wrong tag, a byte too few, or a size that ends the connection.
 BAD_TAG, CUT = "80030000000c000001440000", "80010000000b0000014400"
 BAD_SIZE = "8001000000090000014400"
 CONNECTIONS = [
@@ -136,13 +139,15 @@ COMMANDS = sum(map(len, SENT))
 
 
 def random_of(number):
-    """The random bytes of the manufacture, 0, and of each command that is executed."""
+    """Returns the random bytes of the manufacture, number 0, or of an executed command."""
     return repeated(bytes([number]))
 
 
 @dataclass(frozen=True)
 class Service:
-    """How a run ended, what each connection was answered, its image, and what else is left."""
+    """How a run ended, the responses to each connection, the image, and the other files that are
+    left.
+    """
 
     ending: Ending
     answers: list
@@ -151,12 +156,12 @@ class Service:
 
     @property
     def told(self):
-        """The same with the image's description, for comparison."""
+        """The same with a description of the image, for comparison."""
         return replace(self, image=image_told(self.image))
 
 
 def talked(process, buffers):
-    """What a connection is answered, command by command, until it ends."""
+    """Returns the responses to a connection, command by command, until the connection ends."""
     answers = []
     client = connected(ROOM.path / "socket", process)
     if not client:
@@ -178,7 +183,7 @@ def talked(process, buffers):
 
 
 def served(program, text, at=0, error=0):
-    """A run with or without an image, in which one call fails."""
+    """Runs the program with or without an image. One call fails."""
     ROOM.furnish(text, b"".join(map(random_of, range(0 if text is None else 1, COMMANDS + 1))))
     process = program.begun([*SERVE, str(len(SENT))], ROOM.path, at, error)
     answers = [talked(process, buffers) for buffers in SENT]
@@ -186,7 +191,7 @@ def served(program, text, at=0, error=0):
 
 
 class Model:
-    """The Python device, from an image or new: its answers to commands, and its image."""
+    """The Python device, opened from an image or new: its responses to commands, and its image."""
 
     def __init__(self, text):
         self.device = machine.Model(random_of(0)) if text is None else open_image(text)
@@ -212,8 +217,8 @@ IN_CONNECTION = {"recv connection", "send connection", "read entropy", "clock_ge
 
 @dataclass(frozen=True)
 class Tear:
-    """A call that fails, its result, how many connections were accepted before it, and how many
-    responses were sent to the last of them.
+    """A call that fails and its result. Also the number of connections that were accepted before
+    it, and the number of responses that were sent to the last of these.
     """
 
     call: str
@@ -229,7 +234,7 @@ class Tear:
         return cls(call, ENDINGS[call], accepted, last.count("send connection"))
 
     def answers(self, model, number, buffers):
-        """What the connection of this number is answered."""
+        """Returns the expected responses to connection number `number`."""
         if number > self.accepted:
             return model.answers(buffers) if self.end.ending == WELL else []
         if number < self.accepted or self.call not in IN_CONNECTION:
@@ -240,13 +245,13 @@ class Tear:
         return told
 
     def is_saved(self, number):
-        """Whether the image is that of the device after the connection of this number."""
+        """Returns whether the image is the device's after connection number `number`."""
         if number > self.accepted:
             return self.end.ending == WELL
         return number < self.accepted or self.end.more != OLD
 
     def wanted(self, text):
-        """The expected result of the run, with or without an image."""
+        """Returns the expected result of the run, with or without an image."""
         model, saved, answers = Model(text), image_told(text), []
         for number, buffers in enumerate(SENT, 1):
             answers.append(self.answers(model, number, buffers))
@@ -256,7 +261,9 @@ class Tear:
 
 
 def check_next(program, label, torn):
-    """The next run goes on from the image that a torn run left, and removes what else it left."""
+    """Checks that the next run opens the image that a torn run left, and removes the other files
+    that it left.
+    """
     process = program.begun([*SERVE, "1"], ROOM.path)
     talked(process, [])
     ending, left = ended(process), set(ROOM.left) - {".0"}
@@ -266,7 +273,7 @@ def check_next(program, label, torn):
 
 
 def check_torn(program, label, text, calls, at):
-    """Compares a run in which the call of this number fails."""
+    """Compares a run in which call number `at` fails."""
     call = calls[at - 1]
     if call not in ENDINGS:
         fail(f"{label}: {call} is no call that is known")
@@ -280,7 +287,7 @@ def check_torn(program, label, text, calls, at):
 
 
 def check_service(program, label, text):
-    """Tears each call of the runs with or without an image."""
+    """Makes each call of the runs fail, with or without an image."""
     model, whole = Model(text), served(program, text).told
     calls = program.noted()
     if whole != Service(WELL, [model.answers(it) for it in SENT], model.image, ()):
@@ -299,8 +306,8 @@ def check_service(program, label, text):
 
 
 def check_words(program, label, words, stdin=b""):
-    """Tears each call of a run that reads and prints: it ends with `tpmsim: file`, and prints a
-    beginning of what the whole run prints.
+    """Makes each call of a run fail that reads and prints. The run ends with `tpmsim: file`, and
+    prints the beginning of what it would print without the failure.
     """
 
     def run(at=0, error=0):

@@ -1,5 +1,6 @@
-"""Two runs of `tpmsim serve` at once. Each has its own image or its own socket, and they share the
-other of the two: one run goes on, at whichever call the first one is meanwhile.
+"""Two runs of `tpmsim serve` at once. Either each has its own image and they share the socket, or
+each has its own socket and they share the image. One run goes on while the other one waits at
+one of its calls.
 """
 
 import socket
@@ -10,13 +11,13 @@ from tests.common.shims import AT_MOST, FILE, SERVE, SOCKET, Room, Tears, ended,
 ROOM = Room("torn")
 RANDOM = bytes(512)
 
-# How long a second run may take, which perhaps has to wait for the first one.
+# The time that a second run may take, in seconds. It may have to wait for the first one.
 A_WHILE = 0.3
 
 
 class Rival:
-    """A run that serves many connections, and whose call of one number waits for the file `go`.
-    `own` is `image` or `socket`: the file that it does not share.
+    """A run that serves many connections, and whose call number `at` waits for the file `go`. `own`
+    is `image` or `socket`: the file that the run does not share.
     """
 
     def __init__(self, program, name, own, at=0):
@@ -34,7 +35,7 @@ class Rival:
         return "accept4" in self.noted
 
     def await_that(self, is_so, seconds=AT_MOST):
-        """Waits until a condition holds, for this long at most."""
+        """Waits until a condition is true, for at most this many seconds."""
         end = time.monotonic() + seconds
         while not is_so() and time.monotonic() < end:
             time.sleep(0.001)
@@ -51,20 +52,21 @@ class Rival:
 
 
 def begin_anew():
-    """A folder with random bytes alone."""
+    """Makes a folder that contains only random bytes."""
     ROOM.furnish(None, RANDOM)
 
 
 def begin_beside_left():
-    """The same with a socket on which nobody answers."""
+    """Makes the same folder with a socket on which nobody answers."""
     begin_anew()
     with socket.socket(socket.AF_UNIX, socket.SOCK_STREAM) as left:
         left.bind(str(ROOM.path / "socket"))
 
 
 def check_rivals(program, begin, own, wanted, at_most):
-    """The second run has this long, in seconds, before the first goes on; one of them ends as
-    expected. Returns the calls at which the second run needed the first.
+    """Has the first run wait at each of its calls in turn. The second run then has `at_most`
+    seconds before the first one goes on. One of them must end as expected. Returns the calls at
+    which the second run needed the first one.
     """
     begin()
     alone = Rival(program, "first", own)

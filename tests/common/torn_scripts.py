@@ -1,11 +1,11 @@
-"""Makes calls of `tpmsim run --image` fail, one by one, by which it reaches files:
+"""Makes the calls of `tpmsim run --image` fail, one by one, by which it reaches files:
 
     python3 torn_scripts.py PROGRAM
 
-The shim tear.c notes the calls of a run in order. Each of them is made to fail in turn, in a run of
-its own; if the call moves bytes, another run has it move half of them. The client sends one line
-after another, and waits for each response. Whichever call fails, the image has all that was
-answered, by the Python device; and the run ends with the fault of that call.
+The shim tear.c notes the calls of a run in order. Then each call is made to fail, in a run of
+its own. If the call moves bytes, it moves half of them in another run. The client sends one line
+after another, and waits for each response. Whichever call fails, the image has the effects of
+all answered commands, by the Python device. The run ends with the fault of the failed call.
 """
 
 import errno
@@ -39,8 +39,8 @@ LINES = [
 
 
 class Model:
-    """The Python device: the answer to each line, and which images may be there after it. Before
-    the first response that is the image of the start, if any, or the device's.
+    """The Python device: its response to each line, and the images that may exist after that line.
+    Before the first response this is the image at the start, if any, or the new device's image.
     """
 
     def __init__(self, text):
@@ -54,8 +54,8 @@ class Model:
             self.images[len(self.answers)].append(device_told(self.player.device))
 
     def allows(self, told, saved):
-        """Whether an image has what this many responses report, perhaps with the next line's
-        effect.
+        """Returns whether an image has the effects of the first `told` responses. It may also have
+        the effect of the next line.
         """
         return saved in self.images[told] or saved in self.images[min(told + 1, len(self.answers))]
 
@@ -69,12 +69,13 @@ class Result:
 
 
 def answers_to(process):
-    """The answers to the lines, until the run ends."""
+    """Yields the responses to the lines, until the run ends."""
     try:
         for line in LINES:
             process.stdin.write(f"{line}\n".encode())
             if line.startswith("do"):
-                # Reads all answers that come at once, so that a run makes the same calls each time.
+                # Reads all lines of a response at once, so that a run makes the same calls each
+                # time.
                 process.stdin.flush()
                 answer = process.stdout.readline()
                 if not answer.endswith(b"\n"):
@@ -85,7 +86,7 @@ def answers_to(process):
 
 
 def ran(program, text, at=0, error=0):
-    """A run with or without an image, in which one call fails."""
+    """Runs the program with or without an image. One call fails."""
     ROOM.furnish(text, RANDOM)
     process = program.begun(RUN, ROOM.path, at, error)
     answers = list(answers_to(process))
@@ -97,7 +98,7 @@ def fault_of(call):
 
 
 def check(program, label, text):
-    """Tears each call of a run with or without an image."""
+    """Makes each call of a run fail, with or without an image."""
     model = Model(text)
     whole = ran(program, text)
     calls = program.noted()

@@ -1,2 +1,2 @@
-/* A shim for many runs of a program that changes nothing of its calls. */
+/* A shim for many runs of a program. It changes none of the program's calls. */
 #include "turns.h"

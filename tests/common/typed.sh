@@ -1,11 +1,11 @@
-# Shared by the tests that type the lines of a page, which read it after cases.sh. That sets `room`.
+# Shared by the tests that type the lines of a page. They read it after cases.sh, which sets `room`.
 # shellcheck shell=sh disable=SC2154 # cases.sh has `room`
 
-# type_lines PAGE: types the lines of a page that a reader types: each has to print what the page shows
-# below it. A line begins with `$ `; the lines with `> ` after it belong to it. At the end it prints their
-# number.
+# type_lines PAGE: types the lines of a page that are meant for the reader. Each line has to print the output
+# that the page shows below it. A line begins with `$ `; the lines with `> ` after it belong to it. At the end
+# the function prints the number of lines.
 type_lines() {
-    # N.typed is the line number N, and `N.wanted` its expected output.
+    # The file `N.typed` has line number N, and `N.wanted` its expected output.
     awk -v room="$room" '
         /^```/ { shown = !shown; typed = ""; next }
         !shown { next }

@@ -2,11 +2,12 @@
 
     python3 tests/common/unpromised_calls.py DOCUMENT FOLDER
 
-FOLDER contains the crates. A public function promises something if its signature has an `ensures` clause.
-The list is the table after the words "These public functions promise nothing": a row names a crate, the
-files of its src/ that contain such functions, and the reason. Each difference is a line, and the last line
-counts the functions. Then a file is left out of the list, and one is added to it, and both have to be
-found. The status is 1 if there is a difference, or one is not found.
+FOLDER contains the crates. A public function promises something if its signature has an
+`ensures` clause. The list is the table after the words "These public functions promise nothing".
+A row names a crate, the files of its src/ that contain such functions, and the reason. Each
+difference has a line, and the last line counts the functions. Then one file is removed from the
+list, and another is added to it; the comparison must find both. The status is 1 if there is a
+difference, or if one of these changes is not found.
 """
 
 import collections
@@ -16,8 +17,8 @@ import sys
 
 BEGIN = "These public functions promise nothing"
 PUBLIC = re.compile(r"^\s*pub fn (\w+)", re.M)
-# A signature with clauses ends at a line that is only a brace, and one without clauses at a brace that ends
-# its last line.
+# A signature with clauses ends at a line that is only a brace. A signature without clauses ends at
+# a brace at the end of its last line.
 BODY = re.compile(r"^\s*\{\}?$", re.M)
 LAST_BRACE = re.compile(r" \{\}?$", re.M)
 CLAUSE = re.compile(r"^\s*ensures\b", re.M)
@@ -26,7 +27,7 @@ CODE = re.compile(r"`([^`]+)`")
 
 
 def signatures(text: str) -> list[tuple[str, str]]:
-    """The name of each public function, and its signature with the clauses, up to the body."""
+    """Returns each public function's name, with its signature and clauses up to the body."""
     found = []
     for start in PUBLIC.finditer(text):
         rest = text[start.end() :]
@@ -41,7 +42,9 @@ def signatures(text: str) -> list[tuple[str, str]]:
 
 
 def without_promise(crates: pathlib.Path) -> Found:
-    """The names of the public functions without a clause, by crate and by file of its src/."""
+    """Returns the names of the public functions without an `ensures` clause, by crate and by file
+    of its src/.
+    """
     found: Found = collections.defaultdict(dict)
     for path in sorted(crates.glob("*/src/**/*.rt")):
         crate, _, *parts = path.relative_to(crates).parts
@@ -52,14 +55,14 @@ def without_promise(crates: pathlib.Path) -> Found:
 
 
 def listed(document: str) -> dict[str, set[str]]:
-    """The files that each row of the table names, by its crate."""
+    """Returns the files that each row of the table names, by crate."""
     section = document.partition(BEGIN)[2].partition("\n## ")[0]
     rows = (line.strip("|").split("|") for line in section.splitlines() if line.startswith("| `"))
     return {CODE.findall(row[0])[0]: set(CODE.findall(row[1])) for row in rows}
 
 
 def differences(found: Found, rows: dict[str, set[str]]) -> list[str]:
-    """What the list lacks, and what it has too many."""
+    """Describes the entries that the list lacks, and those that it should not have."""
     faults = []
     for crate in sorted({*found, *rows}):
         files, named = found.get(crate, {}), rows.get(crate, set())
@@ -70,7 +73,9 @@ def differences(found: Found, rows: dict[str, set[str]]) -> list[str]:
 
 
 def are_found(found: Found, rows: dict[str, set[str]]) -> bool:
-    """Whether a file that the list lacks, and one that it has too many, are found."""
+    """Returns whether the comparison finds a file that is missing from the list, and a file too
+    many.
+    """
     lacking = {crate: set(sorted(files)[1:]) for crate, files in rows.items()}
     longer = {crate: files | {"another.rt"} for crate, files in rows.items()}
     known = len(differences(found, rows))

@@ -1,9 +1,10 @@
-"""Plays the scripts that are made on Python devices that are wrong in one thing each:
+"""Plays the made scripts on Python devices, each of which is wrong in one thing:
 
     wrong_made.py PROGRAM
 
-The program has to answer a command of each script otherwise than the script's wrong device. It
-prints whether it does; the status is 1 if it does not, or if a script has no wrong device.
+Each script has a wrong device. The program's response to some command of the script has to
+differ from that device's. The test prints whether it does. The status is 1 if it does not, or if
+a script has no wrong device.
 """
 
 import sys
@@ -31,14 +32,14 @@ def any_size(fields: Fields, length: int) -> tuple[int, CC]:
 
 
 def any_tag(fields: Fields, length: int) -> tuple[int, CC]:
-    """Takes a tag other than 8002 as 8001."""
+    """Accepts any tag other than 8002 as 8001."""
     if fields.data[:2] != b"\x80\x02":
         fields.data = b"\x80\x01" + fields.data[2:]
     return read_header(fields, length)
 
 
 def other_code(fields: Fields, wanted: tuple[Handle, ...], device: Any) -> list[int]:
-    """Refuses a handle that does not exist as one of a wrong kind."""
+    """Refuses a handle that names nothing as a handle of a wrong kind."""
     try:
         return read_handles(fields, wanted, device)
     except Refusal as refusal:
@@ -113,7 +114,9 @@ WRONG = {
 
 
 def differs(script: bytes, printed: list[str]) -> bool:
-    """Whether the device in its present state answers a script otherwise than is printed."""
+    """Returns whether the device in its present state prints something else for a script than
+    `printed`.
+    """
     player, wanted = Player(), iter(printed)
     for line in script.splitlines():
         if any(given != next(wanted, "") for given in player.play(line)):

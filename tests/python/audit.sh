@@ -1,7 +1,7 @@
-# Logs that tools/audit.py judges: that of each script of tests/ and examples/, which agrees; that of a disk's
-# unlocking, with the whole report; logs that are bent, cut or too long, or begin with another device; scripts
-# with a bad line, and wrong words. Then devices in Python, each of which does one thing wrong: the history
-# alone finds that.
+# Logs that tools/audit.py judges. The log of each script of tests/ and examples/ agrees. The log of the
+# unlocking of a disk is shown with the whole report. Then come logs that are bent, cut or too long, or that
+# begin with another device; scripts with a bad line; and wrong command lines. At the end come devices in
+# Python, each of which does one thing wrong; only the comparison with the history finds that.
 tests=$(cd "$(dirname "$0")/.." && pwd -P)
 . "$tests/common/cases.sh"
 needs python3
@@ -14,7 +14,7 @@ trace() {
     "$program" run --trace "$1" >"$2" 2>/dev/null
 }
 
-# judge LABEL WORDS..: a case that one process runs with the others. Without words it is a heading.
+# judge LABEL WORDS..: adds a case. One process runs all cases. Without words it adds a heading.
 judge() {
     tab=
     for word do
@@ -24,17 +24,17 @@ judge() {
     echo >>cases
 }
 
-# at N PATTERN: the number of the N-th line of the log that matches a pattern.
+# at N PATTERN: prints the line number of the N-th line of the log that matches a pattern.
 at() {
     grep -n "$2" whole | sed -n "$1s/:.*//p"
 }
 
-# bend FILE N LINE: writes the log with another line N to a file.
+# bend FILE N LINE: writes the log to a file, with line N replaced by LINE.
 bend() {
     awk -v at="$2" -v instead="$3" 'NR == at { print instead; next } { print }' whole >"$1"
 }
 
-# run_audit LABEL WORDS..: a run of its own, with its whole report.
+# run_audit LABEL WORDS..: runs the audit in a process of its own, and prints the whole report.
 run_audit() {
     echo "$1"
     shift

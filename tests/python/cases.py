@@ -2,8 +2,8 @@
 
     cases.py <CASES
 
-A line of CASES has a label and then the words, each after a tab. For each case it prints the
-status, standard error, and the last line of standard output.
+A line of CASES has a label and then the words, each after a tab. For each case the program
+prints the status, standard error, and the last line of standard output.
 """
 
 import contextlib
@@ -17,12 +17,12 @@ from tpmsim.model import player
 
 
 def printed(script):
-    """What a device in its present state prints for a script."""
+    """Returns the output of a device in its present state for a script."""
     return "".join(f"{it}\n" for _, it in player.played(script)[0]).encode()
 
 
 def audited(script, output, files=(), begin=None):
-    """The auditor of what a script prints, and the fault that it finds, if any."""
+    """Returns the auditor of a script's output, and the fault that it finds, if any."""
     auditor = Auditor(begin or start.new(), Log(output), files)
     try:
         auditor.read(script)

@@ -2,10 +2,10 @@
 
     explained_journals.py PROGRAM
 
-Each is explained by its journal, by what `tpmsim script` prints of it, and by its journal together
-with what `tpmsim run` printed. A command that was answered with a success must be explained as
-accepted, each other one as refused, with its reason. It counts; the status is 1 if one is explained
-otherwise.
+Each journal is explained in three ways: by itself, by the script that `tpmsim script` prints
+from it, and together with the output of `tpmsim run`. An accepted command must be explained as
+accepted. A refused command must be explained as refused, with its reason. The program prints the
+number of commands. The status is 1 if a command is explained otherwise.
 """
 
 import pathlib
@@ -17,20 +17,22 @@ from tests.common.shims import ran
 
 TOP = pathlib.Path(__file__).resolve().parents[2]
 
-# Longer scripts, mostly of bent commands, are left to the other tests of explanations.
+# Longer scripts consist mostly of bent commands. Other tests explain them.
 MOST_BYTES = 20_000
 SHOWN = 8
 
 
 def answered_since(printed):
-    """The lines that were printed since power came on last."""
+    """Returns the lines that were printed since the last power cycle."""
     lines = printed.decode("ascii").splitlines()
     cycles = [at for at, line in enumerate(lines, 1) if line == "power"]
     return lines[cycles[-1] if cycles else 0 :]
 
 
 def wrong_lines(log, lines, responses):
-    """The lines of commands whose explanation differs from their answer, or was not compared."""
+    """Returns the lines of commands whose explanation differs from their response, or was not
+    compared.
+    """
     play = Play(answers="".join(f"{it}\n" for it in lines).encode() if lines else None)
     events = list(play.events(log))
     wrong = [0] if len(events) != len(responses) or play.fault or play.damages or play.cuts else []
@@ -43,7 +45,9 @@ def wrong_lines(log, lines, responses):
 
 
 def check(program, script, folder):
-    """How many commands of a script were explained, and which wrongly."""
+    """Returns the number of explained commands of a script, and the lines of the wrong
+    explanations.
+    """
     printed = ran(program, "run", "--trace", "--state", folder, str(script)).output
     lines = answered_since(printed)
     responses = lines[1::2]

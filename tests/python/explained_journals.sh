@@ -1,5 +1,5 @@
-# Journals of devices in folders, and what `tpmsim script` prints of them, are explained: no accepted command
-# is explained as refused, and no refused one as accepted.
+# Explains journals of devices in folders, and the scripts that `tpmsim script` prints from them. No accepted
+# command is explained as refused, and no refused command as accepted.
 tests=$(cd "$(dirname "$0")/.." && pwd -P)
 . "$tests/common/cases.sh"
 needs python3

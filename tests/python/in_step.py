@@ -1,10 +1,10 @@
-"""Devices at the other end of a connection, whose commands are interrupted:
+"""Interrupts the commands of devices at the other end of a connection:
 
     tools/python.sh tests/python/in_step.py PROGRAM
 
-Each command is interrupted at each of its lines, and one is answered too late. Afterwards no
-command gets the answer of another one: the connection is closed, and says so. PROGRAM is for the
-child.
+Each command is interrupted at each line of Python that it executes. Another command is answered
+too late. Afterwards no command gets the response of another one: the connection is closed, and
+the caller gets DeviceEnded. The device ChildDevice runs PROGRAM.
 """
 
 import os
@@ -24,22 +24,24 @@ PACKAGE = str(pathlib.Path(tpmsim.device.__file__).parent)
 FIRST, SECOND, LATE = 8, 16, 24
 SECONDS, MOST_SECONDS, LEAST_LINES = 0.1, 60, 10
 
-# What LATE does to its client as it arrives; and the permission to answer it.
+# The first is called when LATE arrives. The second is set when LATE may be answered.
 coming, is_over = [lambda: None], threading.Event()
 
-# The size of what follows a request's number on swtpm's control channel; other channels have
-# nothing.
+# The number of bytes after a request's number, on swtpm's control channel. On other channels there
+# are none.
 ARGUMENTS = {2: 4, 5: 1}
 SESSION_END, INITIALIZE = 20, number(0x100, 4)
 
 
 def asking(count):
-    """TPM2_GetRandom of this many bytes."""
+    """Returns a TPM2_GetRandom of this many bytes."""
     return bytes.fromhex("80010000000c0000017b") + number(count, 2)
 
 
 def answer_to(command):
-    """The random bytes that are asked for; those of LATE come when they may."""
+    """Returns the response with the requested number of bytes. For LATE it waits until that may be
+    answered.
+    """
     count = int.from_bytes(command[10:12], "big")
     if count == LATE:
         coming[0]()
@@ -51,7 +53,7 @@ def answer_to(command):
 
 class Handler(socketserver.StreamRequestHandler):
     def number(self):
-        """Ends the connection if the client does."""
+        """Reads a number. Ends the connection if the client has ended it."""
         text = self.rfile.read(4)
         if len(text) < 4:
             raise EOFError
@@ -109,7 +111,7 @@ def serving(server):
 
 
 def simulated():
-    """Two ports, one after the other."""
+    """Serves a simulated TPM on two consecutive ports, and returns the address of the first."""
     while True:
         commands = Tcp(("127.0.0.1", 0), Simulated)
         host, port = commands.server_address
@@ -123,7 +125,9 @@ def simulated():
 
 
 def interrupted(act, left):
-    """Whether an act executes this many lines of the package's devices; it is interrupted there."""
+    """Calls `act`, and interrupts it after `left` lines of the package's devices. Returns whether
+    it got that far.
+    """
 
     def trace(frame, event, _):
         nonlocal left
@@ -146,8 +150,8 @@ def interrupted(act, left):
 
 
 def told(device, size):
-    """What a command of another size is answered, after one that did not end. A pipe answers it
-    without more; a device whose power has just come on answers after INITIALIZE.
+    """Describes the response to a command of another size, after a command that did not end. A pipe
+    answers it at once. A device whose power has just come on answers it after INITIALIZE.
     """
     try:
         response = device.execute(asking(size)).response
@@ -159,7 +163,7 @@ def told(device, size):
 
 
 def at_each_line(made, act):
-    """The results after each interrupt."""
+    """Returns the results after an interrupt at each line."""
     said, count = set(), 1
     while True:
         with made() as device:
@@ -172,7 +176,7 @@ def at_each_line(made, act):
 
 
 def late(made):
-    """The results if the answer comes too late; and then, after it has come."""
+    """Returns the results while the response is late, and after it has come."""
     is_over.clear()
     with made() as device:
         device.data.socket.settimeout(SECONDS)
@@ -186,7 +190,7 @@ def late(made):
 
 
 def alarmed(made):
-    """The same by a signal's handler, which raises its own fault."""
+    """Does the same with a signal handler that raises its own exception."""
 
     def raise_fault(*_):
         raise LookupError("a test's time")
@@ -205,7 +209,7 @@ def alarmed(made):
 
 
 def moved(device):
-    """A command from another locality, which is sent first."""
+    """Executes a command from another locality. The locality is sent before the command."""
     device.locality = 3
     device.execute(asking(FIRST))
 

@@ -1,4 +1,4 @@
-# Devices at the other end of a connection, whose commands never end: python/in_step.py.
+# Interrupts commands of devices at the other end of a connection: python/in_step.py.
 tests=$(cd "$(dirname "$0")/.." && pwd -P)
 . "$tests/common/cases.sh"
 needs python3

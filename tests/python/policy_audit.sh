@@ -1,8 +1,8 @@
 # Policies in words, by which tools/audit.py judges logs. Their digests are compared with published ones, and
-# with those that Python's hashlib makes of the bytes below. Then logs are judged: that of
-# tests/policies/written_policies.tpm with its whole report, that of tests/sessions/lost_grounds.tpm, and one of
-# a device that is not new. Then come devices in Python, each of which does one thing wrong, and hashes that are
-# broken, so that a use does not meet its policy. Last come files that are not policies.
+# with digests that Python's hashlib computes from the bytes below. Then logs are judged: the log of
+# tests/policies/written_policies.tpm with its whole report, the log of tests/sessions/lost_grounds.tpm, and
+# the log of a device that is not new. Then come devices in Python, each of which does one thing wrong; and
+# broken hashes, with which a use does not meet its policy. Last come files that are not policies.
 # shellcheck disable=SC2154 # `eval` sets the hashes
 tests=$(cd "$(dirname "$0")/.." && pwd -P)
 . "$tests/common/cases.sh"
@@ -18,8 +18,8 @@ endorsement=837197674484b3f81a90cc8d46a5d724fd52d76e06520b64f2a1da1b331469aa
 index=000b000102030405060708090a0b0c0d0e0f101112131415161718191a1b1c1d1e1f
 comparisons='eq neq sgt ugt slt ult sge uge sle ule bs bc'
 
-# Hashes, by hashlib alone. A line has a name, an algorithm, and bytes that are joined: hex, or the name of a
-# hash above it.
+# Hashes, computed only by hashlib. A line has a name, an algorithm, and bytes that are joined: hex, or the
+# name of a hash above it.
 comparison_hashes() {
     number=0
     before=$zeros_1
@@ -184,7 +184,7 @@ trace() {
     "$program" run --trace "$(script "$1")" >"$1" 2>/dev/null
 }
 
-# audit_by NAME POLICY..: prints what the audit says of a script's log with these policies, and the status.
+# audit_by NAME POLICY..: prints the audit's report of a script's log with these policies, and the status.
 audit_by() {
     name=$1
     shift
@@ -203,7 +203,7 @@ trace written_policies
 echo 'A LOG WITH ITS POLICIES:'
 audit_by written_policies disk update version hash once unseal
 
-# docs/USING.md shows that policy.
+# docs/USING.md shows the policy `disk`.
 using=$tests/../docs/USING.md
 echo 'WHAT docs/USING.md SHOWS:'
 sed -n '/^# The key of a disk/,/^```/p' "$using" | sed '$d' >shown
@@ -227,7 +227,8 @@ sed -i 's|policies/written_policies/[a-z]*|FILE|; s/PolicyPCR sha256:.*/PolicyPC
 cmp by_digest by_values && echo 'the same'
 rm policies/written_policies/values
 
-# Those of tests/sessions/lost_grounds.tpm: PCR 16 is zeros, and an index has 8 bytes, and is the owner's.
+# The policies of tests/sessions/lost_grounds.tpm. In the first PCR 16 is zeros. An index has 8 bytes, and the
+# owner defined it.
 trace lost_grounds
 cd policies/lost_grounds || exit 1
 echo nothing >nothing
@@ -255,7 +256,8 @@ awk '/^Policy/ { name = $2 } /meets it$/ { met[name]++ } /not meet/ { print }
     END { for (name in met) print name ": " met[name] }' told | sort
 sed -n '/^Each entity/,$p' told
 
-# A policy of tests/sessions/grounds.tpm, where an object has the empty value: nothing is shown then.
+# A policy of tests/sessions/grounds.tpm, in which an object has the empty authorization value. Then the audit
+# proves nothing.
 trace grounds
 mkdir policies/grounds
 echo PolicyAuthValue >policies/grounds/value
@@ -263,7 +265,7 @@ echo 'AN EMPTY VALUE:'
 audit_by grounds value | grep 'empty'
 rm -r policies/grounds
 
-# A device that already has an index with a policy, which is used after a start.
+# A device that already has an index with a policy. The index is used after TPM2_Startup.
 cat >before.tpm <<END
 do Startup 0
 do NV_DefineSpace OWNER pw:- - 01000001000b000800080020${write}0008
@@ -287,7 +289,7 @@ echo 'WEAK HASHES: what is told of each.'
 mkdir weak
 python3 "$scripts/weak_hashes.py" weak
 
-# judge LABEL WORDS..: a case that one process runs with the others. Without words it is a heading.
+# judge LABEL WORDS..: adds a case. One process runs all cases. Without words it adds a heading.
 judge() {
     tab=
     for word do
@@ -310,7 +312,7 @@ head -n 20 written_policies >half
 judge 'a log that is cut' "$script" half --policy $disk
 judge 'the same policy twice' "$script" written_policies --policy $disk --policy $disk
 
-# fault LABEL LINES: a file of these lines, which is not a policy.
+# fault LABEL LINES: adds a case with a file of these lines, which is not a policy.
 faults=0
 fault() {
     faults=$((faults + 1))

@@ -1,10 +1,10 @@
-# The unit tests of the package under python/, which run this program if they need one. tools/python_types.sh
-# checks the package's types; it is not part of this test, since it needs mypy.
+# Runs the unit tests of the package under python/. They run this program if they need one.
+# tools/python_types.sh checks the package's types; it is not part of this test, because it needs mypy.
 tests=$(cd "$(dirname "$0")/.." && pwd -P)
 . "$tests/common/cases.sh"
 needs python3
 
-# The server of Microsoft's protocol is in C: its tests are skipped if there is no compiler.
+# The server of Microsoft's protocol is in C. Its tests are skipped if there is no compiler.
 if is_there cc && is_there nm; then
     TPMSIM_SIMULATOR=$room/simulator/tpmsim-simulator
     "${tests%/*}/hosts/build.sh" simulator "$room/simulator" || exit 1

@@ -1,11 +1,12 @@
-"""Audits what a program prints for scripts:
+"""Audits the output of a program for scripts:
 
     sweep.py PROGRAM COUNT [SEED]
 
-It audits each script of tests/ and examples/, and COUNT random ones, the first by this seed. Each
-random one is also judged from the image of its device at a power cycle on, and again with lines
-that are bent. A script that ends with a bad line has to be judged up to that line. It says which
-logs do not agree, leaves their scripts, and counts. The status is 1 if one does not agree.
+The program audits each script of tests/ and examples/, and COUNT random ones; SEED is the seed
+of the first. Each random script is also judged from the image of its device at a power cycle,
+and again with lines that are bent. A script that ends with a bad line has to be judged up to
+that line. The program names the logs that do not agree, and leaves their scripts. At the end it
+prints the counts. The status is 1 if a log does not agree.
 """
 
 import pathlib
@@ -27,20 +28,22 @@ COMMANDS = 400
 
 
 def traced(program, path):
-    """What the program prints for a script, and its standard error."""
+    """Returns the program's output for a script, and its standard error."""
     ended = ran(program, "run", "--trace", path)
     return ended.output, ended.error.decode("ascii", "replace").strip()
 
 
 def wanted_of(error):
-    """The fault that the audit has to find, if the program says it on standard error."""
+    """Returns the fault that the audit has to find, if the program reports a bad line on standard
+    error.
+    """
     line = error.removeprefix("tpmsim: script line ")
     return f"script line {line} is no line of a script; up to it the log agrees" if error else None
 
 
 def from_image(script, output):
-    """A script from a power cycle on: the device's image at that point, and the rest of the script
-    and of its output; None if there is no power cycle.
+    """Returns the script from a power cycle on: the device's image at that point, the rest of the
+    script, and the rest of its output. Returns None if there is no power cycle.
     """
     lines = script.splitlines()
     cycles = [at for at, line in enumerate(lines) if line == b"power"]
@@ -62,7 +65,7 @@ class Sweep:
         return f"{self.agree} agree, {self.differ} differ; {self.events} events"
 
     def judge(self, path, begin, script, output, wanted=None):
-        """Whether a log agrees, or has the expected fault."""
+        """Returns whether a log agrees, or has the expected fault."""
         auditor, fault = audited(script, output, begin=begin)
         list(report(auditor))
         self.events += auditor.counts.events

@@ -1,11 +1,12 @@
-"""Hashes of policies that are broken for one text each: a session gets the digest of a policy that
-it does not meet, and the device and its history accept it. The audit has to say so. With the last
-hash the session meets the policy anyway.
+"""Breaks hashes of policies, each for one text. A session then gets the digest of a policy that it
+does not meet, and the device and its history accept the session. The audit has to report that.
+With the last hash the session meets the policy anyway.
 
     weak_hashes.py FOLDER
 
-It prints the result of each policy, and how tools/audit.py ends on the files in a folder. The
-status is 1 if a use that does not meet its policy counts as meeting it, or the other way round.
+The program prints the result of each policy, and how tools/audit.py ends on the files in FOLDER.
+The status is 1 if a use that does not meet its policy counts as meeting it, or the other way
+round.
 """
 
 import pathlib
@@ -19,28 +20,32 @@ from tpmsim.policies.policy_file import PolicyFile
 from tpmsim.standard import CC, SHA1, SHA256, digest, nv, policy, selection
 from tests.python import cases
 
-# What TPM2_PolicyLocality of locality 0 hashes after the digest of a start.
+# The bytes that TPM2_PolicyLocality of locality 0 hashes after the initial digest.
 LOCALITY_0 = bytes.fromhex("0000016f01")
 ATTRIBUTES = nv.Attribute.POLICYREAD | nv.Attribute.POLICYWRITE
 
-# Two branches of a policy, by SHA-1, and the end of the first with the beginning of the next.
+# Digests of two branches of a policy, by SHA-1; and the end of the first, joined with the beginning
+# of the second.
 UNSEAL = policy.after_command_code(SHA1, bytes(20), CC.Unseal)
 VALUE = policy.after_auth_value(SHA1, bytes(20))
 MIDDLE = UNSEAL[10:] + VALUE[:10]
 
-# By SHA-256: the owner's secret and that of another hierarchy, before policyRef; and a command.
+# By SHA-256: the bytes of TPM2_PolicySecret before policyRef, for the owner and for the platform;
+# and the digest of a policy.
 OWNER = bytes(32) + bytes.fromhex("0000015140000001")
 PLATFORM = bytes(32) + bytes.fromhex("000001514000000c")
 BY_OWNER = digest(SHA256, digest(SHA256, OWNER))
 WRITE = policy.after_command_code(SHA256, bytes(32), CC.NV_Write)
 
-# PCR 16 has zeros, and the policy contains another value.
+# A policy with another value of PCR 16 than zeros.
 OTHER_VALUE = b"\x11" * 32
 BY_PCR = policy.after_pcr(SHA256, bytes(32), selection((SHA256, [16])), digest(SHA256, bytes(32)))
 
 
 def script(algorithm, auth_policy, *assertions):
-    """An index that only its policy authorizes, and a use of it after assertions."""
+    """Returns a script with an index that only its policy authorizes, and a use of the index after
+    assertions.
+    """
     area = nv.Public(0x0100_0001, algorithm, ATTRIBUTES, auth_policy, 8).text.hex()
     name = "sha1" if algorithm == SHA1 else "sha256"
     return [
@@ -53,12 +58,14 @@ def script(algorithm, auth_policy, *assertions):
 
 
 def by_either(first, second, *branches):
-    """The same with a policy of two branches, which the session gets in pieces."""
+    """Returns the same script with a policy of two branches. The session states the branches in
+    other pieces.
+    """
     told = f"PolicyOR 03000000 {'+'.join(it.hex() for it in branches)}"
     return script(SHA1, policy.after_or(SHA1, [first, second]), "PolicyLocality 03000000 0x1", told)
 
 
-# What is broken; the texts with other hashes; the policy; a script; and whether it meets the
+# A description; the texts whose hashes differ; the policy; a script; and whether the use meets the
 # policy.
 WEAK = (
     (
@@ -100,7 +107,7 @@ WEAK = (
 
 
 def weakly(other):
-    """When policies are hashed, these texts have other hashes."""
+    """Gives these texts other hashes whenever policies are hashed."""
     stack = ExitStack()
     weak = lambda algorithm, text: other.get(text) or digest(algorithm, text)
     for module in (policy, pcr_values, policy_texts, broken, written):
@@ -109,7 +116,7 @@ def weakly(other):
 
 
 def judged(lines, text):
-    """The auditor, by a policy, of what the device prints for a script, and its output."""
+    """Judges the device's output for a script by a policy. Returns the auditor and the output."""
     played = "\n".join(lines).encode()
     output = cases.printed(played)
     auditor, fault = cases.audited(played, output, [PolicyFile("policy", text.encode())])
@@ -118,7 +125,7 @@ def judged(lines, text):
 
 
 def ended(folder, lines, output, text):
-    """How the audit of these files ends."""
+    """Returns how the audit of these files ends."""
     files = [folder / it for it in ("script", "output", "policy")]
     for file, data in zip(files, ("\n".join(lines).encode(), output, text.encode())):
         file.write_bytes(data)

@@ -1,9 +1,11 @@
-"""Python devices that are wrong in one thing each, with a script that shows it. The audit compares
-what such a device prints with that same device, so that only the history can show the error.
+"""Python devices that are wrong in one thing each, with a script that shows the error. The audit
+compares the output of such a device with that same device, so that only the history can find the
+error.
 
     wrong_devices.py
 
-It prints what is found of each; the status is 1 if nothing is found of one.
+The program prints the fault that the audit finds for each device. The status is 1 if it finds
+none for one of them.
 """
 
 import functools
@@ -24,7 +26,7 @@ restore_pcrs, start_session = Model.restore_pcrs, Model.start_auth_session
 
 
 def unless(refused):
-    """A use of a policy that ignores one refusal."""
+    """Returns a check of a policy's use that ignores one refusal."""
 
     def checked(session, entity, use, place):
         try:
@@ -37,13 +39,13 @@ def unless(refused):
 
 
 def any_cp_hash(session, entity, use, place):
-    """A use of a policy that accepts any recorded cpHash."""
+    """Checks the use of a policy, but accepts any recorded cpHash."""
     told = session.policy.cp_hash
     return check_use(session, entity, replace(use, cp_hash=told or use.cp_hash), place)
 
 
 def written_or_not(session, entity, use, place):
-    """A use of a policy that does not check whether an index is written."""
+    """Checks the use of a policy, but not whether an index is written."""
     return check_use(session, entity, replace(use, written=session.policy.nv_written), place)
 
 
@@ -75,7 +77,7 @@ def counts_from_1(self, request):
 
 
 def keeps_a_digest(self, request):
-    """A new session has the digest of a live one."""
+    """Starts a session, whose digest is that of a live session if there is one."""
     was = next((it.policy.digest for it in self.sessions.values()), None)
     answer = start_session(self, request)
     session = self.sessions[int.from_bytes(answer.handle, "big")]
@@ -84,7 +86,7 @@ def keeps_a_digest(self, request):
 
 
 def in_rows(code, row):
-    """A command that does something else."""
+    """Returns the change of the device in which a command does something else."""
     return mock.patch.dict(machine.ROWS, {code: row})
 
 
@@ -144,14 +146,16 @@ def script_of(name):
 
 
 def fault_of(name):
-    """What is found of a device in its present state, by the script of a name."""
+    """Returns the fault that the audit finds for a device in its present state, with the script
+    `name`.
+    """
     script = script_of(name)
     return audited(script, printed(script))[1]
 
 
 @functools.cache
 def check_right_device(name):
-    """Checks that nothing is found of the right device."""
+    """Checks that the audit finds no fault for the right device."""
     assert fault_of(name) is None
 
 

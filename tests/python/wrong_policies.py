@@ -1,11 +1,11 @@
-"""Python devices that are wrong in one thing each, whose logs are audited against that same device,
+"""Python devices that are wrong in one thing each. Their logs are audited against that same device,
 by policies in words:
 
     wrong_policies.py POLICIES
 
-POLICIES is a folder that has a folder of policies for each script. For each device it prints what
-the audit finds, and then each use that does not meet its policy if only policies are judged. The
-status is 1 if it finds nothing in one of the two.
+POLICIES has a folder of policies for each script. For each device the program prints what the
+audit finds. Then it prints each use that does not meet its policy if only policies are judged.
+The status is 1 if one of the two finds nothing.
 """
 
 import pathlib
@@ -28,7 +28,7 @@ LOST, WRITTEN = "lost_grounds", "written_policies"
 
 
 def or_of_any_digest(self, request):
-    """TPM2_PolicyOR that ignores the digest before it."""
+    """Executes TPM2_PolicyOR, but ignores the digest before it."""
     branches = request.parameters.next().sized_list(policy.LEAST_BRANCHES, policy.MOST_BRANCHES)
     session = self.sessions[request.handles[0]]
     session.policy.digest = policy.after_or(session.algorithm, branches)
@@ -61,7 +61,7 @@ WRONG = (
 
 
 def policies_alone():
-    """Grounds are not judged, nor is the device compared with its history."""
+    """Turns off the judgement of grounds, and the comparison of the device with its history."""
     stack = ExitStack()
     ground = Finding(True, "it is not judged")
     stack.enter_context(mock.patch.object(Grounds, "findings", lambda *_: [ground]))
