@@ -58,9 +58,6 @@ run 'options with =' serve --connections=0 --locality=4 --entropy=entropy --imag
 run 'no options' serve
 run 'no socket' serve --image image --entropy entropy --locality 0 --connections 0
 run 'no image' serve --socket socket --entropy entropy --locality 0 --connections 0
-run 'no random bytes' serve --socket socket --image image --locality 0 --connections 0
-run 'no locality' serve --socket socket --image image --entropy entropy --connections 0
-run 'no number of connections' serve --socket socket --image image --entropy entropy --locality 0
 serve 'a word too many' more
 serve 'another option' --trace
 serve 'an option twice' --locality 0 --locality 0

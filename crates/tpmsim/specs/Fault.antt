@@ -1,5 +1,5 @@
--- How the program ends where it fails.
-use Rattle.std.specs.Prelude.{ℕ, List, Result, Ok, Err, ◌++◌, codes, if◌then◌else◌}
+-- How the program ends if it fails.
+use Rattle.std.specs.Prelude.{ℕ, List, None, Result, Ok, Err, ◌++◌, codes, if◌then◌else◌}
 use Rattle.std.specs.Fmt.{decimal}
 use Rattle.std.specs.IoError.{error_kind}
 use Rattle.std.specs.declared.io.Error.{Error}
@@ -20,22 +20,40 @@ use Rattle.tpm_text.specs.declared.fault.AsmFault.TheVariants as line
 use Rattle.tpmsim_arguments.specs.declared.fault.ArgumentFault.{ArgumentFault}
 use Rattle.tpmsim_arguments.specs.declared.fault.ArgumentFault.TheVariants as words
 use Rattle.tpmsim_folder.specs.Fault.{is_of_contents, kept_fault_text}
+use Rattle.tpmsim_image.specs.Fault.{with_error}
+use Rattle.tpmsim_image.specs.declared.fault.Cause.{Cause}
 use Rattle.tpmsim_image.specs.declared.fault.DeviceFault.{DeviceFault}
 use Rattle.tpmsim_image.specs.declared.fault.DeviceFault.TheVariants as device
+use Rattle.tpmsim_image.specs.declared.fault.Subject.{Subject}
+use Rattle.tpmsim_image.specs.declared.fault.Subject.TheVariants as subject
 use Rattle.tpmsim.specs.declared.kept.stop.PlayFault.{PlayFault}
 use Rattle.tpmsim.specs.declared.kept.stop.PlayFault.TheVariants as play
 use Rattle.tpmsim_script.specs.declared.fault.ScriptFault.{ScriptFault}
 use Rattle.tpmsim_script.specs.declared.fault.ScriptFault.TheVariants.{Line, Read, TooManyLines, Write, Save, NoMemory}
 
--- the fault Memory where an error is of that kind, and otherwise the other fault
-abbrev pub fault_or : Fault → ErrorKind → Fault
-fault_or otherwise OutOfMemory = Memory
-fault_or otherwise _ = otherwise
+-- the cause that concerns this, without an error of the system's
+abbrev pub alone : Subject → Cause
+alone subject = record { subject = subject; error = None }
 
--- what was given, and that fault where it is an error
+-- a fault with the number of an error of the system's, if it has a cause
+abbrev pub with_cause : Fault → Error → Fault
+with_cause (File cause) error = File (with_error cause error)
+with_cause (Socket cause) error = Socket (with_error cause error)
+with_cause (Entropy cause) error = Entropy (with_error cause error)
+with_cause fault error = fault
+
+-- the fault Memory if an error is of that kind, and otherwise the other fault
+abbrev pub fault_of_kind : Fault → ErrorKind → Fault
+fault_of_kind otherwise OutOfMemory = Memory
+fault_of_kind otherwise _ = otherwise
+
+abbrev pub fault_or : Fault → Error → Fault
+fault_or otherwise error = fault_of_kind (with_cause otherwise error) (error_kind error)
+
+-- what was given, and that fault if it is an error
 abbrev pub given_or : {A : Type 0} → Fault → Result A Error → Result A Fault
 given_or otherwise (Ok value) = Ok value
-given_or otherwise (Err error) = Err (fault_or otherwise (error_kind error))
+given_or otherwise (Err error) = Err (fault_or otherwise error)
 
 -- the fault of words that are refused: they are not the program's, or memory ran out
 abbrev pub fault_of_arguments : ArgumentFault → Fault
@@ -44,13 +62,13 @@ fault_of_arguments words.NoMemory = Memory
 
 abbrev pub fault_of : ScriptFault → Fault
 fault_of (Line number) = ScriptLine number
-fault_of Read = File
-fault_of TooManyLines = File
-fault_of Write = File
-fault_of Save = File
+fault_of Read = File (alone subject.Script)
+fault_of TooManyLines = File (alone subject.Script)
+fault_of Write = File (alone subject.Output)
+fault_of Save = File (alone subject.Image)
 fault_of NoMemory = Memory
 
--- the fault of a line that was not assembled: memory ran out, or it spells no command
+-- the fault of a line that was not assembled: memory ran out, or it encodes no command
 abbrev pub fault_of_line : AsmFault → Fault
 fault_of_line line.NoMemory = Memory
 fault_of_line fault = Asm fault
@@ -63,9 +81,9 @@ fault_of_spelling spelling.NoMemory = Memory
 -- the fault of a device in an image that was not opened, saved or served
 abbrev pub fault_of_device : DeviceFault → Fault
 fault_of_device (device.Image fault) = Image fault
-fault_of_device device.File = File
-fault_of_device device.Socket = Socket
-fault_of_device device.Entropy = Entropy
+fault_of_device (device.File cause) = File cause
+fault_of_device (device.Socket cause) = Socket cause
+fault_of_device (device.Entropy cause) = Entropy cause
 fault_of_device device.Memory = Memory
 
 -- the fault of a script that was not played on a kept device
@@ -73,8 +91,8 @@ abbrev pub fault_of_play : PlayFault → Fault
 fault_of_play (play.Script fault) = fault_of fault
 fault_of_play (play.Kept fault) = Kept fault
 
--- the exit status: 2 where what was asked for makes no sense, 3 where a file, a socket, a stream or
--- memory refused it, 4 where a file that should be an image, a state text or a journal is not
+-- the exit status: 2 if what was asked for makes no sense, 3 if a file, a socket, a stream or memory
+-- refused it, 4 if a file that should be an image, a state text or a journal is not
 abbrev pub status_of : Fault → ℕ
 status_of Usage = 2
 status_of (ScriptLine number) = 2
@@ -82,9 +100,9 @@ status_of (Asm fault) = 2
 status_of NoLine = 2
 status_of (Image fault) = 4
 status_of (State fault) = 4
-status_of File = 3
-status_of Socket = 3
-status_of Entropy = 3
+status_of (File cause) = 3
+status_of (Socket cause) = 3
+status_of (Entropy cause) = 3
 status_of Memory = 3
 status_of (Kept fault) = if is_of_contents fault.said then 4 else 3
 status_of (Journal fault) = 4
@@ -134,9 +152,9 @@ fault_text (Asm fault) = codes "asm " ++ asm_text fault
 fault_text NoLine = codes "line NoLine"
 fault_text (Image fault) = codes "image " ++ image_text fault
 fault_text (State fault) = codes "snapshot " ++ state_fault_text fault
-fault_text File = codes "file"
-fault_text Socket = codes "socket"
-fault_text Entropy = codes "entropy"
+fault_text (File cause) = codes "file"
+fault_text (Socket cause) = codes "socket"
+fault_text (Entropy cause) = codes "entropy"
 fault_text Memory = codes "memory"
 fault_text (Kept fault) = kept_fault_text fault
 fault_text (Journal fault) = journal_fault_text fault

@@ -3,15 +3,16 @@
 use crate::fault::Fault;
 use std::io::Read;
 use std::{fs, io};
+use tpmsim_image::Subject;
 use tpmsim_script::report_of;
 
 /// Prints what is wrong with each bad line of a script, from a file or from standard input, and
 /// ends as a run of the script would.
 pub fn check_script(rt: &HostRuntime, script: &str) -> Result<(), Fault> {
-    let text = Fault::File.unless(read(rt, script))?;
+    let text = Fault::file(Subject::Script).unless(read(rt, script))?;
     let report = report_of(rt.alloc(), text.as_slice())?;
     let told = report.text.as_str();
-    Fault::File.unless(print!(rt; "{told}"))?;
+    Fault::file(Subject::Output).unless(print!(rt; "{told}"))?;
     Ok(report.end?)
 }
 

@@ -14,30 +14,31 @@ use tpm_state_text::StateFault;
 use tpm_text::AsmFault;
 use tpmsim_arguments::ArgumentFault;
 use tpmsim_folder::KeptFault;
-use tpmsim_image::DeviceFault;
+use tpmsim_image::{Cause, DeviceFault, Subject};
 use tpmsim_script::ScriptFault;
 
-/// Why the program failed. The fault prints as the line on standard error says it.
+/// Why the program failed. The fault prints as the line on standard error says it; a cause is in no
+/// line of its own, and [`crate::explaining`] prints it on request.
 #[derive(Clone, Copy, PartialEq, Eq)]
 pub enum Fault {
     /// The command line is not one of the program's.
     Usage,
     /// The line of this number, from 1, is not one that a script may have.
     ScriptLine(u32),
-    /// The line to be assembled spells no command.
+    /// The line to be assembled encodes no command.
     Asm(AsmFault),
-    /// There is no line that spells the buffer.
+    /// There is no line that encodes the buffer.
     NoLine,
-    /// The file of the image holds no image.
+    /// The file of the image does not contain an image.
     Image(ImageFault),
-    /// The file of the state text holds no state text.
+    /// The file of the state text does not contain a state text.
     State(StateFault),
     /// A file, or standard input or output, could not be opened, read or written.
-    File,
+    File(Cause),
     /// The socket could not be made, or could not take a connection.
-    Socket,
+    Socket(Cause),
     /// The file of random bytes could not be opened, or has too few bytes left.
-    Entropy,
+    Entropy(Cause),
     Memory,
     /// The device in a folder did not do what was asked for.
     Kept(KeptFault),
@@ -61,10 +62,19 @@ pub enum JournalFault {
 }
 
 impl Fault {
-    ghost use Rattle.std.specs.IoError.{error_kind};
-    ghost use Rattle.tpmsim.specs.Fault.{fault_or, given_or, image_text, state_fault_text, status_of};
+    ghost use Rattle.tpmsim.specs.Fault.{alone, fault_or, given_or, image_text, state_fault_text};
+    ghost use Rattle.tpmsim.specs.Fault.{status_of, with_cause};
+    ghost use Rattle.tpmsim.specs.declared.fault.Fault.TheVariants.{File};
 
-    /// What was given; where it is an error, `Memory` if memory ran out, and otherwise this fault.
+    /// The fault of a file or a stream. No error of the system's is known.
+    pub fn file(subject: Subject) -> Fault
+        ensures { result ≡ File (alone subject) }
+    {
+        Fault::File(subject.alone())
+    }
+
+    /// What was given. If it is an error: `Memory` if memory ran out, and otherwise this fault, with
+    /// the number of the error.
     pub fn unless<T>(self, given: io::Result<T>) -> Result<T, Fault>
         ensures { result ≡ given_or self given }
     {
@@ -74,24 +84,36 @@ impl Fault {
         }
     }
 
-    /// `Memory` where memory ran out, and otherwise `otherwise`.
+    /// `Memory` if memory ran out, and otherwise `otherwise`, with the number of the error.
     fn of_io(error: io::Error, otherwise: Fault) -> Fault
-        ensures { result ≡ fault_or otherwise (error_kind error) }
+        ensures { result ≡ fault_or otherwise error }
     {
         match error.kind() {
             ErrorKind::OutOfMemory => Fault::Memory,
-            _ => otherwise,
+            _ => otherwise.with(&error),
         }
     }
 
-    /// The exit status: 2 where what was asked for makes no sense, 3 where a file, a socket, a
-    /// stream or memory refused it, 4 where a file that should be an image or a journal is not.
+    /// The same fault with the number of an error of the system's, if it has a cause.
+    fn with(self, error: &io::Error) -> Fault
+        ensures { result ≡ with_cause self error.now }
+    {
+        match self {
+            Fault::File(cause) => Fault::File(cause.with(error)),
+            Fault::Socket(cause) => Fault::Socket(cause.with(error)),
+            Fault::Entropy(cause) => Fault::Entropy(cause.with(error)),
+            fault => fault,
+        }
+    }
+
+    /// The exit status: 2 if what was asked for makes no sense, 3 if a file, a socket, a stream or
+    /// memory refused it, 4 if a file that should be an image or a journal is not.
     pub fn status(self) -> u8
         ensures { result ≡ status_of self }
     {
         match self {
             Fault::Usage | Fault::ScriptLine(_) | Fault::Asm(_) | Fault::NoLine => 2,
-            Fault::File | Fault::Socket | Fault::Entropy | Fault::Memory => 3,
+            Fault::File(_) | Fault::Socket(_) | Fault::Entropy(_) | Fault::Memory => 3,
             Fault::Image(_) | Fault::State(_) | Fault::Journal(_) => 4,
             Fault::Kept(fault) => kept_status(fault),
         }
@@ -152,9 +174,9 @@ impl fmt::Display for Fault {
                 let name = Fault::state_name(*fault);
                 write!(f, "snapshot {name}")
             }
-            Fault::File => write!(f, "file"),
-            Fault::Socket => write!(f, "socket"),
-            Fault::Entropy => write!(f, "entropy"),
+            Fault::File(_) => write!(f, "file"),
+            Fault::Socket(_) => write!(f, "socket"),
+            Fault::Entropy(_) => write!(f, "entropy"),
             Fault::Memory => write!(f, "memory"),
             Fault::Kept(fault) => write!(f, "{fault}"),
             Fault::Journal(fault) => write!(f, "{fault}"),
@@ -213,9 +235,9 @@ impl From<DeviceFault> for Fault {
     fn from(fault: DeviceFault) -> Fault {
         match fault {
             DeviceFault::Image(fault) => Fault::Image(fault),
-            DeviceFault::File => Fault::File,
-            DeviceFault::Socket => Fault::Socket,
-            DeviceFault::Entropy => Fault::Entropy,
+            DeviceFault::File(cause) => Fault::File(cause),
+            DeviceFault::Socket(cause) => Fault::Socket(cause),
+            DeviceFault::Entropy(cause) => Fault::Entropy(cause),
             DeviceFault::Memory => Fault::Memory,
         }
     }
@@ -229,10 +251,9 @@ impl From<ScriptFault> for Fault {
     fn from(fault: ScriptFault) -> Fault {
         match fault {
             ScriptFault::Line(number) => Fault::ScriptLine(number),
-            ScriptFault::Read
-            | ScriptFault::TooManyLines
-            | ScriptFault::Write
-            | ScriptFault::Save => Fault::File,
+            ScriptFault::Read | ScriptFault::TooManyLines => Fault::file(Subject::Script),
+            ScriptFault::Write => Fault::file(Subject::Output),
+            ScriptFault::Save => Fault::file(Subject::Image),
             ScriptFault::NoMemory => Fault::Memory,
         }
     }
@@ -277,8 +298,7 @@ impl From<ArgumentFault> for Fault {
     }
 }
 
-/// The exit status of a fault of a kept device: 4 where its journal is not one that the program
-/// takes.
+/// The exit status of a fault of a kept device: 4 if its journal is not one that the program takes.
 fn kept_status(fault: KeptFault) -> u8
     ensures { result ≡ (if is_of_contents fault.said then 4 else 3) }
 {

@@ -3,9 +3,9 @@
 //! device is the one that executed the answered commands, whatever is killed, fails or crashes.
 //!
 //! [`Kept`] is a kept device: it does in the folder what the keeper asks for. Several processes may
-//! hold one at the same time. [`playing`] plays a script on it, and [`serving`] serves it on a connection.
-//! [`command`] writes the texts that the keeper takes, and [`answer`] reads its responses. The
-//! folder, its lock and what faults say of it are in tpmsim_folder.
+//! hold one at the same time. [`playing`] plays a script on it, and [`serving`] serves it on a
+//! connection. [`command`] writes the texts that the keeper takes, and [`answer`] reads its
+//! responses. The folder, its lock and what faults say of it are in tpmsim_folder.
 
 mod answer;
 mod command;
@@ -19,5 +19,5 @@ mod tail;
 pub use keeping::Kept;
 pub use playing::play;
 pub use said::{said_of_following, said_of_opening};
-pub use serving::{RandomBytes, ServeFault, serve};
+pub use serving::{RandomBytes, ServeFault, Terms, serve};
 pub use stop::PlayFault;

@@ -11,12 +11,13 @@ use tpm_machine::Machine;
 use tpm_slots::SlotKeep;
 use tpm_step::Outcome;
 use tpmsim_folder::{Place, Said};
-use tpmsim_image::Entropy;
+use tpmsim_image::{Entropy, Subject};
 use tpmsim_script::first_bytes;
 
-/// Cycles the power of the device in a folder; with `cuts` also if its journal is damaged.
-pub fn cycle_power(rt: &HostRuntime, folder: &str, cuts: bool) -> Result<(), Fault> {
-    let mut kept = open_there(rt, folder)?;
+/// Cycles the power of the device in a folder, where `past` finished journals stay; with `cuts` also
+/// if its journal is damaged.
+pub fn cycle_power(rt: &HostRuntime, folder: &str, cuts: bool, past: u32) -> Result<(), Fault> {
+    let mut kept = open_there(rt, folder, past)?;
     if cuts {
         kept.cut()?;
     }
@@ -25,7 +26,7 @@ pub fn cycle_power(rt: &HostRuntime, folder: &str, cuts: bool) -> Result<(), Fau
 
 /// Prints what happened to the device in a folder since its journal began, as a script.
 pub fn print_script(rt: &HostRuntime, folder: &str) -> Result<(), Fault> {
-    let mut kept = open_there(rt, folder)?;
+    let mut kept = open_there(rt, folder, 0)?;
     print_journal(rt, kept.journal()?)
 }
 
@@ -46,40 +47,44 @@ fn fault_of_retelling(fault: RetellFault) -> Fault {
         RetellFault::Follow { fault, .. } => {
             Fault::Kept(Place::Journal.that(said_of_following(fault)))
         }
-        RetellFault::Write => Fault::File,
+        RetellFault::Write => Fault::file(Subject::Output),
     }
 }
 
-/// Plays a script, from a file or from standard input, on the device in a folder.
+/// Plays a script, from a file or from standard input, on the device in a folder, where `past`
+/// finished journals stay.
 pub fn play_script(
     rt: &HostRuntime,
     script: &str,
     trace: bool,
     folder: &str,
+    past: u32,
     entropy: Option<&str>,
 ) -> Result<(), Fault> {
     if script == "-" {
-        return play_text(rt, &mut Tap::new(rt.stdin()), trace, folder, entropy);
+        let reader = &mut Tap::new(rt.stdin());
+        return play_text(rt, reader, trace, folder, past, entropy);
     }
-    let file = Fault::File.unless(fs::open(rt, script))?;
-    play_text(rt, &mut Tap::new(file), trace, folder, entropy)
+    let file = Fault::file(Subject::Script).unless(fs::open(rt, script))?;
+    play_text(rt, &mut Tap::new(file), trace, folder, past, entropy)
 }
 
-/// Plays the script that a reader gives on the device in a folder, a new one where none is there.
+/// Plays the script that a reader gives on the device in a folder, a new one if none is there.
 fn play_text<R: Read>(
     rt: &HostRuntime,
     reader: &mut Tap<R>,
     trace: bool,
     folder: &str,
+    past: u32,
     entropy: Option<&str>,
 ) -> Result<(), Fault> {
-    let mut kept = Kept::at(rt, folder, true, Force::Power)?;
+    let mut kept = Kept::at(rt, folder, true, Force::Power, past)?;
     begin_missing(rt, &mut kept, entropy)?;
     play_on(rt, &mut kept, reader, trace)
 }
 
-/// Begins a new device where none is in the folder, with the first random bytes of a file, or else
-/// with the bytes 00 to ff.
+/// Begins a new device if none is in the folder, with the first random bytes of a file, or else with
+/// the bytes 00 to ff.
 fn begin_missing(
     rt: &HostRuntime,
     kept: &mut Kept<'_>,
@@ -103,9 +108,9 @@ fn play_on<R: Read>(
     Ok(play(rt.alloc(), kept, reader, output, trace)?)
 }
 
-/// The device in a folder, which has to be there.
-pub fn open_there<'a>(rt: &'a HostRuntime, folder: &str) -> Result<Kept<'a>, Fault> {
-    let kept = Kept::at(rt, folder, false, Force::Power)?;
+/// The device in a folder, which has to be there. `past` finished journals stay there.
+pub fn open_there<'a>(rt: &'a HostRuntime, folder: &str, past: u32) -> Result<Kept<'a>, Fault> {
+    let kept = Kept::at(rt, folder, false, Force::Power, past)?;
     if kept.is_there()? {
         Ok(kept)
     } else {
@@ -119,5 +124,5 @@ fn random_of(rt: &HostRuntime, entropy: Option<&str>) -> Result<[u8; 256], Fault
         return Ok(first_bytes());
     };
     let mut entropy = Entropy::open(rt, path)?;
-    Fault::Entropy.unless(entropy.random())
+    Fault::Entropy(Subject::Entropy.alone()).unless(entropy.random())
 }

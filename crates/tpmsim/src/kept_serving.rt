@@ -2,11 +2,11 @@
 //! two commands of a connection other processes may have theirs.
 
 use crate::fault::Fault;
-use crate::kept::{Kept, RandomBytes, ServeFault, serve};
+use crate::kept::{Kept, RandomBytes, ServeFault, Terms, serve};
 use tpm_bytes::Tap;
 use tpm_keeping::holder::Force;
 use tpmsim_arguments::Service;
-use tpmsim_image::{Entropy, Socket, bind};
+use tpmsim_image::{Entropy, Socket, Subject, bind};
 
 /// The random bytes of a served device, which are those of a file.
 #[derive(Drop)]
@@ -23,10 +23,15 @@ impl RandomBytes for FileBytes {
     }
 }
 
-/// Serves the device in a folder on a socket; a new one where none is there. Removes the socket's
-/// file in the end, if it is still at its path.
-pub fn serve_kept(rt: &HostRuntime, service: &Service, folder: &str) -> Result<(), Fault> {
-    let mut kept = Kept::at(rt, folder, true, force_of(service))?;
+/// Serves the device in a folder, where `past` finished journals stay, on a socket; a new device if
+/// none is there. Removes the socket's file in the end, if it is still at its path.
+pub fn serve_kept(
+    rt: &HostRuntime,
+    service: &Service,
+    folder: &str,
+    past: u32,
+) -> Result<(), Fault> {
+    let mut kept = Kept::at(rt, folder, true, force_of(service), past)?;
     let entropy = Entropy::open(rt, service.entropy)?;
     serve_with(rt, service, &mut kept, &mut FileBytes { entropy })
 }
@@ -39,23 +44,22 @@ fn serve_with(
     bytes: &mut FileBytes,
 ) -> Result<(), Fault> {
     open_or_begin(kept, &mut bytes.entropy)?;
-    let socket = bind(rt, service.socket)?;
-    let served = serve_connections(service, &socket, kept, bytes);
+    let mut socket = bind(rt, service.socket)?;
+    let served = serve_connections(rt, service, &mut socket, kept, bytes);
     socket.remove(rt, service.socket);
     served
 }
 
-/// Opens the device in the folder. Where none is there a new one begins, with the next random
-/// bytes.
+/// Opens the device in the folder. If none is there a new one begins, with the next random bytes.
 fn open_or_begin(kept: &mut Kept<'_>, entropy: &mut Entropy) -> Result<(), Fault> {
     if !kept.is_there()? {
-        let random = Fault::Entropy.unless(entropy.random())?;
+        let random = Fault::Entropy(Subject::Entropy.alone()).unless(entropy.random())?;
         kept.manufacture(&random)?;
     }
     Ok(kept.open()?)
 }
 
-/// When the disk is forced: before each response too, where the device is to be saved then.
+/// When the disk is forced: before each response too, if the device is to be saved then.
 fn force_of(service: &Service) -> Force {
     if service.saves_each {
         Force::Always
@@ -67,18 +71,23 @@ fn force_of(service: &Service) -> Force {
 /// Serves as many connections as are asked for, one after another. A client that fails ends its own
 /// connection alone.
 fn serve_connections(
+    rt: &HostRuntime,
     service: &Service,
-    socket: &Socket,
+    socket: &mut Socket,
     kept: &mut Kept<'_>,
     bytes: &mut FileBytes,
 ) -> Result<(), Fault> {
-    for _ in 0..service.connections {
-        let stream = Fault::Socket.unless(socket.accept())?;
-        let reader = &mut Tap::new(&stream);
+    let terms = Terms {
+        locality: service.locality,
+        completes: service.completes,
+    };
+    for _ in 0..service.connection_limit() {
+        let stream = Fault::Socket(Subject::Socket.alone()).unless(socket.accept())?;
+        let reader = &mut Tap::new(socket.attend(rt, &stream));
         let writer = &mut Tap::new(&stream);
-        match serve(kept, service.locality, bytes, reader, writer) {
+        match serve(kept, terms, bytes, reader, writer) {
             Ok(()) | Err(ServeFault::Client) => {}
-            Err(ServeFault::Random) => return Err(Fault::Entropy),
+            Err(ServeFault::Random) => return Err(Fault::Entropy(Subject::Entropy.alone())),
             Err(ServeFault::Kept(fault)) => return Err(Fault::Kept(fault)),
         }
     }

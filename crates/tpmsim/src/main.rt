@@ -1,25 +1,29 @@
 #![tactic(auto)]
 
-//! A TPM 2.0 simulator: it runs scripts of commands, `tpmsim run`, and checks them, `check`;
-//! assembles commands from words, `asm`, and finds the words of a command, `line`; tells how
-//! commands are said in words, `lines`, and what a response code says, `code`; and serves a device
-//! on a socket, `serve`. A device is kept in an image, or in a folder with its state, whose power
-//! `power` cycles, of which `snapshot` and `restore` write and read the state text, and of which
-//! `script` tells what happened; `replay` executes what was recorded again.
+//! A TPM 2.0 simulator. It runs scripts of commands, `tpmsim run`, and checks them, `check`. It
+//! assembles commands from words, `asm`, and finds the words of a command, `line`. It prints how
+//! commands are said in words, `lines`, and what a response code says, `code`. It serves a device on
+//! a socket, `serve`.
+//!
+//! A device is kept in an image, or in a folder with its state. `power` cycles the power of a device
+//! in a folder, `snapshot` and `restore` write and read its state text, and `script` prints what
+//! happened to it. `replay` executes again what was recorded.
 //!
 //! Standard output has what was asked for: for `run` each response in hex on a line of its own,
 //! with `--trace` after a line that traces the command; for `check` a line for each bad line. A run
 //! that fails says why in one line on standard error, and its exit status says which kind of fault
-//! it is ([`fault`]).
+//! it is ([`fault`]). A second line has the path and the system's reason, if the environment asks
+//! for it ([`explaining`]).
 //!
 //! The program uses tpmsim_arguments for its words, tpmsim_script for scripts and their check,
-//! `tpm_text` and `tpm_line` for lines, `tpm_help` for what it tells of these, tpmsim_image for a
-//! device that is kept in an image, tpm_keeping, tpm_kept_device and tpmsim_folder for one that is
-//! kept in a folder ([`kept`]), and tpm_journal for what happened to it. All that touches files, sockets and clocks
-//! is here, in tpmsim_image or in tpmsim_folder; what the device answers is proved in the crates
-//! below.
+//! `tpm_text` and `tpm_line` for lines, and `tpm_help` for what it prints about these. It uses
+//! tpmsim_image for a device in an image; tpm_keeping, tpm_kept_device and tpmsim_folder for one in
+//! a folder ([`kept`]); and tpm_journal for what happened to it. All that touches files, sockets and
+//! clocks is here, in tpmsim_image or in tpmsim_folder. What the device answers is proved in the
+//! crates below.
 
 mod checking;
+mod explaining;
 mod fault;
 mod kept;
 mod kept_playing;
@@ -30,6 +34,7 @@ mod running;
 mod telling;
 
 use checking::check_script;
+use explaining::explain;
 use fault::Fault;
 use kept_playing::{cycle_power, play_script, print_script};
 use kept_serving::serve_kept;
@@ -40,22 +45,44 @@ use std::env;
 use std::process::ExitCode;
 use telling::{print_assembled, print_code, print_forms, print_spelled};
 use tpmsim_arguments::{Arguments, Place, Service, Storage};
-use tpmsim_image::serve_device;
+use tpmsim_image::{Subject, serve_device};
 
 fn main(rt: HostRuntime) -> ExitCode {
     match try_main(&rt) {
         Ok(()) => ExitCode::SUCCESS,
+        Err(fault) => ExitCode::from(fault.status()),
+    }
+}
+
+/// Does what the words of the command line ask for. Each fault is reported.
+fn try_main(rt: &HostRuntime) -> Result<(), Fault> {
+    let words = match words_of(rt) {
+        Ok(words) => words,
+        Err(fault) => return report(rt, fault),
+    };
+    let arguments = match Arguments::parse(rt.alloc(), words.as_slice()) {
+        Ok(arguments) => arguments,
+        Err(fault) => return report(rt, Fault::from(fault)),
+    };
+    match perform(rt, &arguments) {
+        Ok(()) => Ok(()),
         Err(fault) => {
-            let _ = eprintln!(rt; "tpmsim: {fault}");
-            ExitCode::from(fault.status())
+            let failed = report(rt, fault);
+            explain(rt, &arguments, fault);
+            failed
         }
     }
 }
 
-fn try_main(rt: &HostRuntime) -> Result<(), Fault> {
-    let words: Vec<String> = Fault::Usage.unless(env::args(rt))?.collect(rt.alloc())?;
-    let arguments = Arguments::parse(rt.alloc(), words.as_slice())?;
-    perform(rt, &arguments)
+/// The words of the command line.
+fn words_of(rt: &HostRuntime) -> Result<Vec<String>, Fault> {
+    Ok(Fault::Usage.unless(env::args(rt))?.collect(rt.alloc())?)
+}
+
+/// Prints the line of a fault, which is the result.
+fn report(rt: &HostRuntime, fault: Fault) -> Result<(), Fault> {
+    let _ = eprintln!(rt; "tpmsim: {fault}");
+    Err(fault)
 }
 
 /// Does what the command line asks for.
@@ -77,12 +104,12 @@ fn perform(rt: &HostRuntime, arguments: &Arguments<'_>) -> Result<(), Fault> {
         Arguments::Forms { name } => print_forms(rt, *name),
         Arguments::Code { digits } => print_code(rt, digits),
         Arguments::Serve(service) => serve_in_place(rt, service),
-        Arguments::Power { state, cuts } => cycle_power(rt, state, *cuts),
+        Arguments::Power { state, cuts, past } => cycle_power(rt, state, *cuts, *past),
         Arguments::Snapshot { state } => print_snapshot(rt, state),
-        Arguments::Restore { state, text } => restore_snapshot(rt, state, text),
+        Arguments::Restore { state, text, past } => restore_snapshot(rt, state, text, *past),
         Arguments::Retell { state } => print_script(rt, state),
         Arguments::Replay { journal } => replay_journal(rt, journal),
-        Arguments::Tell(text) => Fault::File.unless(print!(rt; "{text}")),
+        Arguments::Tell(text) => Fault::file(Subject::Output).unless(print!(rt; "{text}")),
     }
 }
 
@@ -95,7 +122,9 @@ fn run_in_place(
 ) -> Result<(), Fault> {
     match storage.place {
         Place::Image(image) => run_kept(rt, script, trace, image, storage.entropy),
-        Place::State(folder) => play_script(rt, script, trace, folder, storage.entropy),
+        Place::State { folder, past } => {
+            play_script(rt, script, trace, folder, past, storage.entropy)
+        }
     }
 }
 
@@ -103,6 +132,6 @@ fn run_in_place(
 fn serve_in_place(rt: &HostRuntime, service: &Service) -> Result<(), Fault> {
     match service.place {
         Place::Image(image) => Ok(serve_device(rt, service, image)?),
-        Place::State(folder) => serve_kept(rt, service, folder),
+        Place::State { folder, past } => serve_kept(rt, service, folder, past),
     }
 }

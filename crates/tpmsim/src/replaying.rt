@@ -7,14 +7,15 @@ use tpm_journal::{FollowFault, OpenFault, RetellFault, Telling, retell};
 use tpm_machine::Machine;
 use tpm_slots::SlotKeep;
 use tpm_step::Outcome;
+use tpmsim_image::Subject;
 
 /// How many lines an entry has.
 const ENTRY_LINES: u64 = 5;
 
 /// Prints the trace and the response of each command that a journal recorded, which are those that
-/// were answered then; where they are not, the line of the journal is the fault.
+/// were answered then. If they are not, the fault names the line of the journal.
 pub fn replay_journal(rt: &HostRuntime, path: &str) -> Result<(), Fault> {
-    let text = Fault::File.unless(fs::read(rt, path))?;
+    let text = Fault::file(Subject::Journal).unless(fs::read(rt, path))?;
     let mut machine: Machine<SlotKeep> = Machine::manufacture(rt.alloc(), &[0; 256])?;
     let mut outcome = Outcome::empty();
     let output = &mut Tap::new(rt.stdout());
@@ -46,7 +47,7 @@ fn fault_of(fault: RetellFault, text: &[u8]) -> Fault {
                 }
             }
         }
-        RetellFault::Write => Fault::File,
+        RetellFault::Write => Fault::file(Subject::Output),
     }
 }
 

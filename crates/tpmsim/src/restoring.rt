@@ -12,21 +12,28 @@ use tpm_keeping::holder::Force;
 use tpm_machine::Machine;
 use tpm_slots::SlotKeep;
 use tpm_snapshot::{RestoreFault, restore_new};
+use tpmsim_image::Subject;
 
 /// Writes the state text of the device in a folder to standard output.
 pub fn print_snapshot(rt: &HostRuntime, folder: &str) -> Result<(), Fault> {
-    let mut kept = open_there(rt, folder)?;
+    let mut kept = open_there(rt, folder, 0)?;
     let mut content = [0; CONTENT_LIMIT];
     let text = kept.snapshot(&mut content)?;
-    Fault::File.unless(rt.stdout().write_all(text))
+    Fault::file(Subject::Output).unless(rt.stdout().write_all(text))
 }
 
-/// Replaces the device in a folder, or begins one where there is none, by the device of a state text
-/// in a file. A text that is refused leaves the folder as it was.
-pub fn restore_snapshot(rt: &HostRuntime, folder: &str, path: &str) -> Result<(), Fault> {
-    let text = Fault::File.unless(fs::read(rt, path))?;
+/// Replaces the device in a folder by the device of a state text in a file, or begins it if there is
+/// none. `past` finished journals stay in the folder. A text that is refused leaves the folder as it
+/// was.
+pub fn restore_snapshot(
+    rt: &HostRuntime,
+    folder: &str,
+    path: &str,
+    past: u32,
+) -> Result<(), Fault> {
+    let text = Fault::file(Subject::StateText).unless(fs::read(rt, path))?;
     check(rt, text.as_slice())?;
-    let mut kept = Kept::at(rt, folder, true, Force::Power)?;
+    let mut kept = Kept::at(rt, folder, true, Force::Power, past)?;
     Ok(kept.restore(text.as_slice())?)
 }
 

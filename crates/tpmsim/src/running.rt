@@ -6,7 +6,7 @@ use std::io::Read;
 use tpm_bytes::Tap;
 use tpm_machine::{Machine, Saver};
 use tpm_slots::SlotKeep;
-use tpmsim_image::{Entropy, ImageFile, ImageSaver};
+use tpmsim_image::{Entropy, ImageFile, ImageSaver, Subject};
 use tpmsim_script::{new_machine, run_device, run_script};
 
 /// Runs a script, from a file or from standard input, on a new device that nobody keeps.
@@ -14,7 +14,7 @@ pub fn run_alone(rt: &HostRuntime, script: &str, trace: bool) -> Result<(), Faul
     if script == "-" {
         return run_new(rt, &mut Tap::new(rt.stdin()), trace);
     }
-    let file = Fault::File.unless(fs::open(rt, script))?;
+    let file = Fault::file(Subject::Script).unless(fs::open(rt, script))?;
     run_new(rt, &mut Tap::new(file), trace)
 }
 
@@ -24,8 +24,8 @@ fn run_new<R: Read>(rt: &HostRuntime, reader: &mut Tap<R>, trace: bool) -> Resul
     Ok(run_script::<SlotKeep, _, _>(rt.alloc(), reader, output, trace)?)
 }
 
-/// Runs the script on the device whose image is in a file, or on a new one where there is no such
-/// file, and saves the device there on the way and in the end.
+/// Runs the script on the device whose image is in a file, or on a new one if there is no such file,
+/// and saves the device there on the way and in the end.
 pub fn run_kept(
     rt: &HostRuntime,
     script: &str,
@@ -54,8 +54,8 @@ struct Device {
     was_kept: bool,
 }
 
-/// The device whose image is in a file, or a new one where there is no such file. A file of random
-/// bytes is opened for either.
+/// The device whose image is in a file, or a new one if there is no such file. A file of random bytes
+/// is opened for either.
 fn device_of(
     rt: &HostRuntime,
     file: &ImageFile<'_>,
@@ -108,7 +108,7 @@ fn play<S: Saver>(
     if script == "-" {
         return play_text(rt, machine, saver, &mut Tap::new(rt.stdin()), trace);
     }
-    let file = Fault::File.unless(fs::open(rt, script))?;
+    let file = Fault::file(Subject::Script).unless(fs::open(rt, script))?;
     play_text(rt, machine, saver, &mut Tap::new(file), trace)
 }
 

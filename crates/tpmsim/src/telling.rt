@@ -1,4 +1,4 @@
-//! What the program tells of commands, in hex and in words, and of response codes.
+//! What the program prints about commands, in hex and in words, and about response codes.
 
 use crate::fault::Fault;
 use hex::FromHexError;
@@ -6,19 +6,20 @@ use tpm_commands::CommandCode;
 use tpm_help::{example_of, form_of, hex_number, meaning_of};
 use tpm_line::line_of;
 use tpm_text::assemble;
+use tpmsim_image::Subject;
 
-/// Prints the command that a line in words spells, in hex.
+/// Prints the command that a line in words encodes, in hex.
 pub fn print_assembled(rt: &HostRuntime, line: &str) -> Result<(), Fault> {
     let buffer = assemble(rt.alloc(), line)?;
     let text = hex::encode(rt.alloc(), buffer)?;
-    Fault::File.unless(println!(rt; "{text}"))
+    Fault::file(Subject::Output).unless(println!(rt; "{text}"))
 }
 
-/// Prints the line in words that spells the command of these hex digits.
+/// Prints the line in words that encodes the command of these hex digits.
 pub fn print_spelled(rt: &HostRuntime, digits: &str) -> Result<(), Fault> {
     let buffer = buffer_of(rt, digits)?;
     let text = line_of(rt.alloc(), buffer.as_slice())?;
-    Fault::File.unless(println!(rt; "{text}"))
+    Fault::file(Subject::Output).unless(println!(rt; "{text}"))
 }
 
 /// The buffer that hex digits of either case write.
@@ -55,7 +56,7 @@ fn print_form(rt: &HostRuntime, code: CommandCode) -> Result<(), Fault> {
     let name = code.name();
     let example = example_of(code);
     let space = if example.is_empty() { "" } else { " " };
-    Fault::File.unless(println!(rt; "{form}\n    {name}{space}{example}"))
+    Fault::file(Subject::Output).unless(println!(rt; "{form}\n    {name}{space}{example}"))
 }
 
 /// Prints the name of the response code that hex digits write, and its place. A number that is no
@@ -63,5 +64,5 @@ fn print_form(rt: &HostRuntime, code: CommandCode) -> Result<(), Fault> {
 pub fn print_code(rt: &HostRuntime, digits: &str) -> Result<(), Fault> {
     let number = hex_number(digits.as_bytes()).ok_or(Fault::Usage)?;
     let meaning = meaning_of(number).ok_or(Fault::Usage)?;
-    Fault::File.unless(println!(rt; "{meaning}"))
+    Fault::file(Subject::Output).unless(println!(rt; "{meaning}"))
 }

@@ -1,5 +1,5 @@
 -- The answer to a command line, from what clap finds in its words.
-use Rattle.std.proofs.Common.{◌≡◌, ◌≢◌, ◌⊎◌, ◌∙◌, ap, inl, inr, refl, sym, true, false, Bool, codes, List, Option, Some, None, Result, Ok, Err, ok_or, option_and_then, option_map, if◌then◌else◌}
+use Rattle.std.proofs.Common.{◌≡◌, ◌≢◌, ◌⊎◌, ◌∙◌, ℕ, ap, inl, inr, refl, sym, true, false, Bool, codes, List, Option, Some, None, Result, Ok, Err, ok_or, option_and_then, option_map, if◌then◌else◌}
 use Rattle.std.specs.Str.{bytes_eq}
 use Rattle.clap.specs.Words.{IsAmong, Row, Text, fault_of, first_of, is_simple, is_simple_and_free, subcommand_of}
 use Rattle.clap.specs.declared.error.kind.ErrorKind.{ErrorKind}
@@ -7,7 +7,7 @@ use Rattle.clap.specs.declared.error.kind.ErrorKind.TheVariants.{ArgumentConflic
 use Rattle.clap.proofs.OnLiterals.{clap_on_literals}
 use Rattle.tpm_bytes.specs.Reading.{Gives}
 use Rattle.tpmsim_arguments.specs.Answers.{Answers, AreTaken, IsTold}
-use Rattle.tpmsim_arguments.specs.Invocation.{Invocation, Served, Stored, asked, asked_by, asked_in, is_set, script_in, service_in, storage_in, run, check, assemble, spell, forms, name_code, serve, cycle_power, snapshot, restore, retell, tell, replay}
+use Rattle.tpmsim_arguments.specs.Invocation.{Invocation, Served, Stored, asked, asked_by, asked_in, is_set, past_in, script_in, service_in, storage_in, run, check, assemble, spell, forms, name_code, serve, cycle_power, snapshot, restore, retell, tell, replay}
 use Rattle.tpmsim_arguments.specs.CommandLine.{program}
 use Rattle.tpmsim_arguments.specs.Fault.{fault_of_words}
 use Rattle.tpmsim_arguments.specs.declared.arguments.Arguments.{Arguments}
@@ -39,7 +39,7 @@ no_run kind trace None storage e = cc
 no_run kind trace (Some s) None e = cc
 no_run kind trace (Some s) (Some kept) e = cc
 
--- a choice of two wishes is not this one, where neither of them is
+-- a choice of two wishes is not this one if neither of them is
 otherwise : {A : Type 0} (wish : A) (here : Bool) (this other : Option A) → (this ≡ Some wish → ⊥) → (other ≡ Some wish → ⊥)
     → (if here then this else other) ≡ Some wish → ⊥
 otherwise wish true this other one two e = one e
@@ -68,19 +68,22 @@ no_service : (kind : ErrorKind) (service : Option Served) → option_map serve s
 no_service kind None e = cc
 no_service kind (Some s) e = cc
 
-no_power : (kind : ErrorKind) (cuts : Bool) (state : Option Text) → option_map (λ text. cycle_power text cuts) state ≡ Some (tell kind) → ⊥
-no_power kind cuts None e = cc
-no_power kind cuts (Some text) e = cc
+no_power : (kind : ErrorKind) (cuts : Bool) (state : Option Text) (past : Option ℕ)
+    → option_and_then (λ s. option_and_then (λ p. Some (cycle_power s cuts p)) past) state ≡ Some (tell kind) → ⊥
+no_power kind cuts None past e = cc
+no_power kind cuts (Some s) None e = cc
+no_power kind cuts (Some s) (Some p) e = cc
 
 no_snapshot : (kind : ErrorKind) (state : Option Text) → option_map snapshot state ≡ Some (tell kind) → ⊥
 no_snapshot kind None e = cc
 no_snapshot kind (Some text) e = cc
 
-no_restore : (kind : ErrorKind) (state text : Option Text)
-    → option_and_then (λ s. option_and_then (λ t. Some (restore s t)) text) state ≡ Some (tell kind) → ⊥
-no_restore kind None text e = cc
-no_restore kind (Some s) None e = cc
-no_restore kind (Some s) (Some t) e = cc
+no_restore : (kind : ErrorKind) (state text : Option Text) (past : Option ℕ)
+    → option_and_then (λ s. option_and_then (λ t. option_and_then (λ p. Some (restore s t p)) past) text) state ≡ Some (tell kind) → ⊥
+no_restore kind None text past e = cc
+no_restore kind (Some s) None past e = cc
+no_restore kind (Some s) (Some t) None e = cc
+no_restore kind (Some s) (Some t) (Some p) e = cc
 
 no_script : (kind : ErrorKind) (state : Option Text) → option_map retell state ≡ Some (tell kind) → ⊥
 no_script kind None e = cc
@@ -104,13 +107,13 @@ none_tells kind (Some command) e =
     (otherwise (tell kind) (bytes_eq command.0 (codes "lines")) _ _ (no_forms kind (first_of (codes "name") rows))
     (otherwise (tell kind) (bytes_eq command.0 (codes "code")) _ _ (no_code kind (first_of (codes "number") rows))
     (otherwise (tell kind) (bytes_eq command.0 (codes "serve")) _ _ (no_service kind (service_in rows))
-    (otherwise (tell kind) (bytes_eq command.0 (codes "power")) _ _ (no_power kind (is_set (codes "cut") rows) (first_of (codes "state") rows))
+    (otherwise (tell kind) (bytes_eq command.0 (codes "power")) _ _ (no_power kind (is_set (codes "cut") rows) (first_of (codes "state") rows) (past_in rows))
     (otherwise (tell kind) (bytes_eq command.0 (codes "snapshot")) _ _ (no_snapshot kind (first_of (codes "state") rows))
-    (otherwise (tell kind) (bytes_eq command.0 (codes "restore")) _ _ (no_restore kind (first_of (codes "state") rows) (first_of (codes "snapshot") rows))
+    (otherwise (tell kind) (bytes_eq command.0 (codes "restore")) _ _ (no_restore kind (first_of (codes "state") rows) (first_of (codes "snapshot") rows) (past_in rows))
     (otherwise (tell kind) (bytes_eq command.0 (codes "script")) _ _ (no_script kind (first_of (codes "state") rows))
     (otherwise (tell kind) (bytes_eq command.0 (codes "replay")) _ _ (no_replay kind (first_of (codes "journal") rows)) (unknown kind)))))))))))) e
 
--- the answer where clap takes the words, and its matches are read
+-- the answer if clap takes the words and the program reads its matches
 pub taken : (words : List Text) (r : Result Arguments ArgumentFault) → AreTaken words
     → Gives asked (ok_or (asked_by words) Usage) r → Answers words r
 taken words (Ok (arguments.Run script trace storage)) right e = (right, found_is _ _ e)
@@ -120,16 +123,16 @@ taken words (Ok (arguments.Spell digits)) right e = (right, found_is _ _ e)
 taken words (Ok (arguments.Forms name)) right e = (right, found_is _ _ e)
 taken words (Ok (arguments.Code digits)) right e = (right, found_is _ _ e)
 taken words (Ok (arguments.Serve service)) right e = (right, found_is _ _ e)
-taken words (Ok (arguments.Power state cuts)) right e = (right, found_is _ _ e)
+taken words (Ok (arguments.Power state cuts past)) right e = (right, found_is _ _ e)
 taken words (Ok (arguments.Snapshot state)) right e = (right, found_is _ _ e)
-taken words (Ok (arguments.Restore state text)) right e = (right, found_is _ _ e)
+taken words (Ok (arguments.Restore state text past)) right e = (right, found_is _ _ e)
 taken words (Ok (arguments.Retell state)) right e = (right, found_is _ _ e)
 taken words (Ok (arguments.Replay journal)) right e = (right, found_is _ _ e)
 taken words (Ok (arguments.Tell error)) right e = absurd (none_tells _ (subcommand_of program words) (found_is _ _ e))
 taken words (Err Usage) right e = inr (right, not_found _ e)
 taken words (Err NoMemory) right e = tt
 
--- the answer where clap refuses the words, and not for help or the version
+-- the answer if clap refuses the words, and not for help or the version
 pub refused : (words : List Text) (kind : ErrorKind) (fault : ArgumentFault) → fault ≡ fault_of_words kind
     → (kind ≡ OutOfMemory) ⊎ IsAmong kind (fault_of program words) → kind ≢ DisplayHelp → kind ≢ DisplayVersion
     → Answers words (Err fault)
@@ -140,7 +143,7 @@ refused words kind Usage is (inl out) help version =
 refused words kind Usage is (inr among) help version =
     inl (kind, among, λ wish. elim wish [ inl h ↦ help h | inr v ↦ version v ])
 
--- where it is false that a kind of error is neither help nor the version, it is one of the two
+-- a kind of error that is not neither help nor the version is one of the two
 is_wish : (kind : ErrorKind) → ((kind ≢ DisplayHelp) × (kind ≢ DisplayVersion) → ⊥) → IsTold kind
 is_wish DisplayHelp never = inl refl
 is_wish DisplayVersion never = inr refl
@@ -160,7 +163,7 @@ is_wish Io never = absurd (never (λ e. cc, λ e. cc))
 is_wish Format never = absurd (never (λ e. cc, λ e. cc))
 is_wish OutOfMemory never = absurd (never (λ e. cc, λ e. cc))
 
--- the answer where clap refuses the words since help or the version is wanted, which is then told
+-- the answer if clap refuses the words because the user asked for help or the version
 pub told : (words : List Text) (kind : ErrorKind) → (kind ≡ OutOfMemory) ⊎ IsAmong kind (fault_of program words)
     → ((kind ≢ DisplayHelp) × (kind ≢ DisplayVersion) → ⊥) → IsAmong kind (fault_of program words) × IsTold kind
 told words kind (inr among) never = (among, is_wish kind never)

@@ -1,5 +1,5 @@
 -- Command lines as people write them.
-use Rattle.std.proofs.Common.{◌≡◌, Bool, List, ◌∙◌, ℕ, ◌≤◌, refl, inl, inr, true, false, [], ◌∷◌, Some, None, Option, ap₂, codes, option_map, option_and_then}
+use Rattle.std.proofs.Common.{◌≡◌, Bool, List, ◌∙◌, ℕ, ◌≤◌, refl, inl, inr, true, false, [], ◌∷◌, Some, None, Option, ap, ap₂, codes, option_map, option_and_then}
 use Rattle.std.proofs.lemmas.Bool.{le-leb}
 use Rattle.std.specs.Str.{bytes_eq}
 use Rattle.clap.specs.Lexer.{long_of, short_of, strip_byte}
@@ -7,8 +7,8 @@ use Rattle.clap.specs.Words.{Text}
 use Rattle.clap.proofs.OnLiterals.{clap_on_literals}
 use Rattle.tpm_number.specs.Number.{decimal_of, locality_of}
 use Rattle.tpmsim_arguments.specs.Answers.{AreTaken}
-use Rattle.tpmsim_arguments.specs.Invocation.{Invocation, Kept, asked_by, assemble, check, cycle_power, forms, in_image, in_state, name_code, replay, restore, retell, run, serve, snapshot, spell}
-use Rattle.tpmsim_arguments.specs.Lines.{AskFor, AskForDevice, AskForSavedDevice, AskForService, IsScript, asm_line, begins_with_hyphen, check_line, code_line, cut_line, form_line, forms_line, line_line, logging_line, played_line, power_line, replay_line, joined_line, restore_line, saving_line, script_line, snapshot_line, state_line}
+use Rattle.tpmsim_arguments.specs.Invocation.{Invocation, Kept, asked_by, assemble, check, completes_by, cycle_power, forms, in_image, in_state, log_by, name_code, past_by, replay, restore, retell, run, serve, snapshot, spell}
+use Rattle.tpmsim_arguments.specs.Lines.{AskFor, AskForDevice, AskForFolder, AskForNothing, AskForSavedDevice, AskForService, IsScript, asm_line, begins_with_hyphen, check_line, code_line, complete_line, cut_line, form_line, forms_line, incomplete_line, joined_line, keeping_line, line_line, logging_line, played_line, power_line, replay_line, restore_line, saving_line, script_line, short_line, snapshot_line, state_line}
 
 -- a word that begins with no hyphen is not the name of an argument
 no_hyphen : (word : Text) → begins_with_hyphen word ≡ false → strip_byte 45 word ≡ None
@@ -50,20 +50,38 @@ unfolding clap_on_literals
 script_is_checked name script (inl e) = rw (no_end script e, no_long script e, no_short script e) (refl, refl)
 script_is_checked name script (inr e) = rw e (refl, refl)
 
-pub power_is_cycled : (name state : Text) → begins_with_hyphen state ≡ false → AskFor (power_line name state) (cycle_power state false)
+pub power_is_cycled : (name state : Text) → begins_with_hyphen state ≡ false → AskFor (power_line name state) (cycle_power state false 0)
 unfolding clap_on_literals
 power_is_cycled name state e = rw (no_end state e, no_long state e, no_short state e) (refl, refl)
 
-pub damage_is_cut : (name state : Text) → begins_with_hyphen state ≡ false → AskFor (cut_line name state) (cycle_power state true)
+pub damage_is_cut : (name state : Text) → begins_with_hyphen state ≡ false → AskFor (cut_line name state) (cycle_power state true 0)
 unfolding clap_on_literals
 damage_is_cut name state e = rw (no_end state e, no_long state e, no_short state e) (refl, refl)
+
+-- a number of journals that is not too large is taken
+past_is : (keep : Text) (past : ℕ) → decimal_of keep ≡ Some past → past ≤ 99 → past_by (Some keep) ≡ Some past
+past_is keep past e small = rw (e, le-leb past 99 small) refl
+
+-- what the words of a power cycle with this number of journals ask for
+abbrev with_past : (state : Text) → Option ℕ → Option Invocation
+with_past state past = option_and_then (λ count. Some (cycle_power state false count)) past
+
+keeping_is_read : (name keep state : Text) → begins_with_hyphen state ≡ false
+    → AreTaken (keeping_line name keep state) × (asked_by (keeping_line name keep state) ≡ with_past state (past_by (Some keep)))
+unfolding clap_on_literals
+keeping_is_read name keep state e = rw (no_end state e, no_long state e, no_short state e) (refl, refl)
+
+pub journals_are_kept : (name keep state : Text) → begins_with_hyphen state ≡ false → (past : ℕ) → decimal_of keep ≡ Some past → past ≤ 99
+    → AskFor (keeping_line name keep state) (cycle_power state false past)
+journals_are_kept name keep state e past is small =
+    let read = keeping_is_read name keep state e in (read.0, read.1 ∙ ap (with_past state) (past_is keep past is small))
 
 pub state_is_told : (name state : Text) → begins_with_hyphen state ≡ false → AskFor (snapshot_line name state) (snapshot state)
 unfolding clap_on_literals
 state_is_told name state e = rw (no_end state e, no_long state e, no_short state e) (refl, refl)
 
 pub state_is_restored : (name state text : Text) → begins_with_hyphen state ≡ false → begins_with_hyphen text ≡ false
-    → AskFor (restore_line name state text) (restore state text)
+    → AskFor (restore_line name state text) (restore state text 0)
 unfolding clap_on_literals
 state_is_restored name state text e f =
     rw (no_end state e, no_long state e, no_short state e, no_end text f, no_long text f, no_short text f) (refl, refl)
@@ -76,7 +94,7 @@ pub journal_is_replayed : (name journal : Text) → begins_with_hyphen journal �
 unfolding clap_on_literals
 journal_is_replayed name journal e = rw (no_end journal e, no_long journal e, no_short journal e) (refl, refl)
 
-pub state_is_played : (name state : Text) → AskFor (played_line name state) (run (codes "-") false (Some (record { place = in_state state; entropy = None })))
+pub state_is_played : (name state : Text) → AskFor (played_line name state) (run (codes "-") false (Some (record { place = in_state state 0; entropy = None })))
 unfolding clap_on_literals
 state_is_played name state = (refl, refl)
 
@@ -86,7 +104,8 @@ locality_is number small = rw (le-leb number 4 small) refl
 -- what the words of a service with these numbers ask for, if both are numbers
 abbrev pub with_numbers : (socket : Text) → Kept → (log : Option Text) → (entropy : Text) → Option ℕ → Option ℕ → Bool → Option Invocation
 with_numbers socket place log entropy locality connections saves = option_map serve (option_and_then (λ l. option_and_then (λ c.
-    Some (record { socket = socket; place = place; log = log; entropy = entropy; locality = l; connections = c; saves_each = saves })) connections)
+    Some (record { socket = socket; place = place; log = log; entropy = entropy; locality = l; connections = c; saves_each = saves; completes = false }))
+    (option_map (λ count. Some count) connections))
     (option_and_then locality_of locality))
 
 pub device_is_asked_for : (words : List Text) (socket : Text) (place : Kept) (log : Option Text) (entropy locality connections : Text) (saves : Bool) → AreTaken words
@@ -96,7 +115,7 @@ device_is_asked_for words socket place log entropy locality connections saves ri
     (right, e ∙ ap₂ (λ l c. with_numbers socket place log entropy l c saves) is_l is_c ∙ given l c (locality_is l small))
   where
     given : (l c : ℕ) → locality_of l ≡ Some l → with_numbers socket place log entropy (Some l) (Some c) saves
-        ≡ Some (serve (record { socket = socket; place = place; log = log; entropy = entropy; locality = l; connections = c; saves_each = saves }))
+        ≡ Some (serve (record { socket = socket; place = place; log = log; entropy = entropy; locality = l; connections = Some c; saves_each = saves; completes = false }))
     given l c e = rw e refl
 
 joined_is_read : (name socket image entropy locality connections : Text)
@@ -141,12 +160,39 @@ logging_is_served name socket image log entropy locality connections =
 state_is_read : (name socket state entropy locality connections : Text)
     → AreTaken (state_line name socket state entropy locality connections)
     × (asked_by (state_line name socket state entropy locality connections)
-    ≡ with_numbers socket (in_state state) None entropy (decimal_of locality) (decimal_of connections) false)
+    ≡ with_numbers socket (in_state state 0) None entropy (decimal_of locality) (decimal_of connections) false)
 unfolding clap_on_literals
 state_is_read name socket state entropy locality connections = (refl, refl)
 
 pub state_is_served : (name socket state entropy locality connections : Text)
-    → AskForService (state_line name socket state entropy locality connections) socket (in_state state) None entropy locality connections false
+    → AskForService (state_line name socket state entropy locality connections) socket (in_state state 0) None entropy locality connections false
 state_is_served name socket state entropy locality connections =
     let read = state_is_read name socket state entropy locality connections in
-    device_is_asked_for (state_line name socket state entropy locality connections) socket (in_state state) None entropy locality connections false read.0 read.1
+    device_is_asked_for (state_line name socket state entropy locality connections) socket (in_state state 0) None entropy locality connections false read.0 read.1
+
+-- ---- what is left out
+
+pub folder_is_served : (name socket state : Text) → AskForFolder (short_line name socket state) socket state 0 false
+unfolding clap_on_literals
+folder_is_served name socket state = (refl, refl)
+
+-- what the words of a completed service with this number of journals ask for
+abbrev completed : (socket state : Text) → Option ℕ → Option Invocation
+completed socket state past = option_map serve (option_and_then (λ place. option_and_then (λ log. option_and_then (λ completes.
+    Some (record { socket = socket; place = place; log = log; entropy = codes "/dev/urandom"; locality = 0; connections = None; saves_each = false; completes = completes }))
+    (completes_by place true)) (log_by place None)) (option_map (λ count. in_state state count) past))
+
+complete_is_read : (name socket state keep : Text) → AreTaken (complete_line name socket state keep)
+    × (asked_by (complete_line name socket state keep) ≡ completed socket state (past_by (Some keep)))
+unfolding clap_on_literals
+complete_is_read name socket state keep = (refl, refl)
+
+pub folder_is_completed : (name socket state keep : Text) (past : ℕ) → decimal_of keep ≡ Some past → past ≤ 99
+    → AskForFolder (complete_line name socket state keep) socket state past true
+folder_is_completed name socket state keep past is small =
+    let read = complete_is_read name socket state keep in
+    (read.0, read.1 ∙ ap (completed socket state) (past_is keep past is small))
+
+pub image_is_not_completed : (name socket image : Text) → AskForNothing (incomplete_line name socket image)
+unfolding clap_on_literals
+image_is_not_completed name socket image = (refl, refl)

@@ -1,4 +1,4 @@
--- The command `run` with a script behind its settings.
+-- The command `run` with a script after its settings.
 use Rattle.std.proofs.Common.{◌≡◌, ◌∙◌, ◌++◌, ap, refl, sym, subst, true, false, codes, fold, List, [], ◌∷◌, Some, None, inl, inr, is_some, find, unwrap_or}
 use Rattle.clap.specs.Words.{Rule, Shape, Text}
 use Rattle.clap.specs.Kinds.{or_else}
@@ -22,7 +22,7 @@ plain_turn : (s : Shape) (h : Held) (word : Text) → begins_with_hyphen word �
     → turn_fault s [] (walk_from h) word ≡ step_fault s 1 h value
 plain_turn s h word e = rw (no_end word e, no_long word e, no_short word e) refl
 
--- ---- the words behind `run`
+-- ---- the words after `run`
 
 abbrev run_shape : Shape
 run_shape = unwrap_or (find (λ s. answers_to (codes "run") (label_of s)) (built program).subs) help_shape
@@ -45,7 +45,7 @@ run_fault : (rest : List Text) → walk_fault top top_names (walk_from nothing_h
 run_fault rest = step top top_names (walk_from nothing_held) (stopped_at (codes "run") []) (codes "run") rest run_turn run_met
     ∙ stopped_fault top top_names (codes "run") [] rest
 
--- what a command line of `run` asks for, where the walk over its words ends so
+-- what a command line of `run` asks for if the walk over its words ends so
 is_asked : (name : Text) (rest : List Text) (end : Walk) (asked : Invocation)
     → (walk run_shape.rules [] nothing_held rest ≡ end) × (walk_fault run_shape [] begun rest ≡ [])
     → or_else (settle_fault run_shape.rules run_shape.args_override_self end.held)
@@ -64,7 +64,7 @@ is_asked name rest end asked w r a =
           ∙ ap (λ (w : Walk). asked_of (codes "run") (finished run_shape.rules w.held)) w.0 ∙ a,
     )
 
--- ---- the script, behind what is given before it
+-- ---- the script, after what is given before it
 
 -- the walk that ends with a script
 abbrev with_script : Held → Text → Walk
@@ -98,7 +98,7 @@ pub script_is_run : (name script : Text) → IsScript script → AskFor (run_lin
 script_is_run name script (inl e) = word_is_run name script e
 script_is_run name script (inr e) = subst (λ word. AskFor (run_line name word) (run word false None)) (sym e) (hyphen_is_run name)
 
--- ---- a script behind --trace
+-- ---- a script after --trace
 
 abbrev traced : Held
 traced = (R begun (codes "--trace")).held

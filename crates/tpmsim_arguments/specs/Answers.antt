@@ -14,7 +14,7 @@ use Rattle.tpmsim_arguments.specs.declared.fault.ArgumentFault.TheVariants.{Usag
 abbrev pub AreTaken : List Text → Type 0
 AreTaken words = fault_of program words ≡ []
 
--- Clap's text is wanted, help or the version, and its error is no mistake of the user.
+-- The user asked for a text of clap's, help or the version: clap's error is not a mistake.
 abbrev pub IsTold : ErrorKind → Type 0
 IsTold kind = (kind ≡ DisplayHelp) ⊎ (kind ≡ DisplayVersion)
 
@@ -22,9 +22,8 @@ abbrev pub HaveMistake : List Text → Type 0
 HaveMistake words =
     (kind : ErrorKind) × IsAmong kind (fault_of program words) × (IsTold kind → ⊥)
 
--- The answer is what the words ask for; or clap's text, where clap finds that one is wanted. Usage
--- is answered to words with a mistake, and to words that ask for nothing, as with a locality above
--- 4.
+-- The answer is what the words ask for, or clap's text if the words ask for one. The answer is Usage
+-- if the words have a mistake, or ask for nothing, as with a locality above 4.
 abbrev pub Answers : List Text → Result Arguments ArgumentFault → Type 0
 Answers words (Ok (Tell error)) =
     IsAmong (kind_of error) (fault_of program words) × IsTold (kind_of error)

@@ -32,10 +32,11 @@ with_arguments name rules = record (new_shape name) { rules = rules }
 abbrev pub optional_operand : Text → Rule
 optional_operand name = record (operand name) { required = false }
 
--- the command run [--trace] [--image FILE] [--state DIR] [--entropy FILE] [SCRIPT]
+-- the command run [--trace] [--image FILE] [--state DIR] [--keep NUMBER] [--entropy FILE] [SCRIPT]
 abbrev pub run_command : Shape
 run_command = with_arguments (codes "run") (flag (codes "trace") ∷ choice (codes "image")
-    ∷ choice (codes "state") ∷ choice (codes "entropy") ∷ optional_operand (codes "script") ∷ [])
+    ∷ choice (codes "state") ∷ choice (codes "keep") ∷ choice (codes "entropy")
+    ∷ optional_operand (codes "script") ∷ [])
 
 -- the command check SCRIPT
 abbrev pub check_command : Shape
@@ -57,26 +58,27 @@ lines_command = with_arguments (codes "lines") (optional_operand (codes "name") 
 abbrev pub code_command : Shape
 code_command = with_arguments (codes "code") (operand (codes "number") ∷ [])
 
--- the command serve --socket PATH [--image FILE] [--log FILE] [--state DIR] --entropy FILE
--- --locality NUMBER --connections NUMBER [--save-each]
+-- the command serve --socket PATH [--image FILE] [--log FILE] [--state DIR] [--keep NUMBER]
+-- [--complete] [--entropy FILE] [--locality NUMBER] [--connections NUMBER] [--save-each]
 abbrev pub serve_command : Shape
 serve_command = with_arguments (codes "serve") (setting (codes "socket")
     ∷ choice (codes "image") ∷ choice (codes "log") ∷ choice (codes "state")
-    ∷ setting (codes "entropy") ∷ setting (codes "locality") ∷ setting (codes "connections")
-    ∷ flag (codes "save-each") ∷ [])
+    ∷ choice (codes "keep") ∷ flag (codes "complete") ∷ choice (codes "entropy")
+    ∷ choice (codes "locality") ∷ choice (codes "connections") ∷ flag (codes "save-each") ∷ [])
 
--- the command power [--cut] DIR
+-- the command power [--cut] [--keep NUMBER] DIR
 abbrev pub power_command : Shape
-power_command = with_arguments (codes "power") (flag (codes "cut") ∷ operand (codes "state") ∷ [])
+power_command = with_arguments (codes "power")
+    (flag (codes "cut") ∷ choice (codes "keep") ∷ operand (codes "state") ∷ [])
 
 -- the command snapshot DIR
 abbrev pub snapshot_command : Shape
 snapshot_command = with_arguments (codes "snapshot") (operand (codes "state") ∷ [])
 
--- the command restore DIR FILE
+-- the command restore [--keep NUMBER] DIR FILE
 abbrev pub restore_command : Shape
-restore_command =
-    with_arguments (codes "restore") (operand (codes "state") ∷ operand (codes "snapshot") ∷ [])
+restore_command = with_arguments (codes "restore")
+    (choice (codes "keep") ∷ operand (codes "state") ∷ operand (codes "snapshot") ∷ [])
 
 -- the command script DIR
 abbrev pub script_command : Shape
@@ -86,7 +88,7 @@ script_command = with_arguments (codes "script") (operand (codes "state") ∷ []
 abbrev pub replay_command : Shape
 replay_command = with_arguments (codes "replay") (operand (codes "journal") ∷ [])
 
--- the program, which has a version, and wants one of its commands
+-- the program, which has a version, and needs one of its commands
 abbrev pub bare_program : App
 bare_program = record {
   top = record (new_shape (codes "tpmsim")) { has_version = true; subcommand_required = true };

@@ -1,5 +1,5 @@
 -- What a command line asks for, by what clap finds in its words.
-use Rattle.std.specs.Prelude.{ℕ, Bool, false, List, Option, Some, None, codes, if◌then◌else◌}
+use Rattle.std.specs.Prelude.{ℕ, Bool, false, List, Option, Some, None, codes, nat_le, if◌then◌else◌}
 use Rattle.std.specs.Prelude.{option_and_then, option_map}
 use Rattle.std.specs.Option.{option_map_or}
 use Rattle.std.specs.Str.{bytes_eq}
@@ -15,20 +15,22 @@ use Rattle.tpmsim_arguments.specs.declared.place.Place.TheVariants as place
 use Rattle.tpmsim_arguments.specs.declared.service.Service.{Service}
 use Rattle.tpmsim_arguments.specs.declared.storage.Storage.{Storage}
 
--- where a device is kept: in the file of its image, or in a folder with its state
+-- where a device is kept: in the file of its image; or in a folder with its state, where this many
+-- finished journals stay
 pub data Kept : Type 0 where
   in_image : Text → Kept
-  in_state : Text → Kept
+  in_state : Text → (past : ℕ) → Kept
 
--- the paths and numbers with which a device is served
+-- the paths and numbers with which a device is served: None connections are connections without end
 pub record Served : Type 0 where
   pub socket : Text
   pub place : Kept
   pub log : Option Text
   pub entropy : Text
   pub locality : ℕ
-  pub connections : ℕ
+  pub connections : Option ℕ
   pub saves_each : Bool
+  pub completes : Bool
 
 -- the files of a device that a script is played on: where it is kept, and the file of the random
 -- bytes that a new one is made of
@@ -42,7 +44,8 @@ pub record Stored : Type 0 where
 -- command is; to print what a response code says; to serve a device; to cycle the power of the
 -- device in a folder, with what follows damage dropped or not; to print its state text; to replace it
 -- by the device of a state text; to print what happened to it as a script; to execute what a journal
--- recorded again; to tell a text of clap's, its help or the version
+-- recorded again; to print a text of clap's, its help or the version. A number `past` is how many
+-- finished journals stay in the folder.
 pub data Invocation : Type 0 where
   run : Text → Bool → Option Stored → Invocation
   check : Text → Invocation
@@ -51,9 +54,9 @@ pub data Invocation : Type 0 where
   forms : Option Text → Invocation
   name_code : Text → Invocation
   serve : Served → Invocation
-  cycle_power : Text → (cuts : Bool) → Invocation
+  cycle_power : Text → (cuts : Bool) → (past : ℕ) → Invocation
   snapshot : Text → Invocation
-  restore : (state text : Text) → Invocation
+  restore : (state text : Text) → (past : ℕ) → Invocation
   retell : Text → Invocation
   replay : Text → Invocation
   tell : ErrorKind → Invocation
@@ -65,58 +68,89 @@ abbrev pub is_set : Text → List Row → Bool
 is_set flag rows =
     option_map_or (λ text. bytes_eq text (codes "true")) (first_of flag rows) false
 
--- the number that the decimal digits of an argument write
-abbrev pub number_in : Text → List Row → Option ℕ
-number_in name rows = option_and_then decimal_of (first_of name rows)
-
 infixl 10 ◌>>=◌
 abbrev pub ◌>>=◌ : {A B : Type 0} → Option A → (A → Option B) → Option B
 found >>= next = option_and_then next found
 
--- where a device is kept; of an image and a folder one is given, and not both
-abbrev pub place_by : (image state : Option Text) → Option Kept
-place_by (Some image) None = Some (in_image image)
-place_by (Some image) (Some state) = None
-place_by None (Some state) = Some (in_state state)
-place_by None None = None
+-- how many finished journals stay in the folder of a device: at most 99
+abbrev pub past_of : ℕ → Option ℕ
+past_of number = if nat_le number 99 then Some number else None
+
+-- the same number, which decimal digits give, or else 0
+abbrev pub past_by : (keep : Option Text) → Option ℕ
+past_by None = Some 0
+past_by (Some digits) = decimal_of digits >>= past_of
+
+abbrev pub past_in : List Row → Option ℕ
+past_in rows = past_by (first_of (codes "keep") rows)
+
+-- where a device is kept: either an image or a folder is given, and journals stay in a folder alone
+abbrev pub place_by : (image state keep : Option Text) → Option Kept
+place_by (Some image) None None = Some (in_image image)
+place_by (Some image) None (Some keep) = None
+place_by (Some image) (Some state) keep = None
+place_by None (Some state) keep = option_map (λ past. in_state state past) (past_by keep)
+place_by None None keep = None
 
 abbrev pub place_in : List Row → Option Kept
 place_in rows = place_by (first_of (codes "image") rows) (first_of (codes "state") rows)
+    (first_of (codes "keep") rows)
 
--- the log of a device that is kept in this place, which is written beside an image alone
+-- the log of a device that is kept in this place: only a device in an image can have one
 abbrev pub log_by : Kept → (log : Option Text) → Option (Option Text)
 log_by place None = Some None
 log_by (in_image image) (Some log) = Some (Some log)
-log_by (in_state state) (Some log) = None
+log_by (in_state state past) (Some log) = None
+
+-- whether the completing layer is on: only a device in a folder can have it
+abbrev pub completes_by : Kept → Bool → Option Bool
+completes_by (in_image image) completes = if completes then None else Some false
+completes_by (in_state state past) completes = Some completes
+
+-- the file of random bytes, which is the system's unless another one is given
+abbrev pub entropy_by : Option Text → Text
+entropy_by None = codes "/dev/urandom"
+entropy_by (Some path) = path
+
+-- the locality that decimal digits give, or else 0
+abbrev pub locality_by : Option Text → Option ℕ
+locality_by None = Some 0
+locality_by (Some digits) = decimal_of digits >>= locality_of
+
+-- the number of connections that decimal digits give, or else no end of them
+abbrev pub connections_by : Option Text → Option (Option ℕ)
+connections_by None = Some None
+connections_by (Some digits) = option_map (λ count. Some count) (decimal_of digits)
 
 abbrev pub service_in : List Row → Option Served
 service_in rows = do
   socket ← first_of (codes "socket") rows
   place ← place_in rows
   log ← log_by place (first_of (codes "log") rows)
-  entropy ← first_of (codes "entropy") rows
-  locality ← number_in (codes "locality") rows >>= locality_of
-  connections ← number_in (codes "connections") rows
+  completes ← completes_by place (is_set (codes "complete") rows)
+  locality ← locality_by (first_of (codes "locality") rows)
+  connections ← connections_by (first_of (codes "connections") rows)
   Some (record {
     socket = socket;
     place = place;
     log = log;
-    entropy = entropy;
+    entropy = entropy_by (first_of (codes "entropy") rows);
     locality = locality;
     connections = connections;
     saves_each = is_set (codes "save-each") rows;
+    completes = completes;
   })
 
--- the files of a device that is kept, or none where it is not kept; a file of random bytes is
--- refused without a place
-abbrev pub stored_by : (image state entropy : Option Text) → Option (Option Stored)
-stored_by None None None = Some None
-stored_by image state entropy =
-    option_map (λ place. Some (record { place = place; entropy = entropy })) (place_by image state)
+-- the files of a device that is kept, or none if it is not kept; without a place, a file of random
+-- bytes and a number of journals are refused
+abbrev pub stored_by : (image state keep entropy : Option Text) → Option (Option Stored)
+stored_by None None None None = Some None
+stored_by image state keep entropy = option_map
+    (λ place. Some (record { place = place; entropy = entropy })) (place_by image state keep)
 
 abbrev pub storage_in : List Row → Option (Option Stored)
 storage_in rows = stored_by (first_of (codes "image") rows) (first_of (codes "state") rows)
-    (first_of (codes "entropy") rows)
+    (first_of (codes "keep") rows) (first_of (codes "entropy") rows)
 
 -- the script that is given, or standard input on a device with its state in a folder
 abbrev pub script_by : (script state : Option Text) → Option Text
@@ -134,14 +168,17 @@ run_in rows = do
   Some (run script (is_set (codes "trace") rows) storage)
 
 abbrev pub power_in : List Row → Option Invocation
-power_in rows =
-    option_map (λ state. cycle_power state (is_set (codes "cut") rows)) (first_of (codes "state") rows)
+power_in rows = do
+  state ← first_of (codes "state") rows
+  past ← past_in rows
+  Some (cycle_power state (is_set (codes "cut") rows) past)
 
 abbrev pub restore_in : List Row → Option Invocation
 restore_in rows = do
   state ← first_of (codes "state") rows
   text ← first_of (codes "snapshot") rows
-  Some (restore state text)
+  past ← past_in rows
+  Some (restore state text past)
 
 -- what a command of this name asks for, with these matches of clap's
 abbrev pub asked_of : Text → List Row → Option Invocation
@@ -170,7 +207,7 @@ asked_by words = asked_in (subcommand_of program words)
 
 abbrev pub kept : Place → Kept
 kept (place.Image path) = in_image path.now
-kept (place.State path) = in_state path.now
+kept (place.State path past) = in_state path.now past
 
 abbrev pub served : Service → Served
 served service = record {
@@ -181,6 +218,7 @@ served service = record {
   locality = locality_number service.locality;
   connections = service.connections;
   saves_each = service.saves_each;
+  completes = service.completes;
 }
 
 abbrev pub stored : Storage → Stored
@@ -197,9 +235,9 @@ asked (arguments.Spell digits) = spell digits.now
 asked (arguments.Forms name) = forms (option_map (λ name. name.now) name)
 asked (arguments.Code digits) = name_code digits.now
 asked (arguments.Serve service) = serve (served service)
-asked (arguments.Power state cuts) = cycle_power state.now cuts
+asked (arguments.Power state cuts past) = cycle_power state.now cuts past
 asked (arguments.Snapshot state) = snapshot state.now
-asked (arguments.Restore state text) = restore state.now text.now
+asked (arguments.Restore state text past) = restore state.now text.now past
 asked (arguments.Retell state) = retell state.now
 asked (arguments.Replay journal) = replay journal.now
 asked (arguments.Tell error) = tell (kind_of error)

@@ -5,7 +5,7 @@ use Rattle.std.specs.List.{AllByRecursion}
 use Rattle.clap.specs.Words.{Text}
 use Rattle.tpm_number.specs.Number.{decimal_of}
 use Rattle.tpmsim_arguments.specs.Answers.{AreTaken}
-use Rattle.tpmsim_arguments.specs.Invocation.{Invocation, Kept, asked_by, in_image, serve}
+use Rattle.tpmsim_arguments.specs.Invocation.{Invocation, Kept, asked_by, in_image, in_state, serve}
 
 -- clap takes these words, and this is what they ask for.
 abbrev pub AskFor : List Text → Invocation → Type 0
@@ -51,6 +51,10 @@ replay_line name journal = name ∷ codes "replay" ∷ journal ∷ []
 -- the command line NAME power --cut DIR
 abbrev pub cut_line : (name state : Text) → List Text
 cut_line name state = name ∷ codes "power" ∷ codes "--cut" ∷ state ∷ []
+
+-- the command line NAME power --keep=KEEP DIR
+abbrev pub keeping_line : (name keep state : Text) → List Text
+keeping_line name keep state = name ∷ codes "power" ∷ (codes "--keep=" ++ keep) ∷ state ∷ []
 
 -- the command line NAME snapshot DIR
 abbrev pub snapshot_line : (name state : Text) → List Text
@@ -117,7 +121,22 @@ logging_line name socket image log entropy locality connections = name ∷ codes
     ∷ (codes "--entropy=" ++ entropy) ∷ (codes "--locality=" ++ locality)
     ∷ (codes "--connections=" ++ connections) ∷ []
 
--- the command line of serve with --state=STATE in place of the image
+-- the command line NAME serve --socket=SOCKET --state=STATE
+abbrev pub short_line : (name socket state : Text) → List Text
+short_line name socket state = name ∷ codes "serve" ∷ (codes "--socket=" ++ socket)
+    ∷ (codes "--state=" ++ state) ∷ []
+
+-- the command line NAME serve --socket=SOCKET --state=STATE --keep=KEEP --complete
+abbrev pub complete_line : (name socket state keep : Text) → List Text
+complete_line name socket state keep = name ∷ codes "serve" ∷ (codes "--socket=" ++ socket)
+    ∷ (codes "--state=" ++ state) ∷ (codes "--keep=" ++ keep) ∷ codes "--complete" ∷ []
+
+-- the command line NAME serve --socket=SOCKET --image=IMAGE --complete
+abbrev pub incomplete_line : (name socket image : Text) → List Text
+incomplete_line name socket image = name ∷ codes "serve" ∷ (codes "--socket=" ++ socket)
+    ∷ (codes "--image=" ++ image) ∷ codes "--complete" ∷ []
+
+-- the command line of serve with --state=STATE instead of the image
 abbrev pub state_line : (name socket state entropy locality connections : Text) → List Text
 state_line name socket state entropy locality connections = name ∷ codes "serve"
     ∷ (codes "--socket=" ++ socket) ∷ (codes "--state=" ++ state)
@@ -125,8 +144,8 @@ state_line name socket state entropy locality connections = name ∷ codes "serv
     ∷ (codes "--connections=" ++ connections) ∷ []
 
 -- These words ask for the service of a device that is kept in this place, with these paths, and
--- with these numbers where the words are numbers; `saves_each` says whether the device is saved
--- before each response.
+-- with these numbers if the words are numbers. `saves_each` says whether the device is saved before
+-- each response.
 abbrev pub AskForService : (words : List Text) (socket : Text) (place : Kept) (log : Option Text)
     (entropy locality connections : Text) (saves_each : Bool) → Type 0
 AskForService words socket place log entropy locality connections saves_each = (number count : ℕ)
@@ -137,9 +156,30 @@ AskForService words socket place log entropy locality connections saves_each = (
       log = log;
       entropy = entropy;
       locality = number;
-      connections = count;
+      connections = Some count;
       saves_each = saves_each;
+      completes = false;
     }))
+
+-- Clap takes these words, and they ask for nothing that the program does.
+abbrev pub AskForNothing : List Text → Type 0
+AskForNothing words = AreTaken words × (asked_by words ≡ None)
+
+-- These words ask for the service of a device in this folder, where this many finished journals
+-- stay, with the system's random bytes, from locality 0, and without end. `completes` says whether
+-- the completing layer is on.
+abbrev pub AskForFolder : (words : List Text) (socket state : Text) (past : ℕ) (completes : Bool)
+    → Type 0
+AskForFolder words socket state past completes = AskFor words (serve (record {
+  socket = socket;
+  place = in_state state past;
+  log = None;
+  entropy = codes "/dev/urandom";
+  locality = 0;
+  connections = None;
+  saves_each = false;
+  completes = completes;
+}))
 
 -- These words ask for a device with an image, which is not saved before each response.
 abbrev pub AskForDevice : (words : List Text) (socket image entropy locality connections : Text)

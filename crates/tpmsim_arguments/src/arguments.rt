@@ -4,9 +4,13 @@ ghost use Rattle.std.specs.Prelude.{◌≡◌, codes, map, ok_or, option_map};
 ghost use Rattle.clap.specs.Words.{first_of, found_of, rows_of, subcommand_rows_of};
 ghost use Rattle.tpm_bytes.specs.Reading.{Gives};
 ghost use Rattle.tpmsim_arguments.specs.Answers.{Answers};
-ghost use Rattle.tpmsim_arguments.specs.Invocation.{asked, asked_in, asked_of, is_set, run_in};
-ghost use Rattle.tpmsim_arguments.specs.Invocation.{kept, log_by, place_by, place_in, script_in};
-ghost use Rattle.tpmsim_arguments.specs.Invocation.{served, service_in, storage_in, stored};
+ghost use Rattle.tpm_types.specs.Locality.{locality_number};
+ghost use Rattle.tpmsim_arguments.specs.Invocation.{asked, asked_in, asked_of, completes_by};
+ghost use Rattle.tpmsim_arguments.specs.Invocation.{connections_by, entropy_by, is_set, kept};
+ghost use Rattle.tpmsim_arguments.specs.Invocation.{locality_by, log_by, past_by, past_in, past_of};
+ghost use Rattle.tpmsim_arguments.specs.Invocation.{place_by, place_in, power_in, restore_in};
+ghost use Rattle.tpmsim_arguments.specs.Invocation.{run_in, script_in, served, service_in};
+ghost use Rattle.tpmsim_arguments.specs.Invocation.{storage_in, stored};
 ghost use Rattle.tpmsim_arguments.specs.declared.fault.ArgumentFault.TheVariants.{Usage};
 
 use crate::command_line::command;
@@ -18,27 +22,28 @@ use clap::ArgMatches;
 use std::alloc::Global;
 use std::convert::AsStr;
 use tpm_number::{decimal, locality};
+use tpm_types::Locality;
 
 /// What the command line asks for.
 #[derive(Drop)]
 pub enum Arguments<'a> {
-    /// To run the script in this file, or on standard input where the word is `-`; to print the
+    /// To run the script in this file, or on standard input if the word is `-`; to print the
     /// trace of each event; and to keep the device in these files, or nowhere.
     Run {
         script: &'a str,
         trace: bool,
         storage: Option<Storage<'a>>,
     },
-    /// To print what is wrong with the lines of the script in this file, or on standard input
-    /// where the word is `-`.
+    /// To print what is wrong with the lines of the script in this file, or on standard input if
+    /// the word is `-`.
     Check {
         script: &'a str,
     },
-    /// To print the buffer of the command that this line spells.
+    /// To print the buffer of the command that this line encodes.
     Assemble {
         line: &'a str,
     },
-    /// To print the line that spells the buffer with these hex digits.
+    /// To print the line that encodes the buffer with these hex digits.
     Spell {
         digits: &'a str,
     },
@@ -53,20 +58,23 @@ pub enum Arguments<'a> {
     /// To serve a device on a socket, with these settings.
     Serve(Service<'a>),
     /// To cycle the power of the device whose state is in this folder; with `cuts`, also if its
-    /// journal is damaged, from the last whole record before the damage.
+    /// journal is damaged, from the last whole record before the damage. `past` is how many
+    /// finished journals stay in the folder.
     Power {
         state: &'a str,
         cuts: bool,
+        past: u32,
     },
     /// To print the state text of the device whose state is in this folder.
     Snapshot {
         state: &'a str,
     },
     /// To replace the device whose state is in this folder, or to begin one there: by the device of
-    /// the state text in this file.
+    /// the state text in this file. `past` is how many finished journals stay in the folder.
     Restore {
         state: &'a str,
         text: &'a str,
+        past: u32,
     },
     /// To print what happened to the device whose state is in this folder, as a script.
     Retell {
@@ -76,7 +84,7 @@ pub enum Arguments<'a> {
     Replay {
         journal: &'a str,
     },
-    /// To print the program's help or its version, which clap tells in place of matches.
+    /// To print the program's help or its version, which clap returns instead of matches.
     Tell(clap::Error),
 }
 
@@ -124,17 +132,11 @@ impl<'a> Arguments<'a> {
                 digits: value(options, "number")?,
             }),
             "serve" => Some(Arguments::Serve(service_of(options)?)),
-            "power" => Some(Arguments::Power {
-                state: value(options, "state")?,
-                cuts: is_set(options, "cut"),
-            }),
+            "power" => power_of(options),
             "snapshot" => Some(Arguments::Snapshot {
                 state: value(options, "state")?,
             }),
-            "restore" => Some(Arguments::Restore {
-                state: value(options, "state")?,
-                text: value(options, "snapshot")?,
-            }),
+            "restore" => restore_of(options),
             "script" => Some(Arguments::Retell {
                 state: value(options, "state")?,
             }),
@@ -162,8 +164,8 @@ fn value<'a>(options: &ArgMatches<'a>, name: &str) -> Option<&'a str>
     options.get_str(name)
 }
 
-/// Whether a flag was given. clap has "true" for it then, and otherwise "false"; of any other text
-/// its own `get_flag` would promise nothing.
+/// Whether a flag was given. If it was, its text in clap is "true", and otherwise "false". clap's
+/// `get_flag` promises nothing about other texts.
 fn is_set(options: &ArgMatches<'_>, flag: &str) -> bool
     ensures { result ≡ is_set flag.now (rows_of (found_of options.now)) }
 {
@@ -185,7 +187,7 @@ fn run_of<'a>(options: &ArgMatches<'a>) -> Option<Arguments<'a>>
 }
 
 /// The script that the matches of `run` name. A device with its state in a folder plays standard
-/// input where they name none.
+/// input if they name none.
 fn script_of<'a>(options: &ArgMatches<'a>) -> Option<&'a str>
     ensures { option_map (λ text. text.now) result ≡ script_in (rows_of (found_of options.now)) }
 {
@@ -196,42 +198,99 @@ fn script_of<'a>(options: &ArgMatches<'a>) -> Option<&'a str>
     }
 }
 
-/// Where the matches of `run` want the device kept, which may be nowhere. A file of random bytes
-/// cannot be asked for without a place.
+/// What the matches of `power` ask for.
+fn power_of<'a>(options: &ArgMatches<'a>) -> Option<Arguments<'a>>
+    ensures { option_map asked result ≡ power_in (rows_of (found_of options.now)) }
+{
+    Some(Arguments::Power {
+        state: value(options, "state")?,
+        cuts: is_set(options, "cut"),
+        past: past_by(value(options, "keep"))?,
+    })
+}
+
+/// What the matches of `restore` ask for.
+fn restore_of<'a>(options: &ArgMatches<'a>) -> Option<Arguments<'a>>
+    ensures { option_map asked result ≡ restore_in (rows_of (found_of options.now)) }
+{
+    Some(Arguments::Restore {
+        state: value(options, "state")?,
+        text: value(options, "snapshot")?,
+        past: past_by(value(options, "keep"))?,
+    })
+}
+
+/// Where the matches of `run` keep the device, which may be nowhere. Without a place, a file of
+/// random bytes and a number of journals are refused.
 fn storage_of<'a>(options: &ArgMatches<'a>) -> Option<Option<Storage<'a>>>
     ensures { option_map (option_map stored) result ≡ storage_in (rows_of (found_of options.now)) }
 {
     let entropy = value(options, "entropy");
-    match (value(options, "image"), value(options, "state"), entropy) {
-        (None, None, None) => Some(None),
-        (image, state, entropy) => Some(Some(Storage {
-            place: place_by(image, state)?,
+    let keep = value(options, "keep");
+    match (
+        value(options, "image"),
+        value(options, "state"),
+        keep,
+        entropy,
+    ) {
+        (None, None, None, None) => Some(None),
+        (image, state, keep, entropy) => Some(Some(Storage {
+            place: place_by(image, state, keep)?,
             entropy,
         })),
     }
 }
 
-/// The place that is given as an image or as the folder of a state, and not as both.
-fn place_by<'a>(image: Option<&'a str>, state: Option<&'a str>) -> Option<Place<'a>>
+/// The place that is given either as an image or as the folder of a state, in which this many
+/// finished journals stay.
+fn place_by<'a>(
+    image: Option<&'a str>,
+    state: Option<&'a str>,
+    keep: Option<&'a str>,
+) -> Option<Place<'a>>
     ensures { option_map kept result
         ≡ place_by (option_map (λ text. text.now) image.entry)
-        (option_map (λ text. text.now) state.entry) }
+        (option_map (λ text. text.now) state.entry) (option_map (λ text. text.now) keep.entry) }
 {
-    match (image, state) {
-        (Some(image), None) => Some(Place::Image(image)),
-        (None, Some(state)) => Some(Place::State(state)),
-        (Some(_), Some(_)) | (None, None) => None,
+    match (image, state, keep) {
+        (Some(image), None, None) => Some(Place::Image(image)),
+        (None, Some(folder), keep) => Some(Place::State {
+            folder,
+            past: past_by(keep)?,
+        }),
+        _ => None,
     }
 }
 
-/// The place that the matches of `serve` want the device kept in.
+/// How many finished journals stay in a folder, by the digits of `--keep`: none without them.
+fn past_by(keep: Option<&str>) -> Option<u32>
+    ensures { result ≡ past_by (option_map (λ text. text.now) keep.entry) }
+{
+    match keep {
+        Some(digits) => past_of(decimal(digits.as_bytes())?),
+        None => Some(0),
+    }
+}
+
+/// The number of journals, if it is at most 99.
+fn past_of(number: u32) -> Option<u32>
+    ensures { result ≡ past_of number }
+{
+    if number <= 99 { Some(number) } else { None }
+}
+
+/// The place in which the matches of `serve` keep the device.
 fn place_of<'a>(options: &ArgMatches<'a>) -> Option<Place<'a>>
     ensures { option_map kept result ≡ place_in (rows_of (found_of options.now)) }
 {
-    place_by(value(options, "image"), value(options, "state"))
+    place_by(
+        value(options, "image"),
+        value(options, "state"),
+        value(options, "keep"),
+    )
 }
 
-/// The log of a device in this place, if one is asked for. It is written beside an image alone.
+/// The log of a device in this place, if one is asked for. Only a device in an image can have one.
 fn log_by<'a>(place: Place<'_>, log: Option<&'a str>) -> Option<Option<&'a str>>
     ensures { option_map (option_map (λ text. text.now)) result
         ≡ log_by (kept place.entry) (option_map (λ text. text.now) log.entry) }
@@ -239,7 +298,49 @@ fn log_by<'a>(place: Place<'_>, log: Option<&'a str>) -> Option<Option<&'a str>>
     match (place, log) {
         (_, None) => Some(None),
         (Place::Image(_), Some(log)) => Some(Some(log)),
-        (Place::State(_), Some(_)) => None,
+        (Place::State { .. }, Some(_)) => None,
+    }
+}
+
+/// Whether the completing layer is on. Only a device in a folder can have it.
+fn completes_by(place: Place<'_>, completes: bool) -> Option<bool>
+    ensures { result ≡ completes_by (kept place.entry) completes }
+{
+    match place {
+        Place::Image(_) if completes => None,
+        Place::Image(_) => Some(false),
+        Place::State { .. } => Some(completes),
+    }
+}
+
+/// The file of random bytes: the system's, unless another one is given.
+fn entropy_by<'a>(path: Option<&'a str>) -> &'a str
+    ensures { result.now ≡ entropy_by (option_map (λ text. text.now) path.entry) }
+{
+    match path {
+        Some(path) => path,
+        None => "/dev/urandom",
+    }
+}
+
+/// The locality of these digits, or 0 without them.
+fn locality_by(digits: Option<&str>) -> Option<Locality>
+    ensures { option_map locality_number result
+        ≡ locality_by (option_map (λ text. text.now) digits.entry) }
+{
+    match digits {
+        Some(digits) => locality(digits.as_bytes()),
+        None => Locality::new(0),
+    }
+}
+
+/// The number of connections of these digits. Without digits it is None, for no end of them.
+fn connections_by(digits: Option<&str>) -> Option<Option<u32>>
+    ensures { result ≡ connections_by (option_map (λ text. text.now) digits.entry) }
+{
+    match digits {
+        Some(digits) => Some(Some(decimal(digits.as_bytes())?)),
+        None => Some(None),
     }
 }
 
@@ -253,9 +354,10 @@ fn service_of<'a>(options: &ArgMatches<'a>) -> Option<Service<'a>>
         socket,
         place,
         log: log_by(place, value(options, "log"))?,
-        entropy: value(options, "entropy")?,
-        locality: locality(value(options, "locality")?.as_bytes())?,
-        connections: decimal(value(options, "connections")?.as_bytes())?,
+        completes: completes_by(place, is_set(options, "complete"))?,
+        entropy: entropy_by(value(options, "entropy")),
+        locality: locality_by(value(options, "locality"))?,
+        connections: connections_by(value(options, "connections"))?,
         saves_each: is_set(options, "save-each"),
     })
 }

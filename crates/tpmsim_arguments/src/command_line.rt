@@ -41,7 +41,7 @@ pub fn command<'a>(alloc: Global) -> Result<Command<'a>, AllocError>
     with_command(program, replay_command(alloc))
 }
 
-/// The program with one command more, where both could be made.
+/// The program with one command more, if both could be made.
 fn with_command<'a>(
     program: Result<Command<'a>, AllocError>,
     command: Result<Command<'a>, AllocError>,
@@ -52,41 +52,35 @@ fn with_command<'a>(
     program?.subcommand(command?)
 }
 
-fn run_command<'a>(alloc: Global) -> Result<Command<'a>, AllocError>
-    ensures { IfOk result (λ command. shape_of command ≡ run_command) }
+/// The command `run`, with its help around its options, and without the options.
+fn run_without_options<'a>(alloc: Global) -> Command<'a>
+    ensures { app_of result ≡ new_app (codes "run") }
 {
     Command::new(alloc, "run")
         .about("Runs a script, and prints the responses in hex, one a line")
         .after_help("Example: tpmsim run --trace examples/measured_boot.tpm")
-        .arg(flag(
-            alloc,
-            "trace",
-            "Prints before each response which row of the table the command took",
-        ))?
-        .arg(choice(
-            alloc,
-            "image",
-            "FILE",
-            "What the device keeps without power; a new device where there is no such file",
-        ))?
-        .arg(choice(
-            alloc,
-            "state",
-            "DIR",
-            "The device's state, in place of --image; a new device where there is no such folder",
-        ))?
-        .arg(choice(
-            alloc,
-            "entropy",
-            "FILE",
-            "The random bytes of a new device, its first 256; 00 to ff without this",
-        ))?
-        .arg(optional_operand(
-            alloc,
-            "script",
-            "SCRIPT",
-            "The file of the script, or - for standard input; with --state, - may be left out",
-        ))
+}
+
+const TRACE: &str = "Prints before each response which row of the table the command took";
+
+const RUN_IMAGE: &str =
+    "What the device keeps without power; a new device if there is no such file";
+
+const RUN_ENTROPY: &str = "The random bytes of a new device, its first 256; 00 to ff without this";
+
+const SCRIPT: &str =
+    "The file of the script, or - for standard input; with --state, - may be left out";
+
+fn run_command<'a>(alloc: Global) -> Result<Command<'a>, AllocError>
+    ensures { IfOk result (λ command. shape_of command ≡ run_command) }
+{
+    run_without_options(alloc)
+        .arg(flag(alloc, "trace", TRACE))?
+        .arg(choice(alloc, "image", "FILE", RUN_IMAGE))?
+        .arg(choice(alloc, "state", "DIR", STATE))?
+        .arg(choice(alloc, "keep", "NUMBER", KEEP))?
+        .arg(choice(alloc, "entropy", "FILE", RUN_ENTROPY))?
+        .arg(optional_operand(alloc, "script", "SCRIPT", SCRIPT))
 }
 
 /// An option that has no value, and may be left out.
@@ -178,7 +172,7 @@ fn asm_command<'a>(alloc: Global) -> Result<Command<'a>, AllocError>
         alloc,
         "line",
         "LINE",
-        "The command in words, as it stands behind `do ` in a script",
+        "The command in words, as it comes after `do ` in a script",
     );
     one_argument_command(
         alloc,
@@ -196,12 +190,12 @@ fn line_command<'a>(alloc: Global) -> Result<Command<'a>, AllocError>
         alloc,
         "hex",
         "HEX",
-        "The buffer of the command in hex, as it stands behind `cmd ` in a script",
+        "The buffer of the command in hex, as it comes after `cmd ` in a script",
     );
     one_argument_command(
         alloc,
         "line",
-        "Prints the line in words that spells the buffer of a command",
+        "Prints the line in words that encodes the buffer of a command",
         "Example: tpmsim line 80010000000c0000017b0020",
         argument,
     )
@@ -237,7 +231,7 @@ fn code_command<'a>(alloc: Global) -> Result<Command<'a>, AllocError>
     one_argument_command(
         alloc,
         "code",
-        "Prints the name of a response code, and the place of the fault that it tells of",
+        "Prints the name of a response code, and the place of the fault that it reports",
         "Example: tpmsim code 98e",
         argument,
     )
@@ -248,33 +242,37 @@ fn serve_without_options<'a>(alloc: Global) -> Command<'a>
     ensures { app_of result ≡ new_app (codes "serve") }
 {
     Command::new(alloc, "serve")
-        .about("Serves a device on a Unix socket, and keeps its state in an image")
-        .after_help(
-            "Example: tpmsim serve --socket tpm.sock --image tpm.image --entropy /dev/urandom \
-             --locality 0 --connections 1",
-        )
+        .about("Serves a device on a Unix socket, and keeps its state in an image or in a folder")
+        .after_help("Example: tpmsim serve --socket tpm.sock --state tpm --complete")
 }
 
 const SOCKET: &str = "The socket, which is made; one that was left there is replaced";
 
 const IMAGE: &str =
-    "What the device keeps without power; a new device where there is no such file. This or \
-     --state has to be given";
+    "What the device keeps without power; a new device if there is no such file. This or --state \
+     has to be given";
 
 const LOG: &str =
     "Writes each command that was answered there, as a script that plays the device again";
 
 const STATE: &str =
-    "The device's state, in place of --image; a new device where there is no such folder";
+    "The device's state, instead of --image; a new device if there is no such folder";
 
-const ENTROPY: &str = "The random bytes, 256 for each command";
+const KEEP: &str =
+    "How many finished journals stay in the folder of the state, at most 99; 0 without this";
 
-const LOCALITY: &str = "The locality of all commands, 0 to 4";
+const COMPLETE: &str =
+    "With --state, the completing layer answers what clients ask for and the device lacks";
 
-const CONNECTIONS: &str = "How many connections are served, one after another";
+const ENTROPY: &str = "The random bytes, 256 for each command; /dev/urandom without this";
+
+const LOCALITY: &str = "The locality of all commands, 0 to 4; 0 without this";
+
+const CONNECTIONS: &str =
+    "How many connections are served, one after another; without this there is no end";
 
 const SAVE_EACH: &str =
-    "Saves before each response that tells of a change, not after a connection alone";
+    "Saves before each response that reports a change, not after a connection alone";
 
 fn serve_command<'a>(alloc: Global) -> Result<Command<'a>, AllocError>
     ensures { IfOk result (λ command. shape_of command ≡ serve_command) }
@@ -284,9 +282,11 @@ fn serve_command<'a>(alloc: Global) -> Result<Command<'a>, AllocError>
         .arg(choice(alloc, "image", "FILE", IMAGE))?
         .arg(choice(alloc, "log", "FILE", LOG))?
         .arg(choice(alloc, "state", "DIR", STATE))?
-        .arg(setting(alloc, "entropy", "FILE", ENTROPY))?
-        .arg(setting(alloc, "locality", "NUMBER", LOCALITY))?
-        .arg(setting(alloc, "connections", "NUMBER", CONNECTIONS))?
+        .arg(choice(alloc, "keep", "NUMBER", KEEP))?
+        .arg(flag(alloc, "complete", COMPLETE))?
+        .arg(choice(alloc, "entropy", "FILE", ENTROPY))?
+        .arg(choice(alloc, "locality", "NUMBER", LOCALITY))?
+        .arg(choice(alloc, "connections", "NUMBER", CONNECTIONS))?
         .arg(flag(alloc, "save-each", SAVE_EACH))
 }
 
@@ -314,6 +314,7 @@ fn power_command<'a>(alloc: Global) -> Result<Command<'a>, AllocError>
             "cut",
             "Drops what follows the last whole record before damage, and says how much that is",
         ))?
+        .arg(choice(alloc, "keep", "NUMBER", KEEP))?
         .arg(operand(alloc, "state", "DIR", "The folder of the device's state"))
 }
 
@@ -336,6 +337,7 @@ fn restore_command<'a>(alloc: Global) -> Result<Command<'a>, AllocError>
     Command::new(alloc, "restore")
         .about("Replaces a device whose state is in a folder by the one of a state text")
         .after_help("Example: tpmsim restore tpm tpm.state")
+        .arg(choice(alloc, "keep", "NUMBER", KEEP))?
         .arg(operand(
             alloc,
             "state",

@@ -1,20 +1,22 @@
 //! The law that usual command lines ask for what they say.
 
-ghost use Rattle.std.specs.Prelude.{◌≡◌, ◌∷◌, List, [], None, Some, ℕ, codes, false, true};
+ghost use Rattle.std.specs.Prelude.{◌≡◌, ◌≤◌, ◌∷◌, List, [], None, Some, ℕ, codes, false, true};
+ghost use Rattle.tpm_number.specs.Number.{decimal_of};
 ghost use Rattle.tpmsim_arguments.specs.Invocation.{assemble, check, cycle_power, forms, in_image};
 ghost use Rattle.tpmsim_arguments.specs.Invocation.{in_state, name_code, replay, restore, retell};
 ghost use Rattle.tpmsim_arguments.specs.Invocation.{run, snapshot, spell};
-ghost use Rattle.tpmsim_arguments.specs.Lines.{AskFor, AskForDevice, AskForSavedDevice};
-ghost use Rattle.tpmsim_arguments.specs.Lines.{AskForService, IsScript, NoneBeginsWithHyphen};
-ghost use Rattle.tpmsim_arguments.specs.Lines.{asm_line, begins_with_hyphen, check_line, code_line};
-ghost use Rattle.tpmsim_arguments.specs.Lines.{cut_line, form_line, forms_line, joined_line, kept_line};
-ghost use Rattle.tpmsim_arguments.specs.Lines.{line_line, logging_line, played_line, power_line};
-ghost use Rattle.tpmsim_arguments.specs.Lines.{replay_line, restore_line, run_line, saving_line};
-ghost use Rattle.tpmsim_arguments.specs.Lines.{script_line, serve_line, snapshot_line, state_line};
-ghost use Rattle.tpmsim_arguments.specs.Lines.{trace_line};
+ghost use Rattle.tpmsim_arguments.specs.Lines.{AskFor, AskForDevice, AskForFolder, AskForNothing};
+ghost use Rattle.tpmsim_arguments.specs.Lines.{AskForSavedDevice, AskForService, IsScript};
+ghost use Rattle.tpmsim_arguments.specs.Lines.{NoneBeginsWithHyphen, asm_line, begins_with_hyphen};
+ghost use Rattle.tpmsim_arguments.specs.Lines.{check_line, code_line, complete_line, cut_line};
+ghost use Rattle.tpmsim_arguments.specs.Lines.{form_line, forms_line, incomplete_line, joined_line};
+ghost use Rattle.tpmsim_arguments.specs.Lines.{keeping_line, kept_line, line_line, logging_line};
+ghost use Rattle.tpmsim_arguments.specs.Lines.{played_line, power_line, replay_line, restore_line};
+ghost use Rattle.tpmsim_arguments.specs.Lines.{run_line, saving_line, script_line, serve_line};
+ghost use Rattle.tpmsim_arguments.specs.Lines.{short_line, snapshot_line, state_line, trace_line};
 
-/// Usual command lines ask for what they say, where no word but the names of settings begins with a
-/// hyphen; a script may be one hyphen. A value that is joined to its name may be any text.
+/// Usual command lines ask for what they say, if no word except the names of settings begins with a
+/// hyphen. A script may be one hyphen. A value that is joined to its name may be any text.
 #[inline(always)]
 pub fn usual_line_laws()
     ensures asm { (name line : List ℕ) → begins_with_hyphen line ≡ false
@@ -33,14 +35,17 @@ pub fn usual_line_laws()
     ensures check { (name script : List ℕ) → IsScript script
         → AskFor (check_line name script) (check script) }
     ensures power { (name state : List ℕ) → begins_with_hyphen state ≡ false
-        → AskFor (power_line name state) (cycle_power state false) }
+        → AskFor (power_line name state) (cycle_power state false 0) }
     ensures cut { (name state : List ℕ) → begins_with_hyphen state ≡ false
-        → AskFor (cut_line name state) (cycle_power state true) }
+        → AskFor (cut_line name state) (cycle_power state true 0) }
+    ensures keeping { (name keep state : List ℕ) → begins_with_hyphen state ≡ false
+        → (past : ℕ) → decimal_of keep ≡ Some past → past ≤ 99
+        → AskFor (keeping_line name keep state) (cycle_power state false past) }
     ensures snapshot { (name state : List ℕ) → begins_with_hyphen state ≡ false
         → AskFor (snapshot_line name state) (snapshot state) }
     ensures restore { (name state text : List ℕ) → begins_with_hyphen state ≡ false
         → begins_with_hyphen text ≡ false
-        → AskFor (restore_line name state text) (restore state text) }
+        → AskFor (restore_line name state text) (restore state text 0) }
     ensures script { (name state : List ℕ) → begins_with_hyphen state ≡ false
         → AskFor (script_line name state) (retell state) }
     ensures replay { (name journal : List ℕ) → begins_with_hyphen journal ≡ false
@@ -49,7 +54,7 @@ pub fn usual_line_laws()
         → AskFor (kept_line name image entropy script)
         (run script true (Some (record { place = in_image image; entropy = Some entropy }))) }
     ensures played { (name state : List ℕ) → AskFor (played_line name state)
-        (run (codes "-") false (Some (record { place = in_state state; entropy = None }))) }
+        (run (codes "-") false (Some (record { place = in_state state 0; entropy = None }))) }
     ensures serve { (name socket image entropy locality connections : List ℕ)
         → NoneBeginsWithHyphen (socket ∷ image ∷ entropy ∷ locality ∷ connections ∷ [])
         → AskForDevice (serve_line name socket image entropy locality connections) socket image
@@ -65,5 +70,12 @@ pub fn usual_line_laws()
         (in_image image) (Some log) entropy locality connections false }
     ensures state { (name socket state entropy locality connections : List ℕ)
         → AskForService (state_line name socket state entropy locality connections) socket
-        (in_state state) None entropy locality connections false }
+        (in_state state 0) None entropy locality connections false }
+    ensures short { (name socket state : List ℕ)
+        → AskForFolder (short_line name socket state) socket state 0 false }
+    ensures complete { (name socket state keep : List ℕ)
+        → (past : ℕ) → decimal_of keep ≡ Some past → past ≤ 99
+        → AskForFolder (complete_line name socket state keep) socket state past true }
+    ensures incomplete { (name socket image : List ℕ)
+        → AskForNothing (incomplete_line name socket image) }
 {}

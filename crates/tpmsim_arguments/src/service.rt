@@ -1,5 +1,8 @@
 //! The settings with which a device is served on a socket: its files, the locality, how many
-//! connections, and when it is saved.
+//! connections, when it is saved, and whether the completing layer is on.
+
+ghost use Rattle.std.specs.Prelude.{◌≡◌, ◌-◌, ◌^◌};
+ghost use Rattle.std.specs.Option.{option_map_or};
 
 use crate::place::Place;
 use tpm_types::Locality;
@@ -17,8 +20,23 @@ pub struct Service<'a> {
     pub entropy: &'a str,
     /// The locality of all commands.
     pub locality: Locality,
-    /// How many connections are served before the program ends.
-    pub connections: u32,
+    /// How many connections are served before the program ends; with None, it does not end.
+    pub connections: Option<u32>,
     /// Whether the device is saved before each response, and not only after each connection.
     pub saves_each: bool,
+    /// Whether the completing layer answers what the device lacks. It needs a device in a folder.
+    pub completes: bool,
+}
+
+impl Service<'_> {
+    /// How many connections are served before the program ends. Without a number this is 2^64 - 1,
+    /// which no run reaches.
+    pub fn connection_limit(&self) -> u64
+        ensures { result ≡ option_map_or (λ count. count) self.now.connections (2 ^ 64 - 1) }
+    {
+        match self.connections {
+            Some(count) => u64::from(count),
+            None => u64::MAX,
+        }
+    }
 }

@@ -8,11 +8,13 @@ use Rattle.tpmsim_folder.specs.declared.fault.Place.TheVariants as place
 use Rattle.tpmsim_folder.specs.declared.fault.Said.{Said}
 use Rattle.tpmsim_folder.specs.declared.fault.Said.TheVariants as said
 
-abbrev pub place_text : Place → List ℕ
-place_text place.Folder = codes "state"
-place_text place.Journal = codes "state/journal"
-place_text place.NewJournal = codes "state/journal.new"
-place_text place.Lock = codes "state/lock"
+-- what follows the folder's path in the path of a place
+abbrev pub place_file : Place → List ℕ
+place_file place.Folder = codes ""
+place_file place.Journal = codes "/journal"
+place_file place.NewJournal = codes "/journal.new"
+place_file place.LastJournal = codes "/journal.1"
+place_file place.Lock = codes "/lock"
 
 abbrev pub said_text : Said → List ℕ
 said_text said.IsLink = codes "is a link, which is not followed"
@@ -20,7 +22,6 @@ said_text said.IsNoFile = codes "is no regular file"
 said_text said.IsNoFolder = codes "is no folder"
 said_text said.IsOfAnother = codes "belongs to another user"
 said_text said.IsNotThere = codes "is not there"
-said_text said.IsGone = codes "is gone"
 said_text said.CannotBeMade = codes "cannot be made"
 said_text said.CannotBeGivenItsMode = codes "cannot be given its mode"
 said_text said.CannotBeLookedAt = codes "cannot be looked at"
@@ -31,6 +32,7 @@ said_text said.CannotBeWritten = codes "cannot be written"
 said_text said.CannotBeCut = codes "cannot be cut to whole records"
 said_text said.CannotBeForced = codes "cannot be forced to the disk"
 said_text said.CannotTakeThePlace = codes "cannot take the journal's place"
+said_text said.CannotGetTheNextNumber = codes "cannot get the next number"
 said_text said.WasShortenedMeanwhile = codes "was shortened while it was read"
 said_text said.IsReplaced = codes "is replaced again and again"
 said_text said.WantsClock = codes "needs the host's clock, which cannot be read or is before 1970"
@@ -42,8 +44,10 @@ said_text said.WasAnsweredOtherwise =
     codes "was written by a program that answers otherwise than this one, and stays as it is"
 said_text (said.Keeper fault) = sentence fault
 
+-- the text of a fault, in which the folder is called state; the system's error is not in it
 abbrev pub kept_fault_text : KeptFault → List ℕ
-kept_fault_text fault = place_text fault.place ++ codes " " ++ said_text fault.said
+kept_fault_text fault =
+    codes "state" ++ place_file fault.place ++ codes " " ++ said_text fault.said
 
 -- whether a journal's contents are at fault, and not the system
 abbrev pub is_of_contents : Said → Bool

@@ -1,4 +1,4 @@
--- What may stand at a path of a kept device: a regular file or a folder of the user who runs the
+-- What may be at a path of a kept device: a regular file or a folder of the user who runs the
 -- process, and no link.
 use Rattle.std.specs.Prelude.{ℕ, ◌==◌, if◌then◌else◌, Option, Some, None}
 use Rattle.std.specs.Fs.{IsDir, IsFile, IsSymlink}
@@ -15,7 +15,7 @@ IsOfKind File t = IsFile t
 IsOfKind Folder t = IsDir t
 IsOfKind Other t = (IsSymlink t → ⊥) × (IsFile t → ⊥) × (IsDir t → ⊥)
 
--- what a fault says where the owner is not the user
+-- what a fault says if the owner is not the user
 abbrev pub owner_fault : (owner user : ℕ) → Option Said
 owner_fault owner user = if owner == user then None else Some IsOfAnother
 

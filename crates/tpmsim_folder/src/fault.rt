@@ -1,8 +1,8 @@
 //! The faults of a kept device: the place that a fault concerns, and what it says of it.
 
-ghost use Rattle.std.specs.Prelude.{◌≡◌};
+ghost use Rattle.std.specs.Prelude.{◌≡◌, None};
 ghost use Rattle.tpm_keeping.specs.declared.holder.Fault.TheVariants.{Memory};
-ghost use Rattle.tpmsim_folder.specs.Fault.{is_of_contents, place_text, said_text};
+ghost use Rattle.tpmsim_folder.specs.Fault.{is_of_contents, place_file, said_text};
 ghost use Rattle.tpmsim_folder.specs.declared.fault.Said.TheVariants.{Keeper};
 
 use std::alloc::AllocError;
@@ -16,6 +16,8 @@ pub enum Place {
     Journal,
     /// The new journal, which is to take the old one's place.
     NewJournal,
+    /// The last finished journal that stays in the folder.
+    LastJournal,
     Lock,
 }
 
@@ -27,7 +29,6 @@ pub enum Said {
     IsNoFolder,
     IsOfAnother,
     IsNotThere,
-    IsGone,
     CannotBeMade,
     CannotBeGivenItsMode,
     CannotBeLookedAt,
@@ -38,6 +39,7 @@ pub enum Said {
     CannotBeCut,
     CannotBeForced,
     CannotTakeThePlace,
+    CannotGetTheNextNumber,
     WasShortenedMeanwhile,
     IsReplaced,
     WantsClock,
@@ -49,7 +51,7 @@ pub enum Said {
     /// The head's state text is not one of this version of the program.
     HoldsNoState,
     WasAnsweredOtherwise,
-    /// What the keeper says.
+    /// This fault of the keeper.
     Keeper(Fault),
 }
 
@@ -58,26 +60,33 @@ pub enum Said {
 pub struct KeptFault {
     pub place: Place,
     pub said: Said,
+    /// The number of the system's error, if the fault is one of the system's.
+    pub error: Option<i32>,
 }
 
 impl Place {
-    /// The name of the place in the message of a fault, where the folder is called `state`.
-    pub fn name(self) -> &'static str
-        ensures { result.now ≡ place_text self }
+    /// What follows the folder's path in the path of the place.
+    pub fn file(self) -> &'static str
+        ensures { result.now ≡ place_file self }
     {
         match self {
-            Place::Folder => "state",
-            Place::Journal => "state/journal",
-            Place::NewJournal => "state/journal.new",
-            Place::Lock => "state/lock",
+            Place::Folder => "",
+            Place::Journal => "/journal",
+            Place::NewJournal => "/journal.new",
+            Place::LastJournal => "/journal.1",
+            Place::Lock => "/lock",
         }
     }
 
-    /// The fault that says this of the place.
+    /// The fault that says this of the place. It is not one of the system's.
     pub fn that(self, said: Said) -> KeptFault
-        ensures { result ≡ record { place = self; said = said } }
+        ensures { result ≡ record { place = self; said = said; error = None } }
     {
-        KeptFault { place: self, said }
+        KeptFault {
+            place: self,
+            said,
+            error: None,
+        }
     }
 }
 
@@ -99,7 +108,6 @@ impl Said {
             Said::IsNoFolder => "is no folder",
             Said::IsOfAnother => "belongs to another user",
             Said::IsNotThere => "is not there",
-            Said::IsGone => "is gone",
             Said::CannotBeMade => "cannot be made",
             Said::CannotBeGivenItsMode => "cannot be given its mode",
             Said::CannotBeLookedAt => "cannot be looked at",
@@ -110,6 +118,7 @@ impl Said {
             Said::CannotBeCut => "cannot be cut to whole records",
             Said::CannotBeForced => "cannot be forced to the disk",
             Said::CannotTakeThePlace => "cannot take the journal's place",
+            Said::CannotGetTheNextNumber => "cannot get the next number",
             Said::WasShortenedMeanwhile => "was shortened while it was read",
             Said::IsReplaced => "is replaced again and again",
             Said::WantsClock => "needs the host's clock, which cannot be read or is before 1970",
@@ -146,18 +155,20 @@ impl fmt::Display for KeptFault {
     ghost output = { λ fault. Some (kept_fault_text fault) };
 
     fn fmt<W: fmt::Write>(&self, f: &mut fmt::Formatter<W>) -> fmt::Result {
-        let place = self.place.name();
+        let file = self.place.file();
         let words = self.said.words();
-        write!(f, "{place} {words}")
+        write!(f, "state{file} {words}")
     }
 }
 
 impl From<AllocError> for KeptFault {
+    ghost use Rattle.std.specs.Prelude.{None};
     ghost use Rattle.tpm_keeping.specs.declared.holder.Fault.TheVariants.{Memory};
     ghost use Rattle.tpmsim_folder.specs.declared.fault.Place.TheVariants.{Journal};
     ghost use Rattle.tpmsim_folder.specs.declared.fault.Said.TheVariants.{Keeper};
 
-    ghost from_gives = { λ _ fault. fault ≡ record { place = Journal; said = Keeper Memory } };
+    ghost from_gives = { λ _ fault. fault
+        ≡ record { place = Journal; said = Keeper Memory; error = None } };
 
     fn from(_error: AllocError) -> KeptFault {
         Place::Journal.that(Said::memory())

@@ -1,5 +1,5 @@
-//! The folder of a kept device, and what may stand in it. Only files and folders of the user who
-//! runs the process are opened, and no link is followed.
+//! The folder of a kept device, and what may be in it. Only files and folders of the user who runs
+//! the process are opened, and no link is followed.
 
 use crate::fault::{KeptFault, Place, Said};
 use crate::standing::{file_fault, folder_fault, kind_of};
@@ -14,7 +14,7 @@ const FILE_MODE: u32 = 0o600;
 /// The permissions of a folder that is made here.
 const FOLDER_MODE: u32 = 0o700;
 
-/// What tells a file from all others: its device and its inode.
+/// What distinguishes a file from all others: its device and its inode.
 #[derive(Clone, Copy, PartialEq, Eq)]
 pub struct Identity {
     device: u64,
@@ -42,6 +42,7 @@ pub struct Folder {
     path: String,
     journal: String,
     new_journal: String,
+    last_journal: String,
     lock: String,
     /// The user who runs the process.
     user: u32,
@@ -52,7 +53,7 @@ pub struct Folder {
 }
 
 impl Folder {
-    /// Opens the folder at a path, or makes it where it is missing and `makes` is true.
+    /// Opens the folder at a path, or makes it if it is missing and `makes` is true.
     pub fn open(rt: &HostRuntime, path: &str, makes: bool) -> Result<Folder, KeptFault> {
         let user = user_of(rt)?;
         let was_made = makes && make(rt, without_slashes(path))?;
@@ -78,11 +79,12 @@ impl Folder {
             Place::Folder => self.path.as_str(),
             Place::Journal => self.journal.as_str(),
             Place::NewJournal => self.new_journal.as_str(),
+            Place::LastJournal => self.last_journal.as_str(),
             Place::Lock => self.lock.as_str(),
         }
     }
 
-    /// The metadata of the user's regular file at a place; None where nothing is there.
+    /// The metadata of the user's regular file at a place; None if nothing is there.
     pub fn look(&self, rt: &HostRuntime, place: Place) -> Result<Option<Metadata>, KeptFault> {
         match fs::symlink_metadata(rt, self.path(place)) {
             Ok(metadata) => match self.fault_at(place, &metadata) {
@@ -102,8 +104,8 @@ impl Folder {
         }
     }
 
-    /// Opens an existing file, to be read and written. The file is not used where another one,
-    /// perhaps a link, was put in its place meanwhile.
+    /// Opens an existing file, to be read and written. The file is not used if another one, perhaps
+    /// a link, was put in its place meanwhile.
     pub fn open_file(&self, rt: &HostRuntime, place: Place) -> Result<OpenedFile, KeptFault> {
         let Some(looked) = self.look(rt, place)? else {
             return Err(place.that(Said::IsNotThere));
@@ -155,9 +157,14 @@ impl Folder {
 
 /// The fault of an error: memory ran out, or else this is said of the place.
 pub fn fault_of(error: &io::Error, place: Place, said: Said) -> KeptFault {
-    match error.kind() {
-        ErrorKind::OutOfMemory => place.that(Said::memory()),
-        _ => place.that(said),
+    let said = match error.kind() {
+        ErrorKind::OutOfMemory => Said::memory(),
+        _ => said,
+    };
+    KeptFault {
+        place,
+        said,
+        error: error.raw_os_error(),
     }
 }
 
@@ -175,7 +182,7 @@ fn user_of(rt: &HostRuntime) -> Result<u32, KeptFault> {
     }
 }
 
-/// Makes the folder where it is missing, gives it its permissions, whatever the umask is, and says
+/// Makes the folder if it is missing, gives it its permissions, whatever the umask is, and says
 /// whether it did.
 fn make(rt: &HostRuntime, path: &str) -> Result<bool, KeptFault> {
     match DirBuilder::new().mode(FOLDER_MODE).create(rt, path) {
@@ -194,6 +201,7 @@ fn paths_of(rt: &HostRuntime, path: &str, user: u32, was_made: bool) -> io::Resu
         path: String::from_str(rt.alloc(), path)?,
         journal: format!(in rt.alloc(); "{path}/journal")?,
         new_journal: format!(in rt.alloc(); "{path}/journal.new")?,
+        last_journal: format!(in rt.alloc(); "{path}/journal.1")?,
         lock: format!(in rt.alloc(); "{path}/lock")?,
         user,
         was_made,

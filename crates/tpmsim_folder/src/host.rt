@@ -4,6 +4,7 @@
 use crate::fault::{KeptFault, Place, Said};
 use crate::folder::{Folder, OpenedFile, fault_of, identity_of};
 use crate::lock::Lock;
+use crate::past::keep_past;
 use std::fs;
 use std::fs::Metadata;
 use std::io::ErrorKind;
@@ -22,12 +23,19 @@ pub struct Host<'a> {
     number: u64,
     /// The new journal, which has no name yet.
     fresh: Option<OpenedFile>,
+    /// How many finished journals stay in the folder.
+    past: u32,
 }
 
 impl<'a> Host<'a> {
     /// The host of the folder at a path. It makes the folder if it is missing and `makes` is true. No
-    /// file in it is opened yet.
-    pub fn at(rt: &'a HostRuntime, path: &str, makes: bool) -> Result<Host<'a>, KeptFault> {
+    /// file in it is opened yet. At each new journal, `past` finished ones stay at most.
+    pub fn at(
+        rt: &'a HostRuntime,
+        path: &str,
+        makes: bool,
+        past: u32,
+    ) -> Result<Host<'a>, KeptFault> {
         Ok(Host {
             rt,
             folder: Folder::open(rt, path, makes)?,
@@ -35,6 +43,7 @@ impl<'a> Host<'a> {
             journal: None,
             number: 0,
             fresh: None,
+            past,
         })
     }
 
@@ -87,11 +96,11 @@ impl<'a> Host<'a> {
     fn opened(&self) -> Result<&OpenedFile, KeptFault> {
         match &self.journal {
             Some(opened) => Ok(opened),
-            None => Err(Place::Journal.that(Said::IsGone)),
+            None => Err(Place::Journal.that(Said::IsNotThere)),
         }
     }
 
-    /// How many bytes the journal has.
+    /// The size of the journal, in bytes.
     pub fn size(&self) -> Result<u64, KeptFault> {
         match self.opened()?.file.metadata() {
             Ok(metadata) => Ok(metadata.len()),
@@ -178,25 +187,34 @@ impl<'a> Host<'a> {
         let _ = fs::remove_file(self.rt, self.folder.path(Place::NewJournal));
     }
 
-    /// Names the new journal `journal`, and returns its number. If that fails, the file is removed.
+    /// Names the new journal `journal`, and returns its number. The old one stays as journal.1 if
+    /// finished journals are to stay. If that fails, the new file is removed.
     pub fn name(&mut self) -> Result<u64, KeptFault> {
         let Some(fresh) = self.fresh.take() else {
-            return Err(Place::NewJournal.that(Said::IsGone));
+            return Err(Place::NewJournal.that(Said::IsNotThere));
         };
+        match self.give_name() {
+            Ok(()) => {
+                self.follow(fresh);
+                Ok(self.number)
+            }
+            Err(fault) => {
+                self.remove_new();
+                Err(fault)
+            }
+        }
+    }
+
+    fn give_name(&self) -> Result<(), KeptFault> {
+        keep_past(self.rt, &self.folder, self.past)?;
         let named = fs::rename(
             self.rt,
             self.folder.path(Place::NewJournal),
             self.folder.path(Place::Journal),
         );
         match named {
-            Ok(()) => {
-                self.follow(fresh);
-                Ok(self.number)
-            }
-            Err(error) => {
-                self.remove_new();
-                Err(fault_of(&error, Place::NewJournal, Said::CannotTakeThePlace))
-            }
+            Ok(()) => Ok(()),
+            Err(error) => Err(fault_of(&error, Place::NewJournal, Said::CannotTakeThePlace)),
         }
     }
 

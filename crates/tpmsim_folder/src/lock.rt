@@ -3,10 +3,10 @@
 use crate::fault::{KeptFault, Place, Said};
 use crate::folder::{Folder, OpenedFile, fault_of, identity_of};
 
-/// How often the lock's file is opened anew, where another file has taken its path.
+/// How often the lock's file is opened again if another file has taken its path.
 const TRIES: u8 = 100;
 
-/// The lock's file, where it is open.
+/// The lock's file, if it is open.
 #[derive(Drop)]
 pub struct Lock {
     opened: Option<OpenedFile>,
@@ -37,7 +37,7 @@ impl Lock {
         Err(Place::Lock.that(Said::IsReplaced))
     }
 
-    /// Gives the lock back. Where that fails, the file is closed, and the system releases the lock.
+    /// Releases the lock. If that fails, the file is closed, and the system releases the lock.
     pub fn give(&mut self) {
         if let Some(opened) = self.opened.take() {
             if opened.file.unlock().is_ok() {
@@ -47,7 +47,7 @@ impl Lock {
     }
 }
 
-/// Opens the lock's file, and makes it where it is missing. Another process may make it at the same
+/// Opens the lock's file, and makes it if it is missing. Another process may make it at the same
 /// time.
 fn open(rt: &HostRuntime, folder: &Folder) -> Result<OpenedFile, KeptFault> {
     if folder.look(rt, Place::Lock)?.is_none() {

@@ -54,7 +54,7 @@ pub fn folder_fault(kind: Kind, owner: u32, user: u32) -> Option<Said>
     }
 }
 
-/// What a fault says where the owner is not the user.
+/// What a fault says if the owner is not the user.
 fn owner_fault(owner: u32, user: u32) -> Option<Said>
     ensures { result ≡ owner_fault owner user }
 {

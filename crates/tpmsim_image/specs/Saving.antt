@@ -1,4 +1,4 @@
--- The saver of an image, after it was told a device.
+-- The saver of an image, after it got a device.
 use Rattle.std.specs.Prelude.{Some, if◌then◌else◌}
 use Rattle.std.specs.Str.{bytes_eq}
 use Rattle.tpm_image_text.specs.KeptText.{kept_text}

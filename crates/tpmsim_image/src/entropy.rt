@@ -6,7 +6,7 @@ ghost use Rattle.tpm_machine.specs.State.{state_of};
 ghost use Rattle.tpm_record.specs.Record.{manufactured};
 ghost use Rattle.tpm_slots.specs.SlotRecord.{slot_record};
 
-use crate::fault::DeviceFault;
+use crate::fault::{DeviceFault, Subject};
 use std::fs::File;
 use std::io::{BufReader, ErrorKind, Read};
 use std::{fs, io};
@@ -28,10 +28,11 @@ pub type Entropy = RandomReader<BufReader<File>>;
 impl RandomReader<BufReader<File>> {
     /// Opens the file at this path, which may be a device or a pipe, but not a folder.
     pub fn open(rt: &HostRuntime, path: &str) -> Result<Entropy, DeviceFault> {
-        let file = DeviceFault::Entropy.unless(open_bytes(rt, path))?;
+        let fault = DeviceFault::Entropy(Subject::Entropy.alone());
+        let file = fault.unless(open_bytes(rt, path))?;
         let reader = BufReader::with_capacity(rt.alloc(), READ_SIZE, file);
         Ok(RandomReader {
-            reader: DeviceFault::Entropy.unless(reader)?,
+            reader: fault.unless(reader)?,
         })
     }
 }
@@ -53,7 +54,8 @@ impl<R: Read> RandomReader<R> {
             × Consumes (R.remaining self.old.reader) (R.remaining self.new.reader) random
             × (state_of slot_record machine ≡ manufactured random)) }
     {
-        let random = DeviceFault::Entropy.unless(self.random())?;
+        let fault = DeviceFault::Entropy(Subject::Entropy.alone());
+        let random = fault.unless(self.random())?;
         Ok(Machine::manufacture(rt.alloc(), &random)?)
     }
 }

@@ -1,6 +1,7 @@
 //! Why a device that is kept in an image was not opened, saved or served.
 
-ghost use Rattle.std.specs.Prelude.{◌≡◌};
+ghost use Rattle.std.specs.Prelude.{◌≡◌, None};
+ghost use Rattle.std.specs.IoError.{raw_os_error};
 
 use std::alloc::AllocError;
 use std::io;
@@ -8,25 +9,72 @@ use std::io::ErrorKind;
 use tpm_bytes::NoMemory;
 use tpm_image::ImageFault;
 
+/// The file, socket or stream that a fault concerns.
+#[derive(Clone, Copy, PartialEq, Eq)]
+pub enum Subject {
+    Image,
+    /// The new image, which is to take the old one's place.
+    NewImage,
+    ImageLock,
+    Log,
+    Socket,
+    Entropy,
+    Script,
+    StateText,
+    Journal,
+    Output,
+}
+
+impl Subject {
+    /// The cause that concerns this. No error of the system's is known.
+    pub fn alone(self) -> Cause
+        ensures { result ≡ record { subject = self; error = None } }
+    {
+        Cause {
+            subject: self,
+            error: None,
+        }
+    }
+}
+
+/// What a fault concerns, and the number of the system's error, if that is known.
+#[derive(Clone, Copy, PartialEq, Eq)]
+pub struct Cause {
+    pub subject: Subject,
+    pub error: Option<i32>,
+}
+
+impl Cause {
+    /// The same cause with the number of an error of the system's.
+    pub fn with(self, error: &io::Error) -> Cause
+        ensures { result ≡ record self { error = raw_os_error error.now } }
+    {
+        Cause {
+            subject: self.subject,
+            error: error.raw_os_error(),
+        }
+    }
+}
+
 /// Why a device that is kept in an image was not opened, saved or served.
 #[derive(Clone, Copy, PartialEq, Eq)]
 pub enum DeviceFault {
-    /// The file of the image holds no image.
+    /// The file of the image does not contain an image.
     Image(ImageFault),
     /// A file could not be opened, read or written.
-    File,
+    File(Cause),
     /// The socket could not be made, or could not take a connection.
-    Socket,
+    Socket(Cause),
     /// The file of random bytes could not be opened, or has too few bytes left.
-    Entropy,
+    Entropy(Cause),
     Memory,
 }
 
 impl DeviceFault {
-    ghost use Rattle.std.specs.IoError.{error_kind};
-    ghost use Rattle.tpmsim_image.specs.Fault.{fault_or, given_or};
+    ghost use Rattle.tpmsim_image.specs.Fault.{fault_or, given_or, with_cause};
 
-    /// What was given; where it is an error, `Memory` if memory ran out, and otherwise this fault.
+    /// What was given. If it is an error: `Memory` if memory ran out, and otherwise this fault, with
+    /// the number of the error.
     pub(crate) fn unless<T>(self, given: io::Result<T>) -> Result<T, DeviceFault>
         ensures { result ≡ given_or self given }
     {
@@ -36,13 +84,25 @@ impl DeviceFault {
         }
     }
 
-    /// `Memory` where memory ran out, and otherwise `otherwise`.
+    /// `Memory` if memory ran out, and otherwise `otherwise`, with the number of the error.
     pub(crate) fn of_io(error: io::Error, otherwise: DeviceFault) -> DeviceFault
-        ensures { result ≡ fault_or otherwise (error_kind error) }
+        ensures { result ≡ fault_or otherwise error }
     {
         match error.kind() {
             ErrorKind::OutOfMemory => DeviceFault::Memory,
-            _ => otherwise,
+            _ => otherwise.with(&error),
+        }
+    }
+
+    /// The same fault with the number of an error of the system's, if it has a cause.
+    fn with(self, error: &io::Error) -> DeviceFault
+        ensures { result ≡ with_cause self error.now }
+    {
+        match self {
+            DeviceFault::File(cause) => DeviceFault::File(cause.with(error)),
+            DeviceFault::Socket(cause) => DeviceFault::Socket(cause.with(error)),
+            DeviceFault::Entropy(cause) => DeviceFault::Entropy(cause.with(error)),
+            fault => fault,
         }
     }
 }

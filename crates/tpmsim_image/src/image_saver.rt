@@ -17,9 +17,9 @@ use tpm_record::Keep;
 pub struct ImageSaver<'a> {
     rt: &'a HostRuntime,
     file: ImageFile<'a>,
-    /// What the device of the file keeps, without its clock, where that is known.
+    /// What the device of the file keeps, without its clock, if that is known.
     kept: KeptText,
-    /// The clock of the device that was written last, where nothing failed since.
+    /// The clock of the device that was written last, if nothing failed since.
     clock: Option<u64>,
     /// Why a save failed.
     fault: Option<DeviceFault>,
@@ -37,8 +37,8 @@ impl<'a> ImageSaver<'a> {
         }
     }
 
-    /// Takes note that this device is the one of the file. The file is written anew all the same
-    /// where the clock is to be saved too: it may be of an older version, or open to others.
+    /// Takes note that this device is the one of the file. The file is written again all the same if
+    /// the clock is to be saved too: it may be of an older version, or open to others.
     pub fn opened<K: Keep>(&mut self, machine: &Machine<K>)
         ensures { self.new
             ≡ record self.old { kept = kept_text (state_of K.record_of machine.now) } }
@@ -61,8 +61,8 @@ impl<'a> ImageSaver<'a> {
         }
     }
 
-    /// Writes a device, and notes its clock. Where the write fails, the saver forgets what the file
-    /// has, so that the next save writes.
+    /// Writes a device, and notes its clock. If the write fails, the saver forgets what the file has,
+    /// so that the next save writes.
     fn write<K: Keep>(&mut self, machine: &Machine<K>) -> Result<(), Unsaved>
         ensures written { OnOk result (self.new
             ≡ record self.old { clock = Some (state_of K.record_of machine.now).fixed.clock }) }

@@ -2,17 +2,19 @@
 
 //! A device that is kept in an image: the image's file and its lock ([`image_file`],
 //! [`image_lock`]), its savers ([`image_saver`], [`command_saver`]), and the serving of it on a
-//! socket ([`serving`]), with a log where one is asked for ([`log`]), in a file of its own
-//! ([`log_file`]). All of these files are their owner's alone ([`owner_file`]).
+//! socket ([`serving`]). A log, if there is one ([`log`]), is in a file of its own ([`log_file`]).
+//! All of these files are their owner's alone ([`owner_file`]).
 //!
-//! What the device is given comes from the host: random bytes from a file ([`entropy`]), the time
-//! that has passed ([`stopwatch`]), and both together for each command ([`source`]). The socket
-//! ([`socket`]) serves any device. Contracts say what a saver notes, what is written to a log, and
-//! which time a command is told; no contract can say what a file holds.
+//! The device's inputs come from the host: random bytes from a file ([`entropy`]), the time that has
+//! passed ([`stopwatch`]), and both together for each command ([`source`]). The socket ([`socket`])
+//! serves any device, and its reader ([`attended`]) reports a client that waits. Contracts say what
+//! a saver notes, what is written to a log, and which time a command gets. No contract can say what
+//! a file contains.
 //!
 //! The crate uses tpm_image for images, tpm_journal_text for the form of a log, tpm_wire for
 //! connections, and the settings of tpmsim_arguments.
 
+mod attended;
 pub mod command_saver;
 pub mod entropy;
 pub mod fault;
@@ -28,8 +30,9 @@ pub mod socket;
 pub mod source;
 pub mod stopwatch;
 
+pub use attended::Attended;
 pub use entropy::Entropy;
-pub use fault::DeviceFault;
+pub use fault::{Cause, DeviceFault, Subject};
 pub use image_file::ImageFile;
 pub use image_saver::ImageSaver;
 pub use serving::serve_device;

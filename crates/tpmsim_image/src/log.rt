@@ -4,7 +4,7 @@
 //! A log has the form of a journal: its head has the image of the device as power came on, and each
 //! command has an entry. [`Log`] is a log that is written to any writer, and notes the commands as
 //! the witness of a device; [`Logged`] is a witness that keeps a log, if there is one. The
-//! contracts say that a log's text holds exactly the commands that it was told, in their order
+//! contracts say that a log's text contains exactly the commands that it got, in their order
 //! ([`laws`]).
 
 ghost use Rattle.std.specs.Prelude.{◌≡◌, ◌≤◌, ◌+◌, ◌++◌, [], IfOk, OnErr, OnOk, false, length, true};
@@ -42,7 +42,7 @@ pub struct Log<W> {
     /// The sum of the marks so far.
     pub(crate) sum: u64,
     pub(crate) failed: bool,
-    /// The room to which the text of an entry is written, before it goes to the writer at once.
+    /// The buffer to which the text of an entry is written, before it goes to the writer at once.
     pub(crate) room: [u8; ENTRY_ROOM],
 }
 

@@ -1,6 +1,6 @@
-//! The file of a served device's log, which is made anew and is its owner's alone.
+//! The file of a served device's log, which is a new file of its owner's alone.
 
-use crate::fault::DeviceFault;
+use crate::fault::{DeviceFault, Subject};
 use crate::log::Log;
 use crate::owner_file::create_for_owner;
 use std::fs::File;
@@ -16,12 +16,13 @@ pub fn begin_log<K: Keep>(
     path: &str,
     machine: &Machine<K>,
 ) -> Result<Log<File>, DeviceFault> {
-    let now_ms = DeviceFault::File.unless(clock_ms(rt))?;
-    let file = DeviceFault::File.unless(create_for_owner(rt, path))?;
-    Log::begin(file, machine, now_ms).map_err(|_| DeviceFault::File)
+    let fault = DeviceFault::File(Subject::Log.alone());
+    let now_ms = fault.unless(clock_ms(rt))?;
+    let file = fault.unless(create_for_owner(rt, path))?;
+    Log::begin(file, machine, now_ms).map_err(|_| fault)
 }
 
-/// The host's clock in milliseconds since 1970, or 0 where it is set to an earlier time.
+/// The host's clock in milliseconds since 1970, or 0 if it is set to an earlier time.
 fn clock_ms(rt: &HostRuntime) -> io::Result<u64> {
     match SystemTime::now(rt)?.duration_since(UNIX_EPOCH) {
         Ok(since) => Ok(u64::try_from(since.as_millis()).unwrap_or(u64::MAX)),

@@ -1,10 +1,10 @@
-//! How the program serves a device on a socket, one connection after another, with its image saved
-//! after each connection, and where that is asked for before each response too, and with a log of
-//! its commands where one is asked for.
+//! How the program serves a device on a socket, one connection after another. It saves the image
+//! after each connection, and with `--save-each` before each response too. With `--log` it writes
+//! each command to a log.
 
 use crate::command_saver::CommandSaver;
 use crate::entropy::Entropy;
-use crate::fault::DeviceFault;
+use crate::fault::{DeviceFault, Subject};
 use crate::image_file::ImageFile;
 use crate::image_saver::ImageSaver;
 use crate::log::Logged;
@@ -53,9 +53,9 @@ fn serve_machine<K: Keep>(
     source: &mut HostSource,
     witness: &mut Logged<File, CommandSaver<'_>>,
 ) -> Result<(), DeviceFault> {
-    let socket = bind(rt, service.socket)?;
+    let mut socket = bind(rt, service.socket)?;
     let mut mux = Mux::new(machine);
-    let served = serve_socket(rt, service, &socket, &mut mux, source, witness);
+    let served = serve_socket(rt, service, &mut socket, &mut mux, source, witness);
     socket.remove(rt, service.socket);
     served
 }
@@ -64,7 +64,7 @@ fn serve_machine<K: Keep>(
 fn serve_socket<K: Keep>(
     rt: &HostRuntime,
     service: &Service,
-    socket: &Socket,
+    socket: &mut Socket,
     mux: &mut Mux<K>,
     source: &mut HostSource,
     witness: &mut Logged<File, CommandSaver<'_>>,
@@ -72,30 +72,32 @@ fn serve_socket<K: Keep>(
     if let Some(path) = service.log {
         witness.log = Some(begin_log(rt, path, mux.machine())?);
     }
-    serve_connections(rt, service.connections, socket, mux, source, witness)
+    let connections = service.connection_limit();
+    serve_connections(rt, connections, socket, mux, source, witness)
 }
 
 /// Serves this many connections, one after another.
 fn serve_connections<K: Keep>(
     rt: &HostRuntime,
-    connections: u32,
-    socket: &Socket,
+    connections: u64,
+    socket: &mut Socket,
     mux: &mut Mux<K>,
     source: &mut HostSource,
     witness: &mut Logged<File, CommandSaver<'_>>,
 ) -> Result<(), DeviceFault> {
     for _ in 0..connections {
-        let stream = DeviceFault::Socket.unless(socket.accept())?;
-        let served = exchange(rt, &stream, mux, source, witness);
-        save_behind(served, mux, &mut witness.next)?;
+        let fault = DeviceFault::Socket(Subject::Socket.alone());
+        let stream = fault.unless(socket.accept())?;
+        let served = exchange(rt, socket, &stream, mux, source, witness);
+        save_after(served, mux, &mut witness.next)?;
     }
     Ok(())
 }
 
-/// Saves the device after a connection, its clock too, and says why the program ends, if it does. A
-/// device that is saved before each response is not saved again where a command was not answered
-/// because the log or the image was not written: the image already has all that was answered.
-fn save_behind<K: Keep>(
+/// Saves the device after a connection, its clock too, and says why the program ends, if it does. If
+/// a command was not answered because the log or the image was not written, a device that is saved
+/// before each response is not saved again: the image already has all that was answered.
+fn save_after<K: Keep>(
     served: Result<u64, ServeFault>,
     mux: &Mux<K>,
     saver: &mut CommandSaver<'_>,
@@ -107,15 +109,16 @@ fn save_behind<K: Keep>(
         return Err(fault);
     }
     match served {
-        Err(ServeFault::Save) => Err(DeviceFault::File),
-        Err(ServeFault::Host) => Err(DeviceFault::Entropy),
+        Err(ServeFault::Save) => Err(DeviceFault::File(Subject::Log.alone())),
+        Err(ServeFault::Host) => Err(DeviceFault::Entropy(Subject::Entropy.alone())),
         _ => Ok(()),
     }
 }
 
-/// Executes the commands of a connection, and answers each once the witness was told of it.
+/// Executes the commands of a connection, and answers each after the witness got it.
 fn exchange<K: Keep>(
     rt: &HostRuntime,
+    socket: &mut Socket,
     stream: &UnixStream,
     mux: &mut Mux<K>,
     source: &mut HostSource,
@@ -124,7 +127,7 @@ fn exchange<K: Keep>(
     let mut host = || source.host(rt).map_err(|_| HostFault);
     serve_saving(
         mux,
-        &mut Tap::new(stream),
+        &mut Tap::new(socket.attend(rt, stream)),
         &mut Tap::new(stream),
         &mut host,
         witness,

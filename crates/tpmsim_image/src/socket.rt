@@ -1,6 +1,7 @@
 //! The socket on which a device is served: only its owner may use it, from the moment it is there.
 
-use crate::fault::DeviceFault;
+use crate::attended::Attended;
+use crate::fault::{DeviceFault, Subject};
 use crate::folder::folder_of;
 use std::fs::{DirBuilder, Permissions};
 use std::io::ErrorKind;
@@ -13,13 +14,47 @@ use std::{fs, io};
 pub struct Socket {
     listener: UnixListener,
     identity: Identity,
+    /// The client that was seen to wait while another one was served.
+    waiting: Option<UnixStream>,
+    /// Whether a client was seen to wait.
+    has_seen: bool,
 }
 
 impl Socket {
     /// Takes the next connection.
-    pub fn accept(&self) -> io::Result<UnixStream> {
-        let (stream, _) = self.listener.accept()?;
-        Ok(stream)
+    pub fn accept(&mut self) -> io::Result<UnixStream> {
+        match self.waiting.take() {
+            Some(stream) => Ok(stream),
+            None => {
+                let (stream, _) = self.listener.accept()?;
+                Ok(stream)
+            }
+        }
+    }
+
+    /// The reader of a connection, which looks for a client that waits meanwhile.
+    pub fn attend<'a>(&'a mut self, rt: &'a HostRuntime, stream: &'a UnixStream) -> Attended<'a> {
+        Attended::new(rt, stream, self)
+    }
+
+    /// Whether a client was seen to wait.
+    pub(crate) fn has_seen(&self) -> bool {
+        self.has_seen
+    }
+
+    /// Whether a client waits now. It is the next one to be served.
+    pub(crate) fn sees_client(&mut self) -> bool {
+        if self.listener.set_nonblocking(true).is_err() {
+            return false;
+        }
+        let accepted = self.listener.accept();
+        let _ = self.listener.set_nonblocking(false);
+        let Ok((stream, _)) = accepted else {
+            return false;
+        };
+        self.waiting = Some(stream);
+        self.has_seen = true;
+        true
     }
 
     /// Removes the socket's file from this path. A file that has taken its place there stays.
@@ -33,7 +68,7 @@ impl Socket {
     }
 }
 
-/// The identity of a file, which tells it from all others: its device and its inode.
+/// The identity of a file, which distinguishes it from all others: its device and its inode.
 #[derive(Clone, Copy, PartialEq, Eq)]
 struct Identity {
     device: u64,
@@ -52,10 +87,10 @@ fn identity_at(rt: &HostRuntime, path: &str) -> io::Result<Identity> {
 /// A socket at this path, which only its owner may use, from the moment it is there. A socket that
 /// is there already and at which nobody answers is replaced.
 pub fn bind(rt: &HostRuntime, path: &str) -> Result<Socket, DeviceFault> {
-    DeviceFault::Socket.unless(bind_aside(rt, path))
+    DeviceFault::Socket(Subject::Socket.alone()).unless(bind_aside(rt, path))
 }
 
-/// Binds a socket in a folder beside the path that nobody else may enter, and puts it at the path
+/// Binds a socket in a folder next to the path that nobody else may enter, and puts it at the path
 /// when it is ready.
 fn bind_aside(rt: &HostRuntime, path: &str) -> io::Result<Socket> {
     SocketAddr::from_pathname(path)?;
@@ -78,7 +113,7 @@ struct Aside {
 /// The permissions of the folder, which its owner alone may enter.
 const FOLDER_MODE: u32 = 0o700;
 
-/// How many names are tried for a folder beside the socket.
+/// How many names are tried for a folder next to the socket.
 const FOLDERS: u8 = 100;
 
 impl Aside {
@@ -120,7 +155,12 @@ fn bind_in_folder(rt: &HostRuntime, aside: &Aside, path: &str, folder: &str) -> 
         }
         linked => linked?,
     }
-    Ok(Socket { listener, identity })
+    Ok(Socket {
+        listener,
+        identity,
+        waiting: None,
+        has_seen: false,
+    })
 }
 
 /// Puts a socket in the place of one that was left. The folder is locked meanwhile, so that of two

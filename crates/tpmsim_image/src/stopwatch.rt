@@ -1,4 +1,4 @@
-//! The elapsed time of each command, of which no millisecond is told twice.
+//! The elapsed time of each command. No millisecond counts twice.
 
 ghost use Rattle.std.specs.Prelude.{◌≡◌, None};
 ghost use Rattle.std.specs.Time.{instant_nanos};
@@ -7,8 +7,8 @@ ghost use Rattle.tpmsim_image.specs.Stopwatch.{after_command, told};
 use std::marker::Model;
 use std::time::Instant;
 
-/// A stopwatch, which knows how much time commands were told. Contracts see when the first command
-/// came, and how many of the milliseconds since then were told or dropped.
+/// A stopwatch, which knows how much time commands got. Contracts see when the first command came,
+/// and how many of the milliseconds since then were passed to commands or dropped.
 #[derive(Drop)]
 pub struct Stopwatch {
     first: Option<Instant>,
@@ -36,9 +36,9 @@ impl Stopwatch {
         }
     }
 
-    /// The milliseconds that a command is told which comes now: 0 for the first command, and for
-    /// each later one those since the first that no command was told, 2^32 - 1 at most. The others
-    /// are dropped.
+    /// The elapsed milliseconds of a command that comes now: 0 for the first command, and for each
+    /// later one those since the first that no command got, 2^32 - 1 at most. The others are
+    /// dropped.
     pub fn tell(&mut self, now: Instant) -> u32
         ensures value { result ≡ told (instant_nanos now) self.old }
         ensures after { self.new ≡ after_command (instant_nanos now) self.old }

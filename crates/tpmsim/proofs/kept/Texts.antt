@@ -1,9 +1,9 @@
 -- The text of a command, or of a seed, is read as that one.
-use Rattle.std.proofs.Common.{◌≡◌, ◌≤◌, ◌<◌, ◌^◌, ℕ, suc, zero, false, List, [], ◌∷◌, ◌++◌, length, Result, Ok, refl, subst, ap, ◌∙◌, arith, le-leb, append-nil}
+use Rattle.std.proofs.Common.{◌≡◌, ◌≤◌, ◌<◌, ◌^◌, ℕ, suc, zero, Bool, true, false, List, [], ◌∷◌, ◌++◌, length, Result, Ok, refl, subst, ap, ◌∙◌, arith, le-leb, append-nil}
 use Rattle.std.specs.Int.{w8, w16, w32, w64, to_be_bytes}
 use Rattle.tpm_bytes.specs.Reading.{AreBytes, number_at, or_fault}
 use Rattle.tpm_bytes.proofs.Fields.{bytes_again, number_or_again, number_takes, wide16, wide32, wide8}
-use Rattle.tpm_image_text.specs.Fields.{bytes_in, malformed, number_in, passing}
+use Rattle.tpm_image_text.specs.Fields.{bytes_in, malformed, number_in, passing, yes_no_in, yes_no_number}
 use Rattle.tpm_image_text.proofs.FieldSpelling.{wide64, yes_no_spelled}
 use Rattle.tpm_journal_text.proofs.Bytes.{all_small}
 use Rattle.tpm_kept_journal.specs.Command.{After, At, Begins, Cycles, Executes, KeptCommand, Moment, command_in, command_of, cycled_in, executed_after_in, executed_at_in, executed_in, is_locality}
@@ -62,32 +62,42 @@ read_by text c are is = rw ((are_bytes-Decides text).1 are) is
 
 -- ---- commands of the standard
 
-module _ (locality : ℕ) (random buffer : List ℕ) (few : locality ≤ 4) (many : length random ≡ 256) (are : AreBytes random) (others : AreBytes buffer) where
-  given_bytes : AreBytes (given_text locality random buffer)
-  given_bytes =
-      byte_before locality (0 ∷ (random ++ buffer)) (omega (arith, few))
-      (byte_before 0 (random ++ buffer) (omega arith) (joined random buffer are others))
+-- the byte that says whether the completing layer is on
+layer_small : (completes : Bool) → yes_no_number completes < 256
+layer_small true = omega arith
+layer_small false = omega arith
 
-  given_read : (moment : Moment) → executed_in moment (given_text locality random buffer) ≡ Ok (Executes moment locality false random buffer)
+layer_read : (completes : Bool) (rest : List ℕ) → yes_no_in (yes_no_number completes ∷ rest) ≡ Ok (completes, rest)
+layer_read true rest = yes_no_spelled.again true rest tt
+layer_read false rest = yes_no_spelled.again false rest tt
+
+module _ (locality : ℕ) (completes : Bool) (random buffer : List ℕ) (few : locality ≤ 4) (many : length random ≡ 256) (are : AreBytes random) (others : AreBytes buffer) where
+  given_bytes : AreBytes (given_text locality completes random buffer)
+  given_bytes =
+      byte_before locality (yes_no_number completes ∷ (random ++ buffer)) (omega (arith, few))
+      (byte_before (yes_no_number completes) (random ++ buffer) (layer_small completes) (joined random buffer are others))
+
+  given_read : (moment : Moment) → executed_in moment (given_text locality completes random buffer) ≡ Ok (Executes moment locality completes random buffer)
   unfolding executed_in
   given_read moment =
-      rw (locality_read locality (0 ∷ (random ++ buffer)) few, yes_no_spelled.again false (random ++ buffer) tt, bytes_read random buffer many) refl
+      rw (locality_read locality (yes_no_number completes ∷ (random ++ buffer)) few, layer_read completes (random ++ buffer), bytes_read random buffer many) refl
 
-  pub at_read : (now : ℕ) → now < 2 ^ 64 → command_of (text_at now locality random buffer) ≡ Ok (Executes (At now) locality false random buffer)
+  pub at_read : (now : ℕ) → now < 2 ^ 64 → command_of (text_at now locality completes random buffer) ≡ Ok (Executes (At now) locality completes random buffer)
   unfolding command_in executed_at_in
   at_read now small =
-      read_by (text_at now locality random buffer) (Executes (At now) locality false random buffer)
-      (byte_before 0 (to_be_bytes w64 now ++ given_text locality random buffer) (omega arith) (joined (to_be_bytes w64 now) (given_text locality random buffer) (number_bytes now) given_bytes))
-      (rw (byte_read 0 (to_be_bytes w64 now ++ given_text locality random buffer) (omega arith), long_read now (given_text locality random buffer) small) (given_read (At now)))
+      read_by (text_at now locality completes random buffer) (Executes (At now) locality completes random buffer)
+      (byte_before 0 (to_be_bytes w64 now ++ given_text locality completes random buffer) (omega arith) (joined (to_be_bytes w64 now) (given_text locality completes random buffer) (number_bytes now) given_bytes))
+      (rw (byte_read 0 (to_be_bytes w64 now ++ given_text locality completes random buffer) (omega arith), long_read now (given_text locality completes random buffer) small) (given_read (At now)))
 
+module _ (locality : ℕ) (random buffer : List ℕ) (few : locality ≤ 4) (many : length random ≡ 256) (are : AreBytes random) (others : AreBytes buffer) where
   pub after_read : (elapsed : ℕ) → elapsed < 2 ^ 32 → command_of (text_after elapsed locality random buffer) ≡ Ok (Executes (After elapsed) locality false random buffer)
   unfolding command_in executed_after_in
   after_read elapsed small =
       read_by (text_after elapsed locality random buffer) (Executes (After elapsed) locality false random buffer)
-      (byte_before 3 (to_be_bytes w32 elapsed ++ given_text locality random buffer) (omega arith) (joined (to_be_bytes w32 elapsed) (given_text locality random buffer) (short_bytes elapsed) given_bytes))
-      (rw (byte_read 3 (to_be_bytes w32 elapsed ++ given_text locality random buffer) (omega arith), short_read elapsed (given_text locality random buffer) small) (given_read (After elapsed)))
+      (byte_before 3 (to_be_bytes w32 elapsed ++ given_text locality false random buffer) (omega arith) (joined (to_be_bytes w32 elapsed) (given_text locality false random buffer) (short_bytes elapsed) (given_bytes locality false random buffer few many are others)))
+      (rw (byte_read 3 (to_be_bytes w32 elapsed ++ given_text locality false random buffer) (omega arith), short_read elapsed (given_text locality false random buffer) small) (given_read locality false random buffer few many are others (After elapsed)))
 
--- ---- a power cycle, and a beginning anew
+-- ---- a power cycle, and a new beginning
 
 cycled_read : (now start : ℕ) (text : List ℕ) → now < 2 ^ 64 → number_in w64 text ≡ Ok (start, [])
     → command_in (1 ∷ (to_be_bytes w64 now ++ text)) ≡ Ok (Cycles now start)

@@ -1,20 +1,23 @@
 -- The texts of commands to a kept device, and of what one begins with.
-use Rattle.std.specs.Prelude.{ℕ, List, ◌++◌, ◌∷◌}
+use Rattle.std.specs.Prelude.{ℕ, Bool, false, List, ◌++◌, ◌∷◌}
 use Rattle.std.specs.Int.{w32, w64, to_be_bytes}
+use Rattle.tpm_image_text.specs.Fields.{yes_no_number}
 
--- what a command of the standard has after its moment, without the completing layer: its locality,
--- 256 random bytes and its buffer
-abbrev pub given_text : (locality : ℕ) → (random buffer : List ℕ) → List ℕ
-given_text locality random buffer = locality ∷ 0 ∷ (random ++ buffer)
+-- what a command of the standard has after its moment: its locality, whether the completing layer
+-- is on, 256 random bytes and its buffer
+abbrev pub given_text : (locality : ℕ) → (completes : Bool) → (random buffer : List ℕ) → List ℕ
+given_text locality completes random buffer =
+    locality ∷ yes_no_number completes ∷ (random ++ buffer)
 
--- the text of a command of the standard at a time of the clock, or so long after the one before it
-abbrev pub text_at : (now locality : ℕ) → (random buffer : List ℕ) → List ℕ
-text_at now locality random buffer =
-    0 ∷ (to_be_bytes w64 now ++ given_text locality random buffer)
+-- the text of a command of the standard at a time of the clock
+abbrev pub text_at : (now locality : ℕ) → (completes : Bool) → (random buffer : List ℕ) → List ℕ
+text_at now locality completes random buffer =
+    0 ∷ (to_be_bytes w64 now ++ given_text locality completes random buffer)
 
+-- the text of one that comes so long after the one before it, without the completing layer
 abbrev pub text_after : (elapsed locality : ℕ) → (random buffer : List ℕ) → List ℕ
 text_after elapsed locality random buffer =
-    3 ∷ (to_be_bytes w32 elapsed ++ given_text locality random buffer)
+    3 ∷ (to_be_bytes w32 elapsed ++ given_text locality false random buffer)
 
 -- the text of a power cycle
 abbrev pub cycle_text : (now start : ℕ) → List ℕ

@@ -1,6 +1,7 @@
 //! The texts of commands to a kept device, and of what one begins with.
 
 ghost use Rattle.std.specs.Prelude.{◌≡◌, ◌++◌, ◌∷◌, IfOk, Ok, OnOk, false};
+ghost use Rattle.tpm_image_text.specs.Fields.{yes_no_number};
 ghost use Rattle.tpm_kept_journal.specs.Command.{After, At, Begins, Cycles, Executes, command_of};
 ghost use Rattle.tpm_kept_journal.specs.Seed.{seed_in};
 ghost use Rattle.tpm_types.specs.Locality.{locality_number};
@@ -9,28 +10,31 @@ ghost use Rattle.tpmsim.specs.kept.Texts.{cycle_text, given_text, seed_text, tex
 use std::alloc::{AllocError, Global};
 use tpm_types::Locality;
 
-/// A command of the standard at this time of the host's clock, in milliseconds.
+/// A command of the standard at this time of the host's clock, in milliseconds, with the completing
+/// layer or without it.
 #[tactic(auto, using(crate::proofs::kept::Texts::at_read))]
 pub fn command_at(
     alloc: Global,
     now_ms: u64,
     locality: Locality,
+    completes: bool,
     random: &[u8; 256],
     buffer: &[u8],
 ) -> Result<Vec<u8>, AllocError>
     ensures text { IfOk result (λ text. text.items
-        ≡ text_at now_ms (locality_number locality) random.now buffer.now) }
+        ≡ text_at now_ms (locality_number locality) completes random.now buffer.now) }
     ensures read { IfOk result (λ text. command_of text.items
-        ≡ Ok (Executes (At now_ms) (locality_number locality) false random.now buffer.now)) }
+        ≡ Ok (Executes (At now_ms) (locality_number locality) completes random.now buffer.now)) }
 {
     let mut text = Vec::new(alloc);
     text.push(0)?;
     text.extend_from_slice(&now_ms.to_be_bytes())?;
-    put_given(&mut text, locality, random, buffer)?;
+    put_given(&mut text, locality, completes, random, buffer)?;
     Ok(text)
 }
 
-/// A command of the standard so many milliseconds after the one before it.
+/// A command of the standard so many milliseconds after the one before it. The completing layer is
+/// off.
 #[tactic(auto, using(crate::proofs::kept::Texts::after_read))]
 pub fn command_after(
     alloc: Global,
@@ -47,23 +51,31 @@ pub fn command_after(
     let mut text = Vec::new(alloc);
     text.push(3)?;
     text.extend_from_slice(&elapsed_ms.to_be_bytes())?;
-    put_given(&mut text, locality, random, buffer)?;
+    put_given(&mut text, locality, false, random, buffer)?;
     Ok(text)
 }
 
-/// Appends what each command of the standard has after its moment. The completing layer is off.
+/// Appends what each command of the standard has after its moment.
 fn put_given(
     text: &mut Vec<u8>,
     locality: Locality,
+    completes: bool,
     random: &[u8; 256],
     buffer: &[u8],
 ) -> Result<(), AllocError>
     ensures { OnOk result (text.new.items
-        ≡ text.old.items ++ given_text (locality_number locality) random.now buffer.now) }
+        ≡ text.old.items ++ given_text (locality_number locality) completes random.now buffer.now) }
 {
-    text.extend_from_slice(&[locality.number(), 0])?;
+    text.extend_from_slice(&[locality.number(), layer_byte(completes)])?;
     text.extend_from_slice(random)?;
     text.extend_from_slice(buffer)
+}
+
+/// The byte that says whether the completing layer is on.
+fn layer_byte(completes: bool) -> u8
+    ensures { result ≡ yes_no_number completes }
+{
+    if completes { 1 } else { 0 }
 }
 
 /// A power cycle at this time, with this number for the start of the completing layer.

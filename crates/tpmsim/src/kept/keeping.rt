@@ -37,16 +37,17 @@ pub struct Kept<'a> {
 
 impl<'a> Kept<'a> {
     /// Opens the folder of a device, or makes it if it is missing and `makes` is true. Nothing of
-    /// the device is read yet.
+    /// the device is read yet. `past` finished journals stay in the folder.
     pub fn at(
         rt: &'a HostRuntime,
         path: &str,
         makes: bool,
         force: Force,
+        past: u32,
     ) -> Result<Kept<'a>, KeptFault> {
         Ok(Kept {
             rt,
-            host: Host::at(rt, path, makes)?,
+            host: Host::at(rt, path, makes, past)?,
             keeper: Keeper::new(rt.alloc(), force, JOURNAL_LIMIT),
             journal: Vec::new(rt.alloc()),
             tail: Tail::none(),
@@ -71,15 +72,18 @@ impl<'a> Kept<'a> {
         self.perform(Job::Show, &[])
     }
 
-    /// Executes a command of the standard by the host's clock.
+    /// Executes a command of the standard by the host's clock, with the completing layer or without
+    /// it.
     pub fn execute_now(
         &mut self,
         locality: Locality,
+        completes: bool,
         random: &[u8; 256],
         buffer: &[u8],
     ) -> Result<Answer<'_>, KeptFault> {
         let now_ms = clock_of(self.rt)?;
-        let command = command_at(self.rt.alloc(), now_ms, locality, random, buffer)?;
+        let alloc = self.rt.alloc();
+        let command = command_at(alloc, now_ms, locality, completes, random, buffer)?;
         self.execute(&command)
     }
 
@@ -184,7 +188,6 @@ impl<'a> Kept<'a> {
         match (end, fault) {
             (End::Done, _) => Ok(()),
             (End::Failed(_), Some(fault)) => Err(fault),
-            (End::Failed(Fault::Absent), None) => Err(Place::Journal.that(Said::IsGone)),
             (End::Failed(Fault::Damaged), None) => Err(Place::Journal.that(self.damage())),
             (End::Failed(fault), None) => Err(Place::Journal.that(Said::Keeper(fault))),
         }

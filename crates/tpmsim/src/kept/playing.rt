@@ -30,7 +30,7 @@ struct Player {
 }
 
 /// Plays a script on a kept device, and writes its responses, each after the trace of its event
-/// where traces are asked for. The lines before a fault were played.
+/// if traces are asked for. The lines before a fault were played.
 pub fn play<R: Read, W: Write>(
     alloc: Global,
     kept: &mut Kept<'_>,
@@ -74,7 +74,7 @@ impl Player {
         Ok(())
     }
 
-    /// Goes to the next line, which has this number, and tells whether there is one. The output is
+    /// Goes to the next line, which has this number, and says whether there is one. The output is
     /// written before more of the script is read.
     fn next_line<R: Read, W: Write>(
         &mut self,
@@ -145,7 +145,7 @@ impl Player {
         }
     }
 
-    /// Prints the trace of a command with its answer, where traces are asked for.
+    /// Prints the trace of a command with its answer, if traces are asked for.
     fn trace<W: Write>(
         &mut self,
         event: &Event,
@@ -161,7 +161,7 @@ impl Player {
         self.put_text(writer, text.as_str().as_bytes())
     }
 
-    /// Cycles the device's power, and prints the trace of that where traces are asked for.
+    /// Cycles the device's power, and prints the trace of that if traces are asked for.
     fn cycle_power<W: Write>(
         &mut self,
         kept: &mut Kept<'_>,

@@ -23,17 +23,26 @@ pub enum ServeFault {
     Kept(KeptFault),
 }
 
+/// On which terms the commands of all connections are executed.
+#[derive(Clone, Copy)]
+pub struct Terms {
+    /// The locality that each command comes from.
+    pub locality: Locality,
+    /// Whether the completing layer answers what the device lacks.
+    pub completes: bool,
+}
+
 /// The source of each command's random bytes.
 pub trait RandomBytes {
-    /// The next 256 random bytes; None where there are no more.
+    /// The next 256 random bytes; None if there are no more.
     fn next(&mut self) -> Option<[u8; 256]>;
 }
 
-/// Serves a connection: executes the buffers that it gives, each by the host's clock, from this
-/// locality and with its own random bytes, and writes their responses.
+/// Serves a connection: executes the buffers that it gives, each by the host's clock, on these terms
+/// and with its own random bytes, and writes their responses.
 pub fn serve<R: Read, W: Write, B: RandomBytes>(
     kept: &mut Kept<'_>,
-    locality: Locality,
+    terms: Terms,
     random: &mut B,
     reader: &mut Tap<R>,
     writer: &mut Tap<W>,
@@ -44,7 +53,7 @@ pub fn serve<R: Read, W: Write, B: RandomBytes>(
         match fill(reader, &mut connection, &mut piece) {
             Ok(0) => return Ok(()),
             Ok(_) => {
-                answer_whole(kept, locality, random, &mut connection, writer)?;
+                answer_whole(kept, terms, random, &mut connection, writer)?;
             }
             Err(_) => return Err(ServeFault::Client),
         }
@@ -59,7 +68,7 @@ pub fn serve<R: Read, W: Write, B: RandomBytes>(
 /// responses.
 fn answer_whole<W: Write, B: RandomBytes>(
     kept: &mut Kept<'_>,
-    locality: Locality,
+    terms: Terms,
     random: &mut B,
     connection: &mut Connection,
     writer: &mut Tap<W>,
@@ -72,7 +81,7 @@ fn answer_whole<W: Write, B: RandomBytes>(
             return Err(ServeFault::Random);
         };
         let (buffer, _) = connection.bytes().split_at(front.size);
-        let answer = match kept.execute_now(locality, &bytes, buffer) {
+        let answer = match kept.execute_now(terms.locality, terms.completes, &bytes, buffer) {
             Ok(answer) => answer,
             Err(fault) => return Err(ServeFault::Kept(fault)),
         };

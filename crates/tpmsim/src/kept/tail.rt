@@ -4,9 +4,9 @@
 /// damage.
 #[derive(Clone, Copy, PartialEq, Eq)]
 pub struct Tail {
-    /// How many bytes come before it.
+    /// The size of what comes before it, in bytes.
     pub place: u64,
-    /// How many bytes it has.
+    /// Its size, in bytes.
     pub size: u64,
     pub is_damaged: bool,
 }

@@ -48,7 +48,7 @@ pub record AddsAll (old : Written) (executions : List Execution) (new : Written)
   pub text : Appends old.text new.text (entries_text old.sum entries)
   pub sum : new.sum ≡ sum_after_all old.sum entries
 
--- A log that was told executions one after another has the text of exactly these, in order.
+-- A log that got executions one after another has the text of exactly these, in order.
 abbrev pub LogsTellAll : Type 0
 LogsTellAll = (old : Written) (executions : List Execution) (new : Written)
     → FoldsTo Adds old executions new → AddsAll old executions new

@@ -2,7 +2,7 @@
 
 ghost use Rattle.tpmsim_image.specs.log.Log.{LogsTellAll};
 
-/// A log has the text of exactly the executions that it was told, in their order. The function does
+/// A log has the text of exactly the executions that it got, in their order. The function does
 /// nothing.
 #[inline(always)]
 #[tactic(auto, using(crate::proofs::log::Telling::tells_all))]

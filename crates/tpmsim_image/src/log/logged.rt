@@ -1,4 +1,4 @@
-//! A witness that keeps a log, if there is one, and then tells another witness.
+//! A witness that keeps a log, if there is one, and then notifies another witness.
 
 ghost use Rattle.std.specs.Prelude.{◌≡◌, OnErr, OnOk, true};
 ghost use Rattle.tpm_machine.specs.Executions.{Execution};
@@ -13,7 +13,7 @@ use tpm_machine::{Machine, Unsaved, Witness};
 use tpm_record::Keep;
 use tpm_step::{Event, Outcome};
 
-/// A log, if there is one, and another witness, which is told each command once it is in the log.
+/// A log, if there is one, and another witness, which gets each command once it is in the log.
 #[derive(Drop)]
 pub struct Logged<W, S> {
     pub log: Option<Log<W>>,

@@ -1,4 +1,4 @@
-use Rattle.tpmsim_arguments.proofs.Lines.{code_is_named, damage_is_cut, digits_are_spelled, form_is_told, forms_are_told, joined_is_served, journal_is_replayed, line_is_assembled, logging_is_served, power_is_cycled, saving_is_served, script_is_checked, script_is_retold, state_is_played, state_is_restored, state_is_served, state_is_told}
+use Rattle.tpmsim_arguments.proofs.Lines.{code_is_named, damage_is_cut, digits_are_spelled, folder_is_completed, folder_is_served, form_is_told, forms_are_told, image_is_not_completed, joined_is_served, journal_is_replayed, journals_are_kept, line_is_assembled, logging_is_served, power_is_cycled, saving_is_served, script_is_checked, script_is_retold, state_is_played, state_is_restored, state_is_served, state_is_told}
 use Rattle.tpmsim_arguments.proofs.Running.{device_is_kept, script_is_run, script_is_traced}
 use Rattle.tpmsim_arguments.proofs.Settings.{device_is_served}
 use Rattle.tpmsim_arguments.proofs.laws.usual_line_laws.Goals as goal
@@ -15,6 +15,7 @@ returns c = record {
   check = script_is_checked;
   power = power_is_cycled;
   cut = damage_is_cut;
+  keeping = journals_are_kept;
   snapshot = state_is_told;
   restore = state_is_restored;
   script = script_is_retold;
@@ -26,4 +27,7 @@ returns c = record {
   saving = saving_is_served;
   logging = logging_is_served;
   state = state_is_served;
+  short = folder_is_served;
+  complete = folder_is_completed;
+  incomplete = image_is_not_completed;
 }

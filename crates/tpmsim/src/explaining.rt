@@ -1,0 +1,170 @@
+//! What the program says about a fault if the environment asks for it: the path that the fault
+//! concerns, and the system's reason. The line of the fault itself stays as it is.
+
+use crate::fault::Fault;
+use std::{env, io};
+use tpmsim_arguments::{Arguments, Place};
+use tpmsim_image::{Cause, Subject};
+
+/// The variable of the environment that asks for a second line, if it is 1.
+const VARIABLE: &str = "TPMSIM_VERBOSE";
+
+/// A path, in two pieces.
+#[derive(Clone, Copy)]
+struct Path<'a> {
+    front: &'a str,
+    back: &'static str,
+}
+
+/// Prints the path that a fault concerns, and the system's reason, if the environment asks for it.
+pub(crate) fn explain(rt: &HostRuntime, arguments: &Arguments<'_>, fault: Fault) {
+    if !is_asked(rt) {
+        return;
+    }
+    if let Fault::Kept(fault) = fault {
+        if let Some(front) = folder_of(arguments) {
+            let back = fault.place.file();
+            print(rt, Path { front, back }, fault.error);
+        }
+        return;
+    }
+    if let Some(cause) = cause_of(fault) {
+        if let Some(path) = path_of(arguments, cause.subject) {
+            print(rt, path, cause.error);
+        }
+    }
+}
+
+/// Whether the environment asks for a second line.
+fn is_asked(rt: &HostRuntime) -> bool {
+    match env::var(rt, VARIABLE) {
+        Ok(value) => value.as_str() == "1",
+        Err(_) => false,
+    }
+}
+
+/// Prints a path, and what the system says of an error of this number.
+fn print(rt: &HostRuntime, path: Path<'_>, error: Option<i32>) {
+    let Path { front, back } = path;
+    let _ = match error {
+        Some(number) => {
+            let reason = io::Error::from_raw_os_error(number);
+            eprintln!(rt; "tpmsim: {front}{back}: {reason}")
+        }
+        None => eprintln!(rt; "tpmsim: {front}{back}"),
+    };
+}
+
+/// The cause of a fault, if the fault concerns a file or a stream.
+fn cause_of(fault: Fault) -> Option<Cause> {
+    match fault {
+        Fault::File(cause) | Fault::Socket(cause) | Fault::Entropy(cause) => Some(cause),
+        Fault::ScriptLine(_) => Some(Subject::Script.alone()),
+        Fault::Image(_) => Some(Subject::Image.alone()),
+        Fault::State(_) => Some(Subject::StateText.alone()),
+        Fault::Journal(_) => Some(Subject::Journal.alone()),
+        _ => None,
+    }
+}
+
+/// The path of what a fault concerns, by the words of the command line.
+fn path_of<'a>(arguments: &Arguments<'a>, subject: Subject) -> Option<Path<'a>> {
+    let back = match subject {
+        Subject::NewImage => ".new",
+        Subject::ImageLock => ".lock",
+        _ => "",
+    };
+    let front = front_of(arguments, subject)?;
+    Some(Path { front, back })
+}
+
+/// The path of what a fault concerns, without the end that the program adds.
+fn front_of<'a>(arguments: &Arguments<'a>, subject: Subject) -> Option<&'a str> {
+    match subject {
+        Subject::Image | Subject::NewImage | Subject::ImageLock => image_of(arguments),
+        Subject::Log | Subject::Socket => socket_or_log(arguments, subject),
+        Subject::Entropy => entropy_of(arguments),
+        Subject::Script => script_of(arguments),
+        Subject::StateText | Subject::Journal => operand_of(arguments),
+        Subject::Output => Some("standard output"),
+    }
+}
+
+/// The place of the device of a run or of a service.
+fn place_of<'a>(arguments: &Arguments<'a>) -> Option<Place<'a>> {
+    match arguments {
+        Arguments::Serve(service) => Some(service.place),
+        Arguments::Run {
+            storage: Some(storage),
+            ..
+        } => Some(storage.place),
+        _ => None,
+    }
+}
+
+fn image_of<'a>(arguments: &Arguments<'a>) -> Option<&'a str> {
+    match place_of(arguments)? {
+        Place::Image(image) => Some(image),
+        Place::State { .. } => None,
+    }
+}
+
+/// The folder of the device's state.
+fn folder_of<'a>(arguments: &Arguments<'a>) -> Option<&'a str> {
+    match arguments {
+        Arguments::Power { state, .. }
+        | Arguments::Snapshot { state }
+        | Arguments::Restore { state, .. }
+        | Arguments::Retell { state } => Some(*state),
+        _ => match place_of(arguments)? {
+            Place::State { folder, .. } => Some(folder),
+            Place::Image(_) => None,
+        },
+    }
+}
+
+fn socket_or_log<'a>(arguments: &Arguments<'a>, subject: Subject) -> Option<&'a str> {
+    let Arguments::Serve(service) = arguments else {
+        return None;
+    };
+    match subject {
+        Subject::Socket => Some(service.socket),
+        _ => service.log,
+    }
+}
+
+fn entropy_of<'a>(arguments: &Arguments<'a>) -> Option<&'a str> {
+    match arguments {
+        Arguments::Serve(service) => Some(service.entropy),
+        Arguments::Run {
+            storage: Some(storage),
+            ..
+        } => storage.entropy,
+        _ => None,
+    }
+}
+
+fn script_of<'a>(arguments: &Arguments<'a>) -> Option<&'a str> {
+    match arguments {
+        Arguments::Run { script, .. } | Arguments::Check { script } => Some(named(*script)),
+        _ => None,
+    }
+}
+
+/// The name of a script's file.
+fn named<'a>(script: &'a str) -> &'a str {
+    if script == "-" {
+        "standard input"
+    } else {
+        script
+    }
+}
+
+/// The file that is read by `restore` or `replay`.
+fn operand_of<'a>(arguments: &Arguments<'a>) -> Option<&'a str> {
+    match arguments {
+        Arguments::Restore { text, .. } => Some(*text),
+        Arguments::Replay { journal } => Some(*journal),
+        _ => None,
+    }
+}

@@ -1,0 +1,58 @@
+//! The reader of a connection. Connections are served one at a time, so a second client has to wait.
+//! The first time that one waits, the program says so.
+
+use crate::socket::Socket;
+use std::io;
+use std::io::{ErrorKind, Read};
+use std::os::unix::net::UnixStream;
+use std::time::Duration;
+
+/// A client that has sent nothing for so many seconds may keep another one waiting.
+const SILENCE_SECONDS: u64 = 3;
+
+/// The reader of a connection. While its client sends nothing, it looks for another client.
+#[derive(Drop)]
+pub struct Attended<'a> {
+    rt: &'a HostRuntime,
+    stream: &'a UnixStream,
+    socket: &'a mut Socket,
+}
+
+impl<'a> Attended<'a> {
+    /// The reader of a connection to this socket. Once a client was seen to wait, it looks for none.
+    pub(crate) fn new(
+        rt: &'a HostRuntime,
+        stream: &'a UnixStream,
+        socket: &'a mut Socket,
+    ) -> Attended<'a> {
+        if !socket.has_seen() {
+            let silence = Duration::from_secs(SILENCE_SECONDS);
+            let _ = stream.set_read_timeout(Some(silence));
+        }
+        Attended { rt, stream, socket }
+    }
+
+    /// Looks for a client that waits, and reports it. After that, reads wait without end.
+    fn look(&mut self) {
+        if self.socket.has_seen() || !self.socket.sees_client() {
+            return;
+        }
+        let _ = self.stream.set_read_timeout(None);
+        let _ = eprintln!(self.rt;
+            "tpmsim: another client waits: the program serves one connection at a time"
+        );
+    }
+}
+
+impl Read for Attended<'_> {
+    fn read(&mut self, buffer: &mut [u8]) -> io::Result<usize> {
+        let mut stream = self.stream;
+        for _ in 0..u64::MAX {
+            match stream.read(buffer) {
+                Err(error) if error.kind() == ErrorKind::WouldBlock => self.look(),
+                read => return read,
+            }
+        }
+        Err(io::Error::from(ErrorKind::TimedOut))
+    }
+}
