@@ -1,0 +1,32 @@
+"""Three clients of `tpmsim serve`, two of which wait while another one sends nothing:
+
+    python3 waiting.py SOCKET ERRORS HEX
+
+The first client sends the command, and keeps its connection for as long as nothing is in the file
+ERRORS. Meanwhile a second client and a third one wait. It prints each response.
+"""
+
+import pathlib
+import sys
+import time
+
+from tests.common.client import SECONDS, answer, connected
+
+
+def main():
+    path, errors, text = sys.argv[1:]
+    clients = [connected(path) for _ in range(3)]
+    for client in clients:
+        client.sendall(bytes.fromhex(text))
+    for number, client in enumerate(clients, 1):
+        print(number, answer(client).hex())
+        until = time.monotonic() + SECONDS
+        while not pathlib.Path(errors).stat().st_size and time.monotonic() < until:
+            time.sleep(0.01)
+        if number == 2:
+            # Silence for longer than the program waits before it looks again.
+            time.sleep(4)
+        client.close()
+
+
+main()

@@ -1,0 +1,90 @@
+# `--keep N`: N finished journals stay in the folder of a device, as with the word keep=N of libtss2's module.
+tests=$(cd "$(dirname "$0")/.." && pwd -P)
+. "$tests/common/cases.sh"
+. "$tests/common/served.sh"
+
+# journals: the journals in the folder, each with the number of times that its device was asked.
+journals() {
+    for journal in state/journal*; do
+        printf ' %s=%s' "${journal#state/}" "$(grep -c '^cmd' "$journal")"
+    done
+    echo
+}
+
+# asks COUNT WORDS..: a script of so many commands on the device in the folder, with these words.
+asks() {
+    count=$1
+    shift
+    while [ "$count" -gt 0 ]; do
+        echo 'do GetRandom 4'
+        count=$((count - 1))
+    done | "$program" run --state state "$@" >answers || echo 'the run failed'
+}
+
+# Without the option no journal stays.
+asks 1
+"$program" power state
+journals
+
+# Three stay. The fourth power cycle drops the oldest one.
+for count in 1 2 3 4 5; do
+    asks "$count"
+    "$program" power --keep 3 state
+    journals
+done
+for number in 1 2 3; do
+    "$program" replay "state/journal.$number" | grep -c GetRandom
+done
+
+# A number that a killed process left free: what is after it stays.
+asks 6
+rm state/journal.2
+"$program" power state --keep=3
+journals
+
+# Fewer than there were: the last one is replaced, and the others stay.
+asks 7
+"$program" power --keep 1 state
+journals
+
+# The other commands that begin a new journal.
+asks 8 --keep 2
+echo power | "$program" run --state state --keep 2
+journals
+"$program" snapshot state >text
+asks 9
+"$program" restore --keep 2 state text
+journals
+timeout 60 "$program" serve --socket socket --state state --keep 2 --connections 1 2>&1 &
+talk 'a served device' 4096 "$(words 'GetRandom 4')"
+wait
+journals
+
+# A journal that was linked by a killed process is not linked again.
+ln -f state/journal state/journal.1
+asks 0
+"$program" power --keep 3 state
+journals
+
+# What is in the way: the journal stays, and the device goes on.
+asks 1
+rm -f state/journal.[23] && mkdir state/journal.2 && echo >state/journal.3
+run 'a folder in place of the second journal' power --keep 3 state
+rm -r state/journal.[123] && mkdir state/journal.1
+run 'a folder in place of the last journal' power --keep 3 state
+rmdir state/journal.1 && ln -s journal state/journal.1
+run 'a link in place of the last journal' power --keep 3 state
+rm state/journal.1
+journals
+run 'nothing in the way' power --keep 3 state
+journals
+
+# Numbers: 0 to 99, and only with a folder.
+run 'keep 99' power --keep 99 state
+run 'keep 100' power --keep 100 state
+run 'keep -1' power --keep -1 state
+run 'keep nothing' power --keep= state
+run 'keep with an image' run --image image --keep 1 -
+run 'keep without a place' run --keep 1 -
+run 'keep with a served image' serve --socket socket --image image --keep 1 --connections 0
+run 'keep of a snapshot' snapshot --keep 1 state

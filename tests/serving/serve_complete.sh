@@ -1,0 +1,42 @@
+# `serve --state DIR --complete`: the completing layer answers what the device in the folder lacks.
+tests=$(cd "$(dirname "$0")/.." && pwd -P)
+. "$tests/common/cases.sh"
+. "$tests/common/served.sh"
+
+startup=$(words 'Startup 0')
+# TPM2_GetTestResult, TPM2_StirRandom without bytes, and TPM2_GetCapability of the algorithms.
+result=80010000000a0000017c
+stir=80010000000c000001460000
+algorithms=8001000000160000017a000000000000000000000001
+
+# serve LABEL WORDS..: serves one connection of the device in the folder `state`.
+serve() {
+    label=$1
+    shift
+    rm -f "$room/output" "$room/error"
+    timeout 60 "$program" serve --socket socket --state state --connections 1 "$@" \
+        >"$room/output" 2>"$room/error" &
+    serving=$!
+    there
+    talk "$label" 4096 "$startup" "$result" "$stir" "$algorithms"
+    status=0
+    wait "$serving" || status=$?
+    report "$label" "$status"
+}
+
+serve 'without the layer'
+cp state/journal without
+"$program" power state || echo 'no power cycle'
+serve 'with the layer' --complete
+# Each command of the journal says whether the layer was on; --save-each changes nothing of that.
+"$program" power state || echo 'no power cycle'
+serve 'with the layer, and each response forced to the disk' --save-each --complete
+"$program" script state | grep -c '^# completed'
+"$program" replay state/journal | grep -v '[^0-9a-f]' >again
+sed 's/^/    /' again
+"$program" replay without | grep -v '[^0-9a-f]' | sed 's/^/    /'
+
+# An image has no place for the layer.
+run 'an image' serve --socket socket --image image --complete --connections 0
+run 'neither' serve --socket socket --complete --connections 0
+run 'a script' run --state state --complete -
