@@ -1,5 +1,6 @@
-/* Opens a device by the words of the module and uses it: `ask WORDS ACT..`. An act is a command in hex,
- * whose response is printed; `power`, a power cycle; or `locality N`. A fault is printed, and ends it. */
+/* Opens a device by the words of the module and uses it: `ask WORDS ACT..`. An act is one of
+ * these: a command in hex, whose response is printed; `power`, a power cycle; or `locality N`. A
+ * fault is printed, and ends the program. */
 #include "common.h"
 #include "words.h"
 

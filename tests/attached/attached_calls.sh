@@ -1,4 +1,4 @@
-# Each call of the system that a kept device makes fails in turn: attached/calls.c is the caller.
+# Makes each system call of a kept device fail in turn: attached/calls.c is the caller.
 tests=$(cd "$(dirname "$0")/.." && pwd -P)
 . "$tests/common/cases.sh"
 . "$tests/common/library.sh"

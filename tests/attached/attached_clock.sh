@@ -1,4 +1,4 @@
-# The host's clock goes on, stops, goes back and jumps: attached/clock.c is the caller.
+# The host's clock runs, stops, goes back and jumps: attached/clock.c is the caller.
 tests=$(cd "$(dirname "$0")/.." && pwd -P)
 . "$tests/common/cases.sh"
 . "$tests/common/library.sh"

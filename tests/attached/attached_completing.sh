@@ -1,5 +1,5 @@
-# The completing layer of a kept device: another process loads a context that one process saved, until
-# the power is cycled. A process that switches the layer off has only the device. attached/ask.c is the
+# The completing layer of a kept device. A context that one process saved is loaded by another process, until
+# the power is cycled. A process that switches the layer off uses only the device. attached/ask.c is the
 # caller.
 tests=$(cd "$(dirname "$0")/.." && pwd -P)
 . "$tests/common/cases.sh"

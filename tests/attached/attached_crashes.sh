@@ -1,5 +1,5 @@
-# A process that holds a device with force=always is killed before each call of the system, and then
-# the host crashes, with what was forced on its disk: attached/crashes.c is the caller.
+# Kills a process that holds a device with force=always before each system call. Then the host crashes, and
+# its disk has only what was synced. attached/crashes.c is the caller.
 tests=$(cd "$(dirname "$0")/.." && pwd -P)
 . "$tests/common/cases.sh"
 . "$tests/common/library.sh"

@@ -1,10 +1,10 @@
-# The sentences and the words of docs/ATTACHED.md are those of the sources.
+# Checks that the sentences and the words of docs/ATTACHED.md are those of the sources.
 tests=$(cd "$(dirname "$0")/.." && pwd -P)
 . "$tests/common/cases.sh"
 page=$tests/../docs/ATTACHED.md
 kept=$tests/../hosts/kept
 
-# quoted HEADING: prints what is quoted in the first cells of a heading's table, one a line.
+# quoted HEADING: prints the quotes in the first cells of the table under a heading, one on each line.
 # shellcheck disable=SC2016 # the quotes are backticks
 quoted() {
     awk -v heading="## $1" '
@@ -22,7 +22,7 @@ while read -r word; do
     grep -qF "${word%%=*}" "$kept/words.h" || echo "the module has no word $word"
 done <words
 echo "$(grep -c . sentences) sentences, $(grep -c . words) words"
-# Two sentences report what cannot happen, and are not on the page.
+# Two sentences report what cannot happen. They are not on the page.
 grep -oh '"\(is\|was\|has\|cannot\|holds\|needs\|wants\) [^"]*"' "$kept"/*.c | tr -d '"' |
     LC_ALL=C sort -u | while read -r sentence; do
         case $sentence in

@@ -1,12 +1,12 @@
-# What `hosts/build.sh tcti` makes: the same bytes each time, with two visible names; and its message if
-# something is missing.
+# Checks the files that `hosts/build.sh tcti` makes: they have the same bytes each time, with two visible
+# names. Also checks its message if something is missing.
 tests=$(cd "$(dirname "$0")/.." && pwd -P)
 . "$tests/common/cases.sh"
 . "$tests/common/library.sh"
 needs cc nm objdump tss2/tss2_tcti.h
 . "$tests/common/attached.sh"
 
-# make TOP FOLDER: makes everything in FOLDER, from the sources in TOP.
+# make TOP FOLDER: builds everything in FOLDER from the sources in TOP.
 make() {
     TPMSIM_ARCHIVE=$archive "$1/hosts/build.sh" tcti "$2" 2>&1 |
         sed -e "s,^[^:]*build.sh: ,," -e "s,$room,ROOM,g"

@@ -1,6 +1,6 @@
-# A kept device on a full disk: its journal stays as it was, and with free space again the device goes
-# on from there. attached/ask.c is the caller. The disk is mounted for this test alone, by root or by
-# a user who may be root in a namespace.
+# A kept device on a full disk. Its journal stays as it was. When there is space again, the device continues
+# from there. attached/ask.c is the caller. The disk is mounted only for this test, by root or by a user who
+# may be root in a namespace.
 if [ -z "${own_mounts:-}" ]; then
     for user in '' '--user --map-root-user'; do
         # shellcheck disable=SC2086 # it is two words, or none
@@ -21,7 +21,7 @@ attach ask ask
 
 startup=80010000000c000001440000
 get_random=80010000000c0000017b0000
-# TPM2_PCR_Event of PCR 16 with 1,024 bytes, whose record has more than 2,048.
+# TPM2_PCR_Event of PCR 16 with 1,024 bytes. Its record has more than 2,048 bytes.
 event=80020000041d0000013c00000010000000094000000900000000000400$(printf '%02048d' 0)
 
 # ask LABEL ACT..: uses the device on the disk.

@@ -1,5 +1,4 @@
-# Processes that hold a kept device are killed 300 times at random moments: attached/kills.c is the
-# caller.
+# Kills processes that hold a kept device, 300 times at random moments: attached/kills.c is the caller.
 tests=$(cd "$(dirname "$0")/.." && pwd -P)
 . "$tests/common/cases.sh"
 . "$tests/common/library.sh"

@@ -1,4 +1,4 @@
-# A full disk, and a process without descriptors: attached/limits.c is the caller.
+# A full disk, and a process without free file descriptors: attached/limits.c is the caller.
 tests=$(cd "$(dirname "$0")/.." && pwd -P)
 . "$tests/common/cases.sh"
 . "$tests/common/library.sh"

@@ -1,4 +1,4 @@
-# What a kept device makes belongs only to its user, whatever the umask. attached/ask.c is the caller.
+# The files of a kept device belong only to its user, whatever the umask. attached/ask.c is the caller.
 tests=$(cd "$(dirname "$0")/.." && pwd -P)
 . "$tests/common/cases.sh"
 . "$tests/common/library.sh"

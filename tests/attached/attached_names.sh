@@ -1,5 +1,5 @@
-# Which names are on the disk before a command is answered, after other processes were killed before
-# they forced them: attached/names.c is the caller.
+# Checks which names are on the disk before a command is answered. Other processes were killed before they
+# synced these names. attached/names.c is the caller.
 tests=$(cd "$(dirname "$0")/.." && pwd -P)
 . "$tests/common/cases.sh"
 . "$tests/common/library.sh"

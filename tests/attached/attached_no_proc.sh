@@ -1,5 +1,5 @@
-# A device is made and used without /proc, with any umask. attached/ask.c is the caller. /proc is
-# covered for this test alone, by root or by a user who may be root in a namespace.
+# Makes and uses a device without /proc, with any umask. attached/ask.c is the caller. /proc is covered only
+# for this test, by root or by a user who may be root in a namespace.
 if [ -z "${own_mounts:-}" ]; then
     for user in '' '--user --map-root-user'; do
         # shellcheck disable=SC2086 # it is two words, or none

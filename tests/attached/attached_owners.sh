@@ -1,5 +1,5 @@
-# Files of another user at each path of a kept device: they are refused, and stay unchanged. Only root
-# can give files to another user. attached/ask.c is the caller.
+# Files of another user at each path of a kept device. They are refused, and stay unchanged. Only root can
+# give files to another user. attached/ask.c is the caller.
 tests=$(cd "$(dirname "$0")/.." && pwd -P)
 . "$tests/common/cases.sh"
 . "$tests/common/library.sh"
@@ -22,13 +22,14 @@ ask() {
     echo "$label: status $status, $(tail -n 1 "$room/asked")"
 }
 
-# listed: the contents of the folder, with owners, modes, sizes and digests.
+# listed: prints the contents of the folder, with owners, modes, sizes and digests.
 listed() {
     find . -printf '%P %u %m\n' | LC_ALL=C sort
     find . -type f -exec sha256sum {} + | LC_ALL=C sort
 }
 
-# refused PATH WORDS ACT..: gives a path to another user, uses the device, and says whether all stays.
+# refused PATH WORDS ACT..: gives a path to another user, and uses the device. Prints whether everything stays
+# as it was.
 refused() {
     path=$1
     shift

@@ -1,5 +1,5 @@
-# What can be at the paths of a kept device and is refused: links, pipes, folders and sockets. They stay
-# unchanged. attached/ask.c is the caller.
+# Links, pipes, folders and sockets at the paths of a kept device. They are refused, and stay unchanged.
+# attached/ask.c is the caller.
 tests=$(cd "$(dirname "$0")/.." && pwd -P)
 . "$tests/common/cases.sh"
 . "$tests/common/library.sh"
@@ -12,7 +12,7 @@ attach ask ask $sanitizers
 startup=80010000000c000001440000
 get_random=80010000000c0000017b0000
 
-# ask LABEL WORDS ACT..: uses a device, within ten seconds, and prints the result.
+# ask LABEL WORDS ACT..: uses a device for at most ten seconds, and prints the result.
 ask() {
     label=$1
     shift
@@ -27,7 +27,8 @@ renew() {
     timeout 10 "$room/ask" state=state "$startup" >"$room/asked" || echo 'there is no state'
 }
 
-# listed: prints the contents of the folder, each with its kind, its mode and, for a link, its target.
+# listed FILE: writes the contents of the folder to FILE, each with its kind, its mode and, for a link, its
+# target.
 listed() {
     find . -printf '%P %y %m %l\n' | LC_ALL=C sort >"$1"
 }
@@ -44,7 +45,8 @@ put() {
     esac
 }
 
-# refused KIND PATH WORDS ACT..: puts something at a path, uses the device, and says whether all stays.
+# refused KIND PATH WORDS ACT..: puts something at a path, and uses the device. Prints whether everything
+# stays as it was.
 refused() {
     kind=$1
     path=$2

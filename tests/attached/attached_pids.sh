@@ -1,5 +1,5 @@
-# A fork whose child has its parent's number, in another namespace: attached/pids.c is the caller. Only
-# root can make such namespaces, or a user who may be root in one.
+# Forks a child that has its parent's process number, in another namespace: attached/pids.c is the caller.
+# Only root can make such namespaces, or a user who may be root in one.
 if [ -z "${own_numbers:-}" ]; then
     for user in '' '--user --map-root-user'; do
         # shellcheck disable=SC2086 # it is two words, or none

@@ -1,5 +1,5 @@
-# A user who is not root: the umask denies the folder to its own user, and the folder above may not be
-# readable. attached/ask.c is the caller.
+# A user who is not root. The umask denies the folder to its own user, and the folder above may be unreadable.
+# attached/ask.c is the caller.
 tests=$(cd "$(dirname "$0")/.." && pwd -P)
 . "$tests/common/cases.sh"
 . "$tests/common/library.sh"

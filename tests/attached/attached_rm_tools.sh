@@ -1,5 +1,5 @@
-# tpm2-tools with the word `rm` of the module: a day's steps without tpm2_flushcontext leave nothing
-# loaded, and fill no place.
+# tpm2-tools with the word `rm` of the module. A day's steps without tpm2_flushcontext leave nothing loaded,
+# and fill no slot.
 tests=$(cd "$(dirname "$0")/.." && pwd -P)
 . "$tests/common/cases.sh"
 . "$tests/common/library.sh"
@@ -9,13 +9,13 @@ needs tss2/tss2_tcti.h tpm2_startup
 TPMSIM_ARCHIVE=$archive "$hosts/build.sh" tcti "$room/made" || exit 1
 export LD_LIBRARY_PATH="$room/made" TPM2TOOLS_TCTI="tpmsim:state=$room/state,rm"
 
-# tool WORDS..: runs a tool, and says how it ended.
+# tool WORDS..: runs a tool, and prints how it ended.
 tool() {
     tpm2 "$@" >output 2>error
     echo "tpm2 $1: status $?"
 }
 
-# left: prints what is loaded.
+# left: prints the loaded objects and sessions.
 left() {
     for kind in transient loaded-session; do
         tpm2_getcap "handles-$kind" | sed "s/^- .*/left: $kind/"

@@ -1,5 +1,5 @@
-# `tpmsim replay` gives from the journal of a kept device the same answers as the device. attached/ask.c
-# is the caller.
+# `tpmsim replay` prints for the journal of a kept device the same responses as the device. attached/ask.c is
+# the caller.
 tests=$(cd "$(dirname "$0")/.." && pwd -P)
 . "$tests/common/cases.sh"
 . "$tests/common/library.sh"
@@ -14,7 +14,7 @@ words() {
     "$shipped" asm "$1"
 }
 
-# replay LABEL: plays the journal as a script, and says whether it answers what is in `asked`.
+# replay LABEL: plays the journal as a script, and compares the responses with the file `asked`.
 replay() {
     "$shipped" replay state/journal | grep '^80' >answers
     cmp asked answers && echo "$1: $(grep -c . answers) answers, and the journal has the same"

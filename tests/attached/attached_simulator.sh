@@ -1,4 +1,4 @@
-# tpmsim-simulator: what it keeps, records and repeats, its devices and its clients: attached/simulator.py.
+# Tests what tpmsim-simulator keeps, records and repeats, its devices and its clients: attached/simulator.py.
 tests=$(cd "$(dirname "$0")/.." && pwd -P)
 . "$tests/common/cases.sh"
 . "$tests/common/library.sh"

@@ -1,4 +1,4 @@
-# More clients of tpmsim-simulator than it has descriptors for: attached/simulator_clients.py.
+# Connects more clients to tpmsim-simulator than it has file descriptors for: attached/simulator_clients.py.
 tests=$(cd "$(dirname "$0")/.." && pwd -P)
 . "$tests/common/cases.sh"
 . "$tests/common/library.sh"

@@ -1,5 +1,5 @@
-# What a kept device says of a damaged journal, for each number that the library can return: `attached/told.c`
-# is the caller.
+# Checks the message of a kept device about a damaged journal, for each number that the library can return:
+# `attached/told.c` is the caller.
 tests=$(cd "$(dirname "$0")/.." && pwd -P)
 . "$tests/common/cases.sh"
 . "$tests/common/library.sh"

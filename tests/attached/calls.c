@@ -1,21 +1,21 @@
-/* Each call of the system by which a kept device reaches its files, the clock and random bytes fails in
- * turn; each moves half of its bytes, or is interrupted; and each request for memory is refused. The
- * arguments are the file of the values of the PCR, and an image. */
+/* Makes each system call fail in turn by which a kept device reaches its files, the clock and
+ * random bytes. Also makes each call move half of its bytes, interrupts each call, and makes
+ * each allocation fail. The arguments are the file of the values of the PCR, and an image. */
 #include "calls.h"
 #include <dirent.h>
 
-/* How often the PCR was extended in the state that each trial begins with. */
+/* The number of extends that the PCR has had in the state with which each trial begins. */
 enum { EXTENDS = 2 };
 
 static const char FOLDER[] = "state";
 
-/* The result of a trial: whether all was done, and the sentence if not. */
+/* The result of a trial: whether everything was done, and the sentence if not. */
 struct outcome {
     bool is_done;
     struct reason reason;
 };
 
-/* The files of a state that a trial begins with: a journal that ends with a part of a record. */
+/* The files of the state with which a trial begins. The journal ends with an incomplete record. */
 static struct {
     uint8_t *journal;
     size_t whole, size;
@@ -38,7 +38,7 @@ static void remove_state(void) {
     must(access(FOLDER, F_OK) != 0, "there is more in the folder than a state");
 }
 
-/* Writes the state that trials begin with. */
+/* Writes the state with which trials begin. */
 static void put_state(void) {
     remove_state();
     must(mkdir(FOLDER, 0700) == 0, "there is no folder");
@@ -73,8 +73,8 @@ static bool nothing(struct kept *kept, struct reason *reason) {
     return true;
 }
 
-/* A kind of trial: whether there is a state, the image of a new one, and what is done with the device;
- * the device may be open before. */
+/* A kind of trial: whether there is a state, the image of a new one, and what is done with the
+ * device. The device may have been opened before. */
 struct trial {
     const char *label;
     bool has_state, is_open_before;
@@ -91,8 +91,8 @@ static const struct trial TRIALS[] = {
     {"a power cycle of an open device", true, true, NULL, power},
 };
 
-/* The device after a trial, in a process without faults: how often it was extended; -2 if power came on,
- * so that it awaits its startup. */
+/* Opens the device after a trial, in a process without faults. Returns the number of its
+ * extends, or -2 if power came on, so that the device awaits TPM2_Startup. */
 static long extends_there(struct kept *kept, const struct values *values) {
     uint8_t response[RESPONSE_BYTES];
     size_t size = answered_by(kept, PCR_READ, sizeof PCR_READ, response);
@@ -109,8 +109,9 @@ static struct outcome outcome_of(const struct trial *trial, struct kept **kept) 
     return outcome;
 }
 
-/* The expected device after a trial. A power cycle or an extend may be done although its forcing failed:
- * nobody knows what is on the disk, but it is in the file. */
+/* Returns whether the device is the expected one after a trial. If the sync of a power cycle or
+ * an extend failed, the change may be in the file all the same: nobody knows what is on the
+ * disk. */
 static bool is_right(const struct trial *trial, const struct outcome *outcome, long there) {
     if (!trial->has_state) return there == -2;
     if (!outcome->is_done && strcmp(name_of_it, "fdatasync") == 0 && there == EXTENDS + 1)
@@ -133,7 +134,7 @@ static void look(struct kept *kept, const struct trial *trial, const struct outc
     must(extends_of(kept, values) == there + 1, "the device does not go on");
 }
 
-/* Tries one fault. Returns whether there was a call of the number. */
+/* Tries one fault. Returns whether the trial made a call of that number. */
 static bool try_one(const struct trial *trial, enum fault kind, const struct values *values,
                     struct outcome *outcome) {
     remove_state();
@@ -162,7 +163,7 @@ static bool try_one(const struct trial *trial, enum fault kind, const struct val
     return name_of_it != NULL;
 }
 
-/* Tries a fault at each call, and prints which calls could fail without harm. */
+/* Tries a fault at each call, and prints which calls failed without harm. */
 static void try_all(const struct trial *trial, enum fault kind, const struct values *values) {
     static const char *const labels[] = {"", "fails", "is interrupted", "moves half", "refused"};
     struct outcome outcome;
@@ -179,13 +180,14 @@ static void try_all(const struct trial *trial, enum fault kind, const struct val
            told && borne ? "; borne:" : borne ? "borne:" : "", names);
 }
 
-/* Prints how often a device's action forces the disk. */
+/* Prints how often an action of the device syncs. */
 static void tell_forced(const char *label) {
     printf("; %s %u and %u", label, forced, forced_data);
     forced = forced_data = 0;
 }
 
-/* How often each word has files forced as a whole, and how often only their bytes. */
+/* Counts for each word of force how often whole files are synced, and how often only their
+   bytes. */
 static void count_forced(void) {
     static const char *const labels[] = {"power", "never", "always"};
     for (enum kept_force force = KEPT_FORCE_POWER; force <= KEPT_FORCE_ALWAYS; force++) {

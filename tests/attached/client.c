@@ -1,5 +1,5 @@
-/* A client of the module for libtss2, which it loads as libtss2 does: by its file and the name
- * Tss2_Tcti_Info. The argument is the module. Each line says what a call returned. */
+/* A client of the module for libtss2. It loads the module as libtss2 does, by its file and the
+ * name Tss2_Tcti_Info. The argument is the module. Each printed line has the result of a call. */
 #include "common.h"
 #include <dlfcn.h>
 #include <tss2/tss2_tcti.h>
@@ -8,7 +8,7 @@ enum { CONTEXT_ROOM = 65536 };
 
 static const TSS2_TCTI_INFO *info;
 
-/* The name of a return code. */
+/* Returns the name of a return code. */
 static const char *name_of(TSS2_RC code) {
     static const struct {
         TSS2_RC code;
@@ -78,7 +78,7 @@ static void try_init(void) {
     ended(context);
 }
 
-/* Calls in a wrong order, and with wrong arguments, before a command. */
+/* Makes calls in a wrong order and with wrong arguments, before any command. */
 static void try_before(TSS2_TCTI_CONTEXT *context) {
     uint8_t response[RESPONSE_BYTES];
     size_t size = sizeof response;
@@ -109,7 +109,7 @@ static void try_receive(TSS2_TCTI_CONTEXT *context) {
     told("receive once more", Tss2_Tcti_Receive(context, &size, response, -1));
 }
 
-/* Extends PCR 20, which localities 2 to 4 may do, from each locality. */
+/* Extends PCR 20 from each locality. Localities 2 to 4 may do that. */
 static void try_localities(TSS2_TCTI_CONTEXT *context) {
     uint8_t command[sizeof EXTEND], response[RESPONSE_BYTES];
     memcpy(command, EXTEND, sizeof EXTEND);
@@ -126,7 +126,7 @@ static void try_localities(TSS2_TCTI_CONTEXT *context) {
     printf("    an extend of PCR 20: %02x%02x\n", response[8], response[9]);
 }
 
-/* Buffers that are not commands have responses too: COMMAND_SIZE. */
+/* Sends buffers that are not commands. They too have a response: COMMAND_SIZE. */
 static void try_sizes(TSS2_TCTI_CONTEXT *context) {
     static const size_t sizes[] = {0, 1, 9, 4096, 4097, 60000};
     static uint8_t command[60000];
@@ -149,7 +149,7 @@ static void try_the_rest(TSS2_TCTI_CONTEXT *context) {
     told("make_sticky without a handle", Tss2_Tcti_MakeSticky(context, NULL, 1));
 }
 
-/* Each call on something that is not a context of the module. */
+/* Makes each call with something that is not a context of the module. */
 static void try_no_context(TSS2_TCTI_CONTEXT *context) {
     uint8_t response[RESPONSE_BYTES];
     size_t size = sizeof response, count = 0;
@@ -163,7 +163,7 @@ static void try_no_context(TSS2_TCTI_CONTEXT *context) {
     Tss2_Tcti_Finalize(context);
 }
 
-/* The functions themselves with no context at all. */
+/* Calls the functions themselves, with a null context. */
 static void try_null(TSS2_TCTI_CONTEXT *context) {
     uint8_t response[RESPONSE_BYTES];
     size_t size = sizeof response;
@@ -174,7 +174,7 @@ static void try_null(TSS2_TCTI_CONTEXT *context) {
     TSS2_TCTI_FINALIZE(context)(NULL);
 }
 
-/* Two contexts hold one device. A response that was not received is lost with its context. */
+/* Has two contexts hold one device. A response that was not received is lost with its context. */
 static void try_two(void) {
     uint8_t response[RESPONSE_BYTES];
     TSS2_TCTI_CONTEXT *one = begun("state=state,force=never,random=5a");
@@ -190,8 +190,8 @@ static void try_two(void) {
     ended(two);
 }
 
-/* A journal that ends with a part of a record, and one whose last record is damaged: the module says
- * what it cuts off. */
+/* Opens a journal that ends with an incomplete record, and one whose last record is damaged. The
+ * module reports what it cuts off. */
 static void try_cut(void) {
     static const char JOURNAL[] = "state/journal";
     uint8_t response[RESPONSE_BYTES];

@@ -1,11 +1,12 @@
-/* A host whose clock goes on, stops, goes back and jumps, by its own clock_gettime: what TPM2_ReadClock
- * answers. The time of a device is the milliseconds since its power came on. */
+/* Prints the times that TPM2_ReadClock returns while the host's clock runs, stops, goes back and
+ * jumps. A replaced clock_gettime is the host's clock. The time of a device is the milliseconds
+ * since its power came on. */
 #include "common.h"
 #include <time.h>
 
 static const char FOLDER[] = "state";
 
-/* What the host's clock shows, in milliseconds since 1970. */
+/* The time of the host's clock, in milliseconds since 1970. */
 static int64_t host_ms = 1000000000000;
 
 int __wrap_clock_gettime(clockid_t clock, struct timespec *now);
@@ -16,7 +17,7 @@ int __wrap_clock_gettime(clockid_t clock, struct timespec *now) {
     return 0;
 }
 
-/* The time of the device: the first of the two numbers that TPM2_ReadClock answers. */
+/* Returns the time of the device, which is the first number in the response to TPM2_ReadClock. */
 static unsigned long long time_of(struct kept *kept) {
     uint8_t response[RESPONSE_BYTES];
     unsigned long long time = 0;
@@ -25,7 +26,7 @@ static unsigned long long time_of(struct kept *kept) {
     return time;
 }
 
-/* Moves the host's clock, and prints what the device's clock shows then. */
+/* Moves the host's clock, and prints the device's time after that. */
 static void moved(struct kept *kept, const char *label, int64_t milliseconds) {
     host_ms += milliseconds;
     printf("%s: %llu\n", label, time_of(kept));

@@ -1,20 +1,21 @@
-/* Processes that hold a device are killed, and the host crashes. With force=always nothing that was
- * answered is lost; with force=power the device is one of those since power came on. `crashes VALUES`
- * kills a process before each call of the system in turn, lets another one go on or not, and crashes.
- * `crashes VALUES SECONDS SEED` does so at random, with calls that fail and children that are forked, and
- * prints the counts to standard error. VALUES is the file of the values of the PCR. */
+/* Kills processes that hold a device, and crashes the host. With force=always no answered
+ * command is lost. With force=power the device has one of its states since power came on.
+ * `crashes VALUES` kills a process before each system call in turn; then another process
+ * continues or not, and the host crashes. `crashes VALUES SECONDS SEED` does so at random, also
+ * with calls that fail and children that are forked, and prints the counts to standard error.
+ * VALUES is the file of the values of the PCR. */
 #include "disk.h"
 #include <stdatomic.h>
 #include <sys/prctl.h>
 #include <sys/wait.h>
 
-/* What the device has answered since power came on, as far as its holders know; and their commands that
- * were not answered. */
+/* The answered commands since power came on, as far as the device's holders know. Also the
+ * commands that the holders sent and that were not answered. */
 static struct {
     atomic_long extends, asked;
     atomic_bool is_started, is_starting, is_cycling;
     atomic_long answers;
-    /* The file of the journal that the last answer is in. */
+    /* The journal's inode with the last answered command. */
     ino_t journal;
 } *told;
 
@@ -25,7 +26,7 @@ static struct {
 
 enum { AWAITS_STARTUP = -2 };
 
-/* The word of force, and whether the host has crashed since the last check. */
+/* The word of force. Also whether the host has crashed since the last check. */
 static enum kept_force force = KEPT_FORCE_ALWAYS;
 static bool has_crashed;
 
@@ -42,7 +43,7 @@ static void note_answer(void) {
     told->answers++;
 }
 
-/* Whether a command was answered; if not, the holder got a fault. */
+/* Returns whether a command was answered. If it was not, the holder got a fault. */
 static bool is_answered(struct kept *kept, const uint8_t *buffer, size_t size) {
     uint8_t response[RESPONSE_BYTES];
     tpmsim_answered answered;
@@ -80,7 +81,7 @@ static bool cycle_telling(struct kept *kept) {
     return true;
 }
 
-/* How often the present device was extended. */
+/* Returns the number of extends of the present device. */
 static long extends_there(struct kept *kept, const struct values *values) {
     uint8_t response[RESPONSE_BYTES];
     size_t size = answered_by(kept, PCR_READ, sizeof PCR_READ, response);
@@ -96,7 +97,7 @@ static bool is_right(long there) {
     return there >= told->extends && there <= told->extends + told->asked;
 }
 
-/* Opens the device, which must have everything that was answered. */
+/* Opens the device. It must have the effects of all answered commands. */
 static void check(const struct values *values, const char *label) {
     struct kept *kept = opened_so();
     must(kept != NULL, "the device does not open");
@@ -119,7 +120,7 @@ static void begin_anew(void) {
     memset(told, 0, sizeof *told);
 }
 
-/* Crashes the host. */
+/* Crashes the host, and checks the device. */
 static void crash_and_check(const struct values *values) {
     must(told->journal == 0 || told->is_cycling || disk->journal == told->journal,
          "a device that has answered is lost, or its power cycle");
@@ -129,8 +130,8 @@ static void crash_and_check(const struct values *values) {
     check(values, "crashed");
 }
 
-/* Runs a process, which may be killed, until it and its children have ended. Returns whether it was
- * killed. */
+/* Runs a process until it and its children have ended. The process may be killed. Returns
+ * whether it was. */
 static bool is_killed(void (*run)(void), enum fault kind, unsigned at) {
     int status, first = 0;
     pid_t child = fork();
@@ -159,7 +160,7 @@ static void run_once(void) {
     kept_close(kept);
 }
 
-/* Goes on with the present device. */
+/* Continues with the present device. */
 static void go_on(const struct values *values) {
     check(values, "killed");
     struct kept *kept = opened_so();
@@ -168,7 +169,8 @@ static void go_on(const struct values *values) {
     kept_close(kept);
 }
 
-/* Kills a process before each call, with and without another one that goes on before the crash. */
+/* Kills a process before each call, then crashes the host. Before the crash another process
+   continues, or does not. */
 static void kill_at_each(const struct values *values) {
     for (int goes_on = 0; goes_on < 2; goes_on++) {
         unsigned at = 1;

@@ -1,6 +1,6 @@
-/* The next record, or a power cycle, cuts off a part of a record at the end of a journal. If asked to, the
- * next call drops damage: the journal begins again. A sentence reports either. The argument is the file
- * of the values of the PCR. */
+/* The next record or a power cycle cuts off an incomplete record at the end of a journal. If the
+ * caller asks for it, the next call drops damage, and the journal begins again. A sentence
+ * reports each cut. The argument is the file of the values of the PCR. */
 #include "old_journal.h"
 #include <inttypes.h>
 
@@ -8,7 +8,8 @@ enum { EXTENDS = 3, MANY = 3000 };
 
 static const char FOLDER[] = "state", JOURNAL[] = "state/journal";
 
-/* A journal, with the ends of its head and of each of its records. The first record is the startup. */
+/* A journal, with the end offsets of its head and of each of its records. The first record is
+   TPM2_Startup. */
 static struct {
     uint8_t *bytes;
     size_t size, ends[MANY + 2], records;
@@ -62,7 +63,7 @@ static struct kept *cutting(void) {
     return kept;
 }
 
-/* Writes a journal of this many extends. */
+/* Writes a journal with this many extends. */
 static void write_whole(size_t extends) {
     struct kept *kept = opened(FOLDER);
     must(kept_power(kept, &(struct reason){0}), "the power cycle failed");
@@ -80,7 +81,7 @@ static void write_whole(size_t extends) {
     must(whole.ends[whole.records - 1] == whole.size, "the sizes are wrong");
 }
 
-/* The number of the record that has a byte; 0 for the head. */
+/* Returns the number of the record that has the byte at `place`; 0 for the head. */
 static size_t record_at(size_t place) {
     size_t record = 0;
     while (whole.ends[record] <= place) record++;
@@ -94,8 +95,8 @@ static void must_be_refused(bool cuts) {
     must_be_told("");
 }
 
-/* With a changed byte in a record, the device is that of the records before; its journal begins again
- * when it is opened. */
+/* Changes a byte in a record. The device then has the effects of the records before it. Its
+ * journal begins again when it is opened. */
 static void cut_at(size_t place, const struct values *values) {
     size_t record = record_at(place), size = whole.ends[record - 1];
     uint8_t response[RESPONSE_BYTES];
@@ -113,7 +114,7 @@ static void cut_at(size_t place, const struct values *values) {
     kept_close(kept);
 }
 
-/* Changes each byte after the head, and bytes of the head, which is not cut. */
+/* Changes each byte after the head. Also changes bytes of the head, which is never cut. */
 static void turn(const struct values *values) {
     size_t tried = 0;
     for (size_t place = 0; place < whole.size; place++, tried++) {
@@ -129,7 +130,7 @@ static void turn(const struct values *values) {
     puts("each byte of the head turned: refused");
 }
 
-/* Writes a part of a record, which the next record or a power cycle cuts off. */
+/* Writes incomplete records. The next record or a power cycle cuts each one off. */
 static void cut_fronts(const struct values *values) {
     size_t last = whole.ends[whole.records - 2];
     for (size_t size = last + 1; size < whole.size; size++) {
@@ -149,8 +150,8 @@ static void cut_fronts(const struct values *values) {
     puts("the front of a record: cut off");
 }
 
-/* Writes a journal of this many extends, as an older library wrote it, whose journals begin again only at
- * a power cycle. */
+/* Writes a journal with this many extends, as an older library did: its journals begin again
+ * only at a power cycle. */
 static void write_old(size_t extends) {
     struct old_journal old = old_journal_of(extends);
     free(whole.bytes);
@@ -161,7 +162,7 @@ static void write_old(size_t extends) {
     free(old.ends);
 }
 
-/* Damage in a journal that is read in several parts, and in one that was already open. */
+/* Damages a journal that is read in several parts, and a journal that is already open. */
 static void cut_long(const struct values *values) {
     write_old(MANY);
     must(whole.size > 520 * 1024, "the journal has less than three parts");

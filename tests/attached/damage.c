@@ -1,12 +1,12 @@
-/* A journal with bytes changed or cut, in the working folder. The argument is the file of the values of
- * the PCR. */
+/* Opens a journal whose bytes are changed or cut, in the working folder. The argument is the
+ * file of the values of the PCR. */
 #include "common.h"
 
 enum { EXTENDS = 3 };
 
 static const char FOLDER[] = "state", JOURNAL[] = "state/journal";
 
-/* The journal as it is in the file, and as it was written at first. */
+/* The bytes of a journal: those in the file, or those that were written at first. */
 struct text {
     uint8_t *bytes;
     size_t size;
@@ -24,7 +24,7 @@ static void must_be(const struct text *wanted, const char *what) {
     free(there.bytes);
 }
 
-/* Opens the device, which must be refused, and counts the sentence among these. */
+/* Opens the device. It must be refused; its sentence is counted. */
 static void refuse_opening(size_t counts[4]) {
     static const char *const sentences[] = {
         "state/journal is damaged, and stays as it is", "state/journal is no journal of a device",
@@ -43,7 +43,7 @@ static void refuse_opening(size_t counts[4]) {
     must(false, reason.text);
 }
 
-/* Changes each byte of the journal, by one bit and by all. */
+/* Changes each byte of the journal, first one bit and then all bits. */
 static void turn(const struct text *whole) {
     static const uint8_t masks[] = {0x01, 0xff};
     size_t counts[4] = {0}, tried = 0;
@@ -64,8 +64,9 @@ static void turn(const struct text *whole) {
     puts("each byte turned, by one bit and by all: refused, and the file is as it was");
 }
 
-/* Opens a journal that is cut within its last record. The device is the one before that record. The file
- * stays until the next command, and then has whole records. */
+/* Opens a journal that is cut within its last record. The device has the effects of the records
+ * before that one. The file stays as it is until the next command, and has only whole records
+ * after it. */
 static void open_cut(const struct text *cut, const struct values *values) {
     put_bytes(JOURNAL, cut->bytes, cut->size);
     struct kept *kept = opened(FOLDER);
@@ -78,7 +79,7 @@ static void open_cut(const struct text *cut, const struct values *values) {
     kept_close(kept);
 }
 
-/* Cuts the journal at each byte: of its head, and of the last record. */
+/* Cuts the journal at each byte of its head and of its last record. */
 static void cut(const struct text *whole, size_t head, size_t before_last,
                 const struct values *values) {
     size_t counts[4] = {0};
@@ -96,7 +97,8 @@ static void cut(const struct text *whole, size_t head, size_t before_last,
     puts("cut at each byte of its last record: the state before that record");
 }
 
-/* Replaces the end of the last record by zeros, from each of its bytes on, and more than that. */
+/* Replaces the end of the last record, and more, by zeros. The zeros begin at each of its bytes
+   in turn. */
 static void clear(const struct text *whole, size_t before_last, const struct values *values) {
     struct text cleared = {malloc(2 * whole->size), 0};
     must(cleared.bytes != NULL, "there is no memory");
@@ -110,7 +112,7 @@ static void clear(const struct text *whole, size_t before_last, const struct val
     puts("zeros from each byte of its last record on: the state before that record");
 }
 
-/* Removes a record that others follow, doubles it, and swaps two. */
+/* Removes a record that others follow, doubles it, and swaps two records. */
 static void rearrange(const struct text *whole, size_t first, size_t second, size_t third) {
     size_t counts[4] = {0};
     struct text other = {malloc(2 * whole->size), 0};
@@ -138,8 +140,9 @@ static void rearrange(const struct text *whole, size_t first, size_t second, siz
     free(other.bytes);
 }
 
-/* Damages each byte of the last record while the device is open and has not executed that record. The
- * next command is refused, and the file stays as it is. With the right byte again the device goes on. */
+/* Damages each byte of the last record while the device is open and has not executed that
+ * record. The next command is refused, and the file stays as it is. When the byte is right
+ * again, the device continues. */
 static void turn_while_open(const struct text *whole, size_t before_last,
                             const struct values *values) {
     struct text turned = {malloc(whole->size), whole->size};
@@ -184,7 +187,7 @@ static void shorten_while_open(const struct text *whole, size_t before_last,
     kept_close(kept);
 }
 
-/* The size of the journal. */
+/* Returns the size of the journal. */
 static size_t size_now(void) {
     struct text text = text_of();
     free(text.bytes);

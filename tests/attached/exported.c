@@ -1,4 +1,4 @@
-/* The kept device as another program uses it, by tpmsim_kept.h. */
+/* Uses the kept device as another program does, by tpmsim_kept.h. */
 #include "common.h"
 #include "tpmsim_kept.h"
 
@@ -12,7 +12,8 @@ static void refused(const char *label, uint8_t told) {
     printf("%s: %u, %s\n", label, told, reason);
 }
 
-/* Executes a command that the device accepts, and returns how many random bytes it drew. */
+/* Executes a command that the device accepts, and returns the number of random bytes that it
+   drew. */
 static size_t drawn(tpmsim_kept_device *kept, const uint8_t *buffer, size_t size, uint32_t code) {
     uint8_t response[RESPONSE_BYTES];
     tpmsim_answered answered;
@@ -22,7 +23,7 @@ static size_t drawn(tpmsim_kept_device *kept, const uint8_t *buffer, size_t size
     return answered.drawn;
 }
 
-/* Prints how a command is reported that the device refuses. */
+/* Prints the report of a command that the device refuses. */
 static void tell_refused(tpmsim_kept_device *kept) {
     uint8_t response[RESPONSE_BYTES];
     tpmsim_answered answered;
@@ -56,7 +57,7 @@ static void use(tpmsim_kept_device *kept) {
     done(tpmsim_kept_power(kept, reason));
 }
 
-/* Cuts the last record, which the next command reports once. */
+/* Shortens the last record. The next command reports that once. */
 static void tear(tpmsim_kept_device *kept) {
     char notice[TPMSIM_KEPT_REASON_SIZE];
     size_t size;

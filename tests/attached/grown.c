@@ -1,6 +1,6 @@
-/* A journal that has grown begins again, whoever holds the device. Journals of the past stay if that is
- * asked for, and a long journal of an earlier version opens. The argument is the file of the values of the
- * PCR. */
+/* A journal that has grown begins again, whoever holds the device. Past journals stay if that is
+ * asked for. A long journal of an earlier version opens. The argument is the file of the values
+ * of the PCR. */
 #include "old_journal.h"
 #include <sys/stat.h>
 #include <sys/wait.h>
@@ -26,7 +26,7 @@ static size_t size_of(const char *path) {
     return (size_t)status.st_size;
 }
 
-/* Several processes, which all hold the device, extend at once. */
+/* Has several processes hold the device, and extend at once. */
 static void extend_at_once(unsigned keep) {
     for (int i = 0; i < PROCESSES; i++) {
         pid_t child = fork();
@@ -45,7 +45,7 @@ static void extend_at_once(unsigned keep) {
         must(wait(&status) > 0 && status == 0, "a process ended with a fault");
 }
 
-/* Opens a copy of a journal, and returns how often its device was extended. */
+/* Opens a copy of a journal, and returns the number of its device's extends. */
 static long extends_in(const char *path, const struct values *values) {
     char name[512];
     size_t size;
@@ -60,7 +60,7 @@ static long extends_in(const char *path, const struct values *values) {
     return count;
 }
 
-/* The journals of the past: each ends where the next one began. */
+/* Checks the past journals: each ends where the next one began. */
 static void look_at_past(const struct values *values) {
     long before = PROCESSES * EXTENDS;
     char path[512];
@@ -80,8 +80,8 @@ static ino_t inode_of(const char *path) {
     return status.st_ino;
 }
 
-/* A process that is killed after it moved the journals has lost only the last number. The next process
- * fills the gap, and loses no journal. */
+/* If a process is killed after it renamed the journals, only the last number is missing. The
+ * next process fills the gap, and loses no journal. */
 static void move_on_after_a_kill(struct kept *kept) {
     must(rename("state/journal.2", "state/journal.3") == 0, "there is no journal.2");
     must(rename("state/journal.1", "state/journal.2") == 0, "there is no journal.1");

@@ -1,16 +1,17 @@
-/* Processes are killed at random moments while they extend a PCR. No answered extend is lost, and at most
- * the one that was being executed is there in addition. The arguments are the file of the values of the
- * PCR, and how often a process is killed. */
+/* Kills processes at random moments while they extend a PCR. No answered extend is lost. At most
+ * the extend that was being executed is there in addition. The arguments are the file of the
+ * values of the PCR, and the number of kills. */
 #include "common.h"
 #include <signal.h>
 #include <sys/wait.h>
 
 static const char FOLDER[] = "state";
 
-/* A process asks for at most this many extends, since its killer may have to wait for a processor. */
+/* A process makes at most this many extends, because its killer may have to wait for a
+   processor. */
 enum { MOST_EXTENDS = 2000 };
 
-/* Extends, writes a byte for each answer, and waits to be killed. */
+/* Extends again and again, writes a byte for each response, and waits to be killed. */
 static void extend_on(int told) {
     struct kept *kept = opened(FOLDER);
     for (int i = 0; i < MOST_EXTENDS; i++) {
@@ -20,7 +21,7 @@ static void extend_on(int told) {
     for (;;) pause();
 }
 
-/* Cycles the power for ever, and writes a byte for each cycle. */
+/* Cycles the power forever, and writes a byte for each cycle. */
 static void cycle_on(int told) {
     struct kept *kept = opened(FOLDER);
     struct reason reason;
@@ -32,7 +33,7 @@ static void cycle_on(int told) {
     }
 }
 
-/* The number of bytes in a pipe, after its writer has ended. */
+/* Returns the number of bytes in a pipe after its writer has ended. */
 static long drain(int file) {
     char room[4096];
     long all = 0;
@@ -40,8 +41,8 @@ static long drain(int file) {
     return all;
 }
 
-/* Kills a process some microseconds after it began, or after its first report. Returns how many reports it
- * made. */
+/* Kills a process some microseconds after it began, or after its first report. Returns the
+ * number of its reports. */
 static long killed_after(void (*run)(int told), unsigned microseconds, bool answers) {
     int ends[2], status;
     char first;
@@ -62,15 +63,15 @@ static long killed_after(void (*run)(int told), unsigned microseconds, bool answ
     return answered;
 }
 
-/* Resets the PCR, so that its value is one of those that were computed. */
+/* Resets the PCR, so that its values are those that were computed before. */
 static void begin_anew(struct kept *kept) {
     struct reason reason;
     must(kept_power(kept, &reason), "the power cycle failed");
     start(kept);
 }
 
-/* Kills processes that cycle the power. Each leaves a whole journal, whose device awaits its startup, or
- * was started and extended at most once. */
+/* Kills processes that cycle the power. Each leaves a whole journal. Its device awaits
+ * TPM2_Startup, or was started and extended at most once. */
 static void kill_cycles(struct kept *kept, const struct values *values, int rounds) {
     uint8_t response[RESPONSE_BYTES];
     for (int i = 0; i < rounds; i++) {

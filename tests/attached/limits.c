@@ -1,5 +1,5 @@
-/* A full disk, simulated by the limit of a file's size, and a process without free descriptors.
- * The argument is the file of the values of the PCR. */
+/* A full disk, simulated by a limit on the size of files; and a process without free file
+ * descriptors. The argument is the file of the values of the PCR. */
 #include "common.h"
 #include <signal.h>
 #include <sys/resource.h>
@@ -30,8 +30,8 @@ static const char *failing_extend(struct kept *kept) {
     return reason.text;
 }
 
-/* The disk gets full within a record, at each of its bytes: the file stays as it was. This device goes on
- * from there, and so does another one. */
+/* Fills the disk within a record, at each of the record's bytes. The file stays as it was. This
+ * device continues from there, and so does another one. */
 static void fill(struct kept *kept, const struct values *values) {
     size_t before = size_now(), record;
     extend(kept);
@@ -55,7 +55,7 @@ static void fill(struct kept *kept, const struct values *values) {
     printf("with room again: %ld extends\n", extends_of(kept, values));
 }
 
-/* The disk gets full while a new journal is written. */
+/* Fills the disk while a new journal is written. */
 static void fill_heads(struct kept *kept, const struct values *values) {
     struct reason reason;
     size_t head;
@@ -82,7 +82,7 @@ static void fill_heads(struct kept *kept, const struct values *values) {
     kept_close(kept);
 }
 
-/* A process has no descriptor left, or a few, when it opens a device. */
+/* Opens a device in a process that has no file descriptor left, or only a few. */
 static void run_out_of_files(struct kept *kept, const struct values *values) {
     struct kept_options options = {.folder = FOLDER};
     struct reason reason;

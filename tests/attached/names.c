@@ -1,6 +1,6 @@
-/* Which names are on the disk before a command is answered: the journal's, which is in its folder, and
- * the folder's, which is in the one above. Other processes are killed after mkdir, and between rename
- * and the forcing of the folder. */
+/* Checks which names are on the disk before a command is answered: the journal's name, which is
+ * in its folder, and the folder's name, which is in the folder above. Other processes are killed
+ * after mkdir, and between the rename and the sync of the folder. */
 #include "common.h"
 #include <errno.h>
 #include <signal.h>
@@ -9,10 +9,11 @@
 
 static const char FOLDER[] = "state";
 
-/* Where this process is killed. */
+/* The call after which this process is killed. */
 static enum { NOWHERE, BEHIND_MKDIR, BEHIND_RENAME } killed_at;
 
-/* What was forced, how often a whole file system was, and whether the folder above can be. */
+/* The numbers of syncs: of the folder, of the folder above, of other files, and of whole file
+   systems. Also whether the folder above can be synced. */
 static unsigned folders, above, others, systems;
 static bool above_is_forced = true;
 
@@ -36,7 +37,7 @@ int __wrap_renameat(int from, const char *path, int into, const char *name) {
     return result;
 }
 
-/* Whether an open file is the one at a path. */
+/* Returns whether an open file is the file at a path. */
 static bool is_at(int file, const char *path) {
     struct stat open, there;
     must(fstat(file, &open) == 0 && stat(path, &there) == 0, "there is no status");
@@ -81,7 +82,7 @@ static struct kept *opened_with(enum kept_force force) {
     return kept;
 }
 
-/* Another process opens the device, and is killed there or as it cycles the power. */
+/* Has another process open the device. It is killed there, or when it cycles the power. */
 static void kill_another(enum kept_force force, int where) {
     int status;
     pid_t child = fork();
@@ -97,7 +98,7 @@ static void kill_another(enum kept_force force, int where) {
     must(waitpid(child, &status, 0) == child && WIFSIGNALED(status), "a process was not killed");
 }
 
-/* Prints what was forced since the last print. */
+/* Prints the syncs since the last print. */
 static void tell(const char *label) {
     printf("    %s: folder %u, above %u", label, folders, above);
     if (systems) printf(", file system %u", systems);
@@ -105,7 +106,7 @@ static void tell(const char *label) {
     folders = above = others = systems = 0;
 }
 
-/* Executes a command, with forcing before its response, and then another one. */
+/* Executes a command, whose response comes after the syncs, and then another command. */
 static void answer(struct kept *kept, const char *label) {
     uint8_t response[RESPONSE_BYTES];
     answered_by(kept, READ_CLOCK, sizeof READ_CLOCK, response);

@@ -1,6 +1,6 @@
-/* A process with the number 1 uses one device together with its forked child, which also has the number 1
- * in another namespace. This is tried with the page that a fork wipes, and on a kernel without such
- * pages. The argument is the file of the values of the PCR. */
+/* A process with the number 1 uses one device together with its forked child, which also has the
+ * number 1, in another namespace. This is tested with a page that a fork wipes, and on a kernel
+ * without such pages. The argument is the file of the values of the PCR. */
 #include "common.h"
 #include <errno.h>
 #include <poll.h>
@@ -8,19 +8,20 @@
 #include <sys/mman.h>
 #include <sys/wait.h>
 
-/* The parent stays within a command this long, so that its child can begin another one. */
+/* WITHIN_MS: the parent stays within a command for this time, so that its child can begin
+   another command. */
 enum { EXTENDS = 500, RANDOM_BYTES = 64, WITHIN_MS = 100 };
 
 static const char FOLDER[] = "state";
 
-/* TPM2_GetRandom of more bytes than the one before it drew. */
+/* A TPM2_GetRandom of more bytes than the TPM2_GetRandom before it. */
 static const uint8_t GET_MORE[] = {0x80, 0x01, 0, 0, 0, 12, 0, 0, 0x01, 0x7b, 0, RANDOM_BYTES};
 
-/* Whether the kernel wipes a page at a fork, as the device sees it. */
+/* Whether the kernel wipes a page at a fork, as far as the device knows. */
 static bool wipes;
 
-/* The pipes by which a parent and its child wait for each other; and whether the parent's next record
- * waits for the child. */
+/* The pipes by which a parent and its child wait for each other. Also whether the parent waits
+ * for the child before its next record. */
 static int go[2], told[2];
 static bool is_to_wait;
 
@@ -32,7 +33,7 @@ int __wrap_madvise(void *page, size_t size, int advice) {
     return -1;
 }
 
-/* Lets the child execute a command, and waits until it has, or has had enough time. */
+/* Lets the child execute a command. Waits until the child has done so, or has had enough time. */
 ssize_t __real_pwrite(int file, const void *bytes, size_t size, off_t place);
 ssize_t __wrap_pwrite(int file, const void *bytes, size_t size, off_t place);
 ssize_t __wrap_pwrite(int file, const void *bytes, size_t size, off_t place) {
@@ -66,15 +67,16 @@ static void draw(struct kept *kept, uint8_t room[RANDOM_BYTES]) {
     memcpy(room, response + 12, RANDOM_BYTES);
 }
 
-/* Starts a device, which draws random bytes: more of them are ready for the next commands. */
+/* Starts a device, and has it draw random bytes. It then has more of them ready for the next
+   commands. */
 static void start_and_draw(struct kept *kept) {
     uint8_t response[RESPONSE_BYTES];
     start(kept);
     accepted(kept, GET_RANDOM, sizeof GET_RANDOM, response);
 }
 
-/* The child's work: it draws from the device in memory. Once the parent is within a command, it draws from
- * the other device, and extends it. */
+/* The child's work. It draws from the device in memory. When the parent is within a command, the
+ * child draws from the device in the folder, and extends it. */
 static void use(struct kept *memory, struct kept *kept) {
     uint8_t own[RANDOM_BYTES];
     char byte;
@@ -98,7 +100,8 @@ static void compare_draws(struct kept *kept, const char *label) {
     fflush(stdout);
 }
 
-/* The first process 1: opens the devices, forks the second one, and then does the same. */
+/* The work of the first process with number 1. It opens the devices, forks the second process,
+   and then does the same as that. */
 static void open_and_fork(const struct values *values) {
     struct kept_options in_memory = {.folder = NULL};
     struct kept *memory = kept_open(&in_memory, &(struct reason){0}), *kept = opened(FOLDER);

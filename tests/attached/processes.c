@@ -36,7 +36,7 @@ static void power_and_start(void) {
     kept_close(kept);
 }
 
-/* Four processes extend at once. */
+/* Has four processes extend at once. */
 static void extend_at_once(struct kept *kept, const struct values *values) {
     pid_t children[PROCESSES];
     for (int i = 0; i < PROCESSES; i++) children[i] = begun(extend_often);
@@ -48,7 +48,7 @@ static void extend_at_once(struct kept *kept, const struct values *values) {
     kept_close(other);
 }
 
-/* Another process cycles the power, and then this one extends once. */
+/* Has another process cycle the power, and then extends once in this process. */
 static void see_power_cycles(struct kept *kept, const struct values *values) {
     must_end_well(begun(power_and_start));
     printf("a power cycle and an extend by another process: %ld\n", extends_of(kept, values));
@@ -58,7 +58,7 @@ static void see_power_cycles(struct kept *kept, const struct values *values) {
     printf("two power cycles, with an extend behind each: %ld\n", extends_of(kept, values));
 }
 
-/* The process that opened a device and its child both use it, without opening it again. */
+/* Forks. The process that opened the device and its child both use it, without opening it again. */
 static void use_after_fork(struct kept *kept, const struct values *values) {
     uint8_t own[RESPONSE_BYTES], others[RESPONSE_BYTES];
     int ends[2];
@@ -81,8 +81,8 @@ static void use_after_fork(struct kept *kept, const struct values *values) {
     close(ends[1]);
 }
 
-/* A lock is removed while a process holds the device, and then another one takes the device: both go on
- * at once. */
+/* Removes the lock while a process holds the device. Then another process takes the device, and
+ * both continue at once. */
 static void lose_the_lock(struct kept *kept, const struct values *values) {
     must(unlink("state/lock") == 0, "there was no lock");
     pid_t child = begun(extend_often);

@@ -1,5 +1,5 @@
-/* The random bytes of commands: no two are alike, and the system is asked for exactly as many as were
- * drawn; a getrandom counts them. */
+/* Checks the random bytes of commands. No two commands draw the same bytes. A replaced getrandom
+ * counts the bytes that are read from the system: exactly as many as the commands drew. */
 #include "common.h"
 #include <sys/random.h>
 

@@ -1,6 +1,6 @@
-/* The word `rm` of the module for libtss2: what a process loaded and did not flush is flushed when its
- * context is finalized, and nothing else is. Contexts of the module are one client each; a device in a
- * folder is shared by all of them. */
+/* The word `rm` of the module for libtss2. When a process finalizes its context, the objects and
+ * sessions are flushed that it loaded and did not flush, and nothing else. Each context of the
+ * module is one client. All of them share a device in a folder. */
 #include "common.h"
 #include <signal.h>
 #include <sys/wait.h>
@@ -10,14 +10,14 @@ TSS2_RC Tss2_Tcti_Tpmsim_Init(TSS2_TCTI_CONTEXT *context, size_t *size, const ch
 
 static const char RM[] = "state=state,force=never,rm", NO_RM[] = "state=state,force=never";
 
-/* TPM2_CreatePrimary of an HMAC key whose policy is that of a session without an assertion. */
+/* TPM2_CreatePrimary of an HMAC key. The key's policy is that of a session without assertions. */
 static const uint8_t CREATE_PRIMARY[] = {
     0x80, 2, 0, 0, 0, 89, 0, 0, 1, 0x31, 0x40, 0, 0, 1, 0, 0, 0, 9, 0x40, 0, 0, 9, 0, 0, 0, 0, 0,
-    /* The sensitive area and the public one. */
+    /* The sensitive area and the public area. */
     0, 4, 0, 0, 0, 0, 0, 48, 0, 8, 0, 11, 0, 4, 0, 0x72, 0, 32, 0, 0, 0, 0, 0, 0, 0, 0, 0, 0, 0, 0,
     0, 0, 0, 0, 0, 0, 0, 0, 0, 0, 0, 0, 0, 0, 0, 0, 0, 0, 0, 0, 0, 5, 0, 11, 0, 0, 0, 0, 0, 0, 0, 0};
 
-/* TPM2_StartAuthSession of a policy session. */
+/* TPM2_StartAuthSession for a policy session. */
 static const uint8_t START_SESSION[] = {
     0x80, 1, 0, 0, 0, 43, 0, 0, 1, 0x76, 0x40, 0, 0, 7, 0x40, 0, 0, 7, 0, 16, 0, 0, 0, 0, 0,
     0,    0, 0, 0, 0, 0,  0, 0, 0, 0,    0,    0, 0, 1, 0,    16, 0, 11};
@@ -43,7 +43,7 @@ static void put_number(uint8_t *bytes, uint32_t number) {
     for (int i = 0; i < 4; i++) bytes[i] = (uint8_t)(number >> (24 - 8 * i));
 }
 
-/* Has the device accept a command; returns the size of its response. */
+/* Executes a command that the device must accept. Returns the size of its response. */
 static size_t done(TSS2_TCTI_CONTEXT *context, const uint8_t *command, size_t size,
                    uint8_t response[RESPONSE_BYTES]) {
     size_t all = RESPONSE_BYTES;
@@ -74,7 +74,7 @@ static void flush(TSS2_TCTI_CONTEXT *context, uint32_t handle) {
     done(context, command, sizeof command, response);
 }
 
-/* Saves a context, and makes the command that loads it, whose size is returned. */
+/* Saves a context, and makes the command that loads it. Returns that command's size. */
 static size_t saved(TSS2_TCTI_CONTEXT *context, uint32_t handle, uint8_t load[RESPONSE_BYTES]) {
     static const uint8_t head[] = {0x80, 1, 0, 0, 0, 0, 0, 0, 1, 0x61};
     uint8_t command[14] = {0x80, 1, 0, 0, 0, 14, 0, 0, 1, 0x62};
@@ -85,7 +85,7 @@ static size_t saved(TSS2_TCTI_CONTEXT *context, uint32_t handle, uint8_t load[RE
     return size;
 }
 
-/* TPM2_HMAC by a key and a policy session, which ends with it. */
+/* Sends TPM2_HMAC with a key and a policy session. The session ends with it. */
 static void use(TSS2_TCTI_CONTEXT *context, uint32_t key, uint32_t by) {
     uint8_t command[32] = {0x80, 2, 0, 0, 0, 32, 0, 0, 1, 0x55, [17] = 9, [28] = 1, [31] = 16};
     uint8_t response[RESPONSE_BYTES];
@@ -94,7 +94,7 @@ static void use(TSS2_TCTI_CONTEXT *context, uint32_t key, uint32_t by) {
     done(context, command, sizeof command, response);
 }
 
-/* Prints the handles of one kind that are loaded. */
+/* Prints the loaded handles of one kind. */
 static void print_kind(TSS2_TCTI_CONTEXT *context, uint32_t first) {
     uint8_t command[22] = {0x80, 1, 0, 0, 0, 22, 0, 0, 1, 0x7a, 0, 0, 0, 1}, response[RESPONSE_BYTES];
     put_number(command + 14, first);
@@ -113,7 +113,7 @@ static void restart(void) {
     kept_close(kept);
 }
 
-/* Prints what is loaded, and power-cycles the device for the next case. */
+/* Prints the loaded handles, and power-cycles the device for the next case. */
 static void show(const char *label) {
     TSS2_TCTI_CONTEXT *context = begun(NO_RM);
     printf("%s:", label);
@@ -134,7 +134,8 @@ static void leave(const char *label, const char *words) {
     show(label);
 }
 
-/* Handles that were flushed, or freed by the end of their session, are another client's then. */
+/* Frees handles by a flush or by the end of a session. Another client then gets them, and `rm`
+   does not flush them. */
 static void leave_to_others(void) {
     TSS2_TCTI_CONTEXT *context = begun(RM), *other = begun(NO_RM);
     flush(context, object(context));
@@ -146,7 +147,8 @@ static void leave_to_others(void) {
     show("an object and a session of another client, under handles that were freed");
 }
 
-/* A saved session stays, a saved object is flushed; both contexts can be loaded. */
+/* Saves a session and an object. At the end the session stays, and the object is flushed. Both
+   contexts can be loaded. */
 static void save(void) {
     uint8_t load_session[RESPONSE_BYTES], load_object[RESPONSE_BYTES], response[RESPONSE_BYTES];
     TSS2_TCTI_CONTEXT *context = begun(RM);
@@ -169,7 +171,7 @@ static void save(void) {
     show("after contexts that were loaded and not used");
 }
 
-/* A forked child flushes what it loaded itself. */
+/* Forks a child, which flushes only what it loaded itself. */
 static void forked(bool loads) {
     TSS2_TCTI_CONTEXT *context = begun(RM);
     object(context);
@@ -203,7 +205,7 @@ static void killed(void) {
     show("a process that was killed");
 }
 
-/* What is gone at the end is not flushed, and that is no fault. */
+/* Handles that no longer exist at the end are not flushed, and that is no fault. */
 static void gone(void) {
     TSS2_TCTI_CONTEXT *context = begun(RM);
     object(context);

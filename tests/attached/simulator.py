@@ -1,4 +1,4 @@
-"""What tpmsim-simulator keeps, records and repeats; several devices; and hostile clients:
+"""Tests what tpmsim-simulator keeps, records and repeats; several devices; and hostile clients:
 
     tools/python.sh tests/attached/simulator.py SIMULATOR
 """
@@ -22,7 +22,8 @@ AUDIT = pathlib.Path(__file__).parents[2] / "tools" / "audit.py"
 SEND_COMMAND, STOP, HASH_START, HASH_DATA, HASH_END = 8, 21, 5, 6, 7
 POWER_ON, POWER_OFF, RESET = 1, 2, 17
 GET_RANDOM = bytes.fromhex("80010000000c0000017b0010")
-# PCR 17 after a launch of abc, by sha1sum and sha256sum: of zeros and of the digest of abc.
+# The values of PCR 17 after a launch with the data abc, computed by sha1sum and sha256sum from
+# zeros and the digest of abc.
 LAUNCHED = [
     "ccd5bd41458de644ac34a2478b58ff819bef5acf",
     "589f9ffed4c477966bfb8d41f37895b08c69047df8f911d6f3b57fbe08faee8d",
@@ -30,7 +31,7 @@ LAUNCHED = [
 
 
 class Served:
-    """A simulator that serves, and the addresses of its devices."""
+    """A running simulator, and the addresses of its devices."""
 
     def __init__(self, *words: object, devices: int = 1) -> None:
         given = [PROGRAM, "--port", "0", *map(str, words)]
@@ -40,7 +41,7 @@ class Served:
         self.addresses = [(host, int(port)) for host, port in lines]
 
     def client(self, device: int = 0) -> Caller:
-        """A client of a device, after TPM2_Startup."""
+        """Returns a client of a device, after TPM2_Startup."""
         caller = Caller(SimulatorDevice(*self.addresses[device], SECONDS))
         caller.start_up()
         return caller
@@ -50,7 +51,8 @@ class Served:
         return socket.create_connection((host, first + port), SECONDS)
 
     def asks(self, port: int, *requests: bytes) -> bytes:
-        """The answers to requests on a new connection, until a last request ends it."""
+        """Returns the answers to requests on a new connection. A last request ends the connection.
+        """
         with self.stream(port) as stream:
             stream.sendall(b"".join(requests) + number(20, 4))
             return b"".join(iter(lambda: stream.recv(4096), b""))
@@ -77,7 +79,9 @@ def has_index(tpm: Caller) -> bool:
 
 
 def keeps(*words: object) -> None:
-    """An index that one run defines is there in the next, after SIGTERM, SIGKILL and STOP."""
+    """Checks that an index that one run defines exists in the next, after SIGTERM, SIGKILL and
+    STOP.
+    """
     with Served(*words) as served:
         served.client().define(area(index=INDEX))
         print("ends with", served.end())
@@ -89,7 +93,7 @@ def keeps(*words: object) -> None:
 
 
 def refused(*words: str) -> str:
-    """The status and the output of a simulator that does not serve."""
+    """Returns the status and the output of a simulator that does not start."""
     done = subprocess.run([PROGRAM, "--port", "0", *words], capture_output=True, text=True)
     return f"{done.returncode} {done.stderr.strip()}"
 
@@ -105,7 +109,7 @@ def kept_in_an_image() -> None:
 
 
 def kept_in_a_folder() -> None:
-    """A device in a folder, which another process uses at the same time."""
+    """Keeps a device in a folder, which another process uses at the same time."""
     print("a folder:")
     keeps("--state", "folder", "--force", "always", "--keep", "1")
     print("the journal before the power cycle stays:", pathlib.Path("folder/journal.1").exists())
@@ -117,7 +121,9 @@ def kept_in_a_folder() -> None:
 
 
 def recorded() -> None:
-    """Each time with power is a journal, which agrees with itself."""
+    """Each period from power-on to power-off has a journal, which the audit finds to agree with
+    itself.
+    """
     pathlib.Path("records").mkdir()
     with Served("--record", "records", "--seed", "0b") as served:
         served.client().define(area(index=INDEX))
@@ -131,7 +137,9 @@ def recorded() -> None:
 
 
 def repeated() -> None:
-    """With a seed runs repeat, and nonces do not; without one both are new."""
+    """With a seed, each run draws the same bytes, but nonces differ within a run. Without a seed
+    both are new.
+    """
     for words in (["--seed", "00ff", "--clock", "commands"], []):
         draws = []
         for _ in range(2):
@@ -150,7 +158,7 @@ def repeated() -> None:
 
 
 def several() -> None:
-    """Each device has two ports, a state and random bytes of its own."""
+    """Each device has its own two ports, state and random bytes."""
     with Served("--devices", 3, "--state", "several", "--seed", "01", devices=3) as served:
         tpms = [served.client(device) for device in range(3)]
         tpms[1].define(area(index=INDEX))
@@ -185,7 +193,7 @@ def hostile() -> None:
             if draw.randrange(2):
                 stream.close()
         print("still answers:", len(drawn(tpm)))
-        # A device that chance turned off is turned on again.
+        # A device that the random requests turned off is turned on again.
         print("serves on:", served.asks(1, number(POWER_ON, 4)).hex(), served.process.poll())
 
 

@@ -1,10 +1,10 @@
-"""More clients of tpmsim-simulator than it has file descriptors for:
+"""Connects more clients to tpmsim-simulator than it has file descriptors for:
 
     tools/python.sh tests/attached/simulator_clients.py SIMULATOR
 
-The server may open few files. Clients that send nothing take all of them. Earlier clients are still
-served, a change reaches the image, the extra clients are refused, and new ones are served after
-others end.
+The server may open only few files. Clients that send nothing take all of its descriptors.
+Earlier clients are still served, and a change reaches the image. The extra clients are refused.
+New clients are served after others end.
 """
 
 import pathlib
@@ -28,7 +28,7 @@ def limit():
 
 
 def served():
-    """The server, and its address."""
+    """Starts the server, and returns it with its address."""
     words = [sys.argv[1], "--port", "0", "--image", IMAGE]
     process = subprocess.Popen(words, stdout=subprocess.PIPE, preexec_fn=limit, text=True)
     host, port = process.stdout.readline().split()
@@ -36,7 +36,9 @@ def served():
 
 
 def refused(idle):
-    """How many clients the server has closed without a word; it must close those beyond FILES."""
+    """Returns the number of clients that the server has closed without an answer. It must close
+    those beyond FILES.
+    """
     until, closed = time.monotonic() + SECONDS, []
     while len(closed) < len(idle) - FILES and time.monotonic() < until:
         closed = select.select(idle, (), (), 0.05)[0]
@@ -44,14 +46,14 @@ def refused(idle):
 
 
 def changes(tpm, index):
-    """A change, which the server writes into its image."""
+    """Makes a change. Returns whether the server has written it into its image."""
     before = IMAGE.read_bytes()
     tpm.define(area(index=index))
     return IMAGE.read_bytes() != before
 
 
 def said(act):
-    """The result of an act, in words."""
+    """Returns the result of `act`, or a description of its fault."""
     try:
         return act()
     except (DeviceEnded, OSError) as fault:
@@ -59,7 +61,7 @@ def said(act):
 
 
 def connected(address):
-    """A new client's command, as soon as the server accepts one."""
+    """Connects a new client, and sends its command as soon as the server accepts one."""
     until = time.monotonic() + SECONDS
     while True:
         try:

@@ -1,10 +1,12 @@
-/* A damaged journal, with each number by which the library can say why it does not open: what the kept device
- * says, and that the file stays as it was. The call of the library is wrapped. */
+/* Checks the sentences of the kept device about a damaged journal, for each number by which the
+ * library can say why the journal does not open. The file stays as it was. The library's
+ * function is wrapped. */
 #include "common.h"
 
 static const char FOLDER[] = "state", JOURNAL[] = "state/journal";
 
-/* What the wrapped call returns instead of its work; with TPMSIM_DONE it does its work. */
+/* The number that the wrapped function returns instead of its work. With TPMSIM_DONE it does its
+   work. */
 static uint8_t opening;
 
 uint8_t __real_tpmsim_journal_open(tpmsim *device, const uint8_t *text, size_t size, size_t *taken);
@@ -22,7 +24,8 @@ static void must_be(const uint8_t *wanted, size_t size) {
     free(bytes);
 }
 
-/* Opens the device, and has an already open one execute a command: both must fail alike. */
+/* Opens the device, and has a device that is already open execute a command. Both must fail in
+   the same way. */
 static void refuse_all(struct kept *kept, struct reason *reason) {
     struct kept_options options = {.folder = FOLDER, .force = KEPT_FORCE_NEVER};
     struct reason another;
@@ -34,7 +37,7 @@ static void refuse_all(struct kept *kept, struct reason *reason) {
     must(strcmp(reason->text, another.text) == 0, "another sentence is said");
 }
 
-/* Damages the last record of the journal, for which the library returns this number. */
+/* Damages the last record of the journal, for which the library then returns `number`. */
 static void tell(struct kept *kept, size_t last, uint8_t number) {
     struct reason reason;
     size_t size;

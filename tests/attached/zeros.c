@@ -1,6 +1,6 @@
-/* Zeros after the whole records of a journal, which a crash of the host can leave, with and without a part
- * of a record before them. The next record cuts them off, and a sentence reports that. With another byte
- * among them they are damage. The argument is the file of the values of the PCR. */
+/* Zeros after the whole records of a journal, which a crash of the host can leave. An incomplete
+ * record may precede them. The next record cuts the zeros off, and a sentence reports that. With
+ * another byte among them they are damage. The argument is the file of the values of the PCR. */
 #include "common.h"
 
 enum { EXTENDS = 2, PART = 256 * 1024 };
@@ -35,7 +35,8 @@ static struct kept *opened_to(bool cuts, struct reason *reason) {
     return kept_open(&options, reason);
 }
 
-/* Extends a device whose journal has this size, and checks the file. `begins`: the journal began again. */
+/* Extends a device whose journal has this size, and checks the file. If `begins` is true, the
+   journal begins again. */
 static void extend_and_look(struct kept *kept, size_t size, const char *behind, bool begins,
                             const struct values *values) {
     extend(kept);
@@ -52,7 +53,8 @@ static void extend_and_look(struct kept *kept, size_t size, const char *behind, 
     free(journal);
 }
 
-/* Zeros after this much of the last record: opened, and found by a device that was open. */
+/* Writes zeros after this much of the last record. The device is opened with them, and an open
+   device finds them. */
 static void try_zeros(size_t front, size_t zeros, const struct values *values) {
     size_t size = last + front + zeros;
     struct reason reason;
@@ -77,7 +79,7 @@ static void try_zeros(size_t front, size_t zeros, const struct values *values) {
     kept_close(kept);
 }
 
-/* The same with a nonzero byte among the zeros. */
+/* Does the same with a nonzero byte among the zeros. */
 static void try_damage(size_t front, size_t zeros, size_t place, const struct values *values) {
     size_t size = last + front + zeros, there;
     struct reason reason;

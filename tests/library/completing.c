@@ -1,6 +1,6 @@
-/* Executes commands for a journal with and without the completing layer, opens what was written in
- * another handle, and goes on there. Prints what is answered each time. Then it does the same without a
- * journal, and goes on in another handle from a state text. */
+/* Executes commands for a journal with and without the completing layer. Opens the journal in
+ * another handle, and continues there. Prints the response each time. Then does the same without
+ * a journal, and continues in another handle from a state text. */
 #include "common.h"
 #include "tpmsim.h"
 
@@ -51,8 +51,8 @@ static void execute(const char *name, uint8_t completes, const uint8_t *buffer, 
     printf("%s: %03x, %zu drawn\n", name, (unsigned)code_of(response), answered.drawn);
 }
 
-/* Asks for at most five values of a capability, from this property on. Prints in hex what follows the
- * response's header and moreData. */
+/* Reads at most five values of a capability, beginning with this property. Prints in hex what
+ * follows the response's header and moreData. */
 static void list(const char *name, uint8_t completes, uint32_t capability, uint32_t property) {
     uint8_t command[] = {0x80, 1, 0, 0, 0, 22, 0, 0, 1, 0x7a, 0, 0, 0, 0, 0, 0, 0, 0, 0, 0, 0, 5};
     for (int i = 0; i < 4; i++) {
@@ -66,7 +66,7 @@ static void list(const char *name, uint8_t completes, uint32_t capability, uint3
     putchar('\n');
 }
 
-/* Lists capabilities: those of the device, and those of the layer itself. */
+/* Lists the capabilities of the device and those of the layer itself. */
 static void list_capabilities(void) {
     list("commands from ContextLoad on", 1, 2, 0x161);
     list("commands from StirRandom on, without the layer", 0, 2, 0x146);
@@ -81,7 +81,7 @@ static void list_capabilities(void) {
     list("algorithms, without the layer", 0, 0, 0);
 }
 
-/* Executes a command with the layer, and prints what follows the header of its response. */
+/* Executes a command with the layer, and prints its response without the header. */
 static void show(const char *name, const uint8_t *buffer, size_t size) {
     execute(name, 1, buffer, size);
     printf("  ");
@@ -135,7 +135,8 @@ static void complete_load(const char *name) {
     complete(name, command, sizeof command);
 }
 
-/* A context that is saved before a snapshot is loaded once in the device that is restored from it. */
+/* Loads a context, which was saved before a snapshot, in the device that is restored from the
+   snapshot. It can be loaded once. */
 static void restore_other(void) {
     complete("a session without a journal", START_SESSION, sizeof START_SESSION);
     complete("its context", SAVE_SESSION, sizeof SAVE_SESSION);
@@ -147,7 +148,7 @@ static void restore_other(void) {
     complete_load("loaded twice");
 }
 
-/* A saved session is listed as saved, and cannot be saved again. */
+/* Saves a session. It is listed as saved, and cannot be saved again. */
 static void save_session(void) {
     execute("a session", 1, START_SESSION, sizeof START_SESSION);
     save("its context", SAVE_SESSION, sizeof SAVE_SESSION);
@@ -180,7 +181,7 @@ static void create_ninth(void) {
     load("the context of what gave up its place");
 }
 
-/* Changes the byte of the last record's mark that says whether the layer was on. */
+/* Changes the byte of the last record's mark that records whether the layer was on. */
 static void turn_flag(void) {
     size_t at = text_size, size_taken;
     while (text[at - 1] != '#') at--;

@@ -1,6 +1,6 @@
-/* Many devices in a process: 1,000 at the same time, each independent, whose memory is freed. The first
- * argument is their number. With a second one, the allocator is asked how much memory is in use, which
- * sanitizers do not report. */
+/* Makes many devices in a process: 1,000 at the same time, each independent. Their memory is
+ * freed. The first argument is the number of devices. With a second argument the program prints
+ * how much memory the allocator has in use, which sanitizers do not report. */
 #include "common.h"
 #include <malloc.h>
 
@@ -14,7 +14,7 @@ static const uint8_t READ[READ_BYTES] = {0x80, 0x01, 0, 0, 0, 20,   0, 0, 0x01, 
 
 static uint8_t response[RESPONSE_BYTES];
 
-/* Extends PCR 10 by a number. */
+/* Extends PCR 10 with a number. */
 static void extend(struct tpmsim *device, unsigned number) {
     uint8_t buffer[EXTEND_BYTES];
     memcpy(buffer, EXTEND, EXTEND_BYTES);
@@ -30,7 +30,7 @@ static void read_pcr(struct tpmsim *device, uint8_t value[DIGEST_BYTES]) {
     memcpy(value, response + VALUE_AT, DIGEST_BYTES);
 }
 
-/* The value of PCR 10 after the same commands on the only device. */
+/* Computes the value of PCR 10 after the same commands on a single device. */
 static void value_alone(unsigned number, uint8_t value[DIGEST_BYTES]) {
     struct tpmsim alone = {0};
     start_new(&alone, 1);

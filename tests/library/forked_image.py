@@ -1,8 +1,9 @@
-"""A device of an image, whose process forks. Only the process that opened the image writes it:
+"""A process with a device of an image forks. Only the process that opened the image writes it:
 
     tools/python.sh forked_image.py LIBRARY
 
-LIBRARY is the shared object. It is run in an empty folder, and prints a line for each case.
+LIBRARY is the shared object. The program runs in an empty folder, and prints a line for each
+case.
 """
 
 import hashlib
@@ -33,7 +34,8 @@ def image():
 
 
 def in_child(device, snapshot):
-    """What a forked child gets, and whether it has written the image by then."""
+    """Returns the results of a forked child's calls, and whether it has written the image by then.
+    """
     before = image()
     acts = {
         "a command": lambda: device.execute(b""),
@@ -56,7 +58,7 @@ def forks(device, snapshot):
 
 
 def outlived(device):
-    """A child that lives on holds nothing, from its first moment on."""
+    """Checks that a forked child that lives on holds nothing, from its first moment on."""
     reads, writes = os.pipe()
     child = os.fork()
     if not child:

@@ -1,12 +1,13 @@
-/* Begins a journal, executes two commands for it, opens and follows it, and begins it again with a
- * checkpoint. Prints the result each time, and whether each call stays within the stack of tpmsim.h. */
+/* Begins a journal, executes two commands for it, opens and follows it, and begins it again with
+ * a checkpoint. Prints the result each time, and whether each call keeps to the stack limit of
+ * tpmsim.h. */
 #define _GNU_SOURCE
 #include "common.h"
 #include "tpmsim.h"
 #include <pthread.h>
 #include <sys/mman.h>
 
-/* MOST_STACK is the limit that the header says. */
+/* MOST_STACK is the limit that the header documents. */
 enum { STACK_BYTES = 512 * 1024, MOST_STACK = 96 * 1024, CLOCK = 1000, WAITED = 250 };
 
 static tpmsim device;
@@ -25,7 +26,7 @@ static void *begin(void *unused) {
     return unused;
 }
 
-/* The time of the host is far from that of the journal. */
+/* Writes a checkpoint. The host's time differs much from the journal's. */
 static void *checkpoint(void *unused) {
     text_size = tpmsim_journal_checkpoint(&device, now + 1000 * WAITED, text, sizeof text);
     told = TPMSIM_DONE;
@@ -49,7 +50,7 @@ static void *follow(void *unused) {
     return unused;
 }
 
-/* The size of the stack that a call takes in a thread of its own, in bytes. */
+/* Returns the size of the stack that a call uses in a thread of its own, in bytes. */
 static size_t stack_of(void *(*call)(void *)) {
     pthread_attr_t attributes;
     pthread_t thread;
@@ -68,7 +69,7 @@ static size_t stack_of(void *(*call)(void *)) {
     return STACK_BYTES - at;
 }
 
-/* Runs a call, and prints whether it takes more stack than it may. */
+/* Runs a call, and prints whether it uses more stack than its limit. */
 static void run(const char *name, void *(*call)(void *), size_t most) {
     size_t took = stack_of(call), least = stack_of(nothing);
     printf("%s: told %u, %s\n", name, told, took - least <= most ? "within its stack" : "TOO MUCH STACK");
@@ -93,7 +94,7 @@ static void compare(const char *name) {
     printf("%s: %s\n", name, is_same ? "the same device" : "ANOTHER DEVICE");
 }
 
-/* The clock of the head, after its word. */
+/* Prints whether the head has the expected clock, after its first words. */
 static void show_clock(const char *name, uint64_t wanted) {
     char digits[17] = "";
     memcpy(digits, text + strlen("# tpmsim journal 2 "), sizeof digits - 1);
@@ -107,7 +108,7 @@ static void check_small(void) {
     compare("a checkpoint that does not fit");
 }
 
-/* A device that is opened from a checkpoint is the same device, and goes on as that does. */
+/* Opens a device from a checkpoint. It is the same device, and continues in the same way. */
 static void check_checkpoints(void) {
     memset(text, FILLED, sizeof text);
     remember();

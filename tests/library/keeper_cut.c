@@ -1,16 +1,16 @@
-/* What a keeper reports of a command, the time of a command, what a keeper does about a damaged
- * journal, and what its faults say. */
+/* Checks what a keeper reports about a command, the time of a command, what a keeper does with a
+ * damaged journal, and the texts of its faults. */
 #define _GNU_SOURCE
 #include "keeper_known.h"
 #include "keeper_memory.h"
 #include "keeper_stack.h"
 
-/* A journal of the head, STARTUP, GET_RANDOM, and a few times EXTEND. */
+/* A journal with the head and the records of STARTUP, GET_RANDOM, and EXTEND a few times. */
 enum { RECORDS = 5, EXTEND_FROM = 2 };
 
 static memory folder, before;
 static host alive;
-/* The size of the journal with its head and this many records. */
+/* The size of the journal up to the end of each record. The first one is that of the head. */
 static size_t sizes[RECORDS + 1];
 
 static const uint8_t READ_CLOCK[] = {0x80, 1, 0, 0, 0, 10, 0, 0, 1, 0x81};
@@ -23,7 +23,8 @@ static uint64_t number_at(const uint8_t *at, int size) {
 
 /* ---- reports */
 
-/* A command's report is that of a device that executes the same command. */
+/* Checks that the report of a command is the same as the report of a device that executes the
+   command. */
 static void check_report(tpmsim *device, const uint8_t *command, size_t size) {
     uint8_t response[RESPONSE_BYTES];
     tpmsim_answered answered = answered_by(device, command, size, response);
@@ -98,14 +99,14 @@ static void write_journal(void) {
     tpmsim_keeper_free(&alive.keeper);
 }
 
-/* How many records end before a byte. */
+/* Returns the number of records that end before a byte. */
 static int records_before(size_t at) {
     int count = 0;
     while (count < RECORDS && sizes[count + 1] <= at) count++;
     return count;
 }
 
-/* A new host begins in a folder in which only this byte is changed. */
+/* Has a new host begin in a folder in which only this byte is changed. */
 static void turn(size_t at) {
     folder = before;
     folder.journal.bytes[at] ^= 1;
@@ -121,7 +122,7 @@ static void is_refused(uint8_t fault, size_t at) {
     folder.journal.bytes[at] ^= 1;
 }
 
-/* The device executed this many records, and no more. */
+/* Checks that the device has executed this many records, and no more. */
 static void is_device_of(int records) {
     memory_host(&alive, &folder, TPMSIM_FORCE_NEVER, FAR);
     int extends = records < EXTEND_FROM ? 0 : records - EXTEND_FROM;
@@ -154,7 +155,8 @@ static void check_damage(void) {
     printf(", cut at each byte of %d records\n", RECORDS);
 }
 
-/* Kills a host at each task of a cut: the journal still has its damage, or is the new one. */
+/* Kills a host at each task while it cuts a journal. Then the journal still has its damage, or
+   is the new one. */
 static void check_kills(extent how_much) {
     uint8_t fault = KILLED;
     int kills = -1;
@@ -176,14 +178,14 @@ static void check_kills(extent how_much) {
     printf("cut: killed %d times %s a task\n", kills, how_much == ALL ? "after" : "in");
 }
 
-/* Adds bytes that no crash leaves. */
+/* Adds bytes that a crash cannot leave. */
 static void add_damage(void) {
     memset(folder.journal.bytes + folder.journal.size, 'x', 100);
     folder.journal.size += 100;
 }
 
-/* A journal that opens is not cut, nor is a missing one. A journal that was damaged after it was opened
- * is cut when the keeper is asked to again. */
+/* Checks that a journal that opens is not cut, nor is a missing one. A journal that was damaged
+ * after it was opened is cut when the keeper is asked again. */
 static void check_whole(void) {
     folder = before;
     memory_host(&alive, &folder, TPMSIM_FORCE_ALWAYS, FAR);
@@ -201,7 +203,7 @@ static void check_whole(void) {
     tpmsim_keeper_free(&alive.keeper);
 }
 
-/* Adds the record of READ with the answer of a device that executed one command more. */
+/* Adds the record of READ with the response of a device that has executed one command more. */
 static void answer_otherwise(void) {
     tpmsim device = {0};
     tpmsim_answered answered;
@@ -221,7 +223,8 @@ static void answer_otherwise(void) {
     tpmsim_free(&device);
 }
 
-/* A journal whose device answers otherwise is refused, and never cut, whatever follows. */
+/* Checks that a journal is refused, and never cut, if the device's response to a record differs
+   from the recorded one. Damage after that record does not matter. */
 static void check_otherwise(void) {
     answer_otherwise();
     add_damage();
@@ -248,7 +251,7 @@ static void show_faults(void) {
     }
 }
 
-/* Calls that salvage, in a thread of their own. */
+/* Makes calls that salvage, in a thread of their own. */
 static void *call_all(void *unused) {
     check_kills(A_PART);
     check_kills(ALL);

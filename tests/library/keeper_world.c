@@ -1,13 +1,13 @@
-/* The world of specs/World.antt of tpm_keeping drives the compiled keeper with random events. Processes
- * with a keeper each get commands, do the tasks, fail, are killed and fork; and the host crashes. Each
- * answer, and after each crash the journal, is compared with the device that executed the history, by
- * the definition (keeper_fold.h).
+/* Drives the compiled keeper with random events, in the world of specs/World.antt of tpm_keeping. Each
+ * process has a keeper. Processes get commands, do the tasks, fail, are killed and fork; and the host
+ * crashes. Each response is compared with the device that executed the history, by the definition
+ * (keeper_fold.h). After each crash the journal is compared too.
  *
- *     keeper_world EVENTS SEED     this many events, of a seed
+ *     keeper_world EVENTS SEED     this many events, with a seed
  *     keeper_world wrong EVENTS    wrong hosts; each of them has to be caught within this many events
  *
  *
- * Linked with --wrap=malloc and --wrap=realloc, to refuse memory. */
+ * Linked with --wrap=malloc and --wrap=realloc, to make allocations fail. */
 #define _GNU_SOURCE
 #include "keeper_fold.h"
 #include "keeper_memory.h"
@@ -17,7 +17,7 @@
 
 enum { PROCESSES = 5, WORLD_EVENTS = 1500, CHILD_EVENTS = 60, STATES = 8 };
 
-/* A process. It was hindered if a task of its call failed, or if it was refused memory. */
+/* A process. It was hindered if a task of its call failed, or if an allocation failed. */
 typedef struct process {
     tpmsim_keeper keeper;
     uint8_t force, job;
@@ -71,7 +71,7 @@ static void add_random(process *it, size_t size) {
     while (size--) it->command[it->size++] = (uint8_t)rolled(256);
 }
 
-/* The host's clock, which may go back. */
+/* Adds the time of the host's clock, which may go back. */
 static void add_clock(process *it) {
     all->clock += rolled(2000);
     if (chance(50)) all->clock -= rolled((unsigned)all->clock);
@@ -209,7 +209,7 @@ static void acts(process *it, const tpmsim_ask *ask, extent much) {
     }
 }
 
-/* What the host then reports. */
+/* Returns the host's report after a task. */
 static seen tells(process *it, const tpmsim_ask *ask) {
     const content *now = &journal()->now;
     seen told = {TPMSIM_GOT_DONE, journal()->number, now->size, host_text, 0};
@@ -253,7 +253,7 @@ static void is_answered(process *it) {
     counts.answers++;
 }
 
-/* How a call has to end if nothing hindered it. */
+/* Returns how a call has to end if nothing hindered it. */
 static uint8_t end_of(const process *it) {
     if (journal()->number == 0)
         return it->job == TPMSIM_JOB_BEGIN ? TPMSIM_FAULT_UNREADABLE : TPMSIM_FAULT_ABSENT;
@@ -279,7 +279,7 @@ static void goes_on(process *it, const seen *told) {
 
 /* ---- events */
 
-/* The lock's holder: a process and its fork are two holders. */
+/* Returns the lock's holder. A process and its fork are two holders. */
 static int holder_of(int number) { return is_child ? PROCESSES + number : number; }
 
 /* Takes the lock, unless another process has it. */
@@ -334,7 +334,8 @@ static void dies(int number, const tpmsim_ask *ask) {
 
 static void happens(void);
 
-/* All processes fork. The children go on for a while, and die. Their parents do nothing meanwhile. */
+/* Forks all processes. The children continue for a while, and end. Their parents do nothing
+   meanwhile. */
 static void forks(void) {
     int status;
     if (is_child) return;
@@ -373,7 +374,7 @@ static void begins_anew(uint64_t seed) {
     counts.worlds++;
 }
 
-/* Whether a process waits for the lock, which another one has. */
+/* Returns whether a process waits for a lock that another process has. */
 static int waits(const process *it, const tpmsim_ask *ask) {
     return it->is_busy && ask->task == TPMSIM_TASK_LOCK && all->is_locked && !is_wrong(LOCKS_NOT);
 }
@@ -423,7 +424,7 @@ static void run(long events, uint64_t seed) {
     }
 }
 
-/* Each wrong host runs in its own process, which has to detect it. */
+/* Runs each wrong host in a process of its own, which has to detect the mistake. */
 static void check_wrong(long events) {
     for (wrong = ANSWERS_FIRST; wrong < WRONGS; wrong++) {
         int status;

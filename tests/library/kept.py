@@ -1,5 +1,5 @@
-"""What the tests of a device that Python keeps in a folder share. The first word names the shared
-object of the library.
+"""Shared by the tests of a device that Python keeps in a folder. The first word of the command line
+names the library's shared object.
 """
 
 import hashlib
@@ -18,7 +18,7 @@ EXTEND = frames.on_handle(CC.PCR_Extend, PCR, frames.digests((SHA256, DIGEST)))
 
 
 class Waits(BaseException):
-    """A call waits for something that does not come."""
+    """Raised if a call takes too long."""
 
 
 def raise_waits(*_):
@@ -29,7 +29,7 @@ signal.signal(signal.SIGALRM, raise_waits)
 
 
 def within(seconds, act):
-    """What an act returns within this many seconds; else Waits."""
+    """Returns the result of `act` within this many seconds; else raises Waits."""
     signal.setitimer(signal.ITIMER_REAL, seconds)
     try:
         return act()
@@ -38,7 +38,7 @@ def within(seconds, act):
 
 
 def started(folder):
-    """The device of a folder after power came on and TPM2_Startup."""
+    """Returns the device of a folder after a power cycle and TPM2_Startup."""
     device = KeptDevice(folder)
     device.power_cycle()
     Caller(device).start_up()

@@ -1,9 +1,9 @@
-"""A device that Python keeps in a folder, next to files that are wrong, with writes that fail, and
-in threads and forked processes:
+"""A device that Python keeps in a folder: next to wrong files, with writes that fail, in threads,
+and in forked processes:
 
     tools/python.sh kept_files.py LIBRARY
 
-It is run in an empty folder, and prints a line for each case.
+The program runs in an empty folder, and prints a line for each case.
 """
 
 import contextlib
@@ -28,7 +28,7 @@ FAULTS = BadImage, BadState, DeviceEnded, MemoryError, OSError, TypeError, Value
 
 
 def told(act):
-    """The result of an act, in words."""
+    """Returns the result of `act`, in words."""
     try:
         within(SECONDS, act)
     except FAULTS as fault:
@@ -37,14 +37,16 @@ def told(act):
 
 
 def asks():
-    """Opens the device, and has it execute a command and a power cycle."""
+    """Opens the device. Has it execute a command and a power cycle."""
     with KeptDevice(STATE) as device:
         device.execute(b"")
         device.power_cycle()
 
 
 def with_file(path, make):
-    """What is reported while `make` has put something else at a path, until that is restored."""
+    """Returns the fault that is reported while `make` has put something else at a path. Then
+    restores the path.
+    """
     aside = pathlib.Path("aside")
     if path.exists():
         path.rename(aside)
@@ -90,14 +92,14 @@ def wrong_words():
 
 
 def head(kind, text):
-    """The head of a journal that holds a text, whatever the text is."""
+    """Returns the head of a journal that contains a text, whatever the text is."""
     mark = number(0, 8) + number(len(text), 4) + number(sum_of(text), 8)
     line = f"# tpmsim journal {kind} {mark.hex()} {sum_from(OFFSET_BASIS, mark):016x}"
     return f"{line}\n# {text.hex()}\n".encode()
 
 
 def wrong_texts(text):
-    """A text for each fault, made from this one, which is an image or a state text."""
+    """Yields a text for each fault, made from `text`, which is an image or a state text."""
     turned = bytes([text[60] ^ 1])
     body = bytes(len(text) - 42)
     yield "Short", b""
@@ -110,7 +112,7 @@ def wrong_texts(text):
 
 
 def damaged_journals():
-    """Each damage is reported, and the journal stays as it is."""
+    """Checks that each damage is reported, and that the journal stays as it is."""
     started(STATE).close()
     whole = JOURNAL.read_bytes()
     with ModelDevice() as device:
@@ -149,7 +151,7 @@ def changed_meanwhile():
 
 @contextlib.contextmanager
 def file_limit(size):
-    """Limits the size of every file, and so of what this program prints."""
+    """Limits the size of every file. The limit also applies to this program's output."""
     limits = resource.getrlimit(resource.RLIMIT_FSIZE)
     resource.setrlimit(resource.RLIMIT_FSIZE, (size, limits[1]))
     try:
@@ -159,7 +161,7 @@ def file_limit(size):
 
 
 def failing_writes():
-    """The device goes on from its journal."""
+    """Checks that the device continues from its journal after a write has failed."""
     device = started(STATE)
     before, size, taken = value_of(device), JOURNAL.stat().st_size, device.snapshot()
     with file_limit(size + 20):
@@ -222,7 +224,7 @@ def journals_of_the_past():
 
 
 def takes_turns():
-    """Threads share a device, while forked children use it too."""
+    """Has threads share a device while forked children use it too."""
     device = started(STATE)
     before, ended = value_of(device), []
 
@@ -250,7 +252,7 @@ def takes_turns():
 
 
 def forks():
-    """A forked child holds the device too, but has no part in its parent's lock."""
+    """Checks that a forked child holds the device too, but does not share its parent's lock."""
     device = started(STATE)
     before = value_of(device)
     child = os.fork()
@@ -265,8 +267,8 @@ def forks():
     device.close()
 
 
-# From version 3.12 on, Python warns at each fork of a process with threads that a child may wait
-# for ever.
+# Since version 3.12 Python warns at each fork of a process with threads that the child may wait
+# forever.
 warnings.filterwarnings("ignore", "This process .* is multi-threaded", DeprecationWarning)
 wrong_files()
 wrong_words()

@@ -1,11 +1,11 @@
-"""A device that Python keeps in a folder, whose calls are interrupted: each call at each of its
+"""A device that Python keeps in a folder. Its calls are interrupted: each call at each of its
 lines, then at random moments, and while it waits for the lock:
 
     tools/python.sh kept_interrupts.py LIBRARY
 
-It prints a line for each call. After each interrupt the device has what its journal has, another
-thread can use it, and no file is locked or left open. `restore` leaves the device of the snapshot,
-or the one before.
+The program prints a line for each call. After each interrupt the device has executed what its
+journal contains. Another thread can use it, and no file is locked or left open. An interrupted
+`restore` leaves the device of the snapshot, or the device before.
 """
 
 import contextlib
@@ -28,18 +28,19 @@ from tpmsim.device import DeviceEnded, KeptDevice
 WATCHED = str(pathlib.Path(sys.modules[KeptDevice.__module__].__file__).parent)
 SECONDS, LEAST_LINES = 5, 5
 
-# How often signals interrupt a call, and how many seconds after its beginning at most.
+# The number of signals that interrupt calls, and the longest delay after a call's beginning, in
+# seconds.
 SIGNALS, MOST_DELAY = 400, 200e-6
 
-# For how many seconds the lock is held; the handler's signal comes long before the end.
+# The time for which the lock is held, in seconds. The handler's signal comes long before its end.
 HELD_SECONDS, SIGNAL_SECONDS = 0.4, 0.1
 
 
 @contextlib.contextmanager
 def interrupted(number):
-    """Raises KeyboardInterrupt at the executed line of this number of the package's devices. What
-    __del__ raises reaches nobody, and no signal handler runs between the body of a `with` and its
-    end.
+    """Raises KeyboardInterrupt at line number `number` that the package's devices execute. An
+    exception of __del__ would be ignored. No signal handler runs between the body of a `with`
+    and its end. So neither is interrupted.
     """
     left, entered = number, set()
 
@@ -72,8 +73,8 @@ def interrupted(number):
 
 
 def is_interrupted(act, number, then):
-    """Whether an act executes this many lines. `then` checks what it left, together with everything
-    that the fault still holds.
+    """Returns whether `act` executes this many lines. `then` checks what the act left, while
+    everything that the exception refers to still exists.
     """
     try:
         with interrupted(number):
@@ -90,7 +91,9 @@ def files_open():
 
 
 def in_thread(act):
-    """The result in another thread, which waits for ever if this one still has its turn."""
+    """Returns the result of `act` in another thread. That thread waits forever if this one has not
+    ended its turn.
+    """
     done = []
     thread = threading.Thread(target=lambda: done.append(act()), daemon=True)
     thread.start()
@@ -99,7 +102,7 @@ def in_thread(act):
 
 
 class Lines:
-    """A device and another holder of its folder; an act is interrupted at each of its lines."""
+    """A device and another holder of its folder. An act is interrupted at each of its lines."""
 
     def __init__(self, folder):
         self.folder, self.faults = folder, []
@@ -119,7 +122,7 @@ class Lines:
         }
 
     def begin(self):
-        """A new device, in a folder that does not exist."""
+        """Makes a new device in a folder that does not exist."""
         self.begun += 1
         KeptDevice(self.new).close()
 
@@ -128,7 +131,9 @@ class Lines:
         return f"{self.folder}/{self.begun}"
 
     def then(self):
-        """The other holder comes first, because it would wait for a lock that was left."""
+        """Checks the folder after an interrupt. The other holder comes first, because it would wait
+        for a lock that was not released.
+        """
         with contextlib.suppress(Exception):
             Caller(self.other).start_up()
         before = value_of(self.other)
@@ -159,7 +164,9 @@ class Lines:
 
 
 def at_random(folder):
-    """The command of an interrupted call was executed or not; an answered one was executed."""
+    """Interrupts commands at random moments. The command of an interrupted call was executed or
+    not. An answered command was executed.
+    """
     device, chance = started(folder), random.Random(1)
     before, counts = value_of(device), [0, 0]
 
@@ -189,7 +196,9 @@ def at_random(folder):
 
 
 def while_it_waits(folder):
-    """The handler runs after the call has returned, and its command was executed."""
+    """Interrupts a call while it waits for the lock. The handler runs after the call has returned
+    and its command was executed.
+    """
     device = started(folder)
     before = value_of(device)
     with open(f"{folder}/lock", "rb") as lock:

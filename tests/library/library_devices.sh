@@ -1,11 +1,11 @@
-# Many devices in one process, and devices in threads with small stacks, with sanitizers and without.
+# Makes many devices in one process, and devices in threads with small stacks, with and without sanitizers.
 # library/devices.c and library/threads.c are the callers.
 tests=$(cd "$(dirname "$0")/.." && pwd -P)
 . "$tests/common/cases.sh"
 . "$tests/common/library.sh"
 needs cc python3
 
-# These calls take at most 64 KB of stack; the rest is for the thread and its caller.
+# These calls use at most 64 KB of stack. The rest is for the thread and its caller.
 stack=$(((64 + 16) * 1024))
 large_stack=$((512 * 1024))
 

@@ -1,4 +1,4 @@
-# The program of docs/LIBRARY.md prints what the page says.
+# Checks that the program of docs/LIBRARY.md prints what the page says.
 tests=$(cd "$(dirname "$0")/.." && pwd -P)
 . "$tests/common/cases.sh"
 . "$tests/common/library.sh"

@@ -1,5 +1,5 @@
-# A caller in C logs what it executes, by the functions of docs/LIBRARY.md, its third block in C, and
-# tools/explain.py says why one command was refused. The header puts the number of each check into words.
+# A caller in C logs the commands that it executes, by the functions in the third C block of docs/LIBRARY.md.
+# tools/explain.py explains why one command was refused. The header has words for the number of each check.
 tests=$(cd "$(dirname "$0")/.." && pwd -P)
 . "$tests/common/cases.sh"
 . "$tests/common/library.sh"

@@ -1,5 +1,5 @@
-# A caller in Go logs what it executes, by the function of docs/LIBRARY.md, and tools/explain.py says why
-# one command was refused.
+# A caller in Go logs the commands that it executes, by the function of docs/LIBRARY.md. tools/explain.py
+# explains why one command was refused.
 tests=$(cd "$(dirname "$0")/.." && pwd -P)
 . "$tests/common/cases.sh"
 . "$tests/common/library.sh"

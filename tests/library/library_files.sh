@@ -1,11 +1,11 @@
-# The delivered files of the library: the names that they define and need, and that the header compiles by
-# itself, in C and in C++.
+# Checks the delivered files of the library: the names that they define and those that they need. The header
+# compiles on its own, in C and in C++.
 tests=$(cd "$(dirname "$0")/.." && pwd -P)
 . "$tests/common/cases.sh"
 . "$tests/common/library.sh"
 needs cc g++ nm objdump
 
-# names WORDS..: prints the names that nm lists, in order.
+# names WORDS..: prints the sorted names that nm lists.
 names() {
     nm --format=posix "$@" | awk 'NF > 1 { sub(/@.*/, "", $1); print $1 }' | LC_ALL=C sort -u
 }

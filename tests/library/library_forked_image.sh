@@ -1,4 +1,4 @@
-# A device of an image, in a process that forks: library/forked_image.py.
+# A process with a device of an image forks: library/forked_image.py.
 tests=$(cd "$(dirname "$0")/.." && pwd -P)
 . "$tests/common/cases.sh"
 . "$tests/common/library.sh"

@@ -1,4 +1,4 @@
-# A caller of the library in Go, by cgo: caller.go.
+# A caller of the library in Go, through cgo: caller.go.
 tests=$(cd "$(dirname "$0")/.." && pwd -P)
 . "$tests/common/cases.sh"
 . "$tests/common/library.sh"

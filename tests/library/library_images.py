@@ -2,8 +2,8 @@
 
     tools/python.sh library_images.py LIBRARY
 
-LIBRARY is the shared object. The images and the output are those of common/damaged_images.py, which
-opens them with the program.
+LIBRARY is the shared object. The images and the output are those of common/damaged_images.py,
+which opens the images with the program.
 """
 
 import os
@@ -15,13 +15,14 @@ from tests.common.damaged_images import main, RANDOM
 
 
 class Library:
-    """The library, which treats an image as a served device does; all images share one holder."""
+    """The library. It treats an image as a served device does. All images share one holder."""
 
     def __init__(self) -> None:
         self.device = LibraryDevice(manufactured=RANDOM)
 
     def fault_of(self, text: bytes) -> str | None:
-        """The fault of an image; if it has none, the holder has its device."""
+        """Returns the fault of an image. If there is none, the holder then has the image's device.
+        """
         try:
             self.device.begin(text)
         except BadImage as fault:
@@ -29,7 +30,7 @@ class Library:
         return None
 
     def saved(self, commands: bytes) -> bytes:
-        """The image of a new device after these commands."""
+        """Returns the image of a new device after these commands."""
         self.device.manufacture(RANDOM)
         while commands:
             size = int.from_bytes(commands[2:6], "big")
@@ -38,7 +39,7 @@ class Library:
         return self.device.save()
 
     def saved_again(self, text: bytes) -> bytes:
-        """The image of the device that is opened from an image."""
+        """Opens an image, and returns the image that the device saves."""
         assert self.fault_of(text) is None
         return self.device.save()
 

@@ -1,5 +1,5 @@
-# Damaged images: what the library returns for each is what the device in Python says of it. They are all
-# prefixes of an image and all changes of one of its bytes; images.sh has the program open some of them.
+# Opens damaged images. For each, the library must return what the device in Python returns. The images are
+# all prefixes of an image, and all changes of one of its bytes. images.sh has the program open some of them.
 tests=$(cd "$(dirname "$0")/.." && pwd -P)
 . "$tests/common/cases.sh"
 . "$tests/common/library.sh"

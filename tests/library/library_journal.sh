@@ -1,5 +1,5 @@
-# The calls on a device's journal: journal.c, with sanitizers for the arguments, and without them for the
-# stack.
+# Tests the calls on a device's journal: journal.c. It runs with sanitizers, which check the arguments, and
+# without them, which measures the stack.
 tests=$(cd "$(dirname "$0")/.." && pwd -P)
 . "$tests/common/cases.sh"
 . "$tests/common/library.sh"

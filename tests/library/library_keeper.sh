@@ -1,4 +1,4 @@
-# The calls on a device's keeper: keeper.c, over a folder in memory and over files, without sanitizers and
+# Tests the calls on a device's keeper: keeper.c, on a folder in memory and on files, without sanitizers and
 # with them.
 tests=$(cd "$(dirname "$0")/.." && pwd -P)
 . "$tests/common/cases.sh"

@@ -1,5 +1,5 @@
-# What a keeper reports of a command, and what it does about damage: keeper_cut.c, without sanitizers and
-# with them.
+# Tests what a keeper reports about a command, and what it does with damage: keeper_cut.c, without sanitizers
+# and with them.
 tests=$(cd "$(dirname "$0")/.." && pwd -P)
 . "$tests/common/cases.sh"
 . "$tests/common/library.sh"

@@ -1,5 +1,5 @@
-# The world of the kept device's theorem drives the compiled keeper: keeper_world.c, for 100,000 events, and
-# for fewer with sanitizers. Then it has to catch each wrong host.
+# Drives the compiled keeper in the world of the kept device's theorem: keeper_world.c, for 100,000 events,
+# and for fewer with sanitizers. Then the program has to catch each wrong host.
 tests=$(cd "$(dirname "$0")/.." && pwd -P)
 . "$tests/common/cases.sh"
 . "$tests/common/library.sh"

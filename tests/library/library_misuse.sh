@@ -1,5 +1,5 @@
-# Each misuse of the library that has a result, with sanitizers and without: library/misuse.c. This test
-# makes an image with a right digest and a wrong body for it.
+# Tests each misuse of the library that has a defined result, with and without sanitizers: library/misuse.c.
+# This test makes an image with a right digest and a wrong body for it.
 tests=$(cd "$(dirname "$0")/.." && pwd -P)
 . "$tests/common/cases.sh"
 . "$tests/common/library.sh"

@@ -1,4 +1,4 @@
-# Devices that save their state after each event, and whose calls are interrupted: library/restored.py.
+# Interrupts the calls of devices that save their state after each event: library/restored.py.
 tests=$(cd "$(dirname "$0")/.." && pwd -P)
 . "$tests/common/cases.sh"
 . "$tests/common/library.sh"

@@ -1,5 +1,5 @@
-# The scripts that end well, over the library: the archive, the archive with sanitizers, and the shared
-# object. library/scripts.py says what is compared, and how much stack the calls may take.
+# Plays the scripts that end well with the library: with the archive, with the archive and sanitizers, and
+# with the shared object. library/scripts.py says what is compared, and how much stack the calls may use.
 tests=$(cd "$(dirname "$0")/.." && pwd -P)
 . "$tests/common/cases.sh"
 . "$tests/common/library.sh"

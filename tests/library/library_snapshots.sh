@@ -1,5 +1,5 @@
-# State texts over the library: the result of each good and bad text (library/snapshots.py), and devices
-# that are restored at random moments of random scripts (library/moved.c), with sanitizers and without.
+# Tests the library's state texts. library/snapshots.py checks the result of each good and bad text.
+# library/moved.c restores devices at random moments of random scripts, with and without sanitizers.
 # tools/soak/snapshots.sh plays more of both.
 tests=$(cd "$(dirname "$0")/.." && pwd -P)
 . "$tests/common/cases.sh"

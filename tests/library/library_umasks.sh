@@ -1,5 +1,6 @@
-# Only its user may read and write what a device in Python makes, whatever the umask is: an image with its
-# lock, and a kept device. Otherwise the next process of a user who is not root has no device.
+# Checks the modes of the files that a device in Python makes: an image with its lock, and a kept device. Only
+# their user may read and write them, whatever the umask. If that user could not, the user's next process
+# would have no device, unless the user is root.
 tests=$(cd "$(dirname "$0")/.." && pwd -P)
 . "$tests/common/cases.sh"
 . "$tests/common/library.sh"

@@ -1,6 +1,7 @@
-/* Each misuse of the library that has a result, and that result, one line each. The first argument is a
- * file with an image whose digest is right and whose body is wrong. Linked with --wrap for malloc and
- * realloc, so that it counts the calls that take memory, and can refuse one of them. */
+/* Prints each misuse of the library that has a defined result, and that result, one line each.
+ * The first argument is a file with an image whose digest is right and whose body is wrong. The
+ * program is linked with --wrap for malloc and realloc, so that it counts allocations, and can
+ * make one of them fail. */
 #include "common.h"
 
 void *__real_malloc(size_t size);
@@ -8,7 +9,7 @@ void *__real_realloc(void *memory, size_t size);
 void *__wrap_malloc(size_t size);
 void *__wrap_realloc(void *memory, size_t size);
 
-/* How often memory was requested, and the number of the call that is refused; 0 for none. */
+/* The number of allocations, and the number of the allocation that fails; 0 for none. */
 static unsigned asked, refused;
 
 static int is_refused(void) {
@@ -24,7 +25,7 @@ void *__wrap_realloc(void *memory, size_t size) {
 
 static uint8_t random_bytes[RANDOM_BYTES], response[RESPONSE_BYTES];
 
-/* TPM2_HierarchyChangeAuth of the owner by an empty password, to a byte. */
+/* TPM2_HierarchyChangeAuth of the owner with an empty password. The new value has one byte. */
 static const uint8_t CHANGE_AUTH[] = {0x80, 0x02, 0, 0, 0, 30,   0, 0, 0x01, 0x29, 0x40, 0, 0, 1, 0,
                                       0,    0,    9, 0x40, 0, 0, 9, 0, 0,    0,    0,    0, 0, 1, 'a'};
 
@@ -39,7 +40,7 @@ static size_t image_size;
 static uint8_t state[ROOM];
 static size_t state_size;
 
-/* A call that is refused leaves the holder's device as it was. The image shows that, and so does the
+/* A call that is refused leaves the holder's device as it was. The image shows that. So does the
  * pointer, which a caller must not read, but a test may. */
 static void *kept_pointer;
 
@@ -55,8 +56,8 @@ static const char *as_it_was(struct tpmsim *device) {
     return "the device is as it was";
 }
 
-/* Executes GetRandom in a case in which it is refused, alone and under the completing layer. Neither the
- * response nor the answer is written. */
+/* Executes GetRandom in a case in which it is refused, once on its own and once with the
+ * completing layer. Neither the response nor the answer is written. */
 static unsigned refused_command(struct tpmsim *device, uint8_t locality) {
     struct tpmsim_answered answered;
     memset(&answered, FILLED, sizeof answered);
@@ -94,7 +95,7 @@ static void of_localities(struct tpmsim *device) {
     puts(as_it_was(device));
 }
 
-/* A buffer that is not a command is executed, and refused in the response. */
+/* Executes buffers that are not commands. The response refuses them. */
 static void of_buffers(struct tpmsim *device) {
     static const size_t sizes[] = {0, 1, 9, 4097, 1000000};
     uint8_t *buffer = taken(1000000);
@@ -110,7 +111,8 @@ static void of_buffers(struct tpmsim *device) {
     free(buffer);
 }
 
-/* What a call writes that returns the size of its text, with buffers of several sizes. */
+/* Prints what a call writes into buffers of several sizes. The call returns the size of its
+   text. */
 static void in_rooms(struct tpmsim *device, const char *label,
                      size_t (*written)(struct tpmsim *, uint8_t *, size_t)) {
     size_t wanted = written(device, image, 0);
@@ -137,14 +139,16 @@ static void of_rooms(struct tpmsim *device) {
     in_rooms(device, "snapshot", tpmsim_snapshot);
 }
 
-/* The number of bytes of the text that differ from those of the image between its head and its digest. */
+/* Returns the number of bytes of the text that differ from the image between its head and its
+   digest. */
 static size_t others_than_in_image(const uint8_t *text, size_t size) {
     size_t others = 0;
     for (size_t i = 0; i < size; i++) others += text[i] != image[HEAD_BYTES + i];
     return others;
 }
 
-/* What is kept is the image without its head, its digest and Clock: time does not change it. */
+/* Checks the kept state. It is the image without its head, its digest and Clock, so time does
+   not change it. */
 static void of_what_is_kept(struct tpmsim *device) {
     size_t size = tpmsim_kept(device, before, ROOM);
     must(tpmsim_save(device, image, ROOM) == HEAD_BYTES + size + DIGEST_BYTES, "another size");
@@ -165,7 +169,7 @@ static void of_what_is_kept(struct tpmsim *device) {
     printf("kept, behind TPM2_HierarchyChangeAuth to a byte: %zu bytes more\n", longer - size);
 }
 
-/* Opens the image from a copy of this size, in which a byte is changed. */
+/* Opens a copy of the image. The copy has this size and one changed byte. */
 static void open_changed(struct tpmsim *device, const char *label, size_t size, size_t place) {
     keep(device);
     memcpy(image, before, image_size);
@@ -192,7 +196,7 @@ static void of_images(struct tpmsim *device, const char *file) {
     puts(as_it_was(device));
 }
 
-/* Restores from a copy of the state text of this size, in which a byte is changed. */
+/* Restores from a copy of the state text. The copy has this size and one changed byte. */
 static void restore_changed(struct tpmsim *device, const char *label, size_t size, size_t place) {
     keep(device);
     memcpy(image, state, state_size);
@@ -219,7 +223,8 @@ static void of_states(struct tpmsim *device) {
     puts(as_it_was(device));
 }
 
-/* Calls a function that takes memory, each time with the next request refused, until it succeeds. */
+/* Calls a function that allocates. Makes its first allocation fail, then its second, and so on,
+   until it succeeds. */
 static void starve(struct tpmsim *device, const char *label,
                    uint8_t (*called)(struct tpmsim *device)) {
     uint8_t told = TPMSIM_NO_MEMORY;

@@ -1,12 +1,12 @@
-/* Plays scripts on two devices, new ones each time. `steady` always goes on; `moved` is restored from its
- * state text at random moments, replacing an earlier device:
+/* Plays scripts on two devices, new ones for each script. `steady` always continues. `moved` is restored from
+ * its state text at random moments, in a holder that has an earlier device:
  *
  *     moved SEED ONE_IN <SCRIPTS
  *
- * The lines are those that play.c reads. The moved device is restored before one event in ONE_IN, by a
- * generator that begins with SEED. Both must answer each event alike, and have the same state text at the
- * end of a script. In every second script the completing layer is on for both. Prints how many events
- * and restores there were, and the size of the largest text in bytes. */
+ * play.c reads the same lines. The moved device is restored before one event in ONE_IN, by a generator that
+ * begins with SEED. Both must have the same response to each event, and the same state text at the end of a
+ * script. In every second script the completing layer is on for both. Prints the number of events and of
+ * restores, and the size of the largest text in bytes. */
 #define _POSIX_C_SOURCE 200809L
 #include "common.h"
 
@@ -25,7 +25,7 @@ static unsigned long events, restores, scripts, one_in;
 static size_t largest;
 static uint64_t generator;
 
-/* The next number of the generator, xorshift64. */
+/* Returns the next number of the generator, xorshift64. */
 static uint64_t next_number(void) {
     generator ^= generator << 13;
     generator ^= generator >> 7;

@@ -1,14 +1,14 @@
-/* Plays scripts on the library, each on a new device:
+/* Plays scripts with the library, each on a new device:
  *
  *     play <SCRIPTS
  *
- * The lines are those of scripts without words: `begin`, `cmd HEX`, `loc N`, `wait MS`, `entropy HEX`
- * with 256 bytes, `power`, `end`. For each command it prints the response, the row's code and check, and
- * how many random bytes were drawn. At the end of a script it prints the device's image, and the image of
- * the device that is opened from that.
+ * The lines are those of scripts without commands in words: `begin`, `cmd HEX`, `loc N`, `wait MS`,
+ * `entropy HEX` with 256 bytes, `power`, `end`. For each command it prints the response, the row's code and
+ * check, and the number of random bytes that the command drew. At the end of a script it prints the device's
+ * image, and the image of the device that is opened from that image.
  *
- * A twin executes the same commands with other bytes after those that were drawn, and has to answer the
- * same. */
+ * A twin executes the same commands, with other bytes after the random bytes that were drawn. Its responses
+ * must be the same. */
 #define _POSIX_C_SOURCE 200809L
 #include "common.h"
 
@@ -34,7 +34,8 @@ static struct tpmsim_answered executed(struct player *player, struct tpmsim *dev
     return answered;
 }
 
-/* The twin gets the bytes that the device drew, followed by other ones. */
+/* Executes a command on the twin. It gets the bytes that the device drew, followed by other
+   bytes. */
 static void execute_twin(struct player *player, const uint8_t *buffer, size_t size,
                          struct tpmsim_answered wanted, const uint8_t *response) {
     uint8_t random[RANDOM_BYTES], given[RESPONSE_BYTES];
@@ -60,7 +61,7 @@ static void execute(struct player *player, const char *hex) {
            (unsigned)answered.drawn);
 }
 
-/* The image of a device, which is written only into a buffer that can hold all of it. */
+/* Returns the image of a device. The library writes it only into a buffer that is large enough. */
 static uint8_t *image_of(struct tpmsim *device, size_t *size) {
     uint8_t none = 0;
     *size = tpmsim_save(device, &none, 0);

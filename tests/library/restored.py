@@ -1,8 +1,9 @@
-"""Devices whose whole state is reported, and whose calls are interrupted at their lines:
+"""Devices that report their whole state. Their calls are interrupted at their lines:
 
     tools/python.sh restored.py LIBRARY
 
-LIBRARY is the shared object. A device that a call left halfway says so, until `restore` repairs it.
+LIBRARY is the shared object. A device that an interrupted call left in the middle reports that,
+until `restore` repairs it.
 """
 
 import os
@@ -24,8 +25,8 @@ EXTEND = frames.on_handle(
 
 
 def interrupted(act, left):
-    """Whether an act executes this many lines of the package, at the last of which it is
-    interrupted.
+    """Interrupts `act` after this many lines of the package. Returns whether it executes that many
+    lines.
     """
 
     def trace(frame, event, _):
@@ -49,7 +50,7 @@ def interrupted(act, left):
 
 
 def values(device):
-    """The values of both banks, and the reported events that led to them."""
+    """Returns the values of the PCR in both banks, as the device reports them."""
     read = Caller(device).send(Caller(device).read_pcr(PCR))["pcrValues"]
     return tuple(read)
 
@@ -59,7 +60,9 @@ def extend(device):
 
 
 class Played:
-    """A device with a snapshot; and the banks' values there, further on, and a command later."""
+    """A device with a snapshot. Also the PCR's values in the snapshot, and after each of three more
+    commands.
+    """
 
     def __init__(self, made):
         self.device = made()
@@ -77,7 +80,7 @@ class Played:
         extend(self.device)
 
     def told(self, allowed):
-        """What the device reports after an interrupt, and after it is restored."""
+        """Describes what the device reports after an interrupt, and after it is restored."""
         try:
             said = "known" if values(self.device) in allowed else "unknown values"
         except Refused:
@@ -100,7 +103,9 @@ class Played:
 
 
 def within_writing():
-    """A handler's fault while an image is written is not the image's. The command was executed."""
+    """Checks that a handler's exception while an image is written is not taken for a fault of the
+    image. The command was executed.
+    """
     image = pathlib.Path("image")
     with LibraryDevice(image) as device:
         tpm = Caller(device)

@@ -1,13 +1,14 @@
-"""Scripts on the library:
+"""Plays scripts with the library:
 
     tools/python.sh scripts.py STACK PLAYER..     compares
-    tools/python.sh scripts.py --figures STACK    reports how much stack each call takes
+    tools/python.sh scripts.py --figures STACK    reports how much stack each call uses
     tools/python.sh scripts.py --lines SCRIPT     prints a script without words, for play.c
 
-Each PLAYER, which is built of play.c, plays each script of tests/ and the examples that ends well,
-one after another. What it prints must be what the files next to the script say, and what the Python
-device says of the same commands: each response, row and count of drawn random bytes, and the images
-at the end. STACK, of stack.c, plays them too, and no call may take more stack than tpmsim.h says.
+Each PLAYER is built from play.c. It plays one after another the scripts of tests/ and the
+examples that end well. Its output must be that of the files next to the script, and that of the
+Python device for the same commands: each response, row and number of drawn random bytes, and the
+images at the end. STACK is built from stack.c. It plays the scripts too, and no call may use
+more stack than tpmsim.h says.
 """
 
 import pathlib
@@ -26,7 +27,7 @@ MOST_STACK = 64 * 1024
 
 
 def check_number(check: str) -> int:
-    """The number of a check in a row."""
+    """Returns the number of a row's check."""
     if check == "ok":
         return 0
     if check == "M":
@@ -35,7 +36,7 @@ def check_number(check: str) -> int:
 
 
 class Counted(Model):
-    """The Python device, which counts the random bytes that a command draws."""
+    """The Python device, which also counts the random bytes that a command draws."""
 
     drawn = 0
 
@@ -54,7 +55,7 @@ class Counted(Model):
 
 
 class Lines(Player):
-    """A script without words, and what a player has to print for each command."""
+    """A script without commands in words, and the expected output of a player for each command."""
 
     def __init__(self) -> None:
         super().__init__(Counted())
@@ -106,7 +107,7 @@ class Script:
         fail(f"{self.path.name}: {words}")
 
     def check(self, given: list[str]) -> None:
-        """Compares what a player printed for the script with the expected lines."""
+        """Compares a player's output for the script with the expected lines."""
         pairs = zip_longest(self.wanted, given, fillvalue="no more")
         for number, (one, other) in enumerate(pairs, 1):
             if one != other:
@@ -114,7 +115,7 @@ class Script:
         self.check_files(given[:-2])
 
     def check_files(self, given: list[str]) -> None:
-        """Compares what was printed for the commands with the files next to the script."""
+        """Compares the output for the commands with the files next to the script."""
         responses = "".join(line.split(" ")[0] + "\n" for line in given)
         if self.path.with_suffix(".out").read_text("ascii") != responses:
             self.fail("the responses are other than those of its file")
@@ -125,7 +126,7 @@ class Script:
 
 
 def printed(program: str, played: list[Script]) -> Iterator[str]:
-    """The lines that a program prints for scripts."""
+    """Yields the lines that a program prints for scripts."""
     given = ran(program, stdin="".join(script.plain for script in played).encode("ascii"))
     if given.status or given.error:
         done = given.output.count(b"\nopened ")
@@ -143,7 +144,7 @@ def check(player: str, played: list[Script]) -> None:
 
 
 class Stack:
-    """The most stack that each call takes; for an execution, with its command."""
+    """The most stack that each call uses. An execution also has its command."""
 
     def __init__(self, program: str, played: list[Script]) -> None:
         self.most: dict[str, tuple[int, str]] = {}

@@ -1,10 +1,11 @@
-"""Restores state texts with the library, and compares its reports with the Python device:
+"""Restores state texts with the library, and compares the results with the Python device:
 
     tools/python.sh snapshots.py LIBRARY [ONE_IN]
 
-LIBRARY is the shared object. It gets one in ONE_IN, or all, of the texts with a changed byte and of
-those with a changed byte and the right digest. A text that is refused leaves the device as it was.
-A text that is read is written again unchanged; one without the completing layer gets a new one.
+LIBRARY is the shared object. It gets all texts with a changed byte, with and without the right
+digest, or one in ONE_IN of them. A text that is refused leaves the device as it was. A text that
+is accepted is written again unchanged; if it has no completing layer, the new text has a new
+layer.
 """
 
 import collections
@@ -25,8 +26,8 @@ MOST_BYTES, RANDOM = 36_323, bytes(range(256))
 FAULTS = {0: None}
 FAULTS |= dict(enumerate(("Short", "Magic", "Version", "Length", "Digest", "Body"), 13))
 
-# Changes of the lowest bit, of the highest one, and by one in the direction that is not the lowest
-# bit's.
+# Changes of a byte: of its lowest bit, of its highest bit, and by one (up if the lowest bit is set,
+# else down), so that more than the lowest bit changes.
 WAYS = (
     *(lambda byte: byte ^ 0x01, lambda byte: byte ^ 0x80),
     lambda byte: byte + (1 if byte & 1 else -1) & 0xFF,
@@ -50,20 +51,24 @@ class Library:
         return self.buffer.raw[:size]
 
     def fault_of(self, text: bytes) -> str | None:
-        """The fault of a text; if it has none, the device is restored from it."""
+        """Returns the fault of a text. If there is none, the device is restored from the text."""
         size = ctypes.c_size_t(len(text))
         told = self.calls.tpmsim_restore(ctypes.byref(self.holder), text, size)
         return FAULTS.get(told, f"number {told}")
 
 
 def with_layer(text: bytes) -> bytes:
-    """The text of the same device with a completing layer; a new one, if it has none."""
+    """Returns the text of the same device with its completing layer. If it has none, the layer is
+    new.
+    """
     device, layer = state_text.open_state(text)
     return state_text.state_text(device, layer or Layer())
 
 
 def judge(library: Library, words: str, text: bytes) -> str:
-    """The fault of a text by both devices; a refused text leaves the library's device as it was."""
+    """Returns the fault of a text, which both devices must report. A refused text leaves the
+    library's device as it was.
+    """
     wanted, before = state_text.fault_of(text), library.snapshot()
     given = library.fault_of(text)
     if given != wanted:
@@ -74,13 +79,13 @@ def judge(library: Library, words: str, text: bytes) -> str:
 
 
 def kind(library: Library, words: str, texts: Iterable[bytes]) -> None:
-    """Prints how many texts of a kind there are, and their faults."""
+    """Prints the number of texts of a kind, with their faults."""
     counts = collections.Counter(judge(library, words, it) for it in texts)
     print(f"{words}: {', '.join(f'{count:,} {it}' for it, count in sorted(counts.items()))}")
 
 
 def turned(text: bytes, one_in: int) -> Iterator[bytes]:
-    """The text with a changed byte, one of `one_in` bytes, each in three ways."""
+    """Yields the text with one changed byte: one of each `one_in` bytes, in three ways."""
     for at in range(0, len(text), one_in):
         for way in WAYS:
             yield text[:at] + bytes([way(text[at])]) + text[at + 1 :]

@@ -1,10 +1,10 @@
-/* Reports the most stack that each call takes, and for an execution also the command:
+/* Reports the most stack that each call uses, and for an execution also the command:
  *
  *     stack <SCRIPTS
  *
- * The lines are those that play.c reads. Each call runs on a stack that was painted before. What it painted
- * over counts, minus what an empty call paints over. The stack is twice as large as a call's limit. At its
- * far end is a page without access, which ends the program. */
+ * play.c reads the same lines. Each call runs on a stack that was painted before. The result is the size of
+ * the painted bytes that the call overwrites, minus the size that an empty call overwrites. The stack is
+ * twice as large as a call's limit. At its far end is a page without access, which ends the program. */
 #define _DEFAULT_SOURCE
 #include "common.h"
 #include <sys/mman.h>
@@ -29,7 +29,7 @@ static const char *const NAMES[CALLS] = {"nothing", "manufacture", "execute", "c
                                          "power_cycle", "save", "kept", "open", "snapshot",
                                          "restore", "free"};
 
-/* What is called, from where, and the most that each call took so far. */
+/* The current call, its caller, and the most stack that each call has used so far. */
 static enum call current;
 static ucontext_t caller;
 static struct tpmsim device, completed;
@@ -62,7 +62,8 @@ static void called(void) {
     }
 }
 
-/* The size of the stack that is still painted, from its far end on: first whole blocks. */
+/* Returns the size of the stack that is still painted, from its far end on. Compares whole
+   blocks first. */
 static size_t painted_bytes(void) {
     static uint8_t painted[BLOCK_BYTES];
     size_t at = 0;
@@ -72,7 +73,7 @@ static size_t painted_bytes(void) {
     return at;
 }
 
-/* Runs a call, counts the bytes of its stack, and paints them again. */
+/* Runs a call, counts the bytes of stack that it used, and paints them again. */
 static void run(enum call call) {
     ucontext_t context;
     must(getcontext(&context) == 0, "there is no context");

@@ -1,22 +1,22 @@
-# What `tpmsim check` says of scripts: the number of each bad line, its fault with its column, and what is
-# expected there (docs/SCRIPTS.md, docs/LINES.md). Each line is between two good ones. Lines are written
-# and shown with the escapes of printf.
+# Checks the output of `tpmsim check` for scripts: the number of each bad line, its fault with its column, and
+# what is expected there (docs/SCRIPTS.md, docs/LINES.md). Each tested line is between two good ones. Lines
+# are written and shown with the escapes of printf.
 tests=$(cd "$(dirname "$0")/.." && pwd -P)
 . "$tests/common/cases.sh"
 
-# second LINE [LABEL]: checks a script with this second line.
+# second LINE [LABEL]: checks a script whose second line is LINE.
 second() {
     # shellcheck disable=SC2059 # a line has escapes of printf
     printf "# the first\n$1\n$startup\n" >script
     run "${2:-\"$1\"}" check script
 }
 
-# zeros BYTES: BYTES bytes 00 in hex.
+# zeros BYTES: prints that many zero bytes in hex.
 zeros() {
     printf '%0*d' "$((2 * $1))" 0
 }
 
-# The word of a line.
+# The first word of a line.
 second 'random'
 second ' do GetRandom 4'
 second 'DO GetRandom 4'
@@ -30,7 +30,7 @@ second 'loc'
 second 'wait'
 second 'entropy'
 
-# What follows a word.
+# What follows the first word.
 second 'cmd 0'
 second 'cmd 0g'
 second 'cmd  00'
@@ -65,7 +65,7 @@ second 'do '
 second 'do  Startup 0'
 second "do PCR_Event NULL pw:- $(zeros 4096)" 'do PCR_Event with 4096 bytes'
 
-# Each kind of word in a line: handles, entries, parameters, and one too many or missing.
+# Each kind of word in a line: handles, entries and parameters. Also a word too many, and a missing word.
 second 'do PCR_Reset 10 pw:-'
 second 'do NV_Write OWNER 0100000 pw:- 616263 0'
 second 'do NV_Write 4000000 01000000 pw:- 616263 0'
@@ -91,7 +91,7 @@ second 'do PolicyPCR 03000000 - sha256'
 second 'do PCR_Extend 0000000a pw:- sha256:00'
 second 'do PolicyOR 03000000 00+'
 
-# Similar lines that are right.
+# Similar lines that are good.
 second 'cmd'
 second 'cmd '
 second 'cmd 00'
@@ -103,7 +103,8 @@ second 'power'
 second ''
 second '#\377'
 
-# The sum of the waits before a command. A bad one adds nothing, and a power cycle ends none.
+# The sum of the waits before a command has a limit. A bad wait adds nothing to it, and a power cycle does not
+# reset it.
 cat >script <<'END'
 wait 4294967295
 power
@@ -118,7 +119,7 @@ wait 1
 END
 run 'waits' check script
 
-# All bad lines, each by its number, also after lines that are too long.
+# Each bad line is reported by its number, also after lines that are too long.
 {
     printf 'bad\n%s\n' "$startup"
     printf '#%065535d\n#%065536d\n' 0 0
@@ -128,7 +129,7 @@ run 'several' check script
 run 'several on standard input' check - <script
 run 'several, run' run script
 
-# No line, one without an end, and lines that a run refuses: they all make a good script.
+# Good scripts: one without lines, one whose last line has no end, and one whose lines a run refuses.
 : >script
 run 'an empty script' check script
 printf 'cmd' >script
@@ -136,7 +137,7 @@ run 'a line without an end' check script
 printf 'do Unseal 80000000 pw:-\n' >script
 run 'a command that the device refuses' check script
 
-# The most lines that a script may have, and one more.
+# The maximum number of lines of a script, and one more.
 yes '' 2>"$room/yes" | head -n 1048576 >script
 run '1,048,576 lines' check script
 echo >>script
@@ -145,7 +146,7 @@ echo bad >script
 yes '' 2>"$room/yes" | head -n 1048576 >>script
 run 'a line more, the first of which is bad' check script
 
-# No script, and wrong words.
+# A missing script, and wrong command lines.
 run 'no file' check missing
 run 'a folder' check .
 run 'no word' check

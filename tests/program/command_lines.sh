@@ -1,11 +1,11 @@
-# Which words make a command line: `run [--trace] SCRIPT`, with `-` for standard input, `asm LINE`, whose
-# line is one word, and `line HEX`. kept_scripts.sh has those of `run --image`, and check.sh those of
-# `check`. Help and the version are printed on standard output. All others are refused, though the files
-# that they name are there and have scripts.
+# Which command lines are valid: `run [--trace] SCRIPT`, with `-` for standard input; `asm LINE`, whose line
+# is one word; and `line HEX`. kept_scripts.sh tests those of `run --image`, and check.sh those of `check`.
+# Help and the version are printed on standard output. All other command lines are refused, although the files
+# that they name exist and are scripts.
 tests=$(cd "$(dirname "$0")/.." && pwd -P)
 . "$tests/common/cases.sh"
 
-# Each of the three scripts has a response of its own.
+# The three scripts have different responses.
 echo "$startup" >a
 echo "$startup" >b
 printf '%s\n%s\n' "$startup" "$startup" >./-
@@ -13,23 +13,23 @@ for name in run --trace -x -h --help help; do
     cp a "./$name"
 done
 
-# words WORDS..: a command line, with the empty command on standard input.
+# words WORDS..: runs the program with these words, and with an empty command on standard input.
 words() {
     echo cmd | run "tpmsim${*:+ $*}" "$@"
 }
 
-# A script in a file, though standard input has another one.
+# The script is read from the file, although standard input has another script.
 words run a
 words run ./-
 
-# Standard input, though there is a file of that name.
+# The script is read from standard input, although there is a file with the name `-`.
 words run -
 
 # No words, or no script.
 words
 words run
 
-# A script and something else.
+# A script and one word too many.
 words run a b
 words run - a
 words run a -
@@ -40,18 +40,18 @@ words run a --trace
 words run --trace ./-
 words run --trace -
 
-# The option alone, and before the command.
+# The option without a script, and before the command.
 words run --trace
 words --trace run a
 
-# A kept device: in an image or in a folder, and not in both; random bytes for it alone.
+# A kept device is either in an image or in a folder. Only a kept device takes random bytes.
 words run --image image
 words run --image image --state state a
 words run --state state --image image --entropy a -
 words run --entropy a a
 words run --state
 
-# A served device: in an image or in a folder, and not in both; a log with an image alone.
+# A served device is either in an image or in a folder. Only one in an image may have a log.
 served() {
     words serve --socket socket --entropy /dev/zero --locality 0 --connections 1 "$@"
 }
@@ -61,7 +61,7 @@ served --state state --log log
 served --image image --state state --log log
 served --log log
 
-# A state, which is in one folder.
+# Commands on a state, which take one folder.
 words power
 words power a b
 words snapshot
@@ -73,19 +73,19 @@ words script
 words script a b
 words script --state a
 
-# A command in words; assemble.sh has more of them.
+# `asm` with a command in words. assemble.sh has more of them.
 run "tpmsim asm 'Startup 0'" asm 'Startup 0'
 run "tpmsim asm Bogus" asm Bogus
 run "tpmsim asm ''" asm ''
 
-# No word, or more than one.
+# `asm` without a word, or with more than one.
 words asm
 run "tpmsim asm Startup 0" asm Startup 0
 run "tpmsim asm 'Startup 0' a" asm 'Startup 0' a
 run "tpmsim asm --trace 'Startup 0'" asm --trace 'Startup 0'
 run "tpmsim --trace asm 'Startup 0'" --trace asm 'Startup 0'
 
-# A buffer, whose line is printed; line.sh has more of them.
+# `line` with a buffer, whose line is printed. line.sh has more of them.
 words line 80010000000c000001440000
 words line 80010000000c00000144
 words line 8

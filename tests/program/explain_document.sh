@@ -1,4 +1,5 @@
-# The lines of docs/EXPLAIN.md that a reader types: each prints what the page shows below it.
+# Types the lines of docs/EXPLAIN.md that are meant for the reader. Each prints the output that the page shows
+# below it.
 tests=$(cd "$(dirname "$0")/.." && pwd -P)
 . "$tests/common/cases.sh"
 . "$tests/common/typed.sh"

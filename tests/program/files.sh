@@ -1,4 +1,5 @@
-# Scripts and streams that cannot be opened, read or written: status 3 and `tpmsim: file`.
+# Scripts and streams that cannot be opened, read or written. The program ends with status 3 and `tpmsim:
+# file`.
 tests=$(cd "$(dirname "$0")/.." && pwd -P)
 . "$tests/common/cases.sh"
 
@@ -16,7 +17,7 @@ run 'a script without a line break at its end' run without_line_break
 run 'an empty script' run empty
 run 'an empty script on standard input' run - <empty
 
-# Files that cannot.
+# Files that cannot be read.
 run 'a file that is not there' run missing
 run 'a folder that is not there' run missing/script
 run 'a folder in place of a script' run a_folder
@@ -25,7 +26,7 @@ run 'a folder as standard input' run - <a_folder
 run 'standard input that is closed' run - <&-
 run 'standard input that is closed, and a script in a file' run script <&-
 
-# A reader that fails after its first lines: this pipe never ends, and nothing more comes.
+# Standard input whose reads fail after the first lines: this pipe does not block, and nothing more comes.
 mkfifo pipe
 exec 3<>pipe
 printf '%s\ncmd\n# half a line' "$startup" >&3
@@ -33,7 +34,7 @@ dd iflag=nonblock count=0 <&3 2>"$room/dd" || cat "$room/dd"
 run 'standard input that fails after two lines and a half' run - <&3
 exec 3<&-
 
-# unseen LABEL SCRIPT: a script whose responses go to the fourth file descriptor.
+# unseen LABEL SCRIPT: runs a script whose responses go to file descriptor 4.
 unseen() {
     rm -f "$room/output"
     status=0
@@ -41,7 +42,7 @@ unseen() {
     report "$1" "$status"
 }
 
-# A full device: if responses are lost, that is the fault, and not a bad line after them.
+# A full device. If responses are lost, that is the fault, even if a bad line follows.
 exec 4>/dev/full
 unseen 'a full device' script
 unseen 'a full device, and no response' empty

@@ -1,6 +1,6 @@
-# The launcher: that it runs a proved program, and no other. It is in a copy of the repository, in a folder
-# with a space in its path. The program of this test is shipped there as a proved one; a stand-in for `rt`
-# builds another, which says that it was built.
+# Checks that the launcher runs a proved program, and no other. The launcher is in a copy of the repository,
+# in a folder with a space in its path. There the program of this test is shipped as the proved one. A
+# stand-in for `rt` builds another program, which prints that it was built.
 tests=$(cd "$(dirname "$0")/.." && pwd -P)
 . "$tests/common/cases.sh"
 [ "$(uname -m)" = x86_64 ] || skip 'there is no program that tools/dist.sh ships but for x86-64'
@@ -10,7 +10,7 @@ copy="$room/a copy"
 lib=$copy/crates/tpm_line/src/lib.rt
 kept=$room/kept
 
-# What the scripts need of a machine, without `rt`; and folders that come first on the path.
+# The tools that the scripts need, without `rt`; and folders that come first on the path.
 mkdir "$room/tools" "$room/rt" "$room/failing" "$room/other_machine" "$room/no_checksum"
 for tool in awk cat chmod cmp cp dirname find git grep head mkdir mktemp mv readlink rm sed sh \
     sha256sum sort tar touch uname wc xargs; do
@@ -37,7 +37,7 @@ mkdir "$copy"
     (cd "$copy" && tar xf -)
 chmod -R a+rX "$room"
 
-# with FOLDER LABEL COMMAND..: runs a command with this folder first on the path; - for none.
+# with FOLDER LABEL COMMAND..: runs a command with FOLDER first on the path. With `-` no folder is added.
 with() {
     path=$room/tools
     [ "$1" = - ] || path=$room/$1:$path
@@ -49,12 +49,12 @@ with() {
     report "$label" "$status"
 }
 
-# start FOLDER LABEL: launches it so.
+# start FOLDER LABEL: starts the launcher with FOLDER first on the path.
 start() {
     with "$1" "$2" "$copy/tpmsim" run -
 }
 
-# ship PROGRAM: puts a program into dist/, as if it had been built.
+# ship PROGRAM: puts a program into dist/ as if it had been built.
 ship() {
     mkdir -p "$copy/crates/tpmsim/out"
     cp "$1" "$copy/crates/tpmsim/out/tpmsim"
@@ -63,7 +63,7 @@ ship() {
     rm -r "$copy/crates/tpmsim/out"
 }
 
-# Puts a stand-in for the library into dist/, as if it had been built.
+# Puts a stand-in for the library into dist/ as if it had been built.
 ship_library() (
     PATH=$room/rt:$room/tools
     cd "$copy" || exit 1
@@ -85,8 +85,8 @@ ship_library() (
     } >>"$proved"
 )
 
-# changed FILE LABEL: starts it with one byte more in a file whose time is unchanged, and again with the
-# old bytes.
+# changed FILE LABEL: starts the launcher with an extra byte in a file whose time is unchanged. Then restores
+# the old bytes, and starts it again.
 changed() {
     cp -p "$1" "$kept"
     echo >>"$1"
@@ -105,7 +105,7 @@ ln -s "$copy/tpmsim" "$room/link"
 with - 'by a link' "$room/link" run -
 (cd "$copy" && with - 'in its folder' sh tpmsim run -)
 
-# Another user, whose start leaves no stamp, as in a checkout that nobody can write to.
+# Another user starts the launcher, in a checkout to which nobody can write. That start leaves no stamp.
 rm -r "$copy/crates/tpmsim/out"
 chmod -R a-w "$copy"
 if [ "$(id -u)" -eq 0 ]; then
@@ -122,7 +122,7 @@ changed "$lib" 'a source'
 changed "$copy/crates.txt" 'crates.txt'
 changed "$copy/crates/tpm_tests/src/lib.rt" 'a crate that it does not stand on'
 
-# Old files and folders that are moved there.
+# Old files and folders that are moved to the sources.
 echo >"$room/more.rt"
 touch -t 200001010000 "$room/more.rt"
 mv "$room/more.rt" "${lib%/*}/more.rt"
@@ -136,14 +136,14 @@ start - 'another crate of its name'
 rm -r "$copy/crates/tpm_line" && mv "$kept.crate" "$copy/crates/tpm_line"
 start - 'it is as it was'
 
-# Machines on which it does not run.
+# Machines on which the program does not run.
 start other_machine 'another machine'
 printf '#!/bin/sh\necho "no GLIBC_9.9"\nexit 1\n' >"$room/new"
 chmod +x "$room/new"
 ship "$room/new"
 start - 'a C library that is too old'
 
-# What is built here takes precedence over what is shipped.
+# A program that is built here takes precedence over the shipped one.
 ship "$program"
 start failing 'it is shipped, and rt can build nothing'
 with rt 'the build' "$copy/tools/build.sh"
@@ -153,7 +153,7 @@ start failing 'a source is newer, and rt can build nothing'
 start rt 'a source is newer, and rt can build it'
 start - 'it is built'
 
-# ship_module: puts a stand-in for the module for web pages into dist/, as if it had been made.
+# ship_module: puts a stand-in for the module for web pages into dist/ as if it had been built.
 ship_module() (
     PATH=$room/rt:$room/tools
     cd "$copy" || exit 1
@@ -163,7 +163,7 @@ ship_module() (
         "$(checksum <"$module")" >>"$proved"
 )
 
-# What the gate says of dist/.
+# What the gate reports about dist/.
 with rt 'the gate, with other sources' "$copy/tools/dist.sh" --check
 with rt 'made anew' "$copy/tools/dist.sh"
 ship_module

@@ -1,6 +1,6 @@
-# Every link of every document leads to a file, and every #anchor to a heading of it. Documents with links
-# that lead nowhere are reported, each by its line. The page of each command and of each general check leads
-# to its definition and its code.
+# Checks that every link of every document leads to a file, and every #anchor to a heading of the file. In
+# test documents, each link that leads nowhere is reported by its line. The page of each command and of each
+# general check has links to its definition and its code.
 tests=$(cd "$(dirname "$0")/.." && pwd -P)
 . "$tests/common/cases.sh"
 needs git
@@ -8,7 +8,7 @@ needs python3
 top=${tests%/*}
 git -C "$top" ls-files '*.md' >documents 2>/dev/null || skip "this is no clone of the repository"
 
-# follow WORDS..: prints the faults of these documents.
+# follow WORDS..: prints the broken links of these documents.
 follow() {
     python3 "$tests/common/links.py" "$@"
     echo "status $?"

@@ -1,5 +1,5 @@
-# The list of crates in docs/MAP.md is made from the first clause of each crate's root file, and the picture of
-# their layers from crates.txt.
+# Checks docs/MAP.md. Its list of crates is made from the first clause of each crate's root file. Its picture
+# of the crates' layers is made from crates.txt.
 tests=$(cd "$(dirname "$0")/.." && pwd -P)
 . "$tests/common/cases.sh"
 needs python3

@@ -1,5 +1,5 @@
-# Each response is printed before more of the script is read, so that whoever types or pipes a script sees
-# it before the next line.
+# Checks that each response is printed before more of the script is read. So whoever types or pipes a script
+# sees each response before the next line.
 tests=$(cd "$(dirname "$0")/.." && pwd -P)
 . "$tests/common/cases.sh"
 
@@ -7,14 +7,14 @@ tests=$(cd "$(dirname "$0")/.." && pwd -P)
 trap '' PIPE
 mkfifo lines responses
 
-# begin SCRIPT: starts the program, for at most twenty seconds. Its input comes from one pipe, and its
-# responses go to another.
+# begin SCRIPT: starts the program, for at most twenty seconds. It reads from one pipe, and writes its
+# responses to another.
 begin() {
     timeout 20 "$program" run "$1" <lines >responses 2>"$room/error" &
     exec 3>lines 4<responses
 }
 
-# give TEXT: writes more of the script, with the escapes of printf.
+# give TEXT: sends more of the script, with the escapes of printf.
 give() {
     # shellcheck disable=SC2059 # it has escapes of printf
     printf "$1" >&3
@@ -26,7 +26,7 @@ answered() {
     echo "$1: $response"
 }
 
-# ended LABEL: prints the rest of the responses, and how the program ended.
+# ended LABEL: prints the remaining responses, and how the program ended.
 ended() {
     cat <&4 >"$room/output"
     status=0
@@ -35,7 +35,7 @@ ended() {
     exec 3>&- 4<&-
 }
 
-# Line by line, from standard input.
+# Lines from standard input, one by one.
 begin -
 give "$startup\n"
 answered 'a line'
@@ -55,7 +55,7 @@ exec 3>&-
 answered 'a line that the end ends'
 ended 'the end'
 
-# A byte at a time, up to the line break.
+# A line that comes byte by byte, up to its line break.
 begin -
 for byte in c m d ' ' 8 0 0 1 0 0 0 0 0 0 0 c 0 0 0 0 0 1 4 4 0 0 0 0 '\n'; do
     give "$byte"
@@ -64,7 +64,7 @@ answered 'a line in pieces'
 exec 3>&-
 ended 'the end'
 
-# A bad line ends the program, though more could come.
+# A bad line ends the program, although the pipe is still open.
 begin -
 give "$startup\n"
 answered 'a line'
@@ -72,7 +72,7 @@ give 'cmd\nbad\ncmd\n'
 answered 'a line before a bad one'
 ended 'a bad line'
 
-# A script that is a pipe is treated alike.
+# A pipe with a path is treated like standard input.
 mkfifo script
 begin script
 exec 5>script

@@ -1,6 +1,6 @@
-# The crates, calls and types that were asked for (public_calls.txt) exist under their names, or
-# docs/DECISIONS.md says what replaces them, and nothing else. Then each kind of difference is made in two
-# small crates, and has to be reported.
+# Checks that the requested crates, calls and types (public_calls.txt) exist under their names, or that
+# docs/DECISIONS.md names their replacements. The page must list nothing else. Then the test makes each kind
+# of difference in two small crates, and the comparison must report it.
 # shellcheck disable=SC2016 # the backquotes are those of a page
 tests=$(cd "$(dirname "$0")/.." && pwd -P)
 . "$tests/common/cases.sh"
@@ -105,7 +105,7 @@ END
 echo '== two crates, as their page says'
 compare asked.txt page.md .
 
-# turn FILE SCRIPT: changes a file of a copy of the two crates and their page, by sed.
+# turn FILE SCRIPT: changes a file in the copy of the two crates and their page, with sed.
 turn() {
     [ -d ../turned ] || cp -r . ../turned
     cp "../turned/$1" ../before
@@ -113,7 +113,7 @@ turn() {
     cmp -s ../before "../turned/$1" && printf 'nothing was turned: %s\n' "$2"
 }
 
-# report_turned LABEL: prints what is reported of the copy, and removes it.
+# report_turned LABEL: prints the differences that are reported for the copy, and removes the copy.
 report_turned() {
     echo "== $1"
     (cd ../turned && compare asked.txt page.md .)

@@ -1,5 +1,5 @@
-# The statements that docs/THEOREMS.md quotes are in the code, in the files that it names; and a quote that
-# differs in a letter, names no file or is missing there is reported.
+# Checks that the statements that docs/THEOREMS.md quotes are in the files that it names. Then makes quotes
+# wrong: one differs in a letter, one names no file, and one is not in its file. Each is reported.
 tests=$(cd "$(dirname "$0")/.." && pwd -P)
 . "$tests/common/cases.sh"
 needs python3

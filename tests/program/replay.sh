@@ -1,6 +1,6 @@
-# `replay` executes again what a journal or a log recorded: it prints the traces and the responses that
-# `run --trace` printed then. A last entry that is not whole was not answered, and is left out. If the text
-# is damaged, or the device answers otherwise, the fault names the first line of the entry.
+# `replay` executes the commands of a journal or a log again. It prints the traces and the responses that `run
+# --trace` printed the first time. An incomplete last entry was not answered, and is left out. If the text is
+# damaged, or a response differs, the fault names the first line of the entry.
 tests=$(cd "$(dirname "$0")/.." && pwd -P)
 . "$tests/common/cases.sh"
 needs python3
@@ -16,7 +16,7 @@ cmd 80010000000a00000999' >script
 "$program" run --trace --state state script >answers
 "$program" replay state/journal >replayed && cmp answers replayed && wc -l <replayed
 
-# The log of a served device, from its image on.
+# The log of a served device, with the image from which the log begins.
 head -c 4096 /dev/zero >entropy
 "$program" serve --socket socket --image image --log log --entropy entropy --locality 3 \
     --connections 1 &
@@ -31,8 +31,8 @@ do GetRandom 4
 do GetRandom 8' >script
 "$program" run --state other script >answers
 
-# changed LABEL LINES: replays a copy of the journal whose lines are changed by a line of Python. `answered`
-# gives an entry another sum of its response, and the sum of its mark that belongs to it.
+# changed LABEL LINES: changes lines of a copy of the journal by a line of Python, and replays it. The Python
+# function `answered` gives an entry another sum of its response, and the matching sum of its mark.
 changed() {
     python3 -c "
 lines = open('other/journal', 'rb').read().splitlines(keepends=True)

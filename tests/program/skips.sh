@@ -1,5 +1,5 @@
-# Tests that cannot run: tools/scripts.sh skips them with their reasons, and .ci/run fails then. Each case is
-# a copy of the repository, with other tests, and with stand-ins for what the gate runs in addition.
+# Tests that cannot run. tools/scripts.sh skips them with their reasons, and then .ci/run fails. Each case is
+# a copy of the repository with other tests, and with stand-ins for the other tools that the gate runs.
 tests=$(cd "$(dirname "$0")/.." && pwd -P)
 . "$tests/common/cases.sh"
 copy=$room/copy
@@ -13,7 +13,7 @@ for built in tpmsim/out/tpmsim tpmsim_lists/out/tpmsim_lists; do
     ln -s "$program" "$copy/crates/$built"
 done
 
-# played LABEL NAME..: prints the results of tests, without those of programs that were not built.
+# played LABEL NAME..: prints the results of these tests, without those of programs that were not built.
 played() {
     echo "$1:"
     shift
@@ -23,7 +23,7 @@ played() {
     echo "    status $status"
 }
 
-# a_test NAME LINES: a test of these lines, which is expected to print `right`.
+# a_test NAME LINES: makes a test with these lines, whose expected output is `right`.
 a_test() {
     echo "$2" >"$copy/tests/$1.sh"
     echo right >"$copy/tests/$1.out"
@@ -46,8 +46,9 @@ ln -s "$program" "$copy/crates/tpmsim_lists/out/tpmsim_lists"
 played 'tests that fail, and one that cannot run' is_wrong ends_otherwise gives_no_reason \
     gives_an_empty_reason goes_on cannot_run
 
-# Everything on the path except one tool each time, and the tests that need it. A stand-in that does nothing
-# replaces each tool that a test here or the gate needs: the machine may have none.
+# Makes a folder with everything on the path. Each case removes some tools from it, and runs the tests that
+# need them. If this machine lacks a tool that a test here or the gate needs, a stand-in that does nothing
+# replaces it.
 mkdir "$room/path"
 IFS=:
 for folder in $PATH; do
@@ -62,7 +63,7 @@ done
 rm -r "$copy/tests"
 ln -s "$tests" "$copy/tests"
 
-# on_this_path LABEL NAME..: prints the results of tests with the tools that are there.
+# on_this_path LABEL NAME..: prints the results of tests with the present tools.
 on_this_path() {
     # shellcheck disable=SC2123 # the tools are found there
     (PATH=$room/path && played "$@")
@@ -94,8 +95,8 @@ without 'cc nm' starved
 failing cc torn
 failing python3 images line
 
-# The gate. Its stand-ins succeed, and tools/scripts.sh says of the shipped program and of the built ones
-# what the case says.
+# The gate. Its stand-ins succeed. Its tools/scripts.sh prints what the case specifies, for the shipped
+# program and for the built ones.
 mkdir "$room/stubs"
 printf '#!/bin/sh\necho 3 passed, 0 failed\n' >"$room/stubs/rt"
 # shellcheck disable=SC2016 # the stand-in expands them
@@ -114,8 +115,8 @@ for crate in tpmsim tpmsim_lists; do
 done
 chmod +x "$room/stubs/rt" "$copy"/tools/*.sh "$copy"/tools/soak/*.sh
 
-# gate LABEL SAID STATUS [SHIPPED]: prints what the gate counts, if tools/scripts.sh says SAID of the built
-# programs and ends with STATUS, and says SHIPPED of the shipped one.
+# gate LABEL SAID STATUS [SHIPPED]: prints the gate's counts. For the built programs, tools/scripts.sh prints
+# SAID and ends with STATUS. For the shipped program it prints SHIPPED.
 gate() {
     echo "$1:"
     status=0

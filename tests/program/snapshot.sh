@@ -1,6 +1,7 @@
-# A device in a folder is written as a state text, and restored. The restored device, with an HMAC session, a
-# policy session in the middle of its policy, a transient object and a PCR, continues as the first one does.
-# A refused text leaves the folder unchanged. common/restored_folders.py kills a run at each of its calls.
+# Writes a device in a folder as a state text, and restores it. The device has an HMAC session, a policy
+# session with some of its assertions, a transient object and a PCR. The restored device continues as the
+# first one does. A refused text leaves the folder unchanged. common/restored_folders.py kills a run at each
+# of its calls.
 tests=$(cd "$(dirname "$0")/.." && pwd -P)
 . "$tests/common/cases.sh"
 needs cc nm python3
@@ -28,7 +29,7 @@ entropy 2122232425262728
 do StartAuthSession NULL NULL 00000000000000000000000000000000 - 0 null sha256' >after
 echo 'do GetRandom 4' >one
 
-# same LABEL FILE FILE: whether two files are the same.
+# same LABEL FILE FILE: prints whether two files are the same.
 same() {
     if cmp "$2" "$3"; then echo "$1: the same"; else echo "$1: NOT THE SAME"; fi
 }
@@ -40,7 +41,7 @@ same 'the journal after a snapshot' journal first/journal
 "$program" snapshot first >again
 same 'another snapshot' text again
 
-# If there is no folder, one is made.
+# If the folder does not exist, `restore` makes it.
 run 'a new folder' restore second text
 stat -c '%n %a' second second/* | LC_ALL=C sort
 head -c 19 second/journal && echo
@@ -54,11 +55,11 @@ sed -n 's/ .* \(ok\|[GAM][0-9]*\) / \1 /p' answers
 "$program" snapshot second >again
 same 'the snapshots then' later again
 
-# The journal that begins with a state text is executed again, and printed.
+# A journal that begins with a state text is executed again, and printed.
 "$program" replay second/journal >again && same 'what is answered again' answers again
 "$program" script second | sed -n '1s/\(journal 2\) .*/\1/p; 3p'
 
-# A device is replaced, also for a process that holds it.
+# A device is replaced, also in a process that holds it.
 mkfifo input
 "$program" run --state first - <input >"$room/held" &
 exec 3>input
@@ -74,13 +75,13 @@ sed '1d' "$room/held" >again
 grep -v '[^0-9a-f]' answers >told
 same 'what the process that held it answers then' told again
 
-# A power cycle, and an earlier state text, which has the sessions.
+# After a power cycle, an earlier state text is restored. It still has the sessions.
 run 'a power cycle' power first
 run 'what was before' restore first text
 "$program" run --trace --state first after >again
 same 'what is answered then' answers again
 
-# bent LABEL LINE: restores a text that a line of Python changed. The folder is unchanged.
+# bent LABEL LINE: changes a text by a line of Python, and restores it. The folder is unchanged.
 bent() {
     python3 -c "
 import hashlib
@@ -107,7 +108,7 @@ bent 'nothing' 'text = bytes()'
 "$program" run --image image before >"$room/output"
 run 'an image' restore first image
 
-# A journal whose head has a text that is not a state; the head's sums are right.
+# A journal whose head has right sums, but a text that is not a state.
 python3 -c "
 def fnv(data, total=0xCBF29CE484222325):
     for byte in data:

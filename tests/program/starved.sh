@@ -1,5 +1,6 @@
-# A program to which memory is refused: at each allocation in turn, alone and with all that follow, for
-# right and wrong command lines, and for a served device. common/starved.py says how such a run has to end.
+# Makes allocations of the program fail: each one in turn, only that one and also all that follow. This is
+# done for right and wrong command lines, and for a served device. common/starved.py says how such a run has
+# to end.
 tests=$(cd "$(dirname "$0")/.." && pwd -P)
 . "$tests/common/cases.sh"
 needs cc nm python3

@@ -1,5 +1,5 @@
-# A device in a folder: sessions and PCRs live from one run to the next, a power cycle ends them, and what
-# happened is printed as a script whose responses are the same.
+# A device in a folder. Sessions and PCRs keep their state from one run to the next, and a power cycle ends
+# the sessions. The history is printed as a script, which has the same responses.
 tests=$(cd "$(dirname "$0")/.." && pwd -P)
 . "$tests/common/cases.sh"
 needs python3
@@ -17,13 +17,13 @@ do ReadClock' >second.tpm
 echo 'do GetRandom 8' >third.tpm
 (echo 'do Startup 0'; cat second.tpm) >fourth.tpm
 
-# play LABEL WORDS..: a run whose responses are also kept, for the replay.
+# play LABEL WORDS..: runs the program, and keeps the responses for `replay`.
 play() {
     run "$@"
     cat "$room/output" >>"$room/answered"
 }
 
-# replay LABEL: plays what `script` prints, on the device of the state text in its second line, and says
+# replay LABEL: plays the output of `tpmsim script` on the device of the state text in its second line. Prints
 # whether the responses are the same.
 replay() {
     "$program" script state >told.tpm || echo 'there is no script'
@@ -49,7 +49,7 @@ mv "$room/kept" "$room/answered"
 replay 'as it was told'
 stat -c '%n %a' state state/* | LC_ALL=C sort
 
-# A power cycle ends what is volatile.
+# A power cycle ends all volatile state.
 run 'a power cycle' power state
 play 'behind it' run --state state fourth.tpm
 replay 'behind the power cycle'
@@ -57,16 +57,16 @@ printf 'do Startup 0\npower\ndo Startup 0\ndo GetCapability 1 02000000 8\n' >cyc
 run 'power cycles in a script' run --trace --state state cycles.tpm
 grep -c '^cmd' state/journal
 
-# A script with a line that no script may have: the lines before it were executed.
+# A script with a line that is not valid in a script. The lines before it are executed.
 printf 'do GetRandom 4\nwhat\ndo GetRandom 4\n' >bad.tpm
 run 'a bad line' run --state state bad.tpm
 grep -c '^cmd' state/journal
 
-# A script that is missing begins no device.
+# If the script does not exist, no device is made.
 run 'no script' run --state none none.tpm
 [ ! -e none ] || echo 'a folder was made'
 
-# A new device with random bytes of a file.
+# A new device takes its random bytes from a file.
 head -c 256 /dev/zero | tr '\0' 7 >entropy
 run 'random bytes' run --state another --entropy entropy first.tpm
 run 'too few random bytes' run --state third --entropy first.tpm first.tpm

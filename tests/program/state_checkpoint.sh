@@ -1,9 +1,9 @@
-# A kept device whose journal has grown to 262,144 bytes: the next command begins it again, with the whole
-# state of the device. It continues like a device that is not kept.
+# A kept device whose journal has grown to 262,144 bytes. The next command begins the journal again, with the
+# whole state of the device. The device continues like one that is not kept.
 tests=$(cd "$(dirname "$0")/.." && pwd -P)
 . "$tests/common/cases.sh"
 
-# TPM2_PCR_Event of PCR 16 with 1,024 bytes, whose record has more than 2,048.
+# TPM2_PCR_Event of PCR 16 with 1,024 bytes. Its entry has more than 2,048 bytes.
 event="cmd 80020000041d0000013c00000010000000094000000900000000000400$(printf '%02048d' 0)"
 count=0
 while [ "$count" -lt 150 ]; do

@@ -1,5 +1,5 @@
-# What a kept device refuses: a path that is not a folder or file of the user, a damaged journal, and one
-# that is gone. It changes nothing.
+# A kept device refuses a path that is not a folder or file of the user, a damaged journal, and a missing
+# journal. It changes nothing.
 tests=$(cd "$(dirname "$0")/.." && pwd -P)
 . "$tests/common/cases.sh"
 needs python3
@@ -11,7 +11,7 @@ echo 'do GetRandom 2' >one
 run 'a device' run --state state script
 cp -R state kept
 
-# If there is nothing, only `run` begins a device.
+# If the folder has no device, only `run` makes one.
 run 'no folder, power' power none
 run 'no folder, script' script none
 mkdir empty
@@ -19,7 +19,7 @@ run 'an empty folder, power' power empty
 run 'an empty folder, script' script empty
 ls empty
 
-# What may be at the paths.
+# Other things at the paths of the device's files.
 echo elsewhere >elsewhere
 cp elsewhere elsewhere.kept
 for name in journal lock journal.new; do
@@ -42,7 +42,8 @@ run 'a link to the folder' run --state link one
 run 'a link to the folder, with a slash' run --state link/ one
 run 'a file in the place of the folder' run --state script one
 run 'a folder above that is not there' run --state none/state one
-# damage LABEL CODE: changes the journal's bytes by a line of Python, and says whether the file stays.
+# damage LABEL CODE: changes the journal's bytes by a line of Python, and prints whether the file stays as it
+# is.
 damage() {
     rm -rf state && cp -R kept state
     python3 -c "
@@ -70,7 +71,7 @@ damage 'no journal' 'text = b"something else\n"'
 damage 'an empty file' 'text = b""'
 damage 'a random byte turned' 'text = text.replace(b"entropy 00000000\n", b"entropy 00000001\n")'
 
-# The last entry is not whole: it was not answered, and is cut off before the next one is written.
+# An incomplete last entry was not answered. It is cut off before the next entry is written.
 for count in 1 40 100 180; do
     rm -rf state && cp -R kept state
     truncate -s "-$count" state/journal

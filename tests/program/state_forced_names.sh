@@ -1,5 +1,5 @@
-# A kept device whose journal another process began, which may have been killed before it forced the
-# journal's name to the disk. common/forced_names.py says what is forced before the first response.
+# A kept device whose journal another process began. That process may have been killed before it synced the
+# journal's name to disk. common/forced_names.py prints what is synced before the first response.
 tests=$(cd "$(dirname "$0")/.." && pwd -P)
 . "$tests/common/cases.sh"
 needs cc nm python3

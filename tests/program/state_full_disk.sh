@@ -1,6 +1,6 @@
-# A kept device on a full disk: its journal is unchanged, a command that does not fit was not answered, and
-# when there is space again the device continues. The disk is mounted for this test alone, by root or by a
-# user who may be root in a namespace.
+# A kept device on a full disk. Its journal is unchanged, and a command whose entry does not fit is not
+# answered. When there is space again, the device continues. The disk is mounted only for this test, by root
+# or by a user who may be root in a namespace.
 if [ -z "${own_mounts:-}" ]; then
     for user in '' '--user --map-root-user'; do
         # shellcheck disable=SC2086 # it is two words, or none
@@ -16,7 +16,7 @@ if [ -z "${own_mounts:-}" ] || ! mount -t tmpfs -o size=64k none disk 2>"$room/e
     skip 'no disk can be mounted for this test alone'
 fi
 
-# TPM2_PCR_Event of PCR 16 with 1,024 bytes, whose entry has more than 2,048.
+# TPM2_PCR_Event of PCR 16 with 1,024 bytes. Its entry has more than 2,048 bytes.
 event="cmd 80020000041d0000013c00000010000000094000000900000000000400$(printf '%02048d' 0)"
 echo 'do Startup 0' >start
 printf '%s\n' "$event" "$event" "$event" "$event" >events

@@ -1,5 +1,5 @@
-# Several processes that hold one kept device at once, and some that are killed: nothing that was
-# answered is lost, as common/state_processes.py says.
+# Several processes hold one kept device at once, and some are killed. No answered command is lost.
+# common/state_processes.py checks that.
 tests=$(cd "$(dirname "$0")/.." && pwd -P)
 . "$tests/common/cases.sh"
 needs python3

@@ -1,4 +1,4 @@
-# A kept device that is served on a socket, while runs use the same device.
+# A kept device is served on a socket while runs use the same device.
 tests=$(cd "$(dirname "$0")/.." && pwd -P)
 . "$tests/common/cases.sh"
 . "$tests/common/served.sh"
@@ -11,7 +11,7 @@ begin() {
         --locality 0 --connections "$count" "$@" >"$room/served" 2>&1 &
 }
 
-# ended LABEL: how the program that serves the device ended.
+# ended LABEL: prints how the serving program ended.
 ended() {
     status=0
     wait "$!" || status=$?
@@ -38,7 +38,7 @@ talk 'once more' 1000 "$read" 800100000000
 ended 'with each response forced to the disk'
 grep -c '^cmd' state/journal
 
-# The device vanishes while it is served, and then another one takes its place.
+# The device's folder vanishes while it is served, and then another device takes its path.
 begin 2
 there
 cp -R state other
@@ -46,7 +46,7 @@ rm state/journal
 talk 'a journal that is gone' 100 "$read"
 ended 'a journal that is gone'
 
-# What cannot be served.
+# Command lines and devices that cannot be served.
 run 'both an image and a state' serve --socket socket --state state --image image \
     --entropy entropy --locality 0 --connections 0
 run 'random bytes that are not there' serve --socket socket --state other --entropy none \

@@ -1,7 +1,7 @@
-# What a crash of the host can leave at the end of a kept device's journal: the front of an entry, the same
-# with zeros after it, or zeros alone. The next command or power cycle cuts it off, and reports its size on
-# standard error. Anything else is damage: the journal is refused and stays as it is, until `power --cut`
-# drops what follows the last whole entry before the damage, and reports the size of that.
+# A crash of the host can leave three things at the end of a kept device's journal: the beginning of an entry,
+# the same with zeros after it, or only zeros. The next command or power cycle cuts it off, and reports its
+# size on standard error. Anything else is damage. Then the journal is refused and stays as it is, until
+# `power --cut` drops everything after the last whole entry before the damage, and reports the dropped size.
 tests=$(cd "$(dirname "$0")/.." && pwd -P)
 . "$tests/common/cases.sh"
 
@@ -17,8 +17,7 @@ zeros() {
     head -c "$1" /dev/zero
 }
 
-# ending WHAT BYTES COMMAND..: a journal without the last BYTES bytes, and with the command's output
-# after that.
+# ending WHAT BYTES COMMAND..: makes a journal without the last BYTES bytes, and appends the command's output.
 ending() {
     what=$1
     bytes=$2
@@ -29,13 +28,13 @@ ending() {
     cp state/journal before
 }
 
-# entries: the number of the journal's entries, from what `script` prints.
+# entries: prints the number of the journal's entries, by the output of `tpmsim script`.
 entries() {
     "$program" script state >told 2>"$room/error" || echo "script: status $?, $(told "$room/error")"
     echo "    entries: $(grep -c '^cmd' told)"
 }
 
-# cut WHAT BYTES COMMAND..: what a power cycle and the next command do about such an end.
+# cut WHAT BYTES COMMAND..: prints what a power cycle and the next command do with such a journal.
 cut() {
     ending "$@"
     run "$what, power" power state
@@ -47,7 +46,7 @@ cut() {
     entries
 }
 
-# refused WHAT BYTES COMMAND..: the same for an end that is damage.
+# refused WHAT BYTES COMMAND..: does the same for a journal whose end is damage.
 refused() {
     ending "$@"
     run "$what, run" run --state state one

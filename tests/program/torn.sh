@@ -1,5 +1,5 @@
-# A program whose system calls fail: those on its files, its socket and the clock, each in turn.
-# common/torn.py says what has to become of the run, of the image and of each connection.
+# Makes system calls of the program fail: those on its files, its socket and the clock, each in turn.
+# common/torn.py says what must become of the run, of the image and of each connection.
 tests=$(cd "$(dirname "$0")/.." && pwd -P)
 . "$tests/common/cases.sh"
 needs cc nm python3

@@ -1,4 +1,4 @@
-# The public functions without an `ensures` are those that docs/THEOREMS.md lists, each file with its reason.
+# Checks that docs/THEOREMS.md lists the public functions without an `ensures`, each file with its reason.
 tests=$(cd "$(dirname "$0")/.." && pwd -P)
 . "$tests/common/cases.sh"
 needs python3

@@ -1,5 +1,5 @@
-# Scripts over the socket, each command in a connection of its own: a session, an object or a PCR of one
-# connection is still there in the next, and the responses are those of the script.
+# Plays scripts over the socket, each command in a connection of its own. The sessions, objects and PCRs of
+# one connection still exist in the next, and the responses are those of the script.
 tests=$(cd "$(dirname "$0")/.." && pwd -P)
 . "$tests/common/cases.sh"
 . "$tests/common/served.sh"

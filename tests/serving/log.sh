@@ -1,5 +1,5 @@
-# The log of a device that is served with --log: `tpmsim run` plays from it what was answered. For
-# sessions, indices, a lockout, cuts and kills, common/logged.py checks that.
+# The log of a device that is served with --log. `tpmsim run` plays the log, and prints the responses that the
+# clients received. common/logged.py checks that for sessions, indices, a lockout, cuts and kills.
 tests=$(cd "$(dirname "$0")/.." && pwd -P)
 . "$tests/common/cases.sh"
 . "$tests/common/served.sh"
@@ -8,7 +8,7 @@ startup=$(words 'Startup 0')
 random=$(words 'GetRandom 8')
 change=$(words 'HierarchyChangeAuth OWNER pw:- 6f776e')
 
-# A device without an image yet. A command of which only a part came is in no log.
+# A device that has no image yet. An incomplete command is in no log.
 umask 000
 options='--log log'
 begin 3

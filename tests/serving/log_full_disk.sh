@@ -1,7 +1,6 @@
-# The log of a served device on a disk that gets full. The command whose entry does not fit is not
-# answered. The program ends and says so, and the log and the image have all that was answered, as
-# common/logged.py checks. The disk is mounted for this test alone, by root or by a user who may be
-# root in a namespace.
+# The log of a served device on a disk that gets full. The command whose entry does not fit is not answered.
+# The program ends and reports it. The log and the image have all answered commands, as common/logged.py
+# checks. The disk is mounted only for this test, by root or by a user who may be root in a namespace.
 if [ -z "${own_mounts:-}" ]; then
     for user in '' '--user --map-root-user'; do
         # shellcheck disable=SC2086 # it is two words, or none

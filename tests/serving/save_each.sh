@@ -1,13 +1,13 @@
-# A device that is served with --save-each: the image has everything that a client was answered,
-# whenever the program is killed. common/save_each.py checks that by the Python device.
-# tools/soak/kills.sh kills it more often.
+# A device that is served with --save-each. Whenever the program is killed, the image has the effects of all
+# commands whose responses a client received. common/save_each.py compares the image with the Python device.
+# tools/soak/kills.sh kills the device more often.
 tests=$(cd "$(dirname "$0")/.." && pwd -P)
 . "$tests/common/cases.sh"
 . "$tests/common/served.sh"
 
 python3 "$tests/common/save_each.py" "$program" 22
 
-# The option may be anywhere, but only once. It has no value, and belongs to `serve` only.
+# The option may be at any position, but only once. It has no value, and only `serve` has it.
 with='--socket socket --image image --entropy entropy --locality 0 --connections 0'
 echo 'do Startup 0' >script
 # shellcheck disable=SC2086 # they are words

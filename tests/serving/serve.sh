@@ -1,4 +1,4 @@
-# A device on a socket: how commands are cut from a stream, what stays from one run to the next, and how
+# A device on a socket: how a stream is divided into commands, what stays from one run to the next, and how
 # the program ends.
 tests=$(cd "$(dirname "$0")/.." && pwd -P)
 . "$tests/common/cases.sh"
@@ -8,7 +8,7 @@ startup=$(words 'Startup 0')
 random=$(words 'GetRandom 4')
 change=$(words 'HierarchyChangeAuth OWNER pw:- 6f776e')
 
-# Commands as they come: all at once, byte by byte, and in pieces of three bytes.
+# Commands that arrive all at once, byte by byte, and in pieces of three bytes.
 for size in 4096 1 3; do
     rm -f image
     begin 1
@@ -16,15 +16,15 @@ for size in 4096 1 3; do
     ended 'one connection'
 done
 
-# Ten commands before the first answer is read.
+# Ten commands are sent before the first response is read.
 rm -f image
 begin 1
 talk 'ten commands at once' 4096 "$startup" "$random" "$random" "$random" "$random" "$random" \
     "$random" "$random" "$random" "$random"
 ended 'one connection'
 
-# A connection that ends within a command: that command is dropped, and the device serves the next
-# connection. What the first one did stays.
+# A connection that ends within a command. That command is dropped, and the device serves the next connection.
+# The effects of the first connection stay.
 rm -f image
 begin 3
 talk 'half a command' 4096 "$startup" 80010000
@@ -32,22 +32,22 @@ talk 'nothing' 4096
 talk 'the next connection' 4096 "$startup" "$random"
 ended 'three connections'
 
-# Two connections at once, which send their bytes by turns. The first is served to its end, and then the
-# second, each with the answers to its own commands.
+# Two connections at once, which alternate with their bytes. The first connection is served to its end, and
+# then the second. Each gets the responses to its own commands.
 rm -f image
 begin 2
 echo 'two connections that take turns with each byte:'
 python3 "$tests/common/clients.py" turns socket "$startup" "$random" "$random" | sed 's/^/    /'
 ended 'two connections'
 
-# A size field of 9, or of 4,097, is answered, and ends the connection.
+# A size field of 9, or of 4,097, gets a response, and ends the connection.
 rm -f image
 begin 2
 talk 'a size of 9' 4096 "$startup" 800100000009 "$random"
 talk 'a size of 4,097' 4096 800100001001 "$random"
 ended 'two connections'
 
-# The next run has what the device keeps without power: ownerAuth. A session would be lost.
+# The next run keeps the non-volatile state, here ownerAuth. A session would be lost.
 rm -f image
 begin 1
 talk 'an authorization value' 4096 "$startup" "$change"
@@ -57,21 +57,21 @@ talk 'it is asked for in the next run' 4096 "$startup" "$change" \
     "$(words 'HierarchyChangeAuth OWNER pw:6f776e -')"
 ended 'one connection'
 
-# The unfinished image of a killed run is written again.
+# A killed run left an unfinished image. The next run writes it again.
 echo unfinished >image.new
 begin 1
 talk 'a new image left by a crash' 4096 "$startup"
 ended 'one connection'
 [ ! -e image.new ] || echo 'image.new is still there'
 
-# No connection: the socket is made and removed, and nothing is saved.
+# Without a connection, the socket is made and removed, and nothing is saved.
 rm -f image
 begin 0
 ended 'no connection'
 [ ! -e image ] || echo 'an image is there'
 
-# A socket that was left is replaced; not so one on which a process answers, nor a file. The attempt to
-# connect counts among its connections.
+# A socket that a run left is replaced. A socket on which a process answers is not replaced, nor is a file.
+# The attempt to connect counts as one of that process's connections.
 begin 2
 until [ -S socket ]; do sleep 0.01; done
 run 'a socket that is answered' serve --socket socket --image other --entropy entropy \

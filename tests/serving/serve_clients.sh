@@ -1,5 +1,5 @@
-# Clients that break off, clients that keep the device from others, and a long connection. Connections
-# are served one after another, each to its end.
+# Clients that break off, clients that keep the device from others, and a long connection. The device serves
+# connections one after another, each to its end.
 tests=$(cd "$(dirname "$0")/.." && pwd -P)
 . "$tests/common/cases.sh"
 . "$tests/common/served.sh"
@@ -9,14 +9,15 @@ random=$(words 'GetRandom 4')
 rm -f entropy
 ln -s /dev/zero entropy
 
-# client_of KIND HEX: one of the clients in common/clients.py. The long one gets its length before that.
+# client_of KIND HEX [LENGTH]: runs one of the clients in common/clients.py. For the kind `long`, the second
+# word is the length and the third one the command.
 client_of() {
     python3 "$tests/common/clients.py" "$1" socket "$2" ${3:+"$3"} | sed 's/^/    /'
 }
 
-# Clients that close early, after sending nothing, a tag, a header, or a command without its last byte.
-# Nothing of that is executed, so that a Startup after them succeeds. Then a client that has sent a
-# whole command, which is executed although nobody reads the response.
+# Clients that close early: after nothing, a tag, a header, or a command without its last byte. No command of
+# theirs is executed, so that TPM2_Startup succeeds after them. The last client sends a whole command, which
+# is executed although nobody reads the response.
 rm -f image
 begin 6
 client_of close ''
@@ -31,7 +32,7 @@ talk 'one that did, and read no response, has changed ownerAuth' 4096 "$startup"
     "$(words 'HierarchyChangeAuth OWNER pw:6f776e -')"
 ended 'one connection'
 
-# A client that does nothing, or does not read its responses, keeps the device until it closes.
+# A client that sends nothing, or does not read its responses, keeps the device until it closes.
 for kind in idle unread; do
     rm -f image
     begin 2
@@ -40,7 +41,7 @@ for kind in idle unread; do
     ended 'two connections'
 done
 
-# Five million bytes of commands, which are answered while they are sent.
+# Five million bytes of commands. They are answered while they are sent.
 rm -f image
 begin 3
 talk 'an NV index' 4096 "$startup" \

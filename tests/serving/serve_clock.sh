@@ -1,9 +1,9 @@
-# The clock of a served device follows the host's, however many commands come in a millisecond.
+# The clock of a served device follows the host's clock, however many commands come in a millisecond.
 tests=$(cd "$(dirname "$0")/.." && pwd -P)
 . "$tests/common/cases.sh"
 . "$tests/common/served.sh"
 
-# A second of commands, one after the other.
+# Commands one after the other, for a second.
 rm -f entropy image
 ln -s /dev/zero entropy
 begin 1

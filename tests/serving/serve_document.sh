@@ -1,10 +1,10 @@
-# The lines of docs/USING.md that serve a device and seal a key by tpm2-tools, exactly as written there: the
-# last tool prints the key.
+# Runs the lines of docs/USING.md that serve a device and seal a key with tpm2-tools, exactly as written
+# there. The last tool prints the key.
 tests=$(cd "$(dirname "$0")/.." && pwd -P)
 . "$tests/common/cases.sh"
 needs tpm2 socat
 
-# block HEADING: the first lines for sh below a heading.
+# block HEADING: prints the first block of shell commands below a heading.
 block() {
     awk -v heading="## $1" '
         /^## / { is_there = $0 == heading }

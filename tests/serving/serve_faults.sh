@@ -12,7 +12,7 @@ small=
 head -c 768 /dev/zero >entropy
 mkdir a_folder
 
-# serve LABEL WORDS..: serves no connection, with these options and good values for the others.
+# serve LABEL WORDS..: serves no connection, with these options, and good values for the other options.
 serve() {
     label=$1
     shift
@@ -26,14 +26,14 @@ serve() {
     [ ! -e socket ] || echo '    the socket is still there'
 }
 
-# small WORDS..: runs a program that cannot write a file of over 512 bytes.
+# small WORDS..: runs a program that cannot write more than 512 bytes to a file.
 small() {
     trap '' XFSZ
     ulimit -f 1
     exec "$@"
 }
 
-# talk LABEL BUFFER..: serves one connection that sends these commands, and says how it ended.
+# talk LABEL BUFFER..: serves one connection that sends these commands, and prints how it ended.
 talk() {
     label=$1
     shift
@@ -70,8 +70,8 @@ serve '2^32 connections' --connections 4294967296
 serve 'a number of connections with a sign' --connections -1
 serve 'a hex number of connections' --connections 0x1
 
-# The order: a command line before the image, the image before the random bytes, these before the
-# socket.
+# The order of the checks: the command line before the image, the image before the random bytes, and these
+# before the socket.
 serve 'a bad locality, and no image' --locality 5 --image a_folder
 serve 'no image, and no random bytes' --image a_folder --entropy missing
 serve '2^32 - 1 connections, and no random bytes' --connections 4294967295 --entropy missing
@@ -91,8 +91,8 @@ serve 'an empty file' --image empty
 serve 'a folder in place of an image' --image a_folder
 serve 'a file in place of a folder' --image empty/image
 
-# Random bytes that are missing, or end: at the manufacture, or at a command. The device is saved before
-# the program ends.
+# Random bytes that are missing or too few, at the manufacture or at a command. The device is saved before the
+# program ends.
 serve 'no random bytes' --entropy missing
 rm -f image
 serve 'too few for a new device' --entropy few
@@ -106,7 +106,7 @@ serve 'a folder in place of a socket' --socket a_folder
 serve 'a socket in no folder' --socket missing/socket
 serve 'a path that is too long' --socket "$(printf '%0108d' 0)"
 
-# An image that cannot be written: the old one stays. It has an NV index of 1,024 bytes.
+# An image that is too large to be written, because it has an NV index of 1,024 bytes. The old image stays.
 define=$("$program" asm 'NV_DefineSpace OWNER pw:- - 01000001000b0002000200000400')
 write=$("$program" asm "NV_Write OWNER 01000001 pw:- $(printf '%02048d' 0) 0")
 talk 'an NV index' "$startup" "$define" "$write"

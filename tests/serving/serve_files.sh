@@ -1,4 +1,5 @@
-# The files of a served device: they are links, are removed or replaced while it is served, or end.
+# The files of a served device: some are links, some are removed or replaced while the device is served, and
+# the random bytes end.
 tests=$(cd "$(dirname "$0")/.." && pwd -P)
 . "$tests/common/cases.sh"
 . "$tests/common/served.sh"
@@ -7,13 +8,13 @@ startup=$(words 'Startup 0')
 change=$(words 'HierarchyChangeAuth OWNER pw:- 6f776e')
 back=$(words 'HierarchyChangeAuth OWNER pw:6f776e -')
 
-# tried LABEL IMAGE: a run with this image and without a connection.
+# tried LABEL IMAGE: serves no connection, with this image.
 tried() {
     run "$1" serve --socket socket --image "$2" --entropy entropy --locality 0 --connections 0
 }
 
-# An image that is a link is read from the link's target. A new file replaces the link, and the target
-# stays as it was.
+# The image is a link. It is read from the link's target. A new file replaces the link, and the target stays
+# as it was.
 begin 1
 talk 'an authorization value' 4096 "$startup" "$change"
 ended 'one connection'
@@ -40,7 +41,7 @@ ln -s itself itself
 tried 'a link to a folder' leads_to_folder
 tried 'a link to itself' itself
 
-# meanwhile LABEL LINE: a connection during which the shell runs a line.
+# meanwhile LABEL LINE: serves a connection during which the shell runs a line.
 meanwhile() {
     begin 1
     echo "$1:"
@@ -48,8 +49,8 @@ meanwhile() {
     ended 'one connection'
 }
 
-# The image while the device is served. If it was removed, it is made again. If it cannot be made, the
-# program says so.
+# The image is removed or blocked while the device is served. A removed image is made again. If it cannot be
+# made, the program reports that.
 cp kept image
 meanwhile 'the image is removed' 'rm image'
 [ ! -f image ] || echo 'the image is there again'
@@ -61,8 +62,8 @@ meanwhile 'the folder of the image is removed' 'rm -r state'
 [ ! -e state ] || echo 'the folder is there again'
 image=
 
-# The socket while the device is served. Every connected client is served, also one that waits. A folder
-# that has taken the path stays there after the run.
+# The socket file is removed, or replaced by a folder, while the device is served. Every connected client is
+# served, also one that is still queued. A folder at the socket's path stays there after the run.
 for kind in removed folder; do
     rm -f image
     begin 2
@@ -85,8 +86,8 @@ until [ ! -e socket ]; do sleep 0.01; done
 cat "$room/others"
 echo 'it has removed its socket'
 
-# Random bytes for the manufacture, two commands, and a part of a third. They end in the second
-# connection, and what was done before is saved.
+# There are random bytes for the manufacture, two commands, and a part of a third command. They end in the
+# second connection. The effects of the commands before are saved.
 mv entropy enough
 head -c 868 enough >entropy
 rm -f image

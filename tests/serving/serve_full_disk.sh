@@ -1,6 +1,5 @@
-# The image of a served device on a full disk: it stays as it was. With free space again, the device goes
-# on from there. The disk is mounted for this test alone, by root or by a user who may be root in a
-# namespace.
+# The image of a served device on a full disk stays as it was. When there is space again, the device continues
+# from there. The disk is mounted only for this test, by root or by a user who may be root in a namespace.
 if [ -z "${own_mounts:-}" ]; then
     for user in '' '--user --map-root-user'; do
         # shellcheck disable=SC2086 # it is two words, or none

@@ -1,6 +1,5 @@
-# A device that is served from localities 3 and 4, with PCR 17, which depends on them: it is extended
-# from localities 2 to 4, and reset from locality 4. Another run of a device may have another
-# locality.
+# A device is served from localities 3 and 4. PCR 17 depends on them: localities 2 to 4 can extend it, and
+# locality 4 can reset it. Another run of the device may have another locality.
 tests=$(cd "$(dirname "$0")/.." && pwd -P)
 . "$tests/common/cases.sh"
 . "$tests/common/served.sh"

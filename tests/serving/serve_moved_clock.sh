@@ -1,17 +1,17 @@
-# The clock of a served device, while the test sets the host's clock: common/clock.c replaces the C
-# library's. Whole milliseconds pass, none is lost between two commands, and a clock that goes back
-# takes none away.
+# The clock of a served device, while the test sets the host's clock: common/clock.c replaces the C library's.
+# The device counts whole milliseconds, and none is lost between two commands. If the host's clock goes back,
+# the device's clock does not.
 tests=$(cd "$(dirname "$0")/.." && pwd -P)
 . "$tests/common/cases.sh"
 . "$tests/common/served.sh"
 needs cc
 
-# now SECONDS NANOSECONDS: sets the host's clock, in time since its start in the test.
+# now SECONDS NANOSECONDS: sets the host's clock to this time after the start of the test.
 now() {
     echo "$((1000000 + $1)) $2" >clock.new && mv clock.new clock
 }
 
-# clock LABEL SECONDS NANOSECONDS: asks for the device's clock three times at this time.
+# clock LABEL SECONDS NANOSECONDS: sets the host's clock, and reads the device's clock three times.
 clock() {
     now "$2" "$3"
     talk "$1" 4096 "$read" "$read" "$read"

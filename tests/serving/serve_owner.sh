@@ -1,5 +1,5 @@
-# What a served device writes belongs only to its owner, whatever the umask: the image, which has the
-# device's seeds and authorization values, and the socket. And where the socket may be.
+# The files of a served device belong only to its owner, whatever the umask: the image, which has the device's
+# seeds and authorization values, and the socket. Also tests at which paths the socket may be.
 tests=$(cd "$(dirname "$0")/.." && pwd -P)
 . "$tests/common/cases.sh"
 . "$tests/common/served.sh"
@@ -26,7 +26,7 @@ talk 'an image that everybody may read' 4096 "$startup"
 ended 'one connection'
 stat -c %A image
 
-# A file that a killed run left at the path of the new image, and links there. Their targets stay as they
+# A killed run left a file at the path of the new image; then links are there. The links' targets stay as they
 # are.
 echo untouched >target
 echo unfinished >image.new
@@ -45,7 +45,7 @@ done
 [ ! -e nowhere ] || echo 'nowhere is there'
 cat target
 
-# tried LABEL PATH: a run without a connection, with its socket at this path.
+# tried LABEL PATH: serves no connection, with its socket at this path.
 tried() {
     run "$1" serve --socket "$2" --image image --entropy entropy --locality 0 --connections 0
 }
@@ -55,7 +55,7 @@ ln -s nowhere link
 tried 'a link in place of a socket' link
 [ -L link ] || echo 'the link is gone'
 
-# A path has at most 107 bytes, and its folder at most 103.
+# A socket's path has at most 107 bytes, and its folder at most 103.
 folder_of_103=$(printf '%0102d' 0)
 mkdir "$folder_of_103" "$folder_of_103"0
 tried 'a name of 107 bytes' "$(printf '%0107d' 0)"
@@ -65,12 +65,12 @@ tried 'a folder of 104 bytes' "$folder_of_103"0/sck
 tried 'no path' ''
 ls -A "$folder_of_103" "$folder_of_103"0
 
-# A run binds its socket in a folder next to it, and removes that. Folders that killed runs left stay.
+# A run binds its socket in a folder next to it, and removes that folder. Folders that killed runs left stay.
 mkdir .0 .1
 tried 'two folders that were left' socket
 ls -Ad .[0-9]
 
-# Two runs begin at once with the same socket: one of them goes on.
+# Two runs begin at once with the same socket. Only one of them continues.
 two() {
     timeout 60 "$program" serve --socket socket --image "$1" --entropy entropy --locality 0 \
         --connections 2 >"$room/$1" 2>&1
