@@ -38,7 +38,7 @@ pub fn put_content(text: &[u8], buffer: &mut [u8]) -> usize
 /// Writes an answer's response to the front of a buffer, and returns what its caller gets with it.
 pub fn put_answer(answer: Answer, response: &mut [u8; 4096]) -> Answered
     requires { length answer.response.now ≤ buffer_limit }
-    ensures is { IsAnswer (plain_answer answer) response.new result }
+    ensures is { IsAnswer (plain_answer answer.entry) response.new result }
     ensures rest { drop result.size response.new ≡ drop result.size response.old }
 {
     let text = answer.response;

@@ -6,6 +6,3 @@ use Rattle.tpmsim_library.proofs.keeping.tpmsim_keeper_new.Goals as goal
 pub returns-in-Ok-clause-made : goal.returns-in-Ok-clause-made
 returns-in-Ok-clause-made c =
     λ done. (c.in-Some.force, c.in-Ok.new.value, sym c.in-Some.ensures, c.put.ensures, ap call_of c.in-Ok.ensures.ok ∙ c.new.ensures.made)
-
-pub returns-in-Err-clause-memory : goal.returns-in-Err-clause-memory
-returns-in-Err-clause-memory c = λ refused. (c.in-Some.force, sym c.in-Some.ensures)

@@ -1,4 +1,4 @@
-use Rattle.std.proofs.Common.{◌≡◌, List, ◌++◌, drop, take, ap, sym, ◌∙◌}
+use Rattle.std.proofs.Common.{rules, ◌≡◌, List, ◌++◌, drop, take, ap, sym, ◌∙◌}
 use Rattle.std.proofs.lemmas.List.{take-append-drop}
 use Rattle.tpm_kept_journal.specs.texts.HeadAt.{PlainHead}
 use Rattle.tpm_kept_journal.proofs.texts.HeadAt.{head_at_front, no_head}
