@@ -40,7 +40,8 @@ inline std::string name_of(Told told) {
         "DONE",          "NO_DEVICE",     "NO_LOCALITY",  "NO_MEMORY",    "IMAGE_SHORT",
         "IMAGE_MAGIC",   "IMAGE_VERSION", "IMAGE_LENGTH", "IMAGE_DIGEST", "IMAGE_BODY",
         "NO_JOURNAL",    "DAMAGED",       "OTHERWISE",    "STATE_SHORT",  "STATE_MAGIC",
-        "STATE_VERSION", "STATE_LENGTH",  "STATE_DIGEST", "STATE_BODY",   "NO_WORD"};
+        "STATE_VERSION", "STATE_LENGTH",  "STATE_DIGEST", "STATE_BODY",   "NO_WORD",
+        "NO_ANSWER"};
     return std::string("TPMSIM_") + (told < std::size(names) ? names[told] : "NO_RANDOM");
 }
 

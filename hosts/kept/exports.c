@@ -21,16 +21,13 @@ static bool is_open(const tpmsim_kept_device *handle, struct reason *reason) {
 
 /* Reads the options. False if a number is not one of those that it may be. */
 static bool read_options(const tpmsim_kept_options *asked, struct kept_options *options) {
-    static const enum kept_force forces[] = {[TPMSIM_FORCE_NEVER] = KEPT_FORCE_NEVER,
-                                             [TPMSIM_FORCE_POWER] = KEPT_FORCE_POWER,
-                                             [TPMSIM_FORCE_ALWAYS] = KEPT_FORCE_ALWAYS};
     if (asked->force > TPMSIM_FORCE_ALWAYS || asked->keep > PAST_MOST || asked->random_size > 256)
         return false;
     *options = (struct kept_options){.folder = asked->folder,
                                      .image = asked->image,
                                      .random = asked->random,
                                      .random_size = asked->random_size,
-                                     .force = forces[asked->force],
+                                     .force = asked->force,
                                      .keep = asked->keep,
                                      .is_there = asked->is_there,
                                      .cuts = asked->cuts};

@@ -1,6 +1,7 @@
 #define _GNU_SOURCE
 #include "folder.h"
 #include "standing.h"
+#include "told.h"
 #include <errno.h>
 #include <fcntl.h>
 #include <limits.h>
@@ -10,16 +11,17 @@
 #include <sys/syscall.h>
 #include <unistd.h>
 
-static const char LOCK[] = "lock";
-
 enum { MODE = 0700, FCHMODAT2 = 452 };
 
-bool is_identity(struct identity identity, const struct stat *status) {
-    return identity.device == status->st_dev && identity.inode == status->st_ino;
+bool is_same_file(const struct stat *one, const struct stat *other) {
+    return one->st_dev == other->st_dev && one->st_ino == other->st_ino;
 }
 
-struct identity identity_of(const struct stat *status) {
-    return (struct identity){status->st_dev, status->st_ino};
+int close_file(int file) {
+    int error = errno;
+    if (file >= 0) close(file);
+    errno = error;
+    return -1;
 }
 
 /* Copies a path without the slashes at its end, after which a link would be followed. */
@@ -43,13 +45,11 @@ static bool set_mode(const char *path) {
     int made = open(path, O_RDONLY | O_DIRECTORY | O_NOFOLLOW | O_CLOEXEC);
     if (made < 0) return errno == EACCES && set_mode_by_path(path);
     bool is_set = fchmod(made, MODE) == 0;
-    int error = errno;
-    close(made);
-    errno = error;
+    close_file(made);
     return is_set;
 }
 
-/* Makes the folder where it is not there. */
+/* Makes the folder if it is missing. */
 static bool make(struct folder *folder, struct reason *reason) {
     if (mkdir(folder->path, MODE) == 0)
         return set_mode(folder->path) ||
@@ -76,13 +76,13 @@ bool folder_open(struct folder *folder, const char *path, bool makes, struct rea
     if (strlen(path) >= PATH_MAX)
         return refuse(reason, "the path of the folder", NULL, "is too long", 0);
     folder->path = copy_path(path);
-    if (!folder->path) return refuse(reason, path, NULL, "wants memory that is not there", 0);
+    if (!folder->path) return refuse_told(reason, path, NULL, TPMSIM_NO_MEMORY);
     return (!makes || make(folder, reason)) && open_descriptor(folder, reason);
 }
 
 void folder_close(struct folder *folder) {
-    if (folder->lock >= 0) close(folder->lock);
-    if (folder->descriptor >= 0) close(folder->descriptor);
+    close_file(folder->lock);
+    close_file(folder->descriptor);
     fork_mark_end(&folder->mark);
     free(folder->path);
     *folder = (struct folder){.descriptor = -1, .lock = -1};
@@ -98,16 +98,10 @@ int folder_look(const struct folder *folder, const char *name, struct stat *stat
     return standing_is_file(status, folder->path, name, reason) ? 1 : -1;
 }
 
-bool folder_has(const struct folder *folder, const char *name, struct identity identity,
+bool folder_has(const struct folder *folder, const char *name, const struct stat *opened,
                 struct stat *status) {
     return fstatat(folder->descriptor, name, status, AT_SYMLINK_NOFOLLOW) == 0 &&
-           is_identity(identity, status);
-}
-
-/* Closes a file that was opened for nothing, and answers that there is none. */
-static int closed(int file) {
-    close(file);
-    return -1;
+           is_same_file(opened, status);
 }
 
 int folder_open_file(const struct folder *folder, const char *name, struct stat *status,
@@ -117,52 +111,41 @@ int folder_open_file(const struct folder *folder, const char *name, struct stat 
     if (there != 1) return -1;
     int file = openat(folder->descriptor, name,
                       O_RDWR | O_NOFOLLOW | O_NONBLOCK | O_NOCTTY | O_CLOEXEC);
-    if (file < 0) {
+    if (file < 0)
         refuse(reason, folder->path, name, "cannot be opened", errno);
-        return -1;
-    }
-    if (fstat(file, status) != 0) {
+    else if (fstat(file, status) != 0)
         refuse(reason, folder->path, name, "cannot be looked at", errno);
-        return closed(file);
-    }
-    return standing_is_file(status, folder->path, name, reason) ? file : closed(file);
+    else if (standing_is_file(status, folder->path, name, reason))
+        return file;
+    return close_file(file);
 }
 
 int folder_make_file(const struct folder *folder, const char *name, struct reason *reason) {
     int file = openat(folder->descriptor, name,
                       O_RDWR | O_CREAT | O_EXCL | O_NOFOLLOW | O_CLOEXEC, 0600);
-    if (file < 0) {
-        refuse(reason, folder->path, name, "cannot be made", errno);
-        return -1;
-    }
-    if (fchmod(file, 0600) == 0) return file;
-    refuse(reason, folder->path, name, "cannot be given its mode", errno);
-    unlinkat(folder->descriptor, name, 0);
-    return closed(file);
+    if (file >= 0 && fchmod(file, 0600) == 0) return file;
+    refuse(reason, folder->path, name, file < 0 ? "cannot be made" : "cannot be given its mode",
+           errno);
+    if (file >= 0) unlinkat(folder->descriptor, name, 0);
+    return close_file(file);
 }
 
-/* Opens the file that is locked, and makes it where it is not there. Another process may make it
- * between the look and the making, and then it is there at the second look. */
+/* Opens the file that is locked, and makes it if it is missing. Another process may make it between
+ * the look and the making: that is no reason to be reported. */
 static bool open_lock(struct folder *folder, struct reason *reason) {
-    struct stat status;
-    int there = folder_look(folder, LOCK, &status, reason);
-    if (there < 0) return false;
-    if (there == 0) {
-        int made = folder_make_file(folder, LOCK, reason);
+    if (folder_look(folder, LOCK_NAME, &folder->lock_status, reason) == 0) {
+        int made = folder_make_file(folder, LOCK_NAME, reason);
         if (made < 0 && errno != EEXIST) return false;
-        if (made >= 0) close(made);
+        close_file(made);
     }
-    folder->lock = folder_open_file(folder, LOCK, &status, reason);
+    folder->lock = folder_open_file(folder, LOCK_NAME, &folder->lock_status, reason);
     if (folder->lock < 0) return false;
-    folder->lock_identity = identity_of(&status);
     fork_mark_set(&folder->mark);
+    *reason->text = 0;
     return true;
 }
 
-static void close_lock(struct folder *folder) {
-    if (folder->lock >= 0) close(folder->lock);
-    folder->lock = -1;
-}
+static void close_lock(struct folder *folder) { folder->lock = close_file(folder->lock); }
 
 /* Waits until no other open file has the lock, and takes it. */
 static bool wait_for(int lock) {
@@ -177,15 +160,12 @@ bool folder_lock(struct folder *folder, struct reason *reason) {
     for (int i = 0; i < TRIES; i++) {
         struct stat status;
         if (folder->lock < 0 && !open_lock(folder, reason)) return false;
-        if (!wait_for(folder->lock)) {
-            refuse(reason, folder->path, LOCK, "cannot be locked", errno);
-            close_lock(folder);
-            return false;
-        }
-        if (folder_has(folder, LOCK, folder->lock_identity, &status)) return true;
+        bool is_locked = wait_for(folder->lock);
+        if (is_locked && folder_has(folder, LOCK_NAME, &folder->lock_status, &status)) return true;
         close_lock(folder);
+        if (!is_locked) return false;
     }
-    return refuse(reason, folder->path, LOCK, "is replaced again and again", 0);
+    return refuse(reason, folder->path, LOCK_NAME, "is replaced again and again", 0);
 }
 
 void folder_unlock(struct folder *folder) {

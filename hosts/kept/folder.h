@@ -10,28 +10,27 @@
 #include <sys/stat.h>
 #include <sys/types.h>
 
-/* Which file an open one is. */
-struct identity {
-    dev_t device;
-    ino_t inode;
-};
-
 struct folder {
     char *path;
-    /* The open folder, and the open file that is locked in it; -1 where there is none. */
+    /* The open folder, and the open file that is locked in it; -1 if there is none. */
     int descriptor;
     int lock;
-    struct identity lock_identity;
+    struct stat lock_status;
     /* Set by the process that opened the lock: a child that was forked would share it. */
     struct fork_mark mark;
     /* Whether this holder has forced the folder's own name to the disk. */
     bool name_is_forced;
 };
 
-bool is_identity(struct identity identity, const struct stat *status);
-struct identity identity_of(const struct stat *status);
+#define LOCK_NAME "lock"
 
-/* Opens a folder, which is made where it is not there and `makes` says so. */
+/* Closes a file, if it is open. Returns -1. errno stays as it is. */
+int close_file(int file);
+
+/* Whether both are of the same file. */
+bool is_same_file(const struct stat *one, const struct stat *other);
+
+/* Opens a folder, which is made if it is missing and `makes` says so. */
 bool folder_open(struct folder *folder, const char *path, bool makes, struct reason *reason);
 void folder_close(struct folder *folder);
 
@@ -40,18 +39,19 @@ void folder_close(struct folder *folder);
 int folder_look(const struct folder *folder, const char *name, struct stat *status,
                 struct reason *reason);
 
-/* Whether a name is that of this file, which was looked at when it was opened; and its status then. */
-bool folder_has(const struct folder *folder, const char *name, struct identity identity,
+/* Whether a name is that of this file, which was looked at when it was opened; its status too. */
+bool folder_has(const struct folder *folder, const char *name, const struct stat *opened,
                 struct stat *status);
 
-/* Opens a file that is there, to be read and written, and says what it is. -1 with the reason. */
+/* Opens a file for reading and writing, and writes its status. -1 with the reason. */
 int folder_open_file(const struct folder *folder, const char *name, struct stat *status,
                      struct reason *reason);
 
-/* Makes a file that is not there. -1 with the reason. */
+/* Makes a file that is missing. -1 with the reason, and errno. */
 int folder_make_file(const struct folder *folder, const char *name, struct reason *reason);
 
-/* Waits until no other holder has the lock, and takes it. */
+/* Waits until no other holder has the lock, and takes it. False with the reason, or with errno if
+ * the file cannot be locked. */
 bool folder_lock(struct folder *folder, struct reason *reason);
 void folder_unlock(struct folder *folder);
 

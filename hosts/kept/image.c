@@ -24,25 +24,43 @@ static int open_file(const char *path, struct reason *reason) {
     return file;
 }
 
-static bool open_bytes(tpmsim *device, int file, const char *path, uint8_t *room,
-                       struct reason *reason) {
+/* Reads an image, and opens its device. */
+static bool read_device(tpmsim *device, int file, const char *path, uint8_t *room, size_t *size,
+                        struct reason *reason) {
     struct stat status;
     if (fstat(file, &status) != 0)
         return refuse(reason, path, NULL, "cannot be looked at", errno);
     if (!standing_is_file(&status, path, NULL, reason)) return false;
-    ssize_t size = transfer_read(file, room, ROOM, 0);
-    if (size < 0) return refuse(reason, path, NULL, "cannot be read", errno);
-    uint8_t told = tpmsim_open(device, room, (size_t)size);
+    ssize_t got = transfer_read(file, room, ROOM, 0);
+    if (got < 0) return refuse(reason, path, NULL, "cannot be read", errno);
+    *size = (size_t)got;
+    uint8_t told = tpmsim_open(device, room, *size);
     return told == TPMSIM_DONE || refuse_told(reason, path, NULL, told);
 }
 
-bool image_open(tpmsim *device, const char *path, struct reason *reason) {
+/* The bytes of an image, whose device is opened. */
+static uint8_t *open_bytes(tpmsim *device, const char *path, size_t *size, struct reason *reason) {
     int file = open_file(path, reason);
-    if (file < 0) return false;
+    if (file < 0) return NULL;
     uint8_t *room = malloc(ROOM);
-    bool is_open = room ? open_bytes(device, file, path, room, reason)
+    bool is_open = room ? read_device(device, file, path, room, size, reason)
                         : refuse_told(reason, path, NULL, TPMSIM_NO_MEMORY);
-    free(room);
     close(file);
-    return is_open;
+    if (is_open) return room;
+    free(room);
+    return NULL;
+}
+
+uint8_t *image_read(const char *path, size_t *size, struct reason *reason) {
+    tpmsim device = {0};
+    uint8_t *bytes = open_bytes(&device, path, size, reason);
+    tpmsim_free(&device);
+    return bytes;
+}
+
+bool image_open(tpmsim *device, const char *path, struct reason *reason) {
+    size_t size;
+    uint8_t *bytes = open_bytes(device, path, &size, reason);
+    free(bytes);
+    return bytes != NULL;
 }

@@ -4,7 +4,10 @@
 #include "reason.h"
 #include "tpmsim.h"
 
-/* Opens the device of an image, which is in a file of the user's. */
+/* Reads an image, which is in a file of the user's. The caller frees it. NULL with the reason. */
+uint8_t *image_read(const char *path, size_t *size, struct reason *reason);
+
+/* Opens the device of an image. */
 bool image_open(tpmsim *device, const char *path, struct reason *reason);
 
 #endif

@@ -12,17 +12,16 @@
 
 #define NEW_NAME "journal.new"
 
-/* A journal begins again once it has LIMIT bytes. It is read in parts of PART bytes. */
-enum { LIMIT = 256 * 1024, PART = 256 * 1024 };
+/* A journal begins again once it has so many bytes. */
+enum { LIMIT = 256 * 1024 };
 
-static bool refuse_file(const struct keeping *keeping, const char *name, const char *said,
-                        int error, struct reason *reason) {
-    return refuse(reason, keeping->folder.path, name, said, error);
+const char *keeping_name(const struct keeping *keeping) {
+    return keeping->folder.path ? keeping->folder.path : "the device in memory";
 }
 
-static void close_file(int *file) {
-    if (*file >= 0) close(*file);
-    *file = -1;
+static bool refuse_file(const struct keeping *keeping, const char *name, const char *said,
+                        struct reason *reason) {
+    return refuse(reason, keeping->folder.path, name, said, errno);
 }
 
 /* Frees the buffer, which has had the device's secrets. */
@@ -36,61 +35,52 @@ static void free_buffer(struct keeping *keeping) {
 static bool reserve(struct keeping *keeping, size_t size, struct reason *reason) {
     if (keeping->buffer_size >= size) return true;
     uint8_t *buffer = malloc(size);
-    if (!buffer) return refuse_told(reason, keeping->folder.path, JOURNAL_NAME, TPMSIM_NO_MEMORY);
+    if (!buffer) return refuse_told(reason, keeping_name(keeping), NULL, TPMSIM_NO_MEMORY);
     free_buffer(keeping);
     keeping->buffer = buffer;
     keeping->buffer_size = size;
     return true;
 }
 
-/* Has what the keeper writes in the buffer. */
-static bool reserve_text(struct keeping *keeping, size_t size, struct reason *reason) {
-    return reserve(keeping, size, reason) &&
-           tpmsim_keeper_text(&keeping->keeper, keeping->buffer, size) == size;
-}
-
-/* Notes what was cut off the journal, if anything was. */
-static void note_cut(struct keeping *keeping, uint64_t whole) {
-    char said[128];
-    if (keeping->size <= whole) return;
-    uint64_t count = keeping->size - whole;
-    if (keeping->is_cutting)
-        snprintf(said, sizeof said, "%" PRIu64 " bytes after the first %" PRIu64 " were dropped",
-                 count, whole);
-    else
-        snprintf(said, sizeof said, "%" PRIu64 " bytes after the last whole record were cut off",
-                 count);
+/* Notes what a task cuts off the journal, if it cuts anything. */
+static void note_cut(struct keeping *keeping, const tpmsim_ask *ask) {
+    char said[128], place[32] = "last whole record";
+    if (keeping->size <= ask->cut) return;
+    if (ask->drops) snprintf(place, sizeof place, "first %" PRIu64, ask->cut);
+    snprintf(said, sizeof said, "%" PRIu64 " bytes after the %s were %s", keeping->size - ask->cut,
+             place, ask->drops ? "dropped" : "cut off");
     refuse(&keeping->notice, keeping->folder.path, JOURNAL_NAME ":", said, 0);
 }
 
-/* ---- the tasks */
+/* ---- the tasks. One that fails says why, or leaves that to the keeper's fault and to errno. */
 
 static uint8_t look(struct keeping *keeping, struct reason *reason) {
     const struct folder *folder = &keeping->folder;
     struct stat status;
     keeping->size = 0;
-    if (keeping->journal < 0 || !folder_has(folder, JOURNAL_NAME, keeping->identity, &status)) {
-        close_file(&keeping->journal);
+    if (keeping->journal < 0 ||
+        !folder_has(folder, JOURNAL_NAME, &keeping->journal_status, &status)) {
+        keeping->journal = close_file(keeping->journal);
         int there = folder_look(folder, JOURNAL_NAME, &status, reason);
         if (there != 1) return there == 0 ? TPMSIM_GOT_GONE : TPMSIM_GOT_FAILED;
         keeping->journal = folder_open_file(folder, JOURNAL_NAME, &status, reason);
         if (keeping->journal < 0) return TPMSIM_GOT_FAILED;
-        keeping->identity = identity_of(&status);
         keeping->number++;
     }
+    keeping->journal_status = status;
     keeping->size = (uint64_t)status.st_size;
     return TPMSIM_GOT_DONE;
 }
 
+/* Reads the journal from a place on, all of it. */
 static bool read_from(struct keeping *keeping, uint64_t at, struct reason *reason) {
-    uint64_t left = keeping->size - at;
-    size_t size = left < PART ? (size_t)left : PART;
+    size_t size = (size_t)(keeping->size - at);
     if (!reserve(keeping, size, reason)) return false;
     ssize_t got = transfer_read(keeping->journal, keeping->buffer, size, (off_t)at);
-    if (got < 0) return refuse_file(keeping, JOURNAL_NAME, "cannot be read", errno, reason);
+    if (got < 0) return refuse_file(keeping, JOURNAL_NAME, "cannot be read", reason);
     keeping->read = (size_t)got;
-    return got > 0 ||
-           refuse_file(keeping, JOURNAL_NAME, "was shortened while it was read", 0, reason);
+    return keeping->read == size ||
+           refuse(reason, keeping->folder.path, JOURNAL_NAME, "was shortened while it was read", 0);
 }
 
 /* Cuts the journal to so many bytes. */
@@ -101,87 +91,86 @@ static bool cut(const struct keeping *keeping, uint64_t size) {
 }
 
 static bool put(struct keeping *keeping, const tpmsim_ask *ask, struct reason *reason) {
-    if (!reserve_text(keeping, ask->size, reason)) return false;
     if (keeping->size > ask->cut && !cut(keeping, ask->cut))
-        return refuse_file(keeping, JOURNAL_NAME, "cannot be cut to whole records", errno, reason);
-    note_cut(keeping, ask->cut);
+        return refuse_file(keeping, JOURNAL_NAME, "cannot be cut to whole records", reason);
+    note_cut(keeping, ask);
     if (transfer_write(keeping->journal, keeping->buffer, ask->size, (off_t)ask->at)) return true;
-    refuse_file(keeping, JOURNAL_NAME, "cannot be written", errno, reason);
+    int error = errno;
     cut(keeping, ask->cut);
+    errno = error;
     return false;
 }
 
-static bool force(const struct keeping *keeping, struct reason *reason) {
-    return fdatasync(keeping->journal) == 0 ||
-           refuse_file(keeping, JOURNAL_NAME, "cannot be forced to the disk", errno, reason);
+/* Removes the new file. errno stays as it is. */
+static void remove_new(struct keeping *keeping) {
+    int error = errno;
+    unlinkat(keeping->folder.descriptor, NEW_NAME, 0);
+    keeping->fresh = close_file(keeping->fresh);
+    errno = error;
 }
 
-static void remove_new(struct keeping *keeping) {
-    unlinkat(keeping->folder.descriptor, NEW_NAME, 0);
-    close_file(&keeping->fresh);
+/* Writes the new file, and says what failed; NULL if nothing did. */
+static const char *write_new(struct keeping *keeping, size_t size) {
+    if (!transfer_write(keeping->fresh, keeping->buffer, size, 0)) return "cannot be written";
+    if (fsync(keeping->fresh) != 0) return "cannot be forced to the disk";
+    return fstat(keeping->fresh, &keeping->fresh_status) == 0 ? NULL : "cannot be looked at";
 }
 
 /* Makes the new file. A killed process may have left another one. */
-static bool open_new(struct keeping *keeping, struct reason *reason) {
+static bool make(struct keeping *keeping, const tpmsim_ask *ask, struct reason *reason) {
     struct stat status;
     int there = folder_look(&keeping->folder, NEW_NAME, &status, reason);
     if (there < 0) return false;
     if (there == 1) remove_new(keeping);
     keeping->fresh = folder_make_file(&keeping->folder, NEW_NAME, reason);
-    return keeping->fresh >= 0;
-}
-
-static bool write_new(struct keeping *keeping, size_t size, struct reason *reason) {
-    struct stat status;
-    if (!transfer_write(keeping->fresh, keeping->buffer, size, 0))
-        return refuse_file(keeping, NEW_NAME, "cannot be written", errno, reason);
-    if (fsync(keeping->fresh) != 0)
-        return refuse_file(keeping, NEW_NAME, "cannot be forced to the disk", errno, reason);
-    if (fstat(keeping->fresh, &status) != 0)
-        return refuse_file(keeping, NEW_NAME, "cannot be looked at", errno, reason);
-    keeping->fresh_identity = identity_of(&status);
-    return true;
-}
-
-static bool make(struct keeping *keeping, const tpmsim_ask *ask, struct reason *reason) {
-    if (!reserve_text(keeping, ask->size, reason) || !open_new(keeping, reason)) return false;
-    keeping->executed = ask->cut;
-    if (write_new(keeping, ask->size, reason)) return true;
+    if (keeping->fresh < 0) return false;
+    keeping->made = *ask;
+    const char *failed = write_new(keeping, ask->size);
+    if (!failed) return true;
     remove_new(keeping);
-    return false;
-}
-
-static bool rename_new(const struct keeping *keeping, struct reason *reason) {
-    int folder = keeping->folder.descriptor;
-    return renameat(folder, NEW_NAME, folder, JOURNAL_NAME) == 0 ||
-           refuse_file(keeping, NEW_NAME, "cannot take the journal's place", errno, reason);
+    return refuse_file(keeping, NEW_NAME, failed, reason);
 }
 
 static bool name(struct keeping *keeping, struct reason *reason) {
-    if (!past_keep(&keeping->folder, keeping->keep, reason) || !rename_new(keeping, reason)) {
+    int folder = keeping->folder.descriptor;
+    if (!past_keep(&keeping->folder, keeping->keep, reason) ||
+        renameat(folder, NEW_NAME, folder, JOURNAL_NAME) != 0) {
         remove_new(keeping);
         return false;
     }
-    note_cut(keeping, keeping->executed);
-    close_file(&keeping->journal);
+    note_cut(keeping, &keeping->made);
+    close_file(keeping->journal);
     keeping->journal = keeping->fresh;
-    keeping->identity = keeping->fresh_identity;
+    keeping->journal_status = keeping->fresh_status;
     keeping->fresh = -1;
     keeping->number++;
     return true;
 }
 
-/* ---- the loop */
+/* Does a task of a device in memory. One that was dropped, as memory was refused, is lost. */
+static uint8_t do_in_memory(struct keeping *keeping, const tpmsim_ask *ask) {
+    switch (ask->task) {
+    case TPMSIM_TASK_LOOK: return keeping->number ? TPMSIM_GOT_DONE : TPMSIM_GOT_GONE;
+    case TPMSIM_TASK_READ: return TPMSIM_GOT_FAILED;
+    case TPMSIM_TASK_PUT: keeping->size = ask->at + ask->size; break;
+    case TPMSIM_TASK_MAKE: keeping->size = ask->size; break;
+    case TPMSIM_TASK_NAME: keeping->number++; break;
+    }
+    return TPMSIM_GOT_DONE;
+}
 
-/* Does a task, and returns a number of tpmsim_got. */
+/* Does a task, with what the keeper writes in the buffer, and returns a number of tpmsim_got. */
 static uint8_t do_task(struct keeping *keeping, const tpmsim_ask *ask, struct reason *reason) {
     bool is_done = true;
+    if (!keeping->folder.path) return do_in_memory(keeping, ask);
+    if (!reserve(keeping, ask->size, reason)) return TPMSIM_GOT_FAILED;
+    tpmsim_keeper_text(&keeping->keeper, keeping->buffer, ask->size);
     switch (ask->task) {
     case TPMSIM_TASK_LOCK: is_done = folder_lock(&keeping->folder, reason); break;
     case TPMSIM_TASK_LOOK: return look(keeping, reason);
     case TPMSIM_TASK_READ: is_done = read_from(keeping, ask->at, reason); break;
     case TPMSIM_TASK_PUT: is_done = put(keeping, ask, reason); break;
-    case TPMSIM_TASK_FORCE: is_done = force(keeping, reason); break;
+    case TPMSIM_TASK_FORCE: is_done = fdatasync(keeping->journal) == 0; break;
     case TPMSIM_TASK_MAKE: is_done = make(keeping, ask, reason); break;
     case TPMSIM_TASK_NAME: is_done = name(keeping, reason); break;
     case TPMSIM_TASK_SETTLE: is_done = folder_force(&keeping->folder, reason); break;
@@ -190,72 +179,70 @@ static uint8_t do_task(struct keeping *keeping, const tpmsim_ask *ask, struct re
     return is_done ? TPMSIM_GOT_DONE : TPMSIM_GOT_FAILED;
 }
 
-/* Does a job, and returns a number of tpmsim_fault. A task that fails says why. */
-static uint8_t run(struct keeping *keeping, uint8_t job, const uint8_t *text, size_t size,
-                   struct reason *reason) {
-    *reason->text = 0;
-    keeping->is_cutting = job == TPMSIM_JOB_CUT;
-    if (tpmsim_keeper_begin(&keeping->keeper, job, text, size) != TPMSIM_DONE)
-        return TPMSIM_FAULT_MEMORY;
-    for (;;) {
-        tpmsim_ask ask;
-        tpmsim_keeper_ask(&keeping->keeper, &ask);
-        if (ask.task == TPMSIM_TASK_NOTHING) return ask.fault;
-        keeping->read = 0;
-        uint8_t got = do_task(keeping, &ask, reason);
-        tpmsim_keeper_next(&keeping->keeper, got, keeping->number, keeping->size, keeping->buffer,
-                           keeping->read);
-    }
-}
+/* ---- the loop */
 
 /* Says why the journal does not open, by a look at the whole file. */
 static bool refuse_damage(struct keeping *keeping, struct reason *reason) {
     tpmsim device = {0};
-    size_t taken, size = (size_t)keeping->size;
-    if (!reserve(keeping, size, reason)) return false;
-    ssize_t got = transfer_read(keeping->journal, keeping->buffer, size, 0);
-    if (got < 0) return refuse_file(keeping, JOURNAL_NAME, "cannot be read", errno, reason);
-    uint8_t told = tpmsim_journal_open(&device, keeping->buffer, (size_t)got, &taken);
+    size_t taken;
+    if (!read_from(keeping, 0, reason)) return false;
+    uint8_t told = tpmsim_journal_open(&device, keeping->buffer, keeping->read, &taken);
     tpmsim_free(&device);
     /* Another holder may have cut it meanwhile. */
     if (told == TPMSIM_DONE) told = TPMSIM_DAMAGED;
     return refuse_told(reason, keeping->folder.path, JOURNAL_NAME, told);
 }
 
-static bool refuse_fault(struct keeping *keeping, uint8_t fault, struct reason *reason) {
+/* Says why a call was not done, in the keeper's words, unless a task has said it. */
+static bool refuse_fault(struct keeping *keeping, uint8_t fault, int error, struct reason *reason) {
     char said[128] = "";
+    const char *file = fault == TPMSIM_FAULT_LOCK   ? LOCK_NAME
+                       : fault == TPMSIM_FAULT_NAME ? NEW_NAME
+                                                    : JOURNAL_NAME;
     if (*reason->text) return false;
     if (fault == TPMSIM_FAULT_DAMAGED) return refuse_damage(keeping, reason);
-    if (fault == TPMSIM_FAULT_MEMORY)
-        return refuse_told(reason, keeping->folder.path, JOURNAL_NAME, TPMSIM_NO_MEMORY);
     tpmsim_fault_text(fault, said, sizeof said - 1);
-    return refuse_file(keeping, JOURNAL_NAME, said, 0, reason);
+    refuse(reason, keeping_name(keeping), keeping->folder.path ? file : NULL, said, error);
+    if (fault == TPMSIM_FAULT_MEMORY) reason->told = TPMSIM_NO_MEMORY;
+    return false;
 }
 
-bool keeping_run(struct keeping *keeping, uint8_t job, const uint8_t *text, size_t size,
-                 struct reason *reason) {
-    *keeping->notice.text = 0;
-    uint8_t fault = run(keeping, job, text, size, reason);
-    if (fault == TPMSIM_FAULT_DAMAGED && keeping->cuts) {
-        fault = run(keeping, TPMSIM_JOB_CUT, text, 0, reason);
-        if (fault == TPMSIM_FAULT_NONE) fault = run(keeping, job, text, size, reason);
+bool keeping_run(struct keeping *keeping, uint8_t told, struct reason *reason) {
+    int error = 0;
+    *keeping->notice.text = *reason->text = 0;
+    if (told != TPMSIM_DONE) return refuse_told(reason, keeping_name(keeping), NULL, told);
+    for (;;) {
+        tpmsim_ask ask;
+        tpmsim_keeper_ask(&keeping->keeper, &ask);
+        if (ask.task == TPMSIM_TASK_NOTHING)
+            return ask.fault == TPMSIM_FAULT_NONE ||
+                   refuse_fault(keeping, ask.fault, error, reason);
+        errno = 0;
+        keeping->read = 0;
+        uint8_t got = do_task(keeping, &ask, reason);
+        if (got == TPMSIM_GOT_FAILED) error = errno;
+        tpmsim_keeper_next(&keeping->keeper, got, keeping->number, keeping->size, keeping->buffer,
+                           keeping->read);
     }
-    return fault == TPMSIM_FAULT_NONE || refuse_fault(keeping, fault, reason);
 }
 
-bool keeping_open(struct keeping *keeping, const char *path, bool makes, uint8_t force_word,
+bool keeping_open(struct keeping *keeping, const struct kept_options *options,
                   struct reason *reason) {
-    keeping->journal = keeping->fresh = -1;
-    if (!folder_open(&keeping->folder, path, makes, reason)) return false;
+    keeping->journal = keeping->fresh = keeping->folder.descriptor = keeping->folder.lock = -1;
+    keeping->keep = options->keep;
+    if (options->folder &&
+        !folder_open(&keeping->folder, options->folder, !options->is_there, reason))
+        return false;
     if (!reserve(keeping, 1, reason)) return false;
-    uint8_t told = tpmsim_keeper_new(&keeping->keeper, force_word, LIMIT);
-    return told == TPMSIM_DONE || refuse_told(reason, keeping->folder.path, JOURNAL_NAME, told);
+    uint8_t told = tpmsim_keeper_new(&keeping->keeper, options->force, LIMIT);
+    if (told == TPMSIM_DONE) told = tpmsim_keeper_cuts(&keeping->keeper, options->cuts);
+    return told == TPMSIM_DONE || refuse_told(reason, keeping_name(keeping), NULL, told);
 }
 
 void keeping_close(struct keeping *keeping) {
     tpmsim_keeper_free(&keeping->keeper);
-    close_file(&keeping->journal);
-    close_file(&keeping->fresh);
+    close_file(keeping->journal);
+    close_file(keeping->fresh);
     free_buffer(keeping);
     folder_close(&keeping->folder);
 }

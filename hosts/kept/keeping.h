@@ -4,26 +4,24 @@
 #ifndef KEEPING_H
 #define KEEPING_H
 #include "folder.h"
-#include "tpmsim.h"
-#include <stddef.h>
+#include "kept.h"
 #include <stdint.h>
 
 #define JOURNAL_NAME "journal"
 
 struct keeping {
     tpmsim_keeper keeper;
+    /* The folder; without a path the device is in memory, and its journal is nowhere. */
     struct folder folder;
     /* The open journal, and a new one without a name; -1 if there is none. */
     int journal, fresh;
-    struct identity identity, fresh_identity;
-    /* How many files were opened as the journal: the number of the last one. */
-    uint64_t number;
-    /* The size of the journal, 0 without one; and how many of its bytes a new one replaces. */
-    uint64_t size, executed;
+    struct stat journal_status, fresh_status;
+    /* How many files were opened as the journal: the number of the last one; and its size. */
+    uint64_t number, size;
+    /* The task that made the new journal. */
+    tpmsim_ask made;
     /* How many journals of the past stay. */
     unsigned keep;
-    /* Whether damage is dropped, and not refused; and whether that is being done. */
-    bool cuts, is_cutting;
     /* What is written, or was read: `read` bytes. */
     uint8_t *buffer;
     size_t buffer_size, read;
@@ -31,14 +29,16 @@ struct keeping {
     struct reason notice;
 };
 
-/* Opens a folder, which is made if it is not there and `makes` says so. `force` is a number of
- * tpmsim_force. */
-bool keeping_open(struct keeping *keeping, const char *path, bool makes, uint8_t force,
+/* Has a keeper, and opens the folder of the options, if they have one. */
+bool keeping_open(struct keeping *keeping, const struct kept_options *options,
                   struct reason *reason);
 
-/* Does a job of tpmsim_job, with its text. tpmsim_keeper_response has the response then. */
-bool keeping_run(struct keeping *keeping, uint8_t job, const uint8_t *text, size_t size,
-                 struct reason *reason);
+/* What a sentence is about: the folder, or the device in memory. */
+const char *keeping_name(const struct keeping *keeping);
+
+/* Does the call that the keeper has begun, if `told` is TPMSIM_DONE: a number of tpmsim_told, with
+ * which the keeper began it. */
+bool keeping_run(struct keeping *keeping, uint8_t told, struct reason *reason);
 
 void keeping_close(struct keeping *keeping);
 

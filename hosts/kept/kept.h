@@ -17,10 +17,6 @@
 #include <stddef.h>
 #include <stdint.h>
 
-/* When the journal is forced to the disk, for hosts whose power may fail: when it begins, as at a
- * power cycle; never, but for a new journal; or then and before each response too. */
-enum kept_force { KEPT_FORCE_POWER, KEPT_FORCE_NEVER, KEPT_FORCE_ALWAYS };
-
 /* What is asked for. Zeros ask for a new device in memory, of random bytes of the system. */
 struct kept_options {
     /* The folder; NULL: the device is in memory, and ends with kept_close. */
@@ -31,7 +27,9 @@ struct kept_options {
      * command. A size of 0: bytes of the system. */
     const uint8_t *random;
     size_t random_size;
-    enum kept_force force;
+    /* A number of tpmsim_force: when the journal is forced to the disk, for hosts whose power may
+     * fail. */
+    uint8_t force;
     /* How many journals of the past stay in the folder, 0 to PAST_MOST of past.h. */
     unsigned keep;
     /* The completing layer is on. */

@@ -45,7 +45,7 @@ bool past_keep(const struct folder *folder, unsigned count, struct reason *reaso
     int is_last = folder_look(folder, LAST, &last, reason);
     if (is_last < 0) return false;
     /* A process may have been killed after it linked the journal. */
-    if (is_last == 1 && is_identity(identity_of(&journal), &last)) return true;
+    if (is_last == 1 && is_same_file(&journal, &last)) return true;
     if (!move_on(folder, count, reason)) return false;
     return linkat(folder->descriptor, JOURNAL, folder->descriptor, LAST, 0) == 0 ||
            refuse(reason, folder->path, LAST, "cannot be made", errno);

@@ -1,11 +1,10 @@
 #include "told.h"
-#include "tpmsim.h"
 
 const char *told_words(uint8_t told) {
     switch (told) {
     case TPMSIM_NO_DEVICE: return "has no device";
     case TPMSIM_NO_LOCALITY: return "has the localities 0 to 4, and no other";
-    case TPMSIM_NO_MEMORY: return "wants memory that is not there";
+    case TPMSIM_NO_MEMORY: return "needs memory, and the system gives none";
     case TPMSIM_IMAGE_SHORT: return "holds no image: there are too few bytes";
     case TPMSIM_IMAGE_MAGIC: return "holds no image: the bytes do not begin as one";
     case TPMSIM_IMAGE_VERSION: return "holds an image of a version that this library does not know";

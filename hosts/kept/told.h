@@ -2,7 +2,7 @@
 #ifndef TOLD_H
 #define TOLD_H
 #include "reason.h"
-#include <stdint.h>
+#include "tpmsim.h"
 
 /* What is said of a journal or an image after its path. */
 const char *told_words(uint8_t told);

@@ -1,5 +1,6 @@
 #define _GNU_SOURCE
 #include "words.h"
+#include "told.h"
 #include <stdlib.h>
 #include <string.h>
 
@@ -22,12 +23,13 @@ static bool read_keep(struct words *words, const char *value) {
     return true;
 }
 
-static bool read_force(struct words *words, const char *value) {
-    static const char *const names[] = {"power", "never", "always"};
-    static const enum kept_force forces[] = {KEPT_FORCE_POWER, KEPT_FORCE_NEVER, KEPT_FORCE_ALWAYS};
-    for (size_t i = 0; i < sizeof forces / sizeof *forces; i++) {
-        if (strcmp(value, names[i]) != 0) continue;
-        words->options.force = forces[i];
+bool words_force(const char *word, uint8_t *force) {
+    static const char *const names[] = {[TPMSIM_FORCE_NEVER] = "never",
+                                        [TPMSIM_FORCE_POWER] = "power",
+                                        [TPMSIM_FORCE_ALWAYS] = "always"};
+    for (uint8_t i = 0; i < sizeof names / sizeof *names; i++) {
+        if (strcmp(word, names[i]) != 0) continue;
+        *force = i;
         return true;
     }
     return false;
@@ -66,7 +68,7 @@ static bool read_value(struct words *words, enum word word, const char *value) {
     case LOCALITY: return read_locality(words, value);
     case IMAGE: words->options.image = value; return *value != 0;
     case RANDOM: return read_random(words, value);
-    case FORCE: return read_force(words, value);
+    case FORCE: return words_force(value, &words->options.force);
     default: return false;
     }
 }
@@ -114,9 +116,9 @@ static bool read_words(struct words *words, struct reason *reason) {
 }
 
 bool words_read(struct words *words, const char *text, struct reason *reason) {
-    *words = (struct words){.text = strdup(text ? text : ""), .options.completes = true};
-    if (!words->text)
-        return refuse(reason, "the module", NULL, "wants memory that is not there", 0);
+    *words = (struct words){.text = strdup(text ? text : ""),
+                            .options = {.force = TPMSIM_FORCE_POWER, .completes = true}};
+    if (!words->text) return refuse_told(reason, "the module", NULL, TPMSIM_NO_MEMORY);
     if (!*words->text || read_words(words, reason)) return true;
     words_free(words);
     return false;

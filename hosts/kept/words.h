@@ -8,8 +8,8 @@
     "state=DIR, device, complete, rm, cut, keep=0 to 99, locality=0 to 4, image=FILE, random=HEX, "  \
     "force=never, force=power or force=always"
 
-/* A text of words, and what they ask for. The options point into it. The completing layer is on unless
- * the words have `device`. */
+/* A text of words, and what they ask for. The options point into it. The completing layer is on
+ * unless the words have `device`. */
 struct words {
     char *text;
     struct kept_options options;
@@ -24,5 +24,8 @@ struct words {
 bool words_read(struct words *words, const char *text, struct reason *reason);
 
 void words_free(struct words *words);
+
+/* Reads a word of force as a number of tpmsim_force: never, power or always. */
+bool words_force(const char *word, uint8_t *force);
 
 #endif

@@ -1,6 +1,7 @@
 #define _GNU_SOURCE
 #include "options.h"
 #include "past.h"
+#include "words.h"
 #include <arpa/inet.h>
 #include <getopt.h>
 #include <stdio.h>
@@ -80,17 +81,6 @@ static bool read_seed(struct options *options, const char *text) {
     return true;
 }
 
-static bool read_force(struct options *options, const char *text) {
-    static const char *const names[] = {"power", "never", "always"};
-    static const enum kept_force forces[] = {KEPT_FORCE_POWER, KEPT_FORCE_NEVER, KEPT_FORCE_ALWAYS};
-    for (size_t i = 0; i < sizeof forces / sizeof *forces; i++) {
-        if (strcmp(text, names[i]) != 0) continue;
-        options->force = forces[i];
-        return true;
-    }
-    return false;
-}
-
 static bool read_clock(struct options *options, const char *text) {
     options->is_timeless = strcmp(text, "commands") == 0;
     return options->is_timeless || strcmp(text, "host") == 0;
@@ -118,7 +108,7 @@ static bool read_value(struct options *options, enum word word, const char *text
     case IMAGE: options->image = text; return *text != 0;
     case RECORD: options->record = text; return *text != 0;
     case SEED: return read_seed(options, text);
-    case FORCE: return read_force(options, text);
+    case FORCE: return words_force(text, &options->force);
     case CLOCK: return read_clock(options, text);
     default: options->completes = true; return true;
     }
@@ -139,7 +129,8 @@ static const char *clash_in(const struct options *options, bool has_force, bool 
 enum options_read options_read(struct options *options, int count, char **words) {
     bool has_force = false, has_keep = false;
     int word;
-    *options = (struct options){.port = 2321, .address = "127.0.0.1", .devices = 1};
+    *options = (struct options){.port = 2321, .address = "127.0.0.1", .devices = 1,
+                                .force = TPMSIM_FORCE_POWER};
     while ((word = getopt_long(count, words, "", WORDS, NULL)) != -1) {
         if (word == HELP) fputs(HELP_TEXT, stdout);
         if (word == VERSION)

@@ -23,7 +23,8 @@ struct options {
     /* The seed of all random bytes, for reproducible runs; empty: the system's random bytes. */
     uint8_t seed[SEED_BYTES];
     size_t seed_size;
-    enum kept_force force;
+    /* A number of tpmsim_force. */
+    uint8_t force;
     unsigned keep;
     /* The completing layer is on. */
     bool completes;

@@ -32,7 +32,7 @@ static bool read_words(struct kept_options *options, char **words) {
 
 int main(int count, char **words) {
     struct reason reason;
-    struct kept_options options = {.is_there = true, .tell = tell};
+    struct kept_options options = {.force = TPMSIM_FORCE_POWER, .is_there = true, .tell = tell};
     if (count < 2 || *words[1] == '-' || !read_words(&options, words + 2)) {
         tell("needs the folder of a kept device; --cut and --keep N, 0 to 99, may follow");
         return 2;

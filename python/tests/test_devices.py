@@ -232,6 +232,10 @@ class Devices(unittest.TestCase):
             journal.write_bytes(text)
             self.assertRaisesRegex(DeviceEnded, words, KeptDevice, self.folder)
             self.assertEqual(journal.read_bytes(), text)
+        journal.write_bytes(damaged)
+        with self.assertWarnsRegex(RuntimeWarning, "were dropped"):
+            KeptDevice(self.folder, cuts=True).close()
+        KeptDevice(self.folder).close()
 
     def test_written_script(self):
         device = ModelDevice(seed=SEED)

@@ -1,8 +1,10 @@
-# Checks that the sentences and the words of docs/ATTACHED.md are those of the sources.
+# Checks that the sentences and the words of docs/ATTACHED.md are those of the sources: of the C host, and of
+# the keeper, whose sentences the C host takes from the library.
 tests=$(cd "$(dirname "$0")/.." && pwd -P)
 . "$tests/common/cases.sh"
 page=$tests/../docs/ATTACHED.md
 kept=$tests/../hosts/kept
+keeper=$tests/../crates/tpm_keeping/src/holder.rt
 
 # quoted HEADING: prints the quotes in the first cells of the table under a heading, one on each line.
 # shellcheck disable=SC2016 # the quotes are backticks
@@ -16,7 +18,7 @@ quoted() {
 quoted 'What a fault says' >sentences
 quoted 'The words' >words
 while read -r sentence; do
-    grep -qF -- "$sentence" "$kept"/*.c || echo "no source says: $sentence"
+    grep -qF -- "$sentence" "$kept"/*.c "$keeper" || echo "no source says: $sentence"
 done <sentences
 while read -r word; do
     grep -qF "${word%%=*}" "$kept/words.h" || echo "the module has no word $word"

@@ -103,7 +103,7 @@ static long extends_there(struct kept *kept, const struct values *values) {
 static struct outcome outcome_of(const struct trial *trial, struct kept **kept) {
     struct outcome outcome = {0};
     struct kept_options options = {
-        .folder = FOLDER, .image = trial->image, .force = KEPT_FORCE_ALWAYS};
+        .folder = FOLDER, .image = trial->image, .force = TPMSIM_FORCE_ALWAYS};
     if (!*kept) *kept = kept_open(&options, &outcome.reason);
     outcome.is_done = *kept && trial->act(*kept, &outcome.reason);
     return outcome;
@@ -190,14 +190,15 @@ static void tell_forced(const char *label) {
    bytes. */
 static void count_forced(void) {
     static const char *const labels[] = {"power", "never", "always"};
-    for (enum kept_force force = KEPT_FORCE_POWER; force <= KEPT_FORCE_ALWAYS; force++) {
-        struct kept_options options = {.folder = FOLDER, .force = force};
+    static const uint8_t forces[] = {TPMSIM_FORCE_POWER, TPMSIM_FORCE_NEVER, TPMSIM_FORCE_ALWAYS};
+    for (int i = 0; i < 3; i++) {
+        struct kept_options options = {.folder = FOLDER, .force = forces[i]};
         struct reason reason;
         remove_state();
         forced = forced_data = 0;
         struct kept *kept = kept_open(&options, &reason);
         must(kept != NULL, "no device is there");
-        printf("force=%s", labels[force]);
+        printf("force=%s", labels[i]);
         tell_forced("a new state");
         start(kept);
         extend(kept);

@@ -36,7 +36,7 @@ static inline void must(bool holds, const char *what) {
 
 /* A kept device in a folder, whose journal is never forced to the disk. */
 static inline struct kept *opened(const char *folder) {
-    struct kept_options options = {.folder = folder, .force = KEPT_FORCE_NEVER};
+    struct kept_options options = {.folder = folder, .force = TPMSIM_FORCE_NEVER};
     struct reason reason;
     struct kept *kept = kept_open(&options, &reason);
     must(kept != NULL, kept ? "" : reason.text);

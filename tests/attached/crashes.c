@@ -27,7 +27,7 @@ static struct {
 enum { AWAITS_STARTUP = -2 };
 
 /* The word of force. Also whether the host has crashed since the last check. */
-static enum kept_force force = KEPT_FORCE_ALWAYS;
+static uint8_t force = TPMSIM_FORCE_ALWAYS;
 static bool has_crashed;
 
 static struct kept *opened_so(void) {
@@ -90,7 +90,7 @@ static long extends_there(struct kept *kept, const struct values *values) {
 }
 
 static bool is_right(long there) {
-    bool may_lose = has_crashed && force == KEPT_FORCE_POWER;
+    bool may_lose = has_crashed && force == TPMSIM_FORCE_POWER;
     if (may_lose) return there != -1 && there <= told->extends + told->asked;
     if (there == AWAITS_STARTUP) return !told->is_started || told->is_cycling;
     if (!told->is_started) return told->is_starting && there == 0;
@@ -210,7 +210,7 @@ static void try_at_random(const struct values *values, long seconds) {
         if (counts.runs % 50 == 0 || (size_t)told->extends + 100 > values->count) {
             answers += told->answers;
             begin_anew();
-            force = rand() % 2 ? KEPT_FORCE_ALWAYS : KEPT_FORCE_POWER;
+            force = rand() % 2 ? TPMSIM_FORCE_ALWAYS : TPMSIM_FORCE_POWER;
         }
         enum fault kind = kinds[rand() % 4];
         if (is_killed(run_at_random, kind, 1 + (unsigned)rand() % 200)) counts.kills++;

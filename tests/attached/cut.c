@@ -52,7 +52,7 @@ static void must_be_there(const uint8_t *bytes, size_t size) {
 
 static struct kept *opened_to_cut(bool cuts, struct reason *reason) {
     struct kept_options options = {
-        .folder = FOLDER, .force = KEPT_FORCE_NEVER, .cuts = cuts, .tell = hear};
+        .folder = FOLDER, .force = TPMSIM_FORCE_NEVER, .cuts = cuts, .tell = hear};
     return kept_open(&options, reason);
 }
 

@@ -31,7 +31,7 @@ static void refuse_opening(size_t counts[4]) {
         "state/journal was written by a library that answers otherwise than this one, and stays as "
         "it is",
         "state/journal holds "};
-    struct kept_options options = {.folder = FOLDER, .force = KEPT_FORCE_NEVER};
+    struct kept_options options = {.folder = FOLDER, .force = TPMSIM_FORCE_NEVER};
     struct reason reason = {0};
     struct kept *kept = kept_open(&options, &reason);
     must(kept == NULL, "a damaged journal opens");

@@ -13,7 +13,7 @@ static void hear_nothing(const char *told) { must(false, told); }
 
 static struct kept *opened_to_keep(const char *folder, unsigned keep) {
     struct kept_options options = {
-        .folder = folder, .force = KEPT_FORCE_NEVER, .keep = keep, .tell = hear_nothing};
+        .folder = folder, .force = TPMSIM_FORCE_NEVER, .keep = keep, .tell = hear_nothing};
     struct reason reason;
     struct kept *kept = kept_open(&options, &reason);
     must(kept != NULL, kept ? "" : reason.text);

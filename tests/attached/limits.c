@@ -72,7 +72,7 @@ static void fill_heads(struct kept *kept, const struct values *values) {
     }
     printf("a disk that is full at a power cycle: %s\n", reason.text);
     printf("with room again: %ld extends\n", extends_of(kept, values));
-    struct kept_options options = {.folder = "third"};
+    struct kept_options options = {.folder = "third", .force = TPMSIM_FORCE_POWER};
     limit(RLIMIT_FSIZE, 100);
     must(!kept_open(&options, &reason), "a device is there without a journal");
     limit(RLIMIT_FSIZE, RLIM_INFINITY);
@@ -84,7 +84,7 @@ static void fill_heads(struct kept *kept, const struct values *values) {
 
 /* Opens a device in a process that has no file descriptor left, or only a few. */
 static void run_out_of_files(struct kept *kept, const struct values *values) {
-    struct kept_options options = {.folder = FOLDER};
+    struct kept_options options = {.folder = FOLDER, .force = TPMSIM_FORCE_POWER};
     struct reason reason;
     int lowest = open("/dev/null", O_RDONLY);
     must(lowest >= 0 && close(lowest) == 0, "no file opens");

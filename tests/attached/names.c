@@ -74,7 +74,7 @@ static void remove_state(void) {
     must(access(FOLDER, F_OK) != 0, "there is more in the folder than a state");
 }
 
-static struct kept *opened_with(enum kept_force force) {
+static struct kept *opened_with(uint8_t force) {
     struct kept_options options = {.folder = FOLDER, .force = force};
     struct reason reason;
     struct kept *kept = kept_open(&options, &reason);
@@ -83,7 +83,7 @@ static struct kept *opened_with(enum kept_force force) {
 }
 
 /* Has another process open the device. It is killed there, or when it cycles the power. */
-static void kill_another(enum kept_force force, int where) {
+static void kill_another(uint8_t force, int where) {
     int status;
     pid_t child = fork();
     must(child >= 0, "there is no process");
@@ -115,7 +115,7 @@ static void answer(struct kept *kept, const char *label) {
     must(folders + above + others + systems == 0, "names are forced again");
 }
 
-static void try_with(enum kept_force force) {
+static void try_with(uint8_t force) {
     remove_state();
     kill_another(force, BEHIND_MKDIR);
     struct kept *kept = opened_with(force);
@@ -143,10 +143,11 @@ static void try_with(enum kept_force force) {
 
 int main(void) {
     static const char *const labels[] = {"power", "never", "always"};
-    for (enum kept_force force = KEPT_FORCE_POWER; force <= KEPT_FORCE_ALWAYS; force++) {
-        printf("force=%s\n", labels[force]);
+    static const uint8_t forces[] = {TPMSIM_FORCE_POWER, TPMSIM_FORCE_NEVER, TPMSIM_FORCE_ALWAYS};
+    for (int i = 0; i < 3; i++) {
+        printf("force=%s\n", labels[i]);
         fflush(stdout);
-        try_with(force);
+        try_with(forces[i]);
     }
     return 0;
 }

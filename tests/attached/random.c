@@ -34,9 +34,9 @@ int main(void) {
     must(kept != NULL, "there is no device in memory");
     start(kept);
     draw(kept, drawn);
-    printf("a device in memory: asked for %zu bytes: 256 of the device, 256 and 64 of its "
+    printf("a device in memory: asked for %zu bytes: 256 and 8 of the device, 256 and 64 of its "
            "startup, 16 of each further command: %d\n",
-           asked, 256 + 256 + 64 + BYTES * (TIMES - 1));
+           asked, 256 + 8 + 256 + 64 + BYTES * (TIMES - 1));
     kept_close(kept);
     asked = 0;
     kept = opened("state");

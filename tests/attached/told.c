@@ -27,7 +27,7 @@ static void must_be(const uint8_t *wanted, size_t size) {
 /* Opens the device, and has a device that is already open execute a command. Both must fail in
    the same way. */
 static void refuse_all(struct kept *kept, struct reason *reason) {
-    struct kept_options options = {.folder = FOLDER, .force = KEPT_FORCE_NEVER};
+    struct kept_options options = {.folder = FOLDER, .force = TPMSIM_FORCE_NEVER};
     struct reason another;
     uint8_t response[RESPONSE_BYTES];
     tpmsim_answered answered;

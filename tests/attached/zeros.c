@@ -31,7 +31,7 @@ static void must_be_told(size_t dropped, const char *behind) {
 
 static struct kept *opened_to(bool cuts, struct reason *reason) {
     struct kept_options options = {
-        .folder = FOLDER, .force = KEPT_FORCE_NEVER, .cuts = cuts, .tell = hear};
+        .folder = FOLDER, .force = TPMSIM_FORCE_NEVER, .cuts = cuts, .tell = hear};
     return kept_open(&options, reason);
 }
 

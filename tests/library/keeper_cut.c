@@ -1,5 +1,5 @@
 /* Checks what a keeper reports about a command, the time of a command, what a keeper does with a
- * damaged journal, and the texts of its faults. */
+ * damaged journal, the calls that take no text, and the texts of its faults. */
 #define _GNU_SOURCE
 #include "keeper_known.h"
 #include "keeper_memory.h"
@@ -236,6 +236,95 @@ static void check_otherwise(void) {
     tpmsim_keeper_free(&alive.keeper);
 }
 
+/* ---- calls that take no text */
+
+/* A call cuts damage itself, and then begins again; a device in memory is opened again for that. */
+static void check_cuts(void) {
+    turn(sizes[4]);
+    must(tpmsim_keeper_cuts(&alive.keeper, 1) == TPMSIM_DONE, "damage cannot be cut");
+    is_done(host_executes(&alive, READ, sizeof READ), "damage is not cut");
+    must(alive.whole == sizes[4] && is_after(&alive, 2), "another front is whole");
+    printf("cut by a command %s", alive.tasks);
+    add_damage();
+    must(tpmsim_keeper_power(&alive.keeper, 90000, 5) == TPMSIM_DONE, "no call begins");
+    is_done(host_finishes(&alive), "damage is not cut");
+    printf(", by a power cycle %s\n", alive.tasks);
+    must(tpmsim_keeper_cuts(&alive.keeper, 0) == TPMSIM_DONE, "damage must be cut");
+    add_damage();
+    printf("refused again %u\n", host_executes(&alive, READ, sizeof READ));
+    tpmsim_keeper_free(&alive.keeper);
+}
+
+/* A state that is shown replaces the device of a damaged journal. */
+static void check_states(void) {
+    static uint8_t state[TPMSIM_STATE_SIZE], again[TPMSIM_STATE_SIZE];
+    uint8_t response[RESPONSE_BYTES];
+    tpmsim_answered answered;
+    folder = before;
+    memory_host(&alive, &folder, TPMSIM_FORCE_NEVER, FAR);
+    must(tpmsim_keeper_state(&alive.keeper, state, sizeof state) == 0, "a state is shown");
+    is_done(host_run(&alive, TPMSIM_JOB_SHOW, host_text, 0), "no state is shown");
+    size_t size = tpmsim_keeper_state(&alive.keeper, state, sizeof state);
+    must(size > 0 && tpmsim_keeper_answer(&alive.keeper, response, &answered) == TPMSIM_NO_ANSWER,
+         "a shown state is an answer");
+    add_damage();
+    must(tpmsim_keeper_restore(&alive.keeper, 95000, 6, state, size) == TPMSIM_DONE,
+         "no call begins");
+    is_done(host_finishes(&alive), "no state is restored");
+    must(alive.response_size == 1 && alive.response[0] == 1, "it is not said that it began");
+    must(tpmsim_keeper_state(&alive.keeper, again, sizeof again) == 0, "a restoring shows a state");
+    is_done(host_run(&alive, TPMSIM_JOB_SHOW, host_text, 0), "no state is shown");
+    must(tpmsim_keeper_state(&alive.keeper, again, sizeof again) == size &&
+             memcmp(state, again, size) == 0,
+         "another state is restored");
+    tpmsim_keeper_free(&alive.keeper);
+    printf("a shown state is restored\n");
+}
+
+static void check_answers(void) {
+    uint8_t random[RANDOM_BYTES], response[RESPONSE_BYTES];
+    tpmsim_answered answered;
+    count_up(random, 1);
+    memset(&folder, 0, sizeof folder);
+    memory_host(&alive, &folder, TPMSIM_FORCE_NEVER, FAR);
+    must(tpmsim_keeper_seed(&alive.keeper, 3, 1000, 7, random, sizeof random) == TPMSIM_DONE,
+         "no call begins");
+    printf("no seed %u", host_finishes(&alive));
+    must(tpmsim_keeper_seed(&alive.keeper, TPMSIM_SEED_RANDOM, 1000, 7, random, sizeof random) ==
+             TPMSIM_DONE,
+         "no call begins");
+    is_done(host_finishes(&alive), "no device begins");
+    printf(", begun: answer %u", tpmsim_keeper_answer(&alive.keeper, response, &answered));
+    must(tpmsim_keeper_execute(&alive.keeper, STARTUP, sizeof STARTUP, 0, 1010, 1, random) ==
+             TPMSIM_DONE,
+         "no call begins");
+    printf(", not done: answer %u", tpmsim_keeper_answer(&alive.keeper, response, &answered));
+    is_done(host_finishes(&alive), "a command is not executed");
+    must(tpmsim_keeper_answer(&alive.keeper, response, &answered) == TPMSIM_DONE, "no answer");
+    must(answered.size + TPMSIM_REPORT_SIZE == alive.response_size &&
+             memcmp(response, alive.response + TPMSIM_REPORT_SIZE, answered.size) == 0,
+         "another response");
+    printf(", done: %x-%u-%zu", answered.code, answered.check, answered.drawn);
+    printf(", locality 5: %u\n",
+           tpmsim_keeper_execute(&alive.keeper, STARTUP, sizeof STARTUP, 5, 1010, 1, random));
+    tpmsim_keeper_free(&alive.keeper);
+}
+
+/* Each call on a handle without a keeper. */
+static void check_none(void) {
+    tpmsim_keeper none = {0};
+    uint8_t random[RANDOM_BYTES], response[RESPONSE_BYTES];
+    tpmsim_answered answered;
+    count_up(random, 1);
+    printf("without a keeper: cuts %u, execute %u, ", tpmsim_keeper_cuts(&none, 1),
+           tpmsim_keeper_execute(&none, READ, sizeof READ, 0, 0, 0, random));
+    printf("power %u, seed %u, ", tpmsim_keeper_power(&none, 0, 0),
+           tpmsim_keeper_seed(&none, TPMSIM_SEED_RANDOM, 0, 0, random, sizeof random));
+    printf("restore %u, answer %u, ", tpmsim_keeper_restore(&none, 0, 0, random, sizeof random),
+           tpmsim_keeper_answer(&none, response, &answered));
+    printf("state %zu\n", tpmsim_keeper_state(&none, response, sizeof response));
+}
+
 /* ---- faults */
 
 static void show_faults(void) {
@@ -251,10 +340,11 @@ static void show_faults(void) {
     }
 }
 
-/* Makes calls that salvage, in a thread of their own. */
+/* Makes calls that salvage or report a state, in a thread of their own. */
 static void *call_all(void *unused) {
     check_kills(A_PART);
     check_kills(ALL);
+    check_states();
     return unused;
 }
 
@@ -267,6 +357,9 @@ int main(void) {
     check_damage();
     check_stack(call_all);
     check_whole();
+    check_cuts();
+    check_answers();
+    check_none();
     check_otherwise();
     show_faults();
     return 0;

@@ -51,11 +51,10 @@ static inline void host_dies(host *it, tpmsim_ask *ask, extent how_much) {
     it->leaves(it);
 }
 
-/* A host's loop. Returns a number of tpmsim_fault, 0 if the call is done, or KILLED. */
-static inline uint8_t host_run(host *it, uint8_t job, const uint8_t *text, size_t size) {
+/* A host's loop, for a call that has begun. Returns a number of tpmsim_fault, 0 if the call is done, or
+ * KILLED. */
+static inline uint8_t host_finishes(host *it) {
     tpmsim_ask ask;
-    if (tpmsim_keeper_begin(&it->keeper, job, text, size) != TPMSIM_DONE)
-        return TPMSIM_FAULT_MEMORY;
     for (int count = 0;; count++) {
         tpmsim_keeper_ask(&it->keeper, &ask);
         it->tasks[count] = "-LKRPFMNSU"[ask.task];
@@ -72,6 +71,13 @@ static inline uint8_t host_run(host *it, uint8_t job, const uint8_t *text, size_
     it->response_size = tpmsim_keeper_response(&it->keeper, it->response, sizeof it->response);
     must(it->response_size == ask.size, "a response's size");
     return ask.fault;
+}
+
+/* Does a job with its text, as host_finishes does. */
+static inline uint8_t host_run(host *it, uint8_t job, const uint8_t *text, size_t size) {
+    if (tpmsim_keeper_begin(&it->keeper, job, text, size) != TPMSIM_DONE)
+        return TPMSIM_FAULT_MEMORY;
+    return host_finishes(it);
 }
 
 /* A host begins as a process does: its keeper has seen nothing. */

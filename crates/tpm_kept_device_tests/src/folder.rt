@@ -45,7 +45,7 @@ impl Folder {
         Ok(false)
     }
 
-    /// Does one thing, and tells the keeper.
+    /// Does one thing, and reports it to the keeper.
     fn does(&mut self, keeper: &mut Keeper<KeptDevice>, ask: Ask) -> Result<(), AllocError> {
         match ask {
             Ask::Read(from) => {

@@ -1,4 +1,4 @@
--- The box of a value, the pointer to it, and the calls between the two. `Words` has what stands
+-- The box of a value, the pointer to it, and the calls between the two. `Words` has what is
 -- for each in the machine, `Calls` what each call requires and gives, and `Held` what an owner and
 -- a holder own.
 use mathlib.Core.Path.{refl}

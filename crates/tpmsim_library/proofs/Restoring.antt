@@ -1,5 +1,5 @@
 -- A device that is restored from the state text of a device is that device, with its layer and its
--- history; and what is told of a text from which none is restored.
+-- history; and what is reported of a text from which none is restored.
 use Rattle.std.proofs.Common.{◌≡◌, ◌≢◌, ℕ, List, Err, sym, ap, subst, ◌∙◌}
 use Rattle.tpm_machine.specs.Follows.{Follows}
 use Rattle.tpm_machine.specs.History.{History}

@@ -39,8 +39,8 @@ pub record BeginsJournal (before : Device) (now : ℕ) (after : Device) : Type 0
 abbrev pub IsAsBefore : (before after : Device) → Type 0
 IsAsBefore before after = (record_of after ≡ record_of before) × (after.journal ≡ before.journal)
 
--- A device begins its journal where the room has space for the head, whose size is `size`, and is
--- otherwise as it was.
+-- A device begins its journal if the head, whose size is `size`, fits into the buffer, whose size
+-- is `room`; otherwise the device is as it was.
 abbrev pub BeginsIfRoom : (before : Device) → (now room size : ℕ) → (after : Device) → Type 0
 BeginsIfRoom before now room size after =
     (size ≤ room → BeginsJournal before now after) × (room < size → IsAsBefore before after)
@@ -56,7 +56,7 @@ checkpoint_head device now =
     head_text State (checkpoint_clock device now)
     (state_text (state_beside device.journal (record_of device)))
 
--- The journal of a device begins anew with a checkpoint, from which it starts, and its device with
+-- The journal of a device begins again with a checkpoint, from which it starts, and its device with
 -- it. The device and its completing layer are as they were.
 pub record Checkpoints (before : Device) (now : ℕ) (after : Device) : Type 0 where
   pub device : record_of after ≡ record_of before
@@ -66,7 +66,7 @@ pub record Checkpoints (before : Device) (now : ℕ) (after : Device) : Type 0 w
       (state_text (state_beside before.journal (record_of before)))
       ≡ Ok (record { journal = after.journal; device = record_of after })
 
--- The journal of a device begins anew if the head fits into the buffer, and else stays.
+-- The journal of a device begins again if the head fits into the buffer, and else stays.
 abbrev pub CheckpointsIfFits : (before : Device) → (now space size : ℕ) → (after : Device) → Type 0
 CheckpointsIfFits before now space size after =
     (size ≤ space → Checkpoints before now after) × (space < size → IsAsBefore before after)
@@ -78,7 +78,7 @@ abbrev pub command_by : Device → (buffer : List ℕ) → (locality now : ℕ) 
 command_by device buffer locality now completes random =
     command_at buffer locality (elapsed_of now device.journal.time) completes random
 
--- the effect of a command whose response stands at the front of a room
+-- the effect of a command whose response is at the front of a buffer
 abbrev pub seen_in : (room : List ℕ) → Answered → (after : Device) → Seen
 seen_in room answered after = record {
   step = command_seen room answered after;
@@ -90,8 +90,8 @@ seen_in room answered after = record {
 abbrev pub journal_with : Journal → Completion → Journal
 journal_with journal layer = record journal { layer = layer }
 
--- A device executed a command, with its completing layer or without it. Its response stands at the
--- front of one room, and its entry, of `size` bytes, at the front of another. The execution says
+-- A device executed a command, with its completing layer or without it. Its response is at the
+-- front of one buffer, and its entry, of `size` bytes, at the front of another. The execution says
 -- what was executed on the device, and what history it follows then.
 pub record Records (before : Device) (c : Command) (response : List ℕ) (answered : Answered)
     (size : ℕ) (entry : List ℕ) (after : Device) : Type 0

@@ -1,8 +1,9 @@
--- What C sees of a keeper: what it asks of its host, and what the host tells it.
-use Rattle.std.specs.Prelude.{◌≡◌, ◌==◌, ℕ, ◌⊎◌, if◌then◌else◌, List, [], length, Option, Some, None}
-use Rattle.tpm_keeping.specs.Holder.{Holder, Told, Done, Stands, Gone, Bytes, Failed, Starved, next_of}
+-- What C sees of a keeper: what it asks of its host, and what the host reports to it.
+use Rattle.std.specs.Prelude.{◌≡◌, ◌==◌, ℕ, ◌⊎◌, Bool, true, false, if◌then◌else◌, List, [], length, take, Option, Some, None}
+use Rattle.tpm_keeping.specs.Cutting.{Caller, called, caller_of, next_call}
+use Rattle.tpm_keeping.specs.Holder.{Holder, Told, Done, Stands, Gone, Bytes, Failed, Starved}
 use Rattle.tpm_keeping.specs.Sentence.{sentence}
-use Rattle.tpm_keeping.specs.View.{ask_of, holder_of}
+use Rattle.tpm_keeping.specs.View.{ask_of}
 use Rattle.tpm_keeping.specs.declared.holder.End.{End}
 use Rattle.tpm_keeping.specs.declared.holder.End.TheVariants as ending
 use Rattle.tpm_keeping.specs.declared.holder.Fault.{Fault}
@@ -13,14 +14,26 @@ use Rattle.tpm_keeping.specs.declared.holder.Job.{Job}
 use Rattle.tpm_keeping.specs.declared.holder.Job.TheVariants.{Execute, Renew, Show, Begin, Cut}
 use Rattle.tpm_keeping.specs.declared.keeper.Ask.{Ask}
 use Rattle.tpm_keeping.specs.declared.keeper.Ask.TheVariants as ask
+use Rattle.tpm_kept_device.specs.Answer.{PlainAnswer}
 use Rattle.tpm_kept_device.specs.View.{spot_in}
 use Rattle.tpm_kept_journal.specs.DeviceJournal.{device_journal}
+use Rattle.tpm_kept_journal.specs.texts.HeadAt.{PlainHead, head_at}
+use Rattle.tpmsim_library.specs.declared.device.Answered.{Answered}
 use Rattle.tpmsim_library.specs.declared.keeper.DeviceKeeper.{DeviceKeeper}
 use Rattle.tpmsim_library.specs.declared.request.Request.{Request}
 
--- the keeper as the definitions of tpm_keeping see it
+-- the keeper as the definitions of tpm_keeping see it: with the call that begins again after a cut,
+-- and alone
+abbrev pub call_of : DeviceKeeper → Caller
+call_of keeper = caller_of (λ device. spot_in device.parts.value) keeper.keeper
+
 abbrev pub view_of : DeviceKeeper → Holder
-view_of keeper = holder_of (λ device. spot_in device.parts.value) keeper.keeper
+view_of keeper = (call_of keeper).holder
+
+-- A call with this text began. What was left in the middle was dropped.
+abbrev pub Begins : (cuts : Bool) → Job → (text : List ℕ) → (before after : DeviceKeeper) → Type 0
+Begins cuts job text before after =
+    (call_of after ≡ called cuts job text (view_of before)) × (after.cuts ≡ before.cuts)
 
 -- the word of force, or the job, that has this number
 abbrev pub force_of : ℕ → Option Force
@@ -96,34 +109,75 @@ text_of k = text_by (ask_of k) k.out
 abbrev pub response_of : Holder → List ℕ
 response_of k = response_by (ask_of k) k.response
 
+-- whether a new journal of this job drops the damage of the old one
+abbrev pub drops_damage : Job → Bool
+drops_damage Cut = true
+drops_damage job = false
+
+-- the response that may go out, if it is one to a command, or if it is what is shown
+abbrev pub if_executed : Job → List ℕ → List ℕ
+if_executed Execute response = response
+if_executed job response = []
+
+abbrev pub if_shown : Job → List ℕ → List ℕ
+if_shown Show response = response
+if_shown job response = []
+
+abbrev pub executed_by : DeviceKeeper → List ℕ
+executed_by keeper = if_executed (view_of keeper).job (response_of (view_of keeper))
+
+abbrev pub shown_by : DeviceKeeper → List ℕ
+shown_by keeper = if_shown (view_of keeper).job (response_of (view_of keeper))
+
+-- the content of the head at the front of a text: of the head that a keeper shows the state text
+abbrev pub content_of : Option PlainHead → List ℕ
+content_of (Some h) = h.content
+content_of None = []
+
+abbrev pub content_at : List ℕ → List ℕ
+content_at text = content_of (head_at text)
+
+-- An answer is that of a command of the standard: its response is at the front of a buffer.
+abbrev pub IsAnswer : PlainAnswer → (buffer : List ℕ) → Answered → Type 0
+IsAnswer a buffer answered =
+    (answered.code ≡ a.code) × (answered.check ≡ a.check) × (answered.drawn ≡ a.drawn)
+    × (take answered.size buffer ≡ a.response)
+
 -- a task that needs no more than its number
 abbrev pub task_of : (task : ℕ) → Request
-task_of task = record { cut = 0; at = 0; size = 0; task = task; fault = 0 }
+task_of task = record { cut = 0; at = 0; size = 0; task = task; fault = 0; drops = 0 }
 
--- the request of a keeper whose text has one of these sizes, or whose response has the other
-abbrev pub request_by : Ask → (text response : ℕ) → Request
-request_by (ask.Nothing end) text response =
+abbrev pub number_of : Bool → ℕ
+number_of true = 1
+number_of false = 0
+
+-- the request of a keeper whose text has one of these sizes, or whose response has the other, and
+-- which drops damage or does not
+abbrev pub request_by : Ask → (drops : Bool) → (text response : ℕ) → Request
+request_by (ask.Nothing end) drops text response =
     record (task_of 0) { size = response; fault = end_number end }
-request_by ask.Lock text response = task_of 1
-request_by ask.Look text response = task_of 2
-request_by (ask.Read at) text response = record (task_of 3) { at = at }
-request_by (ask.Put cut at) text response =
+request_by ask.Lock drops text response = task_of 1
+request_by ask.Look drops text response = task_of 2
+request_by (ask.Read at) drops text response = record (task_of 3) { at = at }
+request_by (ask.Put cut at) drops text response =
     record (task_of 4) { cut = cut; at = at; size = text }
-request_by ask.Force text response = task_of 5
-request_by (ask.Make whole) text response = record (task_of 6) { cut = whole; size = text }
-request_by ask.Name text response = task_of 7
-request_by ask.Settle text response = task_of 8
-request_by ask.Unlock text response = task_of 9
+request_by ask.Force drops text response = task_of 5
+request_by (ask.Make whole) drops text response =
+    record (task_of 6) { cut = whole; size = text; drops = number_of drops }
+request_by ask.Name drops text response = task_of 7
+request_by ask.Settle drops text response = task_of 8
+request_by ask.Unlock drops text response = task_of 9
 
 abbrev pub request_of : Holder → Request
-request_of k = request_by (ask_of k) (length (text_of k)) (length (response_of k))
+request_of k =
+    request_by (ask_of k) (drops_damage k.job) (length (text_of k)) (length (response_of k))
 
 -- the request without a keeper: nothing, because of that
 abbrev pub no_request : Request
 no_request = record (task_of 0) { fault = 15 }
 
--- what a host tells by a number, which is 0 if it did all: of a look and a name the file, of a read
--- the bytes
+-- what a host reports by a number, which is 0 if it did all: of a look and a name the file, of a
+-- read the bytes
 abbrev pub did : Ask → (file size : ℕ) → List ℕ → Told
 did ask.Look file size bytes = Stands file size
 did ask.Name file size bytes = Stands file size
@@ -134,7 +188,7 @@ abbrev pub told_by : (got : ℕ) → Ask → (file size : ℕ) → List ℕ → 
 told_by got asked file size bytes =
     if got == 0 then did asked file size bytes else (if got == 1 then Gone else Failed)
 
--- A keeper goes on from what its host told, or ends for want of memory.
-abbrev pub GoesOn : (before : Holder) → Told → (after : Holder) → Type 0
-GoesOn before told after =
-    (after ≡ next_of device_journal before told) ⊎ (after ≡ next_of device_journal before Starved)
+-- A keeper goes on from what its host reported, or its call ends since memory was refused.
+abbrev pub GoesOn : (before : Caller) → Told → (after : Caller) → Type 0
+GoesOn before told after = (after ≡ next_call device_journal before told)
+    ⊎ (after ≡ next_call device_journal before Starved)

@@ -27,6 +27,9 @@ no_memory = 3
 abbrev pub no_word : ℕ
 no_word = 19
 
+abbrev pub no_answer : ℕ
+no_answer = 20
+
 -- the number of the fault for which an image is not opened
 abbrev pub fault_number : ImageFault → ℕ
 fault_number fault.Short = 4
@@ -64,7 +67,7 @@ open_number (opening.Image fault) = fault_number fault
 open_number (opening.State fault) = restore_number fault
 open_number (opening.Follow fault) = follow_number (Some fault)
 
--- The number tells the result of opening, and the holder has the opened device, or what it had
+-- The number says the result of opening, and the holder has the opened device, or what it had
 -- before.
 abbrev pub Tells : Result Device ImageFault → (old new : Option Device) → (told : ℕ) → Type 0
 Tells (Ok device) old new told = (told ≡ done) × (new ≡ Some device)

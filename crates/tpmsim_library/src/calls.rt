@@ -41,7 +41,7 @@ pub extern "C" fn tpmsim_version() -> u32
     0x00_01_00
 }
 
-/// Makes a new device, whose secrets are these random bytes, in place of the holder's own.
+/// Makes a new device, whose secrets are these random bytes, instead of the holder's own.
 /// NO_MEMORY: memory was refused, and the holder is as it was.
 #[unsafe(no_mangle)]
 pub extern "C" fn tpmsim_manufacture(alloc: Global, holder: &mut Holder, random: &[u8; 256]) -> u8
@@ -58,7 +58,7 @@ pub extern "C" fn tpmsim_manufacture(alloc: Global, holder: &mut Holder, random:
     DONE
 }
 
-/// Executes a command, and writes its response to the front of the room for it. NO_LOCALITY: the
+/// Executes a command, and writes its response to the front of the buffer for it. NO_LOCALITY: the
 /// locality is not 0 to 4. NO_DEVICE: the holder has no device. In both cases nothing is written.
 #[unsafe(no_mangle)]
 pub extern "C" fn tpmsim_execute(
@@ -100,7 +100,7 @@ pub extern "C" fn tpmsim_execute(
     DONE
 }
 
-/// Takes power away and gives it back. NO_DEVICE: the holder has no device.
+/// Power-cycles the device. NO_DEVICE: the holder has no device.
 #[unsafe(no_mangle)]
 pub extern "C" fn tpmsim_power_cycle(alloc: Global, holder: &mut Holder) -> u8
     ensures executes { MatchOption holder.old.device (holder.new.device ≡ None) (λ before.
@@ -118,8 +118,8 @@ pub extern "C" fn tpmsim_power_cycle(alloc: Global, holder: &mut Holder) -> u8
     DONE
 }
 
-/// Writes the image of the device to the front of a room. Gives how many bytes the image has, or 0
-/// where there is no device. Nothing is written to a smaller room.
+/// Writes the image of the device to the front of a buffer, if it fits. Returns the size of the
+/// image, written or not; 0 without a device.
 #[unsafe(no_mangle)]
 pub extern "C" fn tpmsim_save(alloc: Global, holder: &mut Holder, room: &mut [u8]) -> usize
     ensures saved { MatchOption holder.old.device ((result ≡ 0) × (room.new ≡ room.old))
@@ -135,8 +135,8 @@ pub extern "C" fn tpmsim_save(alloc: Global, holder: &mut Holder, room: &mut [u8
     size
 }
 
-/// Writes what the device keeps without power, but for its clock, to the front of a room, if that
-/// fits. Gives how many bytes it has, written or not; 0 where there is no device.
+/// Writes what the device keeps without power, except its clock, to the front of a buffer, if that
+/// fits. Returns its size, written or not; 0 without a device.
 #[unsafe(no_mangle)]
 pub extern "C" fn tpmsim_kept(alloc: Global, holder: &mut Holder, room: &mut [u8]) -> usize
     ensures told { MatchOption holder.old.device ((result ≡ 0) × (room.new ≡ room.old))
@@ -151,7 +151,7 @@ pub extern "C" fn tpmsim_kept(alloc: Global, holder: &mut Holder, room: &mut [u8
     size
 }
 
-/// Opens a device from its image, as after a power cycle, in place of the holder's own. Otherwise
+/// Opens a device from its image, as after a power cycle, instead of the holder's own. Otherwise
 /// the number is that of the first fault, or NO_MEMORY, and the holder is as it was.
 #[unsafe(no_mangle)]
 pub extern "C" fn tpmsim_open(alloc: Global, holder: &mut Holder, image: &[u8]) -> u8

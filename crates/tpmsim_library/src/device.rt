@@ -54,17 +54,17 @@ pub struct Device {
     scratch: Scratch,
 }
 
-/// What the caller of a command is told beside its response.
+/// What the caller of a command gets with its response.
 #[repr(C)]
 #[derive(Clone, Copy, PartialEq, Eq)]
 pub struct Answered {
-    /// How many bytes the response has.
+    /// The size of the response.
     pub size: usize,
-    /// How many of the random bytes were drawn, from their front.
+    /// The number of random bytes that were drawn, from their front.
     pub drawn: usize,
-    /// The command's code, 0 where none was found.
+    /// The command's code, 0 if none was found.
     pub code: u32,
-    /// The number of the check that refused the command, 0 where none did.
+    /// The number of the check that refused the command, 0 if none did.
     pub check: u8,
 }
 
@@ -91,7 +91,7 @@ impl Device {
         }
     }
 
-    /// The device of an image, or the first fault; NoMemory where the text is an image and memory
+    /// The device of an image, or the first fault; NoMemory if the text is an image and memory
     /// is refused.
     pub fn open(alloc: Global, image: &[u8]) -> Result<Box<Device>, ImageFault>
         ensures exact { Opens (λ b. record_of b.value) true image.now result }
@@ -107,7 +107,7 @@ impl Device {
         Ok(device)
     }
 
-    /// Executes a command, and writes its response to the front of this room, whose rest stays.
+    /// Executes a command, and writes its response to the front of this buffer, whose rest stays.
     pub fn execute(&mut self, event: &Event, response: &mut [u8; 4096]) -> Answered
         ensures executes { Executes false (record_of self.old) (plain_event event.now)
             (command_seen response.new result self.new) }
@@ -137,7 +137,7 @@ impl Device {
         tell(&self.outcome, drawn, response)
     }
 
-    /// Takes power away and gives it back.
+    /// Power-cycles the device.
     pub fn cycle_power(&mut self)
         ensures executes { Executes false (record_of self.old) Cycled (cycle_seen self.new) }
         ensures history { After Follows (record_of self.old) Cycled (cycle_seen self.new) }
@@ -147,8 +147,7 @@ impl Device {
             .execute_into(&Event::PowerCycle, &mut self.outcome);
     }
 
-    /// Writes the image to the front of a room, if that is large enough. Gives how many bytes it
-    /// has.
+    /// Writes the image to the front of a buffer, if it fits. Returns the size of the image.
     pub fn save_into(&mut self, room: &mut [u8]) -> usize
         ensures put { PutsFront (image_text Two (kept_of (record_of self.old))) room.old result
             room.new }
@@ -157,8 +156,8 @@ impl Device {
         self.scratch.save_into(&self.machine, room)
     }
 
-    /// Writes what the device keeps without power, but for its clock, to the front of a room, if
-    /// that fits. Gives how many bytes it has.
+    /// Writes what the device keeps without power, except its clock, to the front of a buffer, if
+    /// that fits. Returns its size.
     pub fn kept_into(&mut self, room: &mut [u8]) -> usize
         ensures put { PutsFront (kept_text (record_of self.old)) room.old result room.new }
         ensures kept { self.new ≡ self.old }
@@ -191,8 +190,8 @@ impl Device {
         Ok(device)
     }
 
-    /// Makes a new device of zeros the one of a state text. After a fault nothing is said of the
-    /// device.
+    /// Makes a new device of zeros the one of a state text. After a fault the device is
+    /// unspecified.
     fn restore(&mut self, text: &[u8]) -> Result<(), RestoreFault>
         requires { record_of self.old ≡ manufactured (replicate 256 0) }
         ensures { RestoresDevice (λ done. self.new) text.now result }
@@ -206,8 +205,8 @@ impl Device {
         Ok(())
     }
 
-    /// Cycles the device's power, and writes the head of its new journal to the front of a room.
-    /// Gives how many bytes the head has; where the room is smaller, nothing is done.
+    /// Cycles the device's power, and writes the head of its new journal to the front of a buffer.
+    /// Returns the size of the head; if the buffer is smaller, nothing is done.
     pub fn begin_journal(&mut self, now_ms: u64, room: &mut [u8]) -> usize
         ensures head { PutsFront (head_text Image now_ms (image_at_power self.old)) room.old result
             room.new }
@@ -229,8 +228,8 @@ impl Device {
         }
     }
 
-    /// Begins the device's journal anew with a checkpoint, and writes its head to the front of a
-    /// buffer. Returns how many bytes the head has; if the buffer is smaller, nothing is done.
+    /// Begins the device's journal again with a checkpoint, and writes its head to the front of a
+    /// buffer. Returns the size of the head; if the buffer is smaller, nothing is done.
     pub fn checkpoint(&mut self, now_ms: u64, buffer: &mut [u8]) -> usize
         ensures head { PutsFront (checkpoint_head self.old now_ms) buffer.old result buffer.new }
         ensures checkpoints { CheckpointsIfFits self.old now_ms (length buffer.old) result
@@ -240,8 +239,8 @@ impl Device {
         self.journal.checkpoint(&self.machine, clock_ms, buffer)
     }
 
-    /// The device of a journal, and how many bytes of the text are its head and entries; or the
-    /// first fault; None where memory is refused.
+    /// The device of a journal, and the size of its head and entries; or the first fault; None if
+    /// memory is refused.
     pub fn open_journal(
         alloc: Global,
         text: &[u8],
@@ -259,8 +258,8 @@ impl Device {
         }
     }
 
-    /// Opens the device of a journal in place of a new device of zeros. After a fault nothing is
-    /// said of the device.
+    /// Opens the device of a journal instead of a new device of zeros. After a fault the device is
+    /// unspecified.
     fn open_in_place(&mut self, text: &[u8]) -> Result<usize, OpenFault>
         requires { record_of self.old ≡ manufactured (replicate 256 0) }
         ensures opens { IfOk result (λ taken. IsOfJournal text.now taken self.new) }
@@ -281,8 +280,8 @@ impl Device {
     }
 
     /// Executes a command by the host's clock, with the completing layer or without it, writes its
-    /// response to the front of a room, whose rest stays, and its entry to the front of another.
-    /// Gives how many bytes the entry has.
+    /// response to the front of a buffer, whose rest stays, and its entry to the front of another.
+    /// Returns the size of the entry.
     pub fn execute_recorded(
         &mut self,
         buffer: &[u8],
@@ -314,7 +313,7 @@ impl Device {
     }
 }
 
-/// Writes a response to the front of a room, and gives what its caller is told beside it.
+/// Writes a response to the front of a buffer, and returns what its caller gets with it.
 fn tell(outcome: &Outcome, drawn: usize, response: &mut [u8; 4096]) -> Answered
     ensures front { take result.size response.new ≡ outcome.now.response.items }
     ensures rest { drop result.size response.new ≡ drop result.size response.old }

@@ -23,9 +23,8 @@ use crate::told::{DONE, NO_DEVICE, NO_LOCALITY, NO_MEMORY, follow_number, open_n
 use std::alloc::Global;
 use tpm_types::Locality;
 
-/// Cycles the power of the device, and writes the head of its new journal to the front of a room.
-/// Gives how many bytes the head has, or 0 where there is no device. Nothing is done where the room
-/// is smaller.
+/// Cycles the power of the device, and writes the head of its new journal to the front of a buffer.
+/// Returns the size of the head, or 0 without a device. Nothing is done if the buffer is smaller.
 #[unsafe(no_mangle)]
 pub extern "C" fn tpmsim_journal_begin(
     alloc: Global,
@@ -47,9 +46,9 @@ pub extern "C" fn tpmsim_journal_begin(
     size
 }
 
-/// Begins the journal of the device anew with a checkpoint, and writes its head to the front of a
-/// buffer. Returns how many bytes the head has, or 0 without a device. Nothing is done if the buffer
-/// is smaller. The head has the journal's time as its clock, or `now_ms` if no journal has begun yet.
+/// Begins the journal of the device again with a checkpoint, and writes its head to the front of a
+/// buffer. Returns the size of the head, or 0 without a device. Nothing is done if the buffer is
+/// smaller. The head has the journal's time as its clock, or `now_ms` if no journal has begun yet.
 #[unsafe(no_mangle)]
 pub extern "C" fn tpmsim_journal_checkpoint(
     alloc: Global,
@@ -71,9 +70,9 @@ pub extern "C" fn tpmsim_journal_checkpoint(
     size
 }
 
-/// Opens the device of a journal, in place of the holder's own, and says how many bytes of the text
-/// are the head and entries. Otherwise the number is that of the first fault, or NO_MEMORY, and the
-/// holder is as it was.
+/// Opens the device of a journal, instead of the holder's own, and writes the size of the head and
+/// the entries. Otherwise the number is that of the first fault, or NO_MEMORY, and the holder is as
+/// it was.
 #[unsafe(no_mangle)]
 pub extern "C" fn tpmsim_journal_open(
     alloc: Global,
@@ -98,8 +97,8 @@ pub extern "C" fn tpmsim_journal_open(
     }
 }
 
-/// Executes the entries of a text that follows what the device executed, and says how many bytes of
-/// the text they are. NO_DEVICE: the holder has no device, and nothing is done.
+/// Executes the entries of a text that follows what the device executed, and writes the size of
+/// these entries. NO_DEVICE: the holder has no device, and nothing is done.
 #[unsafe(no_mangle)]
 pub extern "C" fn tpmsim_journal_follow(
     alloc: Global,
@@ -123,9 +122,9 @@ pub extern "C" fn tpmsim_journal_follow(
     follow_number(followed.fault)
 }
 
-/// Executes a command by the host's clock, writes its response to the front of the room for it, and
-/// its entry to the front of another. Where `completes` is not 0, the completing layer completes
-/// what the device does. NO_LOCALITY: the locality is not 0 to 4. NO_DEVICE: the holder has no
+/// Executes a command by the host's clock, writes its response to the front of a buffer, and its
+/// entry to the front of another. If `completes` is not 0, the completing layer completes what the
+/// device does. NO_LOCALITY: the locality is not 0 to 4. NO_DEVICE: the holder has no
 /// device. In both cases nothing is written.
 #[unsafe(no_mangle)]
 pub extern "C" fn tpmsim_journal_execute(

@@ -1,41 +1,137 @@
 //! The keeper of a device, as the exports use it.
 
-ghost use Rattle.std.specs.Prelude.{◌≡◌, OnErr, OnOk};
+ghost use Rattle.std.specs.Prelude.{◌≡◌, ◌∷◌, OnErr, OnOk, false, true};
 ghost use Rattle.tpm_image_text.specs.Saving.{PutsFront};
-ghost use Rattle.tpm_keeping.specs.Holder.{asked, newborn, rests};
+ghost use Rattle.tpm_keeping.specs.Cutting.{idle};
+ghost use Rattle.tpm_keeping.specs.Holder.{newborn};
 ghost use Rattle.tpm_keeping.specs.View.{ask_of};
-ghost use Rattle.tpmsim_library.specs.Keeping.{GoesOn, request_of, response_of, text_of};
-ghost use Rattle.tpmsim_library.specs.Keeping.{told_by, view_of};
+ghost use Rattle.tpm_keeping.specs.declared.holder.Job.TheVariants.{Begin, Execute};
+ghost use Rattle.tpm_kept_device.specs.Texts.{cycle_text, seed_text, text_at};
+ghost use Rattle.tpm_types.specs.Locality.{locality_number};
+ghost use Rattle.tpmsim_library.specs.Keeping.{Begins, GoesOn, call_of, content_at, executed_by};
+ghost use Rattle.tpmsim_library.specs.Keeping.{request_of, response_of, shown_by, text_of, told_by};
+ghost use Rattle.tpmsim_library.specs.Keeping.{view_of};
 
 use crate::request::{Request, told_by};
+use crate::shown::{put_content, put_whole};
 use std::alloc::Global;
+use tpm_keeping::caller::CuttingKeeper;
 use tpm_keeping::device::Exhausted;
 use tpm_keeping::holder::{End, Force, Job};
-use tpm_keeping::keeper::{Ask, Keeper};
+use tpm_keeping::keeper::Ask;
 use tpm_kept_device::KeptDevice;
+use tpm_kept_device::writing::{beginning, command_at, power_cycle, seed};
+use tpm_types::Locality;
 
 /// The keeper of a device.
 #[derive(Drop)]
 pub struct DeviceKeeper {
-    keeper: Keeper<KeptDevice>,
+    keeper: CuttingKeeper<KeptDevice>,
+    /// Whether calls cut damage.
+    cuts: bool,
 }
 
 impl DeviceKeeper {
-    /// A keeper that has seen nothing.
+    /// A keeper that has seen nothing, and refuses damage.
     pub fn new(alloc: Global, force: Force, limit: u64) -> DeviceKeeper
-        ensures { view_of result ≡ newborn force limit }
+        ensures made { call_of result ≡ idle (newborn force limit) }
+        ensures cuts { result.cuts ≡ false }
     {
         DeviceKeeper {
-            keeper: Keeper::new(alloc, force, limit),
+            keeper: CuttingKeeper::new(alloc, force, limit),
+            cuts: false,
         }
     }
 
-    /// Begins a call.
-    pub fn begin(&mut self, job: Job, text: &[u8]) -> Result<(), Exhausted>
-        ensures ok { OnOk result (view_of self.new ≡ asked (rests (view_of self.old)) job text.now) }
-        ensures err { OnErr result (view_of self.new ≡ rests (view_of self.old)) }
+    /// From now on calls cut damage, or refuse it.
+    pub fn set_cuts(&mut self, cuts: bool)
+        ensures { self.new ≡ record self.old { cuts = cuts } }
     {
-        self.keeper.begin(job, text)
+        self.cuts = cuts;
+    }
+
+    /// Begins a call with this text.
+    pub fn begin(&mut self, alloc: Global, job: Job, text: &[u8]) -> Result<(), Exhausted>
+        ensures ok { OnOk result (Begins self.old.cuts job text.now self.old self.new) }
+        ensures err { OnErr result (self.new ≡ self.old) }
+    {
+        let Ok(text) = Vec::from_slice(alloc, text) else {
+            return Err(Exhausted);
+        };
+        self.keeper.begin(self.cuts, job, text)
+    }
+
+    /// Begins the execution of a command of the standard at this time of the host's clock.
+    pub fn execute(
+        &mut self,
+        alloc: Global,
+        now_ms: u64,
+        locality: Locality,
+        completes: bool,
+        random: &[u8; 256],
+        buffer: &[u8],
+    ) -> Result<(), Exhausted>
+        ensures ok { OnOk result (Begins self.old.cuts Execute
+            (text_at now_ms (locality_number locality) completes random.now buffer.now)
+            self.old self.new) }
+        ensures err { OnErr result (self.new ≡ self.old) }
+    {
+        let Ok(text) = command_at(alloc, now_ms, locality, completes, random, buffer) else {
+            return Err(Exhausted);
+        };
+        self.keeper.begin(self.cuts, Job::Execute, text)
+    }
+
+    /// Begins a power cycle at this time, with this number for the start of the completing layer.
+    pub fn cycle_power(&mut self, alloc: Global, now_ms: u64, start: u64) -> Result<(), Exhausted>
+        ensures ok { OnOk result (Begins self.old.cuts Execute (cycle_text now_ms start)
+            self.old self.new) }
+        ensures err { OnErr result (self.new ≡ self.old) }
+    {
+        let Ok(text) = power_cycle(alloc, now_ms, start) else {
+            return Err(Exhausted);
+        };
+        self.keeper.begin(self.cuts, Job::Execute, text)
+    }
+
+    /// Begins the call that looks for a device, or begins one with a seed.
+    pub fn begin_device(
+        &mut self,
+        alloc: Global,
+        kind: u8,
+        now_ms: u64,
+        start: u64,
+        content: &[u8],
+    ) -> Result<(), Exhausted>
+        ensures ok { OnOk result (Begins self.old.cuts Begin
+            (seed_text kind now_ms start content.now) self.old self.new) }
+        ensures err { OnErr result (self.new ≡ self.old) }
+    {
+        let Ok(text) = seed(alloc, kind, now_ms, start, content) else {
+            return Err(Exhausted);
+        };
+        self.keeper.begin(self.cuts, Job::Begin, text)
+    }
+
+    /// Begins the restoring of a state text. Damage is cut: the state replaces the device.
+    pub fn restore(
+        &mut self,
+        alloc: Global,
+        now_ms: u64,
+        start: u64,
+        state: &[u8],
+    ) -> Result<(), Exhausted>
+        ensures ok { OnOk result (Begins true Execute
+            (2 ∷ seed_text 2 now_ms start state.now) self.old self.new) }
+        ensures err { OnErr result (self.new ≡ self.old) }
+    {
+        let Ok(content) = seed(alloc, 2, now_ms, start, state) else {
+            return Err(Exhausted);
+        };
+        let Ok(text) = beginning(alloc, &content) else {
+            return Err(Exhausted);
+        };
+        self.keeper.begin(true, Job::Execute, text)
     }
 
     /// What the host is to write.
@@ -62,7 +158,13 @@ impl DeviceKeeper {
     pub fn request(&self) -> Request
         ensures { result ≡ request_of (view_of self.now) }
     {
-        Request::of(self.keeper.ask(), self.text().len(), self.response().len())
+        let drops = matches!(self.keeper.job(), Job::Cut);
+        Request::of(
+            self.keeper.ask(),
+            drops,
+            self.text().len(),
+            self.response().len(),
+        )
     }
 
     /// Writes what the host is to write to the front of a buffer, if it fits. Returns its size.
@@ -79,23 +181,35 @@ impl DeviceKeeper {
         put_whole(self.response(), buffer)
     }
 
+    /// The response to a command, if the latest call executed one and is done.
+    pub fn executed(&self) -> &[u8]
+        ensures { result.now ≡ executed_by self.now }
+    {
+        match self.keeper.job() {
+            Job::Execute => self.response(),
+            _ => &[],
+        }
+    }
+
+    /// Writes the state text that is shown to the front of a buffer, if it fits. Returns its size; 0
+    /// if the latest call showed nothing.
+    pub fn state_into(&self, buffer: &mut [u8]) -> usize
+        ensures { PutsFront (content_at (shown_by self.now)) buffer.old result buffer.new }
+    {
+        let shown = match self.keeper.job() {
+            Job::Show => self.response(),
+            _ => &[],
+        };
+        put_content(shown, buffer)
+    }
+
     /// Takes what the host did or saw, and goes on. If memory is refused, the call ends for that.
     pub fn next(&mut self, got: u8, file: u64, size: u64, bytes: &[u8])
-        ensures { GoesOn (view_of self.old)
-            (told_by got (ask_of (view_of self.old)) file size bytes.now) (view_of self.new) }
+        ensures goes_on { GoesOn (call_of self.old)
+            (told_by got (ask_of (view_of self.old)) file size bytes.now) (call_of self.new) }
+        ensures cuts { self.new.cuts ≡ self.old.cuts }
     {
         let told = told_by(got, self.keeper.ask(), file, size, bytes);
         let _is_starved = self.keeper.next(told).is_err();
     }
-}
-
-/// Writes bytes to the front of a buffer, if they fit. Returns how many they are.
-pub(crate) fn put_whole(bytes: &[u8], buffer: &mut [u8]) -> usize
-    ensures { PutsFront bytes.now buffer.old result buffer.new }
-{
-    if bytes.len() <= buffer.len() {
-        let (front, _) = buffer.split_at_mut(bytes.len());
-        front.copy_from_slice(bytes);
-    }
-    bytes.len()
 }

@@ -1,27 +1,29 @@
 //! The exports on the keeper of a device.
 
-ghost use Rattle.std.specs.Prelude.{◌≡◌, ◌≢◌};
+ghost use Rattle.std.specs.Prelude.{◌≡◌, ◌≢◌, ◌==◌, not};
 ghost use Rattle.std.specs.Option.{MatchOption};
 ghost use Rattle.std.specs.declared.option.Option.TheVariants.{None, Some};
 ghost use Rattle.tpm_image_text.specs.Saving.{PutsFront};
-ghost use Rattle.tpm_keeping.specs.Holder.{asked, newborn, rests};
+ghost use Rattle.tpm_keeping.specs.Cutting.{idle};
+ghost use Rattle.tpm_keeping.specs.Holder.{newborn};
 ghost use Rattle.tpm_keeping.specs.View.{ask_of};
 ghost use Rattle.tpm_keeping.specs.declared.holder.Force.{Force};
 ghost use Rattle.tpm_keeping.specs.declared.holder.Job.{Job};
-ghost use Rattle.tpmsim_library.specs.Keeping.{GoesOn, force_of, job_of};
+ghost use Rattle.tpmsim_library.specs.Keeping.{Begins, GoesOn, call_of, force_of, job_of};
 ghost use Rattle.tpmsim_library.specs.Keeping.{fault_text, no_request, request_of, response_of};
 ghost use Rattle.tpmsim_library.specs.Keeping.{text_of};
 ghost use Rattle.tpmsim_library.specs.Keeping.{told_by, view_of};
 ghost use Rattle.tpmsim_library.specs.Told.{done, no_device, no_memory, no_word};
 ghost use Rattle.tpmsim_library.specs.declared.keeper.DeviceKeeper.{DeviceKeeper};
 
-use crate::keeper::{DeviceKeeper, put_whole};
+use crate::keeper::DeviceKeeper;
 use crate::keeper_holder::KeeperHolder;
 use crate::request::{Request, fault_of, force_of, job_of};
+use crate::shown::put_whole;
 use crate::told::{DONE, NO_DEVICE, NO_MEMORY, NO_WORD};
 use std::alloc::Global;
 
-/// Makes a keeper that has seen nothing, in place of the holder's own.
+/// Makes a keeper that has seen nothing, instead of the holder's own.
 #[unsafe(no_mangle)]
 pub extern "C" fn tpmsim_keeper_new(
     alloc: Global,
@@ -31,10 +33,11 @@ pub extern "C" fn tpmsim_keeper_new(
 ) -> u8
     ensures made { result ≡ done → (word : Force) × (new : DeviceKeeper)
         × (force_of force ≡ Some word) × (holder.new.keeper ≡ Some new)
-        × (view_of new ≡ newborn word limit) }
+        × (call_of new ≡ idle (newborn word limit)) }
     ensures refused { result ≢ done → holder.new.keeper ≡ holder.old.keeper }
     ensures word { result ≡ no_word → force_of force ≡ None }
     ensures told { result ≢ done → result ≢ no_word → result ≡ no_memory }
+    ensures memory { result ≡ no_memory → (word : Force) × (force_of force ≡ Some word) }
 {
     let Some(force) = force_of(force) else {
         return NO_WORD;
@@ -48,7 +51,7 @@ pub extern "C" fn tpmsim_keeper_new(
     }
 }
 
-/// Begins a call. NO_MEMORY: what was left in the middle is dropped, and no call begins.
+/// Begins a call. Otherwise nothing has changed.
 #[unsafe(no_mangle)]
 pub extern "C" fn tpmsim_keeper_begin(
     alloc: Global,
@@ -58,16 +61,13 @@ pub extern "C" fn tpmsim_keeper_begin(
 ) -> u8
     ensures begins { result ≡ done → (word : Job) × (before : DeviceKeeper) × (after : DeviceKeeper)
         × (job_of job ≡ Some word) × (holder.old.keeper ≡ Some before)
-        × (holder.new.keeper ≡ Some after)
-        × (view_of after ≡ asked (rests (view_of before)) word text.now) }
-    ensures rests { result ≡ no_memory → (before : DeviceKeeper) × (after : DeviceKeeper)
-        × (holder.old.keeper ≡ Some before) × (holder.new.keeper ≡ Some after)
-        × (view_of after ≡ rests (view_of before)) }
-    ensures refused { result ≢ done → result ≢ no_memory
-        → holder.new.keeper ≡ holder.old.keeper }
+        × (holder.new.keeper ≡ Some after) × Begins before.cuts word text.now before after }
+    ensures refused { result ≢ done → holder.new.keeper ≡ holder.old.keeper }
     ensures word { result ≡ no_word → job_of job ≡ None }
     ensures told { result ≢ done → result ≢ no_memory → result ≢ no_word
         → (result ≡ no_device) × (holder.old.keeper ≡ None) }
+    ensures memory { result ≡ no_memory → (word : Job) × (before : DeviceKeeper)
+        × (job_of job ≡ Some word) × (holder.old.keeper ≡ Some before) }
 {
     let Some(job) = job_of(job) else {
         return NO_WORD;
@@ -75,12 +75,27 @@ pub extern "C" fn tpmsim_keeper_begin(
     let Some(mut kept) = holder.take(alloc) else {
         return NO_DEVICE;
     };
-    let begun = kept.begin(job, text);
+    let begun = kept.begin(alloc, job, text);
     holder.put(kept);
     match begun {
         Ok(()) => DONE,
         Err(_) => NO_MEMORY,
     }
+}
+
+/// From now on calls cut damage, if `cuts` is not 0, or refuse it.
+#[unsafe(no_mangle)]
+pub extern "C" fn tpmsim_keeper_cuts(alloc: Global, holder: &mut KeeperHolder, cuts: u8) -> u8
+    ensures set { MatchOption holder.old.keeper (holder.new.keeper ≡ None) (λ before.
+        holder.new.keeper ≡ Some (record before { cuts = not (cuts == 0) })) }
+    ensures told { MatchOption holder.old.keeper (result ≡ no_device) (λ before. result ≡ done) }
+{
+    let Some(mut kept) = holder.take(alloc) else {
+        return NO_DEVICE;
+    };
+    kept.set_cuts(cuts != 0);
+    holder.put(kept);
+    DONE
 }
 
 /// Says what the host is to do next.
@@ -98,7 +113,8 @@ pub extern "C" fn tpmsim_keeper_ask(alloc: Global, holder: &mut KeeperHolder, re
     holder.put(kept);
 }
 
-/// Writes what is to be written to the front of a buffer, if it fits. Returns how many bytes it has.
+/// Writes what is to be written to the front of a buffer, if it fits. Returns its size, 0 without
+/// a keeper.
 #[unsafe(no_mangle)]
 pub extern "C" fn tpmsim_keeper_text(
     alloc: Global,
@@ -117,8 +133,8 @@ pub extern "C" fn tpmsim_keeper_text(
     size
 }
 
-/// Writes the response of a call that is done to the front of a buffer, if it fits. Returns how many
-/// bytes it has.
+/// Writes the response of a call that is done to the front of a buffer, if it fits. Returns its
+/// size.
 #[unsafe(no_mangle)]
 pub extern "C" fn tpmsim_keeper_response(
     alloc: Global,
@@ -149,8 +165,9 @@ pub extern "C" fn tpmsim_keeper_next(
 )
     ensures { MatchOption holder.old.keeper (holder.new.keeper ≡ None) (λ before.
         (after : DeviceKeeper) × (holder.new.keeper ≡ Some after)
-        × GoesOn (view_of before)
-        (told_by got (ask_of (view_of before)) file file_size bytes.now) (view_of after)) }
+        × GoesOn (call_of before)
+        (told_by got (ask_of (view_of before)) file file_size bytes.now) (call_of after)
+        × (after.cuts ≡ before.cuts)) }
 {
     let Some(mut kept) = holder.take(alloc) else {
         return;
@@ -159,8 +176,8 @@ pub extern "C" fn tpmsim_keeper_next(
     holder.put(kept);
 }
 
-/// Writes what a fault says to the front of a buffer, if it fits. Returns how many bytes it has; 0 if
-/// the number is none of a fault.
+/// Writes what a fault says to the front of a buffer, if it fits. Returns its size, 0 if no fault
+/// has this number.
 #[unsafe(no_mangle)]
 pub extern "C" fn tpmsim_fault_text(fault: u8, buffer: &mut [u8]) -> usize
     ensures { PutsFront (fault_text fault) buffer.old result buffer.new }

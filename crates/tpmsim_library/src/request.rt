@@ -12,17 +12,19 @@ use tpm_keeping::keeper::{Ask, Got};
 #[repr(C)]
 #[derive(Clone, Copy, PartialEq, Eq)]
 pub struct Request {
-    /// To how many bytes the file is cut first, or how many bytes of the old journal the device
-    /// executed.
+    /// The size to which the file is cut first, or the size of what the device executed of the old
+    /// journal.
     pub cut: u64,
-    /// The place in the file.
+    /// The offset in the file.
     pub at: u64,
-    /// How many bytes are to be written, or the response has.
+    /// The size of what is to be written, or of the response.
     pub size: usize,
     /// The number of the task.
     pub task: u8,
     /// The number of how the call ended.
     pub fault: u8,
+    /// 1 if a new journal drops the damage of the old one, else 0.
+    pub drops: u8,
 }
 
 /// The word of force that has this number.
@@ -110,6 +112,7 @@ impl Request {
             size: 0,
             task,
             fault: 0,
+            drops: 0,
         }
     }
 
@@ -124,9 +127,9 @@ impl Request {
     }
 
     /// What a keeper asks of its host, whose text has one of these sizes, or whose response has the
-    /// other.
-    pub fn of(asked: Ask, text: usize, response: usize) -> Request
-        ensures { result ≡ request_by asked text response }
+    /// other, and which drops damage or does not.
+    pub fn of(asked: Ask, drops: bool, text: usize, response: usize) -> Request
+        ensures { result ≡ request_by asked drops text response }
     {
         match asked {
             Ask::Nothing(end) => Request {
@@ -150,6 +153,7 @@ impl Request {
             Ask::Make { whole } => Request {
                 cut: whole,
                 size: text,
+                drops: u8::from(drops),
                 ..Request::task(6)
             },
             Ask::Name => Request::task(7),
@@ -159,7 +163,7 @@ impl Request {
     }
 }
 
-/// What a host tells by a number, which is 0 if it did all that was asked.
+/// What a host reports by a number, which is 0 if it did all that was asked.
 pub fn told_by<'a>(got: u8, asked: Ask, file: u64, size: u64, bytes: &'a [u8]) -> Got<'a>
     ensures { told_of result ≡ told_by got asked file size bytes.now }
 {

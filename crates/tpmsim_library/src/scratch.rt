@@ -37,8 +37,8 @@ impl Scratch {
         Scratch { text: Text::new() }
     }
 
-    /// Writes the image of a machine to the front of a buffer, if it fits. Returns how many bytes
-    /// the image has.
+    /// Writes the image of a machine to the front of a buffer, if it fits. Returns the size of
+    /// the image.
     pub fn save_into(&mut self, machine: &Machine<SlotKeep>, buffer: &mut [u8]) -> usize
         ensures { PutsFront (image_text Two (kept_of (slot_record machine.now.keep))) buffer.old
             result buffer.new }
@@ -48,8 +48,8 @@ impl Scratch {
         put_front(head.as_slice(), self.text.as_slice(), buffer)
     }
 
-    /// Writes what a machine keeps without power, but for its clock, to the front of a buffer, if it
-    /// fits. Returns how many bytes it has.
+    /// Writes what a machine keeps without power, except its clock, to the front of a buffer, if it
+    /// fits. Returns its size.
     pub fn kept_into(&mut self, machine: &Machine<SlotKeep>, buffer: &mut [u8]) -> usize
         ensures { PutsFront (kept_text (slot_record machine.now.keep)) buffer.old result
             buffer.new }
@@ -60,7 +60,7 @@ impl Scratch {
     }
 
     /// Writes the state text of a machine, with its completing layer, to the front of a buffer, if
-    /// it fits. Returns how many bytes the text has.
+    /// it fits. Returns the size of the text.
     pub fn snapshot_into(
         &mut self,
         machine: &Machine<SlotKeep>,

@@ -21,8 +21,8 @@ use crate::holder::Holder;
 use crate::told::{DONE, restore_number};
 use std::alloc::Global;
 
-/// Writes the state text of the device to the front of a buffer, if it fits. Returns how many bytes
-/// the text has, written or not; 0 without a device.
+/// Writes the state text of the device to the front of a buffer, if it fits. Returns the size of
+/// the text, written or not; 0 without a device.
 #[unsafe(no_mangle)]
 pub extern "C" fn tpmsim_snapshot(alloc: Global, holder: &mut Holder, buffer: &mut [u8]) -> usize
     ensures written { MatchOption holder.old.device
@@ -40,7 +40,7 @@ pub extern "C" fn tpmsim_snapshot(alloc: Global, holder: &mut Holder, buffer: &m
     size
 }
 
-/// Restores a device from its state text, in place of the holder's own. Otherwise the number is
+/// Restores a device from its state text, instead of the holder's own. Otherwise the number is
 /// that of the first fault, or NO_MEMORY, and the holder is as it was.
 #[unsafe(no_mangle)]
 pub extern "C" fn tpmsim_restore(alloc: Global, holder: &mut Holder, text: &[u8]) -> u8

@@ -23,6 +23,9 @@ pub const NO_MEMORY: u8 = 3;
 /// A number is that of no force, or of no job.
 pub const NO_WORD: u8 = 19;
 
+/// The keeper has no answer to a command of the standard.
+pub const NO_ANSWER: u8 = 20;
+
 /// The number of the fault for which an image is not opened.
 pub fn fault_number(fault: ImageFault) -> u8
     ensures { result ≡ fault_number fault }

@@ -71,8 +71,9 @@ class KeptDevice(LocatedDevice):
     hold it at once: each executes what the others added, and then its own command. With `forces`,
     the name of each journal that is new or opened is forced to the disk. With `completes`, the
     completing layer of the library is above the device. The last `keep` journals that new ones
-    replaced, 0 to 99, stay in the folder. A forked child may use its parent's device, and threads
-    take turns.
+    replaced, 0 to 99, stay in the folder. With `cuts`, what follows the first damage in a journal is
+    dropped; otherwise the journal is refused. A forked child may use its parent's device, and
+    threads take turns.
 
     DeviceEnded says in a sentence of docs/ATTACHED.md why a call was not done. If the journal
     begins with bytes that are not an image or a state text, BadImage or BadState says so. If the
@@ -88,7 +89,12 @@ class KeptDevice(LocatedDevice):
     """
 
     def __init__(
-        self, folder: Path, forces: bool = True, completes: bool = False, keep: int = 0
+        self,
+        folder: Path,
+        forces: bool = True,
+        completes: bool = False,
+        keep: int = 0,
+        cuts: bool = False,
     ) -> None:
         super().__init__()
         self.path, self.completes = os.path.abspath(folder), completes
@@ -100,7 +106,8 @@ class KeptDevice(LocatedDevice):
         self.host, self.holder, self.turn = host(), ctypes.c_void_p(), threading.RLock()
         self.handle = ctypes.addressof(self.holder)
         self.reason, self.notice = (ctypes.create_string_buffer(REASON_BYTES) for _ in range(2))
-        options = Options(folder=path, keep=keep, force=FORCE_POWER if forces else FORCE_NEVER)
+        force = FORCE_POWER if forces else FORCE_NEVER
+        options = Options(folder=path, keep=keep, force=force, cuts=cuts)
         HELD.add(self)
         check(*self.told(self.host.tpmsim_kept_open, ctypes.byref(options)))
 

@@ -52,7 +52,7 @@ use Rattle.tpmsim_library.specs.Held.{held}
 abbrev pub plain_drop : RattleType → Dict
 plain_drop R = impl ("tpmsim_library::Destruct++none::drop" ∷ []) (tcons (layout R) tnil) dnil
 
--- the two types of a call, beside the tables that come with them
+-- the two types of a call, next to the tables that come with them
 abbrev types_of : RattleType → Dicts → Args
 types_of T = bounded (a_type ∷ a_type ∷ []) (T, (Heap, tt))
 

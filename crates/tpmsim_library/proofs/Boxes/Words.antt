@@ -1,4 +1,4 @@
--- A pointer beside an allocator. A box, a holder and a pair have these two fields, so one word of
+-- A pointer next to an allocator. A box, a holder and a pair have these two fields, so one word of
 -- the machine stands for each of them. Neither an allocator nor a pointer owns anything, so these
 -- fields own nothing.
 use mathlib.Core.List.{List, [], ◌∷◌}
@@ -29,7 +29,7 @@ Heap = arg (bare (layout global.the_row)) no global.the_row
 pub heap_laws : Laws Heap
 heap_laws = arg_laws (bare (layout global.the_row)) no global.the_row global_laws.the_row_laws refl
 
--- the word of an allocator, and of a pointer beside one
+-- the word of an allocator, and of a pointer next to one
 abbrev pub heap_word : Global → Val
 heap_word alloc = global_laws.lowered alloc
 

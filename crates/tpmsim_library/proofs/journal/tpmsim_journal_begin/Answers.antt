@@ -2,8 +2,7 @@ use Rattle.std.proofs.Common.{sym, ap, ◌∙◌, ◌≡◌}
 use Rattle.std.specs.declared.option.Option.TheVariants.{Some}
 use Rattle.tpmsim_library.proofs.journal.tpmsim_journal_begin.Goals as goal
 
--- the device that is put back is the one that was taken, with its journal begun where there was
--- room
+-- the device that is put back is the one that was taken, with its journal begun if the head fits
 pub returns-clause-begins : goal.returns-clause-begins
 returns-clause-begins c =
     let before = c.deref_mut.result.now in
