@@ -196,8 +196,8 @@ caught_up k taken = record k {
   read = [];
 }
 
--- What was read is damaged. It stays as it is, unless a cut has read all of it: then the state after
--- its front that is whole begins a new journal.
+-- What was read is damaged. It stays as it is, unless a cut has read all of it: then the state
+-- after its front that is whole begins a new journal.
 abbrev pub salvages_of : Journal → Holder → Option (Spot × ℕ) → Holder
 salvages_of j k None = dropped fault.Damaged k
 salvages_of j k (Some salvaged) = renews j (caught_up k salvaged.1) salvaged.0.state []

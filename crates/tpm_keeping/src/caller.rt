@@ -47,8 +47,8 @@ impl<D: Device> CuttingKeeper<D> {
         }
     }
 
-    /// Begins a call. If `cuts` is true, damage is cut, and the call begins again; otherwise it ends
-    /// with the fault. At `Err` nothing has changed.
+    /// Begins a call. If `cuts` is true, damage is cut, and the call begins again; otherwise it
+    /// ends with the fault. At `Err` nothing has changed.
     pub fn begin(&mut self, cuts: bool, job: Job, command: Vec<u8>) -> Result<(), Exhausted>
         ensures ok { OnOk result (caller_of D.spot self.new
             ≡ called cuts job command.items (caller_of D.spot self.old).holder) }

@@ -68,8 +68,8 @@ pub enum Fault {
 }
 
 impl Fault {
-    /// What the fault says, to be written after a path: the lock's for `Lock`, the new journal's for
-    /// `Make` and `Name`, the folder's for `Settle`, else the journal's.
+    /// What the fault says, to be written after a path: the lock's for `Lock`, the new journal's
+    /// for `Make` and `Name`, the folder's for `Settle`, else the journal's.
     pub fn sentence(self) -> &'static str
         ensures { result.now ≡ sentence self }
     {

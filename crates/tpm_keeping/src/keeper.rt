@@ -161,7 +161,8 @@ impl<D: Device> Keeper<D> {
         Ok(())
     }
 
-    /// Begins a call with a command that the keeper then owns. What was left in the middle is dropped.
+    /// Begins a call with a command that the keeper then owns. What was left in the middle is
+    /// dropped.
     pub(crate) fn begin_with(&mut self, job: Job, command: Vec<u8>)
         ensures { holder_of D.spot self.new
             ≡ asked (rests (holder_of D.spot self.old)) job command.items }

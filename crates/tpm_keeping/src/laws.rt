@@ -80,8 +80,8 @@ pub fn cuts_keep_a_front()
         → KeepsFront j (text_read k.phase k told) (next_of j k told) }
 {}
 
-/// A step of a keeper that cuts damage is that of a keeper, which may then be asked for a further call.
-/// So what holds after every run of every holder holds with cuts too.
+/// A step of a keeper that cuts damage is that of a keeper, which may then be asked for a further
+/// call. So what holds after every run of every holder holds with cuts too.
 pub fn cuts_are_calls()
     ensures { (j : Journal) (c : Caller) (told : Told)
         → IsOrIsAsked (next_of j c.holder told) (next_call j c told).holder }

@@ -3,8 +3,8 @@ use Rattle.std.specs.Prelude.{ℕ, Bool, List, ◌++◌, ◌∷◌}
 use Rattle.std.specs.Int.{w32, w64, to_be_bytes}
 use Rattle.tpm_image_text.specs.Fields.{yes_no_text}
 
--- what a command of the standard has after its moment: its locality, whether the completing layer is
--- on, 256 random bytes, and its buffer
+-- what a command of the standard has after its moment: its locality, whether the completing layer
+-- is on, 256 random bytes, and its buffer
 abbrev pub given_text : (locality : ℕ) → (completes : Bool) → (random buffer : List ℕ) → List ℕ
 given_text locality completes random buffer =
     locality ∷ (yes_no_text completes ++ (random ++ buffer))

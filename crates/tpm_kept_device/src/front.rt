@@ -5,8 +5,8 @@ ghost use Rattle.tpm_kept_journal.specs.Salvage.{entries_size, whole_size};
 
 use tpm_journal_text::{BYTES_ROOM, CONTENT_LIMIT, ENTRY_ROOM, Next, read_entry, read_head};
 
-/// The size of what is whole at the front of a text: its head, and the entries after it; 0 without a
-/// head. Its buffers are large, so it keeps them out of its caller's frame.
+/// The size of what is whole at the front of a text: its head, and the entries after it; 0 without
+/// a head. Its buffers are large, so it keeps them out of its caller's frame.
 #[inline(never)]
 pub(crate) fn whole_size(text: &[u8]) -> usize
     ensures value { result ≡ whole_size text.now }

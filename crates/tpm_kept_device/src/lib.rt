@@ -5,8 +5,8 @@
 //! tpm_kept_journal says what its journal is: functions of texts, which meet what a keeper needs.
 //! This crate computes them with the real device: each method's contract is that of
 //! `tpm_keeping::device::Device` over that journal. So what tpm_keeping proves of a kept device,
-//! through kills, failures and crashes, holds of this one. [`writing`] writes the commands and seeds that
-//! a keeper takes, and [`answer`] reads its response to a command of the standard.
+//! through kills, failures and crashes, holds of this one. [`writing`] writes the commands and
+//! seeds that a keeper takes, and [`answer`] reads its response to a command of the standard.
 
 pub mod answer;
 mod command;

@@ -153,7 +153,8 @@ goes_on (one ∷ performances) (suc bound) before old after new taken left is ar
           );
     }
 
--- where a device answers otherwise than an entry says, the walk fails: at this entry, or at a later one
+-- where a device answers otherwise than an entry says, the walk fails: at this entry, or at a later
+-- one
 fails_at : (same : Bool) (one : Performance) (performances : List Performance) (bound : ℕ) (before : Journal) (old : Record) (taken : ℕ) (left : List ℕ)
     → IsDeviceState (state_in before old) → IsEntry one.entry → IsPerformed false before.layer old one.entry one.seen
     → (response_sum one == answer_said one) ≡ same

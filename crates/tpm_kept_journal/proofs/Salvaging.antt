@@ -23,8 +23,8 @@ use Rattle.tpm_kept_journal.proofs.texts.TornText.{is_torn_text-Decides}
 
 -- ---- what is at the front of a text
 
--- From a spot a text goes on with an entry that leads to another spot; or it ends, without an entry;
--- or it does not follow.
+-- From a spot a text goes on with an entry that leads to another spot; or it ends, without an
+-- entry; or it does not follow.
 pub data Finding (p : Spot) (text : List ℕ) : Type 0 where
   AtEntry : (e : PlainEntry) (q : Spot) (rest : List ℕ) → IsEntry e → text ≡ entry_text p.chain e ++ rest
       → performed_on p.chain e (state_of_bytes p.state) ≡ Some q → Finding p text

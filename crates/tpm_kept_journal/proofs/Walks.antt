@@ -81,8 +81,8 @@ walk_otherwise bound p e taken rest is performed =
 abbrev pub spot_made : List ℕ → ℕ → Spot
 spot_made state chain = record { state = state; chain = chain }
 
--- From a spot a command with an entry leads to the spot to which its entry leads; where the spot has
--- no state, it has no entry, and leads nowhere.
+-- From a spot a command with an entry leads to the spot to which its entry leads; where the spot
+-- has no state, it has no entry, and leads nowhere.
 pub data Leads (p : Spot) (c : List ℕ) : Type 0 where
   Nowhere : (device_journal.entry p c ≡ []) → (stepped device_journal p c ≡ p) → Leads p c
   Further : (e : PlainEntry) → IsEntry e → (device_journal.entry p c ≡ entry_text p.chain e)

@@ -21,9 +21,9 @@ pub fn device_journal_laws()
     ensures { IsJournal device_journal }
 {}
 
-/// The text of a state that a device can have says just that state, and a journal in this state begins
-/// with the head that holds its state text. The other heads of device_journal are those of texts that
-/// are no states.
+/// The text of a state that a device can have says just that state, and a journal in this state
+/// begins with the head that holds its state text. The other heads of device_journal are those of
+/// texts that are no states.
 #[inline(always)]
 #[tactic(auto, using(crate::proofs::States::state_told, crate::proofs::Shown::head_shown))]
 pub fn device_state_laws()

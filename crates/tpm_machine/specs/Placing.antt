@@ -1,5 +1,5 @@
 -- An object that comes back from a saved context, on a machine.
-use Rattle.std.specs.Prelude.{◌≡◌, Bool, true, [], None, Option, Some, Result, Ok, Err}
+use Rattle.std.specs.Prelude.{◌≡◌, Bool, true, [], None, Some, Result, Ok, Err}
 use Rattle.tpm_containers.specs.declared.slots.SlotFault.{SlotFault}
 use Rattle.tpm_containers.specs.declared.slots.SlotFault.TheVariants.{Full, NoMemory}
 use Rattle.tpm_object.specs.declared.object.Object.{Object}

@@ -1,5 +1,5 @@
 -- An example of an object that came from a saved context.
-use Rattle.std.specs.Prelude.{◌≡◌, List, [], ◌∷◌, Option, Some}
+use Rattle.std.specs.Prelude.{◌≡◌, [], ◌∷◌, Some}
 use Rattle.tpm_mac.specs.declared.algorithm.HashAlg.TheVariants as alg
 use Rattle.tpm_object.specs.declared.object.Object.{Object}
 use Rattle.tpm_types.specs.Handle.{numbered}

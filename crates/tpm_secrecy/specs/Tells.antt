@@ -192,7 +192,8 @@ abbrev pub WrongTriesAreFew : Type 0
 WrongTriesAreFew =
     (s : Secrecy) → CoversKeys s → (one other : Record) (events others : Attempts)
     → DifferInSecrets s one other → AttemptsAlike s events others → AllKeepSecrets s one events
-    → AllKeepSecrets s other others → IsForgiving one.fixed.lockout → one.fixed.lockout.fields.recovery_time ≢ 0
+    → AllKeepSecrets s other others → IsForgiving one.fixed.lockout
+    → one.fixed.lockout.fields.recovery_time ≢ 0
     → let executions : List Execution = executions_of one events in
     Leads true one executions (after_all one events) → HasNoReset (history_after [] executions)
     → RunsAlike s one other events others × (failures_in executions ≤ tries_within one executions)

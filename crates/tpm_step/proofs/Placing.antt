@@ -1,5 +1,5 @@
 -- A placed object leaves a record of a device, and is an execution of its event.
-use Rattle.std.proofs.Common.{arith, ◌≡◌, ℕ, Bool, false, List, [], ◌∷◌, length, length-set, Option, Some, None, refl, ◌∙◌}
+use Rattle.std.proofs.Common.{arith, ◌≡◌, ℕ, Bool, false, [], ◌∷◌, length, length-set, Option, Some, None, refl, ◌∙◌}
 use Rattle.std.proofs.lemmas.Bool.{false≢true}
 use Rattle.tpm_containers.specs.Slots.{AreAll, lowest_free}
 use Rattle.tpm_object.specs.Object.{IsObject}

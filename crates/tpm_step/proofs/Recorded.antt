@@ -9,7 +9,7 @@ use Rattle.tpm_step.specs.Step.{Accepted, accepted}
 use Rattle.tpm_step.specs.declared.refused_command.RefusedCommand.{RefusedCommand}
 use Rattle.tpm_step.specs.rows.Acceptance.{IsAcceptance}
 use Rattle.tpm_step.proofs.rows.Acceptance.{accepted_is}
-use Rattle.tpm_step.specs.History.{AcceptedCommand, Done, History, ObjectPlaced, PastEvent, command_of, recorded, with_command, with_placed}
+use Rattle.tpm_step.specs.History.{AcceptedCommand, Done, History, PastEvent, command_of, recorded, with_command, with_placed}
 
 no_longer : (one : PastEvent) (history : History) → history ≡ one ∷ history → ⊥
 no_longer one history is = omega (arith, ap length is)

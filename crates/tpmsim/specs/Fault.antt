@@ -91,8 +91,8 @@ abbrev pub fault_of_play : PlayFault → Fault
 fault_of_play (play.Script fault) = fault_of fault
 fault_of_play (play.Kept fault) = Kept fault
 
--- the exit status: 2 if what was asked for makes no sense, 3 if a file, a socket, a stream or memory
--- refused it, 4 if a file that should be an image, a state text or a journal is not
+-- the exit status: 2 if what was asked for makes no sense, 3 if a file, a socket, a stream or
+-- memory refused it, 4 if a file that should be an image, a state text or a journal is not
 abbrev pub status_of : Fault → ℕ
 status_of Usage = 2
 status_of (ScriptLine number) = 2

@@ -73,8 +73,8 @@ impl Fault {
         Fault::File(subject.alone())
     }
 
-    /// What was given. If it is an error: `Memory` if memory ran out, and otherwise this fault, with
-    /// the number of the error.
+    /// What was given. If it is an error: `Memory` if memory ran out, and otherwise this fault,
+    /// with the number of the error.
     pub fn unless<T>(self, given: io::Result<T>) -> Result<T, Fault>
         ensures { result ≡ given_or self given }
     {

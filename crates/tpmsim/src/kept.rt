@@ -1,6 +1,7 @@
-//! A device that is kept in a folder: its journal has the device as it began there, and each command
-//! that was answered since. tpm_keeping decides what is done in the folder when, and proves that the
-//! device is the one that executed the answered commands, whatever is killed, fails or crashes.
+//! A device that is kept in a folder: its journal has the device as it began there, and each
+//! command that was answered since. tpm_keeping decides what is done in the folder when, and proves
+//! that the device is the one that executed the answered commands, whatever is killed, fails or
+//! crashes.
 //!
 //! [`Kept`] is a kept device: it does in the folder what the keeper asks for. Several processes may
 //! hold one at the same time. [`playing`] plays a script on it, and [`serving`] serves it on a

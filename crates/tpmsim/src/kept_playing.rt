@@ -14,8 +14,8 @@ use tpmsim_folder::{Place, Said};
 use tpmsim_image::{Entropy, Subject};
 use tpmsim_script::first_bytes;
 
-/// Cycles the power of the device in a folder, where `past` finished journals stay; with `cuts` also
-/// if its journal is damaged.
+/// Cycles the power of the device in a folder, where `past` finished journals stay; with `cuts`
+/// also if its journal is damaged.
 pub fn cycle_power(rt: &HostRuntime, folder: &str, cuts: bool, past: u32) -> Result<(), Fault> {
     let mut kept = open_there(rt, folder, past)?;
     if cuts {
@@ -83,8 +83,8 @@ fn play_text<R: Read>(
     play_on(rt, &mut kept, reader, trace)
 }
 
-/// Begins a new device if none is in the folder, with the first random bytes of a file, or else with
-/// the bytes 00 to ff.
+/// Begins a new device if none is in the folder, with the first random bytes of a file, or else
+/// with the bytes 00 to ff.
 fn begin_missing(
     rt: &HostRuntime,
     kept: &mut Kept<'_>,

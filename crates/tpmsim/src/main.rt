@@ -2,12 +2,12 @@
 
 //! A TPM 2.0 simulator. It runs scripts of commands, `tpmsim run`, and checks them, `check`. It
 //! assembles commands from words, `asm`, and finds the words of a command, `line`. It prints how
-//! commands are said in words, `lines`, and what a response code says, `code`. It serves a device on
-//! a socket, `serve`.
+//! commands are said in words, `lines`, and what a response code says, `code`. It serves a device
+//! on a socket, `serve`.
 //!
-//! A device is kept in an image, or in a folder with its state. `power` cycles the power of a device
-//! in a folder, `snapshot` and `restore` write and read its state text, and `script` prints what
-//! happened to it. `replay` executes again what was recorded.
+//! A device is kept in an image, or in a folder with its state. `power` cycles the power of a
+//! device in a folder, `snapshot` and `restore` write and read its state text, and `script` prints
+//! what happened to it. `replay` executes again what was recorded.
 //!
 //! Standard output has what was asked for: for `run` each response in hex on a line of its own,
 //! with `--trace` after a line that traces the command; for `check` a line for each bad line. A run
@@ -18,9 +18,9 @@
 //! The program uses tpmsim_arguments for its words, tpmsim_script for scripts and their check,
 //! `tpm_text` and `tpm_line` for lines, and `tpm_help` for what it prints about these. It uses
 //! tpmsim_image for a device in an image; tpm_keeping, tpm_kept_device and tpmsim_folder for one in
-//! a folder ([`kept`]); and tpm_journal for what happened to it. All that touches files, sockets and
-//! clocks is here, in tpmsim_image or in tpmsim_folder. What the device answers is proved in the
-//! crates below.
+//! a folder ([`kept`]); and tpm_journal for what happened to it. All that touches files, sockets
+//! and clocks is here, in tpmsim_image or in tpmsim_folder. What the device answers is proved in
+//! the crates below.
 
 mod checking;
 mod explaining;

@@ -22,9 +22,9 @@ pub fn print_snapshot(rt: &HostRuntime, folder: &str) -> Result<(), Fault> {
     Fault::file(Subject::Output).unless(rt.stdout().write_all(text))
 }
 
-/// Replaces the device in a folder by the device of a state text in a file, or begins it if there is
-/// none. `past` finished journals stay in the folder. A text that is refused leaves the folder as it
-/// was.
+/// Replaces the device in a folder by the device of a state text in a file, or begins it if there
+/// is none. `past` finished journals stay in the folder. A text that is refused leaves the folder
+/// as it was.
 pub fn restore_snapshot(
     rt: &HostRuntime,
     folder: &str,

@@ -24,8 +24,8 @@ fn run_new<R: Read>(rt: &HostRuntime, reader: &mut Tap<R>, trace: bool) -> Resul
     Ok(run_script::<SlotKeep, _, _>(rt.alloc(), reader, output, trace)?)
 }
 
-/// Runs the script on the device whose image is in a file, or on a new one if there is no such file,
-/// and saves the device there on the way and in the end.
+/// Runs the script on the device whose image is in a file, or on a new one if there is no such
+/// file, and saves the device there on the way and in the end.
 pub fn run_kept(
     rt: &HostRuntime,
     script: &str,
@@ -54,8 +54,8 @@ struct Device {
     was_kept: bool,
 }
 
-/// The device whose image is in a file, or a new one if there is no such file. A file of random bytes
-/// is opened for either.
+/// The device whose image is in a file, or a new one if there is no such file. A file of random
+/// bytes is opened for either.
 fn device_of(
     rt: &HostRuntime,
     file: &ImageFile<'_>,

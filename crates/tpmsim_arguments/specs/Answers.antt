@@ -22,8 +22,8 @@ abbrev pub HaveMistake : List Text → Type 0
 HaveMistake words =
     (kind : ErrorKind) × IsAmong kind (fault_of program words) × (IsTold kind → ⊥)
 
--- The answer is what the words ask for, or clap's text if the words ask for one. The answer is Usage
--- if the words have a mistake, or ask for nothing, as with a locality above 4.
+-- The answer is what the words ask for, or clap's text if the words ask for one. The answer is
+-- Usage if the words have a mistake, or ask for nothing, as with a locality above 4.
 abbrev pub Answers : List Text → Result Arguments ArgumentFault → Type 0
 Answers words (Ok (Tell error)) =
     IsAmong (kind_of error) (fault_of program words) × IsTold (kind_of error)

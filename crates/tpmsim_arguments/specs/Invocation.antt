@@ -42,10 +42,10 @@ pub record Stored : Type 0 where
 -- kept or on one that is not; to check the lines of a script; to print the buffer of a line; to
 -- print the line of a buffer; to print how the command of a name is said in words, or how each
 -- command is; to print what a response code says; to serve a device; to cycle the power of the
--- device in a folder, with what follows damage dropped or not; to print its state text; to replace it
--- by the device of a state text; to print what happened to it as a script; to execute what a journal
--- recorded again; to print a text of clap's, its help or the version. A number `past` is how many
--- finished journals stay in the folder.
+-- device in a folder, with what follows damage dropped or not; to print its state text; to replace
+-- it by the device of a state text; to print what happened to it as a script; to execute what a
+-- journal recorded again; to print a text of clap's, its help or the version. A number `past` is
+-- how many finished journals stay in the folder.
 pub data Invocation : Type 0 where
   run : Text → Bool → Option Stored → Invocation
   check : Text → Invocation

@@ -222,8 +222,8 @@ fn create(rt: &HostRuntime, path: &str) -> io::Result<File> {
         .open(rt, path)
 }
 
-/// Forces the folder above this one to the disk. One that the user may not read is left alone, unless
-/// this process made the folder.
+/// Forces the folder above this one to the disk. One that the user may not read is left alone,
+/// unless this process made the folder.
 fn force_above(rt: &HostRuntime, path: &str, was_made: bool) -> io::Result<()> {
     let above = format!(in rt.alloc(); "{path}/..")?;
     match fs::open(rt, above.as_str()) {

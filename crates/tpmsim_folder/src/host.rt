@@ -1,5 +1,5 @@
-//! The tasks of the host of a keeper in a folder. Each is a function, and returns an error unless all
-//! of it was done.
+//! The tasks of the host of a keeper in a folder. Each is a function, and returns an error unless
+//! all of it was done.
 
 use crate::fault::{KeptFault, Place, Said};
 use crate::folder::{Folder, OpenedFile, fault_of, identity_of};
@@ -28,8 +28,8 @@ pub struct Host<'a> {
 }
 
 impl<'a> Host<'a> {
-    /// The host of the folder at a path. It makes the folder if it is missing and `makes` is true. No
-    /// file in it is opened yet. At each new journal, `past` finished ones stay at most.
+    /// The host of the folder at a path. It makes the folder if it is missing and `makes` is true.
+    /// No file in it is opened yet. At each new journal, `past` finished ones stay at most.
     pub fn at(
         rt: &'a HostRuntime,
         path: &str,
@@ -151,8 +151,8 @@ impl<'a> Host<'a> {
         }
     }
 
-    /// Makes a new journal of this text, and forces it to the disk. One that a killed process left is
-    /// removed first, and this one if it cannot be made whole.
+    /// Makes a new journal of this text, and forces it to the disk. One that a killed process left
+    /// is removed first, and this one if it cannot be made whole.
     pub fn make(&mut self, text: &[u8]) -> Result<(), KeptFault> {
         if self.folder.look(self.rt, Place::NewJournal)?.is_some() {
             self.remove_new();

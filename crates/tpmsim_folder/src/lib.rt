@@ -6,8 +6,8 @@
 //! numbers ([`moment`]), and what a fault says of which place ([`fault`]).
 //!
 //! The crate does not depend on a TPM. Contracts say which kinds of files and which owners are
-//! refused, and the text of each fault. No contract can say what a file contains. tpm_keeping decides
-//! what is done when, and proves what follows from it.
+//! refused, and the text of each fault. No contract can say what a file contains. tpm_keeping
+//! decides what is done when, and proves what follows from it.
 
 pub mod fault;
 pub mod folder;

@@ -1,13 +1,13 @@
-//! The finished journals that stay in the folder: journal.1 is the last one, journal.2 the one before
-//! it.
+//! The finished journals that stay in the folder: journal.1 is the last one, journal.2 the one
+//! before it.
 
 use crate::fault::{KeptFault, Place, Said};
 use crate::folder::{Folder, fault_of, identity_of};
 use std::io::ErrorKind;
 use std::{fs, io};
 
-/// Links the journal, which is about to lose its name, as journal.1. Before that, the journals before
-/// the first free number each get the next number. So at most `count` stay.
+/// Links the journal, which is about to lose its name, as journal.1. Before that, the journals
+/// before the first free number each get the next number. So at most `count` stay.
 pub(crate) fn keep_past(rt: &HostRuntime, folder: &Folder, count: u32) -> Result<(), KeptFault> {
     if count == 0 || !is_unlinked(rt, folder)? {
         return Ok(());

@@ -1,5 +1,5 @@
-//! The reader of a connection. Connections are served one at a time, so a second client has to wait.
-//! The first time that one waits, the program says so.
+//! The reader of a connection. Connections are served one at a time, so a second client has to
+//! wait. The first time that one waits, the program says so.
 
 use crate::socket::Socket;
 use std::io;
@@ -19,7 +19,8 @@ pub struct Attended<'a> {
 }
 
 impl<'a> Attended<'a> {
-    /// The reader of a connection to this socket. Once a client was seen to wait, it looks for none.
+    /// The reader of a connection to this socket. Once a client was seen to wait, it looks for
+    /// none.
     pub(crate) fn new(
         rt: &'a HostRuntime,
         stream: &'a UnixStream,

@@ -73,8 +73,8 @@ pub enum DeviceFault {
 impl DeviceFault {
     ghost use Rattle.tpmsim_image.specs.Fault.{fault_or, given_or, with_cause};
 
-    /// What was given. If it is an error: `Memory` if memory ran out, and otherwise this fault, with
-    /// the number of the error.
+    /// What was given. If it is an error: `Memory` if memory ran out, and otherwise this fault,
+    /// with the number of the error.
     pub(crate) fn unless<T>(self, given: io::Result<T>) -> Result<T, DeviceFault>
         ensures { result ≡ given_or self given }
     {

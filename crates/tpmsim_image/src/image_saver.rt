@@ -37,8 +37,8 @@ impl<'a> ImageSaver<'a> {
         }
     }
 
-    /// Takes note that this device is the one of the file. The file is written again all the same if
-    /// the clock is to be saved too: it may be of an older version, or open to others.
+    /// Takes note that this device is the one of the file. The file is written again all the same
+    /// if the clock is to be saved too: it may be of an older version, or open to others.
     pub fn opened<K: Keep>(&mut self, machine: &Machine<K>)
         ensures { self.new
             ≡ record self.old { kept = kept_text (state_of K.record_of machine.now) } }
@@ -61,8 +61,8 @@ impl<'a> ImageSaver<'a> {
         }
     }
 
-    /// Writes a device, and notes its clock. If the write fails, the saver forgets what the file has,
-    /// so that the next save writes.
+    /// Writes a device, and notes its clock. If the write fails, the saver forgets what the file
+    /// has, so that the next save writes.
     fn write<K: Keep>(&mut self, machine: &Machine<K>) -> Result<(), Unsaved>
         ensures written { OnOk result (self.new
             ≡ record self.old { clock = Some (state_of K.record_of machine.now).fixed.clock }) }

@@ -5,11 +5,11 @@
 //! socket ([`serving`]). A log, if there is one ([`log`]), is in a file of its own ([`log_file`]).
 //! All of these files are their owner's alone ([`owner_file`]).
 //!
-//! The device's inputs come from the host: random bytes from a file ([`entropy`]), the time that has
-//! passed ([`stopwatch`]), and both together for each command ([`source`]). The socket ([`socket`])
-//! serves any device, and its reader ([`attended`]) reports a client that waits. Contracts say what
-//! a saver notes, what is written to a log, and which time a command gets. No contract can say what
-//! a file contains.
+//! The device's inputs come from the host: random bytes from a file ([`entropy`]), the time that
+//! has passed ([`stopwatch`]), and both together for each command ([`source`]). The socket
+//! ([`socket`]) serves any device, and its reader ([`attended`]) reports a client that waits.
+//! Contracts say what a saver notes, what is written to a log, and which time a command gets. No
+//! contract can say what a file contains.
 //!
 //! The crate uses tpm_image for images, tpm_journal_text for the form of a log, tpm_wire for
 //! connections, and the settings of tpmsim_arguments.

@@ -94,9 +94,9 @@ fn serve_connections<K: Keep>(
     Ok(())
 }
 
-/// Saves the device after a connection, its clock too, and says why the program ends, if it does. If
-/// a command was not answered because the log or the image was not written, a device that is saved
-/// before each response is not saved again: the image already has all that was answered.
+/// Saves the device after a connection, its clock too, and says why the program ends, if it does.
+/// If a command was not answered because the log or the image was not written, a device that is
+/// saved before each response is not saved again: the image already has all that was answered.
 fn save_after<K: Keep>(
     served: Result<u64, ServeFault>,
     mux: &Mux<K>,

@@ -137,8 +137,8 @@ impl Aside {
     }
 }
 
-/// Binds a socket in the folder aside, whatever the umask is, and gives it the other path too, which
-/// is in this folder.
+/// Binds a socket in the folder aside, whatever the umask is, and gives it the other path too,
+/// which is in this folder.
 fn bind_in_folder(rt: &HostRuntime, aside: &Aside, path: &str, folder: &str) -> io::Result<Socket> {
     fs::set_permissions(
         rt,

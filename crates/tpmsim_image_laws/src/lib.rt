@@ -3,8 +3,8 @@
 //! Laws of a served device: of the time that its commands are told, and of what its connections are
 //! answered.
 //!
-//! The laws are of the definitions of tpmsim_image and tpm_wire: each is the contract of a function that does
-//! nothing. No crate uses this one.
+//! The laws are of the definitions of tpmsim_image and tpm_wire: each is the contract of a function
+//! that does nothing. No crate uses this one.
 
 ghost use Rattle.tpmsim_image_laws.specs.Answers.{AnswersAreOutcomes};
 ghost use Rattle.tpmsim_image_laws.specs.Times.{TellsNoTimeTwice};

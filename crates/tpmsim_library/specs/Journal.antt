@@ -45,8 +45,8 @@ abbrev pub BeginsIfRoom : (before : Device) → (now room size : ℕ) → (after
 BeginsIfRoom before now room size after =
     (size ≤ room → BeginsJournal before now after) × (room < size → IsAsBefore before after)
 
--- the clock of a checkpoint at this time: that of the journal, so that no time is lost, or the host's
--- if no journal has begun yet, whose sum is 0 then
+-- the clock of a checkpoint at this time: that of the journal, so that no time is lost, or the
+-- host's if no journal has begun yet, whose sum is 0 then
 abbrev pub checkpoint_clock : Device → (now : ℕ) → ℕ
 checkpoint_clock device now = if device.journal.sum == 0 then now else device.journal.time
 

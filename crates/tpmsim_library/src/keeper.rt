@@ -191,8 +191,8 @@ impl DeviceKeeper {
         }
     }
 
-    /// Writes the state text that is shown to the front of a buffer, if it fits. Returns its size; 0
-    /// if the latest call showed nothing.
+    /// Writes the state text that is shown to the front of a buffer, if it fits. Returns its size;
+    /// 0 if the latest call showed nothing.
     pub fn state_into(&self, buffer: &mut [u8]) -> usize
         ensures { PutsFront (content_at (shown_by self.now)) buffer.old result buffer.new }
     {

@@ -19,8 +19,8 @@ use tpm_slots::SlotKeep;
 use tpm_snapshot::Layer;
 use tpm_state_text::write_state;
 
-/// A buffer that is made once, since it is as large as most of a device, and is cleared by each use.
-/// It is no part of the device, so contracts see nothing in it.
+/// A buffer that is made once, since it is as large as most of a device, and is cleared by each
+/// use. It is no part of the device, so contracts see nothing in it.
 #[derive(Drop)]
 pub struct Scratch {
     text: Text,

@@ -22,8 +22,8 @@ pub fn put_whole(bytes: &[u8], buffer: &mut [u8]) -> usize
 }
 
 /// Writes the content of the head at the front of a text to the front of a buffer, if it fits.
-/// Returns its size, 0 without a head. Its own buffer is large, so it keeps that out of its caller's
-/// frame.
+/// Returns its size, 0 without a head. Its own buffer is large, so it keeps that out of its
+/// caller's frame.
 #[inline(never)]
 pub fn put_content(text: &[u8], buffer: &mut [u8]) -> usize
     ensures { PutsFront (content_at text.now) buffer.old result buffer.new }

@@ -25,8 +25,8 @@ said_of_opening (opening.Follow fault) = said_of_following fault
 abbrev pub HasFault : List ℕ → OpenFault → Type 0
 HasFault text fault = (new : Record) × OpensJournal text (Err fault) new
 
--- A fault says this of a text: why it is no journal; or, of one that is, that it was damaged when it
--- was read before; or that memory was refused.
+-- A fault says this of a text: why it is no journal; or, of one that is, that it was damaged when
+-- it was read before; or that memory was refused.
 abbrev pub IsSaidOf : List ℕ → Said → Type 0
 IsSaidOf text words =
     ((fault : OpenFault) × (words ≡ said_of_opening fault) × HasFault text fault)

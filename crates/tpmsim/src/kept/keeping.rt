@@ -216,7 +216,8 @@ impl<'a> Kept<'a> {
         Ok(())
     }
 
-    /// Passes the journal from this offset on to the keeper, and keeps a journal that is read whole.
+    /// Passes the journal from this offset on to the keeper, and keeps a journal that is read
+    /// whole.
     fn read(&mut self, from: u64) -> Result<(), KeptFault> {
         let bytes = self.host.read(from)?;
         let _ = self.keeper.next(Got::Bytes(&bytes));
@@ -252,8 +253,8 @@ impl<'a> Kept<'a> {
         }
     }
 
-    /// Cuts off what a crash left after the first `cut` bytes, and writes the keeper's text. If that
-    /// fails, the journal is cut to what it was.
+    /// Cuts off what a crash left after the first `cut` bytes, and writes the keeper's text. If
+    /// that fails, the journal is cut to what it was.
     fn put(&mut self, cut: u64, at: u64) -> Result<(), KeptFault> {
         Tail::torn(cut, self.host.cut(cut)?).tell(self.rt);
         let put = self.host.put(self.keeper.out(), at);

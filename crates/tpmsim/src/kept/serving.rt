@@ -38,8 +38,8 @@ pub trait RandomBytes {
     fn next(&mut self) -> Option<[u8; 256]>;
 }
 
-/// Serves a connection: executes the buffers that it gives, each by the host's clock, on these terms
-/// and with its own random bytes, and writes their responses.
+/// Serves a connection: executes the buffers that it gives, each by the host's clock, on these
+/// terms and with its own random bytes, and writes their responses.
 pub fn serve<R: Read, W: Write, B: RandomBytes>(
     kept: &mut Kept<'_>,
     terms: Terms,
