@@ -1,21 +1,21 @@
-"""Commands that are bent: the places of the sizes and counts of a buffer, and the buffers in which
-one of them is increased or decreased by one.
+"""Bent commands: the offsets of the sizes and counts of a buffer, and the buffers in which one of
+these numbers is increased or decreased by one.
 
-Sizes and counts follow from the form of the command: its handles, its entries, and the kinds of its
-parameters, as in lines.py. So a new command is bent without a line here, unless one of its sized
-buffers has a structure.
+Sizes and counts follow from the form of the command: its handles, its entries, and the kinds of
+its parameters, as in lines.py. So a new command needs no line here, unless one of its sized
+buffers contains a structure.
 """
 
 from typing import NamedTuple
 
 from tpmsim.standard import AES, ALG_NULL, CC, KEYEDHASH, XOR, digest_bytes, frames, lines, number
 
-# The size of what follows the algorithm of a cipher, in bytes.
+# The size of the fields after a cipher's algorithm, in bytes.
 BEHIND_CIPHER = {ALG_NULL: 0, AES: 4, XOR: 2}
 
 
 class Number(NamedTuple):
-    """A size or a count: its name, and the place of its bytes."""
+    """A size or a count: its name, its offset, and its size in bytes."""
 
     name: str
     at: int
@@ -26,7 +26,7 @@ COMMAND_SIZE = Number("commandSize", 2, 4)
 
 
 class Walk:
-    """A buffer that is read from the front; `found` has the sizes and counts on the way."""
+    """Reads a buffer from its beginning. `found` collects the sizes and counts."""
 
     def __init__(self, buffer):
         self.buffer, self.at, self.found = buffer, 0, []
@@ -45,7 +45,7 @@ class Walk:
         return self.number(size)
 
     def sized(self, name, inside=None):
-        """A sized buffer; `inside` reads its content, up to the last size in it."""
+        """Reads a sized buffer. `inside` reads its content, up to the last size in it."""
         size = self.found_number(f"the size of {name}", 2)
         end = self.at + size
         if inside:
@@ -53,7 +53,7 @@ class Walk:
         self.take(end - self.at)
 
     def items(self, name, item):
-        """A list after its count; the items are counted from 1."""
+        """Reads a list after its count. The items are numbered from 1."""
         for place in range(1, self.found_number(f"the count of {name}", 4) + 1):
             item(f"item {place} of {name}")
 
@@ -94,7 +94,7 @@ FORMS = {
 
 
 def parts(*names):
-    """A reader of sized buffers with these names, one after the other."""
+    """Returns a reader of sized buffers with these names, one after the other."""
     return lambda walk: [walk.sized(name) for name in names]
 
 
@@ -114,8 +114,8 @@ def public_area(walk):
     walk.sized("unique")
 
 
-# Parameters that are structures in sized buffers, by command and place. They are read up to their
-# last size, and a private area up to its encrypted part.
+# Parameters that are structures in sized buffers, by command and position. They are read up to
+# their last size. A private area is read up to its encrypted part.
 STRUCTURES = {
     (CC.CreatePrimary, 1): parts("userAuth", "data"),
     (CC.CreatePrimary, 2): public_area,
@@ -128,8 +128,8 @@ STRUCTURES = {
 
 
 def pieces(walk):
-    """Reads a command to its end. Returns the ends of each handle, of the authorization area, which
-    has no place, and of each parameter.
+    """Reads a command to its end. Yields the end of each handle, of the authorization area, and of
+    each parameter. The authorization area has no number.
     """
     tag, _, code = walk.number(2), walk.number(4), CC(walk.number(4))
     for place in range(1, len(code.handles) + 1):
@@ -149,27 +149,31 @@ def pieces(walk):
 
 
 def numbers(buffer):
-    """The sizes and counts of a command after its header."""
+    """Returns the sizes and counts of a command after its header."""
     walk = Walk(buffer)
     list(pieces(walk))
     return walk.found
 
 
 def changed(buffer, it, by):
-    """The buffer with a number changed by `by`; 0 is lowered to the largest number."""
+    """Returns the buffer with a number changed by `by`. If it is 0, decreasing it gives the largest
+    number.
+    """
     end = it.at + it.size
     value = int.from_bytes(buffer[it.at : end], "big") + by
     return buffer[: it.at] + number(value % 256**it.size, it.size) + buffer[end:]
 
 
 def raised_and_lowered(buffer, it):
-    """A number's name with its change, and the changed buffer."""
+    """Yields a description of the change and the changed buffer, for an increase and for a decrease
+    by one.
+    """
     for by, done in ((1, "raised"), (-1, "lowered")):
         yield f"{it.name} {done}", changed(buffer, it, by)
 
 
 def bends(buffer):
-    """What is bent, and the bent buffer."""
+    """Yields a description of each change, with the bent buffer."""
     yield from raised_and_lowered(buffer, COMMAND_SIZE)
     yield "a zero byte more and commandSize corrected", changed(buffer + b"\0", COMMAND_SIZE, 1)
     for it in numbers(buffer):

@@ -21,22 +21,22 @@ says = tpm.raw
 
 
 def listed(what, wanted, *handles):
-    """The handles of a kind, as TPM2_GetCapability lists them."""
+    """Reads the handles of a kind by TPM2_GetCapability, and compares them."""
     tpm.lists(what, HANDLES, wanted, 64, handles)
 
 
 def lockout_is(what, *values):
-    """TPM_PT_LOCKOUT_COUNTER and the three after it."""
+    """Reads TPM_PT_LOCKOUT_COUNTER and the three properties after it."""
     tpm.lists(what, PROPERTIES, 0x20E, 4, list(enumerate(values, 0x20E)))
 
 
 def counter_of(what):
-    """The update counter of the PCRs."""
+    """Returns the update counter of the PCRs."""
     return int.from_bytes(tpm(what).read_pcr(16)[:4], "big")
 
 
 def primary_of(what, hierarchy):
-    """The Name and the ticket of a primary object, which is flushed."""
+    """Creates a primary object, flushes it, and returns its Name and its creation ticket."""
     with tpm.held(what, storage_key(), hierarchy=hierarchy) as handle:
         return tpm.names[handle], tpm.ticket
 
@@ -115,7 +115,7 @@ tpm.chapter("The seed of the owner is new, and the others are not.")
 for hierarchy, name, _ in AUTHORIZED[:3]:
     object_name, ticket = primary_of(f"The same primary object of {name}", hierarchy)
     assert (object_name == names[hierarchy][0]) == (hierarchy != RH_OWNER)
-    # The proofs of both are new, so that old tickets are invalid.
+    # The proofs of both hierarchies are new, so that old tickets are invalid.
     assert (ticket == names[hierarchy][1]) == (hierarchy == RH_PLATFORM)
 parent = tpm.owned("A storage key of the new owner", storage_key())
 tpm("What was created below the old one: INTEGRITY/p1").loading(parent, below)

@@ -1,7 +1,7 @@
 """Commands that are cut to every shorter length.
 
-A cut buffer with the old commandSize is refused for that. With the right commandSize it is refused
-for the cut: words and codes say what refuses it up to which length.
+A cut buffer with the old commandSize is refused for its size. With the right commandSize it is
+refused for the cut: words and codes say what refuses it up to which length.
 """
 
 from collections.abc import Iterator
@@ -13,7 +13,7 @@ from tests.general.bends import pieces, Walk
 
 HEADER_BYTES = 10
 
-# The words for a cut handle or parameter that is not called by its name in Part 3.
+# Descriptions of a cut in a handle or parameter that are not the name of Part 3.
 WORDS = {
     "digests": "within its digests",
     "eventData": "within its data",
@@ -28,7 +28,7 @@ WORDS = {
 
 
 def names(code: CC) -> Iterator[str]:
-    """The places of a cut: within each handle, and then within each parameter."""
+    """Yields the descriptions of cuts: within each handle, and then within each parameter."""
     for it in (*code.handles, *code.parameters):
         if code.authorized and [it] == list(code.handles) and it.name != "nvIndex":
             yield "within its handle"
@@ -37,9 +37,9 @@ def names(code: CC) -> Iterator[str]:
 
 
 def ends(example: Example) -> Iterator[tuple[int, str, str]]:
-    """The end of each piece of a command, with the words for a cut before it, and the outcome. A
-    command that is refused whole has the same outcome wherever it is cut after the authorization
-    area.
+    """Yields the end of each piece of a command, with the description of a cut before it, and the
+    outcome. A command that is refused whole has the same outcome for each cut after the
+    authorization area.
     """
     named = names(example.code)
     for place, end in pieces(Walk(example.whole)):
@@ -53,12 +53,12 @@ def ends(example: Example) -> Iterator[tuple[int, str, str]]:
 
 
 def with_size(buffer: bytes) -> bytes:
-    """The buffer with its own length as commandSize."""
+    """Returns the buffer with its own length as commandSize."""
     return buffer[:2] + number(len(buffer), 4) + buffer[6:]
 
 
 def cuts(example: Example) -> Iterator[tuple[str, str, list[bytes]]]:
-    """The cut buffers of a command: in rows of words, an outcome, and buffers."""
+    """Yields the cut buffers of a command in rows: a description, an outcome, and buffers."""
     whole = example.whole
     as_it_was = [whole[:length] for length in range(len(whole))]
     yield "Cut, with the old commandSize", "COMMAND_SIZE", as_it_was

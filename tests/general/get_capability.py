@@ -10,7 +10,7 @@ from tests.common.vocabulary import selection, SHA1, SHA256, storage_key, wrong
 
 MOST = 2**32 - 1
 
-# TPMA_CC of each command: its code, the number of its handles from bit 25 on, and bit 28 if it
+# TPMA_CC of each command: its code; the number of its handles, from bit 25 on; and bit 28 if it
 # returns a handle.
 ATTRIBUTES = [command_attributes(it) for it in sorted(CC)]
 
@@ -19,7 +19,7 @@ says, gives = tpm.raw, tpm.lists
 
 
 def borders(name, capability, wanted, whole):
-    """Everything from `wanted` on, in parts: with each count that gives another result."""
+    """Reads everything from `wanted` on, in parts: with each count that gives another result."""
     gives(f"{name}, as many as there are", capability, wanted, MOST, whole)
     for count in (64, 65):
         gives("", capability, wanted, count, whole)

@@ -11,7 +11,7 @@ change = tpm.change_auth
 
 
 def owners(parameters):
-    """By the owner's value, with these bytes as newAuth."""
+    """Returns the command with the owner's authorization value, and with these bytes as newAuth."""
     return tpm.prepare(CC.HierarchyChangeAuth, [RH_OWNER], parameters, b"owner")
 
 
@@ -20,7 +20,7 @@ tpm.startup()
 
 tpm.chapter("By passwords, each of the four. Every authorization value is empty at first.")
 for handle, name, new in AUTHORIZED:
-    # A wrong one at TPM_RH_LOCKOUT has a script of its own, lockout_authorization.
+    # A wrong value for TPM_RH_LOCKOUT is in a script of its own, lockout_authorization.
     tried = handle != RH_LOCKOUT
     if tried:
         tpm(f'{name} by the password "x": BAD_AUTH/s1').change_auth(handle, new, b"x")

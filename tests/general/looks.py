@@ -1,5 +1,5 @@
-"""Scripts of commands that are refused, and then succeed whole: after each refusal some commands
-look at the state of the device, which must be unchanged.
+"""Scripts of commands that are first refused, and then succeed whole. After each refusal some
+commands read the state of the device, which must be unchanged.
 """
 
 import copy
@@ -14,7 +14,7 @@ from tpmsim.standard.nv import Attribute
 from tests.common.examples import CHAPTERS, Example
 from tests.common.script import Script, SUCCESS, told_head
 
-# Words, an outcome, and the buffers that have it.
+# A description, an outcome, and the buffers that have this outcome.
 Row = tuple[str, str, list[bytes]]
 
 AS_BYTES = (
@@ -39,7 +39,9 @@ def capabilities(kind: int, first: int, count: int = capability.MOST_ELEMENTS) -
 
 
 def at_pcrs() -> bytes:
-    """These PCRs in both banks, and the update counter, which each change of a PCR raises."""
+    """Reads these PCRs in both banks, and the update counter. Each change of a PCR increments that
+    counter.
+    """
     return command(CC.PCR_Read, frames.selection((SHA1, PCRS), (SHA256, PCRS)))
 
 
@@ -48,7 +50,9 @@ def at_handles(kind: int) -> bytes:
 
 
 def at_index(index: Index, owner_auth: bytes) -> Iterator[bytes]:
-    """The public area of an index, and its data if the owner can read them."""
+    """Yields commands that read the public area of an index, and its data if the owner can read
+    them.
+    """
     public = index.public
     yield command(CC.NV_ReadPublic, number(public.index, 4))
     is_open = public.has(Attribute.WRITTEN) and not public.has(Attribute.READLOCKED)
@@ -62,11 +66,11 @@ def at_index(index: Index, owner_auth: bytes) -> Iterator[bytes]:
 
 
 def at_all(device: Model) -> Iterator[bytes]:
-    """All commands that look at the state of a device."""
+    """Yields all commands that read the state of a device."""
     yield at_pcrs()
     for kind in LISTED:
         yield at_handles(kind)
-    # The failed tries, maxTries, recoveryTime and lockoutRecovery.
+    # These are the failed tries, maxTries, recoveryTime and lockoutRecovery.
     yield capabilities(capability.PROPERTIES, capability.LOCKOUT_COUNTER, 4)
     yield command(CC.ReadClock, b"")
     for handle in device.sessions:
@@ -77,9 +81,9 @@ def at_all(device: Model) -> Iterator[bytes]:
 
 
 class LookingScript(Script):
-    """A script that looks at the PCRs and at the handles of a kind after each refusal, and at
-    everything that can be seen after the last one of a command. `name` is that of its program's
-    module, and `told` what the program says of it.
+    """A script that reads the PCRs and the handles of a kind after each refusal. After the last
+    refusal of a command, it reads all readable state. `name` is the name of its program's
+    module, and `told` the program's description of the script.
     """
 
     def __init__(self, name: str, told: str) -> None:
@@ -96,7 +100,9 @@ class LookingScript(Script):
         self.kind, self.seen, self.probe = HMAC_SESSION, dict[bytes, bytes](), self.device
 
     def look(self, what: str, looks: Iterable[bytes]) -> None:
-        """The answers must be those of before, since the last whole command."""
+        """Sends commands that read the state. Their responses must be the same as after the last
+        whole command.
+        """
         outcome = SUCCESS if self.device.started else "INITIALIZE"
         number = "" if outcome == SUCCESS else f" ({frames.code_of(outcome):03X})"
         self.write_comment(f"{what}: {outcome}{number}.")
@@ -109,15 +115,16 @@ class LookingScript(Script):
         self.look(what, list(at_all(self.device)))
 
     def outcome_now(self, buffer: bytes) -> str:
-        """The outcome that a command would have now. Only a copy of the device executes it."""
+        """Returns the outcome that a command would have now. Only a copy of the device executes it.
+        """
         refused = self.probe.execute(buffer, self.locality, self.random).refused
         if refused is None or refused.startswith("AUTH_FAIL"):
             self.probe = copy.deepcopy(self.device)
         return refused or SUCCESS
 
     def refuses_each(self, refused_of: Callable[[Example], Iterable[Row]]) -> None:
-        """Plays the examples of each command. Before each one come the refused buffers that are
-        made of it: in rows of words, an outcome, and buffers.
+        """Plays the examples of each command. Before each example come the refused buffers that are
+        made from it, in rows: a description, an outcome, and buffers.
         """
         for at, chapter in enumerate(CHAPTERS):
             self.kind = chapter.kind
@@ -129,7 +136,7 @@ class LookingScript(Script):
                 self.refuses(example, list(refused_of(example)))
 
     def refuses(self, example: Example, rows: Sequence[Row]) -> None:
-        """The rows of refused buffers, and then the whole command."""
+        """Sends the rows of refused buffers, and then the whole command."""
         if not rows:
             self.command(f"{example.name}: {example.outcome}", example.whole, as_bytes=True)
             return

@@ -38,7 +38,7 @@ def extending_pcr(pcr):
     return tpm.prepare(CC.PCR_Extend, [pcr], digests((SHA256, bytes(32))), b"")
 
 
-# A successful use of each command, and before it the commands that prepare it.
+# A successful use of each command, after the commands that prepare it.
 COMMANDS = {
     CC.SelfTest: lambda: tpm.self_test(1),
     CC.GetCapability: lambda: tpm.capability(6, 0x100, 1),
@@ -90,7 +90,7 @@ assert COMMANDS.keys() == set(CC) - {CC.Startup, CC.Shutdown}
 
 
 def start_again(is_kept):
-    """A start from the saved state, if it was kept."""
+    """Starts the device from the saved state, if that was kept."""
     if is_kept:
         tpm.resumes("It was kept: TPM2_Startup(STATE)")
     else:

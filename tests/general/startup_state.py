@@ -8,7 +8,7 @@ from tests.common.vocabulary import area, BY_OWNER, BY_VALUE, CLEAR, FIRST, FOUR
 from tests.common.vocabulary import NvAttribute, RH_NULL, RH_OWNER, RH_PLATFORM, SECOND, SHA256
 from tests.common.vocabulary import STATE, storage_key, THIRD
 
-# PCR 16 and 23 start as zeros, and so do those up to 15; 17 to 22 start as ones.
+# PCRs 0 to 16 and 23 are zeros after TPM2_Startup, and 17 to 22 are ones.
 PCRS = 0, 3, 15, 16, 17, 22, 23
 LOCALITY_OF = {17: 2, 22: 2}
 
@@ -16,7 +16,7 @@ tpm = Steps(__name__, __doc__)
 
 
 def extend(what):
-    """Extends each of the PCRs, with its number."""
+    """Extends each of the PCRs with its number."""
     for locality, words in ((0, what), (2, "And 17 and 22, from locality 2")):
         tpm.locality_is(locality)
         for pcr in (it for it in PCRS if LOCALITY_OF.get(it, 0) == locality):
@@ -26,7 +26,7 @@ def extend(what):
 
 
 def values(what):
-    """The PCRs' values in both banks, which are read one by one, after the update counter."""
+    """Reads the PCRs one by one. Returns their values in both banks, without the update counter."""
     return {it: tpm(what if it == PCRS[0] else "").read_pcr(it)[4:] for it in PCRS}
 
 

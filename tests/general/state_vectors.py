@@ -5,7 +5,7 @@ there was a device to ask. Their program stops if it gets another answer.
 from tests.common.vocabulary import area, BY_VALUE, FIRST, frames, ObjectAttribute, RH_NULL, sealed
 from tests.common.vocabulary import storage_key, Teller
 
-# The empty password, and the answer to it if the command returns nothing.
+# The empty password, and the response to it if the command returns nothing.
 PW = "00000009 40000009 0000 01 0000"
 OK = "8002 00000013 00000000 00000000 0000 01 0000"
 
@@ -18,7 +18,7 @@ tpm = Teller(__name__, __doc__, starts=False)
 
 
 def code(number):
-    """The answer to a refused command."""
+    """Returns the response to a refused command."""
     return f"8001 0000000A {number:08X}"
 
 

@@ -17,13 +17,13 @@ script = LookingScript(__name__, __doc__)
 
 
 def turned(whole: bytes) -> Iterator[bytes]:
-    """The buffers with bits of one byte changed."""
+    """Yields the buffers in which bits of one byte are changed."""
     for at, it in itertools.product(range(len(whole)), BITS):
         yield whole[:at] + bytes([whole[at] ^ it]) + whole[at + 1 :]
 
 
 def rows(example: Example) -> Iterator[tuple[str, str, list[bytes]]]:
-    """The refused buffers, in rows of equal outcomes."""
+    """Yields the refused buffers, in rows with equal outcomes."""
     if example.is_step:
         return
     told = ((script.outcome_now(it), it) for it in turned(example.whole))

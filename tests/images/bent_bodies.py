@@ -1,6 +1,6 @@
-"""Bodies of images that are bent at random, with the head and the digest that they need.
+"""Bodies of images that are bent at random, with the head and the digest that belong to them.
 
-A seed gives the same bodies everywhere: of `random` only the part that never changes is used.
+A seed gives the same bodies everywhere, because only the stable part of `random` is used.
 """
 
 import pickle
@@ -10,10 +10,10 @@ from tests.images import image_fields
 from tpmsim.model.image import VERSION_2, framed
 from tests.images.image_fields import Counted, Plain, Sized, image_of, text_of
 
-# The greatest size of pieces that are removed, doubled or inserted, in bytes.
+# The maximum size of pieces that are removed, doubled or inserted, in bytes.
 PIECE_BYTES = 40
 
-# The new values of sizes and counts, in addition to near ones.
+# The new values of sizes and counts, in addition to values near the right one.
 SIZES = 0, 1, 16, 17, 32, 33, 34, 35, 128, 129, 2048, 2049
 NUMBERS = *SIZES, 0x8000, 0xFFFF
 BYTES = 0, 1, 2, 3, 0x80, 0x81, 0xFF
@@ -31,7 +31,7 @@ class Body:
 
 
 def within(fields):
-    """All lists of fields, from the outermost on."""
+    """Returns all lists of fields, from the outermost on."""
     found = []
     add_lists(found, fields)
     return found
@@ -48,7 +48,7 @@ def add_lists(found, fields):
 
 
 class Bender(random.Random):
-    """Bends a body: some ways bend its text, the others its fields."""
+    """Bends a body. Some ways bend its text, the others its fields."""
 
     def below(self, count):
         return int(self.random() * count)
@@ -57,7 +57,7 @@ class Bender(random.Random):
         return values[self.below(len(values))]
 
     def bent(self, body, version=VERSION_2):
-        """What was done, and the image; now and then two fields are bent."""
+        """Bends one field, or sometimes two. Returns what was done, and the image."""
         fields = body.fields
         text_bends = self.change_byte, self.remove_piece, self.double_piece, self.insert_piece
         field_bends = (
@@ -73,7 +73,7 @@ class Bender(random.Random):
             names.append(it.__name__)
         return " ".join(names), image_of(fields, version)
 
-    # Bends of the text.
+    # Ways to bend the text.
 
     def other_byte(self, byte):
         changed = (byte ^ 1 << self.below(8), self.one_of(BYTES), byte + 1 & 0xFF, self.below(256))
@@ -100,7 +100,8 @@ class Bender(random.Random):
         at, size = self.below(len(text) + 1), 1 + self.below(PIECE_BYTES)
         return text[:at] + bytes(self.below(256) for _ in range(size)) + text[at:]
 
-    # Ways to bend the fields. What follows a size or a count is written with the new one.
+    # Ways to bend the fields. The content after a size or a count is written with the new size or
+    # count.
 
     def all_of(self, fields, *kinds):
         return [it for inner in within(fields) for it in inner if isinstance(it, kinds)]
@@ -113,13 +114,13 @@ class Bender(random.Random):
         field.text = self.change_byte(field.text)
 
     def copy_field(self, fields):
-        """A field gets the value of another one of its size."""
+        """Gives a field the value of another field of the same size."""
         field = self.plain(fields)
         same = [it for it in self.all_of(fields, Plain) if len(it.text) == len(field.text)]
         field.text = self.one_of(same).text
 
     def change_number(self, fields):
-        """A size or a count differs from that of what follows it."""
+        """Changes a size or a count, so that its content no longer has it."""
         field = self.one_of(self.all_of(fields, Sized, Counted))
         right = int.from_bytes(field.text[:2], "big")
         near = right + 1 & 0xFFFF, right - 1 & 0xFFFF, right ^ 0x100
@@ -130,7 +131,7 @@ class Bender(random.Random):
             field.count = wrong
 
     def resize(self, fields):
-        """A field gets more or fewer bytes, and the sizes around it are right."""
+        """Gives a field more or fewer bytes. The sizes around it are corrected."""
         field = self.one_of(self.all_of(fields, Plain))
         near = len(field.text) + 1, max(len(field.text) - 1, 0)
         size = self.one_of((*near, *SIZES, self.below(near[0])))
@@ -138,7 +139,7 @@ class Bender(random.Random):
         field.text = field.text[:size].ljust(size, fill)
 
     def groups(self, fields):
-        """Adjacent fields, or the groups after a count."""
+        """Returns adjacent fields, or the groups after a count."""
         lists = [it for it in within(fields) if it]
         lists += [it.groups for it in self.all_of(fields, Counted) if it.groups]
         return self.one_of(lists)

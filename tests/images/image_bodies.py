@@ -1,5 +1,5 @@
-"""Bodies of images with one thing wrong, each with the nearest good one; and good ones with values
-that are not checked.
+"""Bodies of images with one thing wrong, each with the nearest good body; and good bodies with
+values that are not checked.
 """
 
 import copy
@@ -27,8 +27,8 @@ WRITTEN = BY_OWNER | Attribute.WRITTEN
 FIRST = 0x8100_0000
 WITH_VALUES = RH_OWNER, RH_ENDORSEMENT, RH_PLATFORM, RH_LOCKOUT
 
-# The places of the three bytes with few values in a new device's image. The two counts follow the
-# last.
+# The offsets of the three bytes in a new device's image that have few valid values. The two counts
+# follow the last of them.
 DISABLE_CLEAR, CLOSED, SAVED = 16 + 4 * 66 + 2, 16 + 4 * 66 + 19, 361 - DIGEST_AT_END - 5
 SAVED_BANKS = SAVED_PCRS * (20 + 32)
 
@@ -37,7 +37,7 @@ FULL = full_device.build()
 
 
 def largest(version=VERSION_2):
-    """A device each of whose fields is as large as an image of a version can have it."""
+    """Returns a device each of whose fields is as large as an image of this version allows."""
     device, value = Model(), b"v" * 32
     device.auth_values = {handle: value for handle in WITH_VALUES}
     device.saved = Saved.STATE
@@ -61,7 +61,9 @@ def one_index(public, data=b"", auth_value=b"a"):
 
 
 def one_object(public=None, handle=FIRST, hierarchy=RH_OWNER, name=b"", **sensitive):
-    """The image of a device with one object, in each of whose fields another value can be."""
+    """Returns the image of a device with one object. Each of the object's fields can have another
+    value.
+    """
     public = hmac_key() if public is None else public
     given = dict(kind=public.kind, auth_value=b"", seed_value=b"", data=b"key")
     kept = Object(public, Sensitive(**(given | sensitive)), hierarchy, name)
@@ -81,7 +83,7 @@ def with_auth_value(handle, value):
 
 
 def with_byte(at, value):
-    """The image of a new device with another byte in its body."""
+    """Returns the image of a new device with another byte at offset `at` in its body."""
     text = image(Model())
     return framed(text[BODY_AT:at] + bytes([value]) + text[at + 1 : -DIGEST_AT_END])
 
@@ -96,7 +98,7 @@ def with_saved(value, banks=b""):
 
 
 def of_bytes(of, words, *rows):
-    """Wrong bytes of a field, and right ones."""
+    """Yields wrong values of a field, and right ones."""
     for bad, good in rows:
         ends = ", the last a zero" if bad.endswith(b"\0") else ""
         wrong = f"{words} of {plural(len(bad))}{ends}", bad
@@ -135,7 +137,8 @@ def flag_cases():
 
 
 def changed_lists():
-    """Changes of a full device's objects or indices, in words; and the good image."""
+    """Yields changes of a full device's objects or indices, with descriptions; and the good image.
+    """
     for words, find in (("objects", objects_of), ("indices", indices_of)):
         for at in (0, 7, len(find(image_fields.body_of(FULL)).groups) - 2):
             fields = image_fields.body_of(FULL)
@@ -198,7 +201,7 @@ def object_cases():
 
 
 def public_cases():
-    """Public areas that cannot be read."""
+    """Yields public areas that cannot be read."""
     key = hmac_key()
     for words, change in (
         ("a reserved bit", dict(attributes=key.attributes | 1)),
@@ -227,7 +230,7 @@ def public_cases():
 
 
 def data_cases():
-    """Indices whose data, or their size, differs from what their public area says."""
+    """Yields indices whose data, or the size of their data, differs from their public area."""
     written = area(attributes=WRITTEN)
     bad = "8 bytes of data of an index without WRITTEN", area(), bytes(8)
     yield from pairs(one_index, bad, ("with it", written, bytes(8)))
@@ -267,7 +270,8 @@ def index_cases():
 
 
 def size_cases():
-    """Sized buffers that their structure does not fill, and texts with more or fewer bytes."""
+    """Yields sized buffers that their structure does not fill, and texts with more or fewer bytes.
+    """
     for words, find, at in (
         ("an object's public area", objects_of, 3),
         ("an object's sensitive area", objects_of, 4),
@@ -295,7 +299,7 @@ def size_cases():
 
 
 def not_looked_at():
-    """Images with values that no definition and no template would accept."""
+    """Yields good images with values that TPM2_NV_DefineSpace and templates would not accept."""
     locked = Attribute.GLOBALLOCK | Attribute.ORDERLY | Attribute.POLICY_DELETE
     device = Model()
     index = nv_commands.Index(counter(attributes=WRITTEN), b"", bytes([255] * 8))
@@ -324,7 +328,7 @@ def not_looked_at():
 
 
 def cases():
-    """Each bad one is followed by the nearest good one."""
+    """Yields the cases. After each bad one comes the nearest good one."""
     yield from version_cases()
     yield from hierarchy_cases()
     yield from flag_cases()

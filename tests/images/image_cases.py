@@ -1,5 +1,5 @@
-"""The names in words of texts that are images or nearly so; images of devices that have only NV
-indices; and images of both versions, within their limits or beyond them.
+"""Descriptions of texts that are images or nearly images. Also images of devices that have only NV
+indices, and images of both versions, within their limits or beyond them.
 """
 
 from dataclasses import dataclass
@@ -14,7 +14,7 @@ from tpmsim.standard import frames
 
 @dataclass(frozen=True)
 class Case:
-    """What a text is, in words, and whether a device can be opened from it."""
+    """A text with its description. Also whether a device can be opened from it."""
 
     words: str
     text: bytes
@@ -30,29 +30,31 @@ def pair(bad, bad_text, good, good_text):
 
 
 def pairs(of, bad, good):
-    """The image that `of` makes of each bad and each good value, with words for it."""
+    """Returns the images that `of` makes from a bad value and a good value, with their
+    descriptions.
+    """
     return pair(bad[0], of(*bad[1:]), good[0], of(*good[1:]))
 
 
 def with_indices(*indices, version=VERSION_2):
-    """The image of a device with these indices."""
+    """Returns the image of a device with these indices."""
     device = Model()
     device.indices = {it.public.index: it for it in indices}
     return image(device, version)
 
 
 def areas(*sizes, version=VERSION_2):
-    """The image of a device with an index of each of these sizes."""
+    """Returns the image of a device with an index of each of these sizes."""
     numbered = enumerate(sizes, 0x0100_0000)
     held = (nv_commands.Index(area(index, size=size), b"") for index, size in numbered)
     return with_indices(*held, version=version)
 
 
-# Versions.
+# The two versions.
 
 
 def with_other_limits():
-    """The image of a new device, with each bit of the limits changed."""
+    """Yields the image of a new device with one bit of the limits changed, for each bit."""
     body = image(Model())[BODY_AT:-DIGEST_AT_END]
     limits, size = int.from_bytes(VERSION_2.limits, "big"), len(VERSION_2.limits)
     for bit in range(8 * size):
@@ -60,14 +62,18 @@ def with_other_limits():
 
 
 def without_state():
-    """Texts of version 2 that only have bytes for head and digest, and at most 31 more."""
+    """Yields texts of version 2 that have bytes only for the head and the digest, and at most 31
+    more.
+    """
     new = image(Model())
     for size in range(42, 74):
         yield f"of {size} bytes", digested(2, new[HEAD_BYTES : size - DIGEST_AT_END])
 
 
 def version_cases():
-    """Bytes between the head and the body, and the limits of version 1."""
+    """Yields images with other bytes between the head and the body, and images at the limits of
+    version 1.
+    """
     new = image(Model())
     old, body = image(Model(), VERSION_1), new[BODY_AT:-DIGEST_AT_END]
     for indices, space in ((0, 0), (32, 8192), (63, 16_384), (65, 16_384), (64, 16_383)):

@@ -1,7 +1,7 @@
 """The image of a device as its fields: sized ones, counted ones, and plain ones.
 
-They can be changed, and are then written again with their sizes and counts, or with others that
-replace them.
+The fields can be changed. Then they are written again with their sizes and counts, or with other
+sizes and counts.
 """
 
 from dataclasses import dataclass
@@ -10,20 +10,20 @@ from tpmsim.model import image, persistent
 from tpmsim.model.state import Saved
 from tpmsim.standard import RH_LOCKOUT, number
 
-# The sizes in bytes of the numbers of a SYMCIPHER's cipher and of a KEYEDHASH's scheme.
+# The sizes of the numbers in a SYMCIPHER's cipher and in a KEYEDHASH's scheme, in bytes.
 DETAIL_BYTES = 2
 
 
 @dataclass
 class Plain:
-    """Bytes of a field whose size is fixed."""
+    """The bytes of a field that has a fixed size."""
 
     text: bytes
 
 
 @dataclass
 class Sized:
-    """Fields after their size."""
+    """Fields with a size in front of them."""
 
     fields: list
     size: int = None
@@ -36,7 +36,7 @@ class Sized:
 
 @dataclass
 class Counted:
-    """Groups of fields after their count."""
+    """Groups of fields with a count in front of them."""
 
     groups: list
     count: int = None
@@ -52,7 +52,7 @@ def text_of(fields):
 
 
 def image_of(fields, version=image.VERSION_2):
-    """The fields with the right head and digest."""
+    """Returns the image with these fields, with the right head and digest."""
     return image.framed(text_of(fields), version)
 
 
@@ -69,7 +69,9 @@ def pieces(text, size):
 
 
 def body_of(device):
-    """The fields of a device's body; `objects_of` and `indices_of` find the two lists in it."""
+    """Returns the fields of a device's body. `objects_of` and `indices_of` find the two lists in
+    it.
+    """
     fields = []
     for hierarchy in image.HIERARCHIES:
         secrets = device.seeds[hierarchy], device.proofs[hierarchy]

@@ -1,8 +1,8 @@
-"""The image of the device after a script, as `tpmsim serve --image` would leave it:
+"""Writes the image of the device after a script, as `tpmsim serve --image` would leave it:
 
     tools/python.sh tests/images/images.py SCRIPT [IMAGE]
 
-It is written to the file IMAGE; without one it is printed as hex.
+The image is written to the file IMAGE. Without IMAGE it is printed in hex.
 """
 
 import pathlib

@@ -1,4 +1,4 @@
-# Damaged images: the program's response to each is what the device in Python says of it.
+# Opens damaged images. For each, the program's fault must be the fault of the device in Python.
 tests=$(cd "$(dirname "$0")/.." && pwd -P)
 . "$tests/common/cases.sh"
 needs cc python3

@@ -1,11 +1,11 @@
-# What a device keeps in its image until it is served again: the value of the largest counter, and the PCRs
-# that a shutdown saved. Its sessions are gone.
+# Checks what a device keeps in its image until it is served again: the value of the largest counter, and the
+# PCRs that TPM2_Shutdown saved. Its sessions are lost.
 tests=$(cd "$(dirname "$0")/.." && pwd -P)
 . "$tests/common/cases.sh"
 . "$tests/common/served.sh"
 
-# before LINE.. and after LINE..: run the device, on a new image or on the present one, and print its
-# responses to these commands.
+# before LINE..: runs these commands on a new image, and prints the responses. after LINE..: does so on the
+# present image.
 before() {
     rm -f image
     after "$@"

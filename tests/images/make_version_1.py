@@ -2,11 +2,11 @@
 
     tools/python.sh tests/images/make_version_1.py PROGRAM
 
-PROGRAM is one that writes this version. It serves the device of each script NAME.tpm in
-tests/images/version_1: a run up to each `power` line, with the script's random bytes, at the times
-that tests/common/clock.c reports to it; `cc` builds that. The image that it saves at the end must
-be that of the Python device after the same commands. If there is no NAME.hex, the images are
-written there; if there is one, they must be equal to its image.
+PROGRAM is a program that writes this version. It serves the device of each script NAME.tpm in
+tests/images/version_1. There is a run for the commands up to each `power` line, with the
+script's random bytes, at the times that tests/common/clock.c gives to it; `cc` builds that. The
+image at the end must be the image of the Python device after the same commands. If there is no
+NAME.hex, the image is written there. If there is one, the images must be equal.
 """
 
 import os
@@ -24,7 +24,7 @@ SECONDS = 60
 
 
 def runs_of(script):
-    """The commands of each run."""
+    """Returns the commands of each run."""
     runs = [[]]
     for event in expected.events_of(script):
         if event is None:
@@ -39,7 +39,7 @@ def runs_of(script):
 
 
 def played(runs):
-    """The responses of the Python device, and its image of this version."""
+    """Returns the responses of the Python device, and its image in version 1."""
     device, answers = Model(), []
     for number, run in enumerate(runs):
         if number:
@@ -51,22 +51,22 @@ def played(runs):
 
 
 class Served:
-    """A device that a program serves in a folder. A file there has its times, in milliseconds since
-    the first command of a run.
+    """A device that a program serves in a folder. A file there has the present time, in
+    milliseconds since the first command of a run.
     """
 
     def __init__(self, program, path):
         self.path, self.program = pathlib.Path(path), Shim(os.path.abspath(program), "clock", path)
 
     def is_now(self, time):
-        """Sets the host's clock, which shows this time until it is set again."""
+        """Sets the host's clock, which keeps this time until it is set again."""
         seconds, milliseconds = divmod(time, 1000)
         told = f"{FIRST_SECOND + seconds} {milliseconds * 1_000_000}\n"
         (self.path / "clock.new").write_text(told, "ascii")
         (self.path / "clock.new").replace(self.path / "clock")
 
     def serve(self, run):
-        """The responses of a run, over one connection."""
+        """Returns the responses of a run over one connection."""
         random = b"" if (self.path / "image").exists() else MANUFACTURED
         (self.path / "entropy").write_bytes(random + b"".join(it.random for it in run))
         time = 0
@@ -89,7 +89,7 @@ class Served:
 
 
 def served(program, runs):
-    """The responses of the program, and the image that it leaves."""
+    """Returns the responses of the program, and the image that it leaves."""
     with tempfile.TemporaryDirectory() as path:
         device = Served(program, path)
         answers = [answer for run in runs for answer in device.serve(run)]

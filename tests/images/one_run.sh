@@ -1,5 +1,5 @@
-# Only one of the runs on an image continues: another one ends with `tpmsim: file`, and touches nothing. A
-# run that cannot use its image or its random bytes says so at once, whatever it would wait for.
+# Only one of the runs on an image continues. Another run ends with `tpmsim: file`, and changes nothing. A run
+# that cannot use its image or its random bytes reports that at once, even if it would otherwise wait.
 tests=$(cd "$(dirname "$0")/.." && pwd -P)
 . "$tests/common/cases.sh"
 . "$tests/common/served.sh"
@@ -10,7 +10,7 @@ echo 'do Startup 0' >script
 printf 'do Startup 0\ndo %s\n' "$change" >asks
 mkfifo lines
 
-# script_begins: plays a script on the image, which gets one line, and waits for more.
+# script_begins: plays a script on the image. The script gets one line, and waits for more.
 script_begins() {
     "$program" run --image image - <lines >"$room/first" 2>&1 &
     exec 3>lines
@@ -25,27 +25,27 @@ device_begins() {
     there
 }
 
-# ends LABEL: prints how it ended, and its output.
+# ends LABEL: prints how the run ended, and its output.
 ends() {
     status=0
     wait "$!" || status=$?
     echo "$1: status $status, $(told "$room/first")"
 }
 
-# script_ends: gives the script one more line, and ends it.
+# script_ends: sends one more line of the script, and ends the script.
 script_ends() {
     echo "do $change" >&3
     exec 3>&-
     ends 'that script'
 }
 
-# serve LABEL IMAGE: a run with a socket of its own, and without a connection.
+# serve LABEL IMAGE: serves no connection, with a socket of its own.
 serve() {
     run "$1" serve --socket own --image "$2" --entropy entropy --locality 0 --connections 0
     [ ! -e own ] || echo '    its socket is there'
 }
 
-# others LABEL: prints the results of other runs on the image, while one run has it. That run and what is at
+# others LABEL: prints the results of other runs on the image, while one run has it. That run and the file
 # image.new stay unchanged.
 others() {
     echo left >image.new
@@ -59,7 +59,7 @@ others() {
     echo "    at image.new: $(cat image.new)"
 }
 
-# A script's run has it.
+# A run that plays a script has the image.
 rm -f image
 script_begins
 others 'a script is played'
@@ -67,7 +67,7 @@ script_ends
 [ ! -e image.new ] || echo 'image.new is there'
 run 'what it was told is there' run --image image asks
 
-# A served device has it, also before there is an image.
+# A run that serves the device has the image, even before the image exists.
 rm image
 device_begins 2
 others 'a device is served'
@@ -92,7 +92,7 @@ for kind in script device; do
     rm -rf socket .0
 done
 
-# Of many runs that begin at once one goes on.
+# If many runs begin at once, one of them continues.
 rm image
 exec 3<>lines
 for number in 1 2 3 4 5 6 7 8; do
@@ -105,7 +105,7 @@ wait
 cat "$room"/many* >"$room/many"
 echo "eight runs at once: $(told "$room/many")"
 
-# The file of the lock is next to the image, and stays. It is its owner's alone, and is empty.
+# The lock's file is next to the image, and stays. It belongs only to its owner, and is empty.
 rm -f image*
 (umask 000 && run 'a new device' run --image image script)
 stat -c '%n %A %s' image*
@@ -124,7 +124,7 @@ run 'a link to nowhere in place of the lock' run --image image script
 [ ! -e nowhere ] || echo 'nowhere is there'
 rm image.lock
 
-# A link to an image is an image of its own: the first save replaces it by a file.
+# A link to an image is an image of its own. The first save replaces the link by a file.
 script_begins
 ln -s image link
 run 'a link to the image that a script has' run --image link script
@@ -132,7 +132,7 @@ stat -c '%n %F' link
 script_ends
 rm link link.lock
 
-# A path that is not that of a file is not an image; and no lock is made for it.
+# A path that is not a file's is not an image. No lock is made for it.
 mkfifo pipe
 mkdir folder
 ln -s /dev/zero device
@@ -145,7 +145,7 @@ done
 # shellcheck disable=SC2012 # the names are known
 echo "all that is there: $(ls -A | tr '\n' ' ')"
 
-# A folder has no random bytes. A pipe has those that are written to it, as soon as somebody writes.
+# A folder cannot give random bytes. A pipe gives those that are written to it, as soon as somebody writes.
 run 'a folder of random bytes, a script' run --image image --entropy folder script
 run 'a folder of random bytes, a new device' run --image new --entropy folder script
 run 'a folder of random bytes, a served device' serve --socket own --image image --entropy folder \

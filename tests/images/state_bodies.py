@@ -1,4 +1,5 @@
-"""Bodies of state texts with one thing wrong, each with the nearest good one; and the largest one.
+"""Bodies of state texts with one thing wrong, each with the nearest good body; and the largest
+body.
 """
 
 from dataclasses import replace
@@ -18,7 +19,7 @@ MOST_TIME = 1000 * 2**32
 
 
 def largest():
-    """A device each of whose fields is as large as possible, and its completing layer."""
+    """Returns a device each of whose fields is as large as possible, and its completing layer."""
     device = image_bodies.largest()
     told = State(bytes(32), 1, 1, bytes(32), True)
     bound = bytes(34), b"v" * 32, LOCKOUT_AUTH
@@ -34,7 +35,7 @@ def body_of(device, layer=None):
 
 
 def changed(change):
-    """The body of the worked device after a change."""
+    """Returns the body of the worked device after a change."""
     device = worked_state.device()
     change(device)
     return body_of(device)
@@ -53,8 +54,8 @@ def of_policy(handle=BOUND, **fields):
 
 
 def size_pairs():
-    """Sizes that the hash of a session does not allow; of the bound session it is SHA-256, of the
-    other one SHA-1.
+    """Yields sizes that a session's hash does not allow. The hash is SHA-256 for the bound session,
+    and SHA-1 for the other one.
     """
     for handle, sizes in ((BOUND, ((15, 16), (33, 32))), (HMAC, ((15, 16), (21, 20)))):
         for size, near in sizes:
@@ -85,8 +86,9 @@ def of_object(kind=None, **fields):
 
 
 def spelled(bad, good):
-    """The body of the worked device, and the same body with other bytes instead of some that occur
-    once in it."""
+    """Returns the body of the worked device with other bytes instead of some that occur once in it;
+    and the unchanged body.
+    """
     body = body_of(worked_state.device())
     assert body.count(good) == 1
     return body.replace(good, bad), body
@@ -111,7 +113,9 @@ def session_pairs():
 
 
 def place_pairs():
-    """Missing or extra places: those after them are read as something else."""
+    """Yields bodies with missing or extra slots. The slots after them are then read as something
+    else.
+    """
     body = body_of(worked_state.device())
     session = state_text.optional_text(
         worked_state.device().sessions[HMAC], state_text.session_text
@@ -124,7 +128,8 @@ def place_pairs():
 
 
 def pairs():
-    """Each wrong body with words for its fault, and its good one."""
+    """Yields each wrong body with a description of its fault, and the good body that belongs to it.
+    """
     yield from session_pairs()
     yield from place_pairs()
     for name in ("forgiving_time", "closed_time"):

@@ -2,9 +2,9 @@
 
     state_texts.py TESTS
 
-The scripts in the folders SCRIPTS of TESTS are played on a device that is read again from its text
-after each command. Each response must be the one in the file next to the script. A text with a
-fault must be refused for it. A text that is read must be written again unchanged.
+The scripts in the folders SCRIPTS of TESTS are played. After each command the device is read
+again from its text. Each response must be the one in the file next to the script. A text with a
+fault must be refused with that fault. A text that is read must be written again unchanged.
 """
 
 import collections
@@ -20,20 +20,20 @@ from tests.images import state_bodies, worked_state
 
 SCRIPTS = "objects", "policies", "sessions"
 
-# One of this many scripts is played; and one of this many bytes of a body has its last bit changed.
+# One of this many scripts is played. The last bit is changed in one of this many bytes of a body.
 ONE_IN = 3
 
 
 def goes_on(text):
-    """The device of a text, after checking that the text is written of it again."""
+    """Returns the device of a text, which must be written as the same text again."""
     device, layer = state_text.open_state(text)
     assert layer is None and state_text.state_text(device) == text
     return device
 
 
 def played(script):
-    """How many commands of a script were executed, each on a device that was read from its text,
-    and which responses differ from the expected ones.
+    """Plays a script, and reads the device from its text after each command. Returns the number of
+    commands, and the responses that differ from the expected ones.
     """
     player, responses = Player(), []
     for line in script.read_bytes().splitlines():
@@ -53,11 +53,12 @@ def play_all(tests):
 
 
 def worked():
-    """The text of the device with everything in it, which must be the one in the file. Each line of
-    the file was compared by hand with docs/table/state_text.md. Its field is the page's next one,
-    with the same size. These are right: the sizes before sized fields, the numbers of types,
-    algorithms, protection, demand and localities, and the yes or no of each place. What the script
-    sets (values, nonces, command, times, counts, the layer's numbers) is in its place.
+    """Checks that the text of the device with everything in it is the one in the file. Each line of
+    the file was compared by hand with docs/table/state_text.md: its field is the page's next
+    one, and has the same size. The sizes before sized fields are right. So are the numbers of
+    types, algorithms, protection, demand and localities, and the byte of each slot that says
+    whether it is in use. The values that the script sets (values, nonces, command, times,
+    counts, the layer's numbers) are in their fields.
     """
     text = worked_state.text()
     print("the worked text is as it is written:", text == worked_state.written())
@@ -66,7 +67,7 @@ def worked():
 
 
 def sizes():
-    """The sizes that docs/table/state_text.md says."""
+    """Prints the sizes that docs/table/state_text.md states."""
     print(f"a new device has {len(state_text.state_text(Model())):,} bytes")
     most = state_text.state_text(*state_bodies.largest())
     same = state_text.state_text(*state_text.open_state(most)) == most
@@ -74,7 +75,7 @@ def sizes():
 
 
 def faults_of(texts):
-    """How many of these texts are refused for each fault; None is for those that are read."""
+    """Counts the texts for each fault. None is for the texts that are read."""
     return collections.Counter(map(state_text.fault_of, texts))
 
 
@@ -94,7 +95,7 @@ def refused(text):
 
 
 def corrected(text):
-    """Bodies with a byte changed, in the right frame for them."""
+    """Tries bodies with a changed byte, each with a right head and digest."""
     body, counts = text[HEAD_BYTES:-DIGEST_AT_END], collections.Counter()
     for at in range(0, len(body), ONE_IN):
         framed = state_text.framed(turned(body, at))

@@ -1,6 +1,6 @@
-# Only its owner may read and write what the program makes, whatever the umask is: an image with its lock, a
-# log, the socket, and the state of a kept device. Otherwise the next run of a user who is not root has no
-# device.
+# Checks the modes of the files that the program makes: an image with its lock, a log, the socket, and the
+# state of a kept device. Only their owner may read and write them, whatever the umask. If that user could
+# not, the user's next run would have no device, unless the user is root.
 tests=$(cd "$(dirname "$0")/.." && pwd -P)
 . "$tests/common/cases.sh"
 needs python3

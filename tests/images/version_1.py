@@ -1,6 +1,6 @@
-"""Images of version 1, which are kept as bytes in tests/images/version_1: NAME.hex has an image
-that a program of that version saved, and NAME.tpm the script of its device. Neither is ever written
-again.
+"""Images of version 1, which are kept as bytes in tests/images/version_1. NAME.hex has an image
+that a program of that version saved, and NAME.tpm has the script of its device. Neither file is
+ever written again.
 """
 
 import pathlib
@@ -26,16 +26,16 @@ def kept(name):
 
 
 def spelled(text):
-    """The lines of NAME.hex."""
+    """Returns the lines of NAME.hex."""
     pieces = (text[at : at + BYTES_OF_LINE] for at in range(0, len(text), BYTES_OF_LINE))
     return "".join(f"{it.hex()}\n" for it in pieces)
 
 
 def device_of(name):
-    """The device after the script, each of whose comments names an outcome."""
+    """Returns the device after the script, each of whose comments names an outcome."""
     return device_behind(script(name))
 
 
 def image_of(device):
-    """The image of this version of a device."""
+    """Returns the image of a device in version 1."""
     return image.image(device, image.VERSION_1)

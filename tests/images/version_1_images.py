@@ -2,9 +2,9 @@
 
     tools/python.sh tests/images/version_1_images.py PROGRAM
 
-The commands look at the device, and use what it has. The program's answers, and the image of
-version 2 that it saves afterwards, must be those of the Python device. A line for each image says
-what was tried; the last line is `N agree, M differ`.
+The commands read the device's state, and use its secrets. The program's responses must be those
+of the Python device, and so must the image of version 2 that it saves afterwards. For each image
+a line says what was tried. The last line is `N agree, M differ`.
 """
 
 import collections
@@ -31,15 +31,15 @@ WITH_VALUES = RH_OWNER, RH_ENDORSEMENT, RH_PLATFORM
 AT_ONCE = 1024
 FIRST_TRANSIENT, NEW_COUNTER, LAST_INDEX = 0x8000_0000, 0x0111_1111, 0x01FF_FFFE
 
-# The places of Time and Clock in the response of TPM2_ReadClock.
+# The positions of Time and Clock in the response to TPM2_ReadClock.
 TIME, CLOCK = slice(10, 18), slice(18, 26)
 
-# The place of the version's lower byte in an image.
+# The offset of the version's lower byte in an image.
 VERSION = 5
 
 
 class Commands(PreparedCommands):
-    """Commands for a device in its present state, by its authorization values."""
+    """Commands for a device in its present state, with its authorization values."""
 
     def __init__(self, device):
         super().__init__()
@@ -49,7 +49,8 @@ class Commands(PreparedCommands):
         return self.device.auth_value(handle)
 
     def use(self, handle):
-        """A command that needs an object's sensitive area: for a child, a MAC, or its data."""
+        """Returns a command that needs an object's sensitive area: for a child, a MAC, or its data.
+        """
         public = self.device.objects[handle].public
         if public.kind == SYMCIPHER:
             return self.child(handle, sealed(), user_auth=b"auth", data=b"data")
@@ -59,7 +60,7 @@ class Commands(PreparedCommands):
         return self.unsealing(handle)
 
     def asker(self, index):
-        """The handle that authorizes reading and writing an index."""
+        """Returns the handle that authorizes reading and writing of an index."""
         public = self.device.indices[index].public
         if public.has(nv.Attribute.OWNERREAD):
             return RH_OWNER
@@ -70,7 +71,9 @@ class Commands(PreparedCommands):
 
 
 def looks(tpm):
-    """Everything that can be seen, a session that was lost, and a use of each secret."""
+    """Yields commands that read all readable state, a command on a session that was lost, and a use
+    of each secret.
+    """
     for first in (NV, frames.HMAC_SESSION, TRANSIENT, PERSISTENT):
         yield tpm.capability(HANDLES, first << 24, 64)
     yield tpm.command("PolicyGetDigest", 0x0300_0000)
@@ -92,8 +95,8 @@ def looks(tpm):
 
 
 def changes(tpm):
-    """Commands that depend on a counter's largest value and on authorization values; and wrong
-    ones. One more index is defined, even if the image has as many as its version can have.
+    """Yields commands that depend on a counter's largest value and on authorization values, and
+    wrong commands. One more index is defined, even if the image has the maximum of its version.
     """
     for index, held in sorted(tpm.device.indices.items()):
         if held.public.kind == nv.Type.COUNTER:
@@ -112,7 +115,9 @@ def changes(tpm):
 
 
 def resumed(tpm):
-    """A start from a saved state, or another start if none is saved; and all of the above."""
+    """Yields TPM2_Startup(STATE), TPM2_Startup(CLEAR) in case no state was saved, and all of the
+    commands above.
+    """
     yield tpm.starting(STATE)
     yield tpm.starting(CLEAR)
     yield from looks(tpm)
@@ -121,19 +126,19 @@ def resumed(tpm):
 
 
 def restarted(tpm):
-    """A start that may be a restart; then the owner's entities are removed, unless that is
-    disabled.
+    """Yields TPM2_Startup(CLEAR), which may be a restart. Then TPM2_Clear removes the owner's
+    entities, unless it is disabled.
     """
     yield tpm.starting(CLEAR)
     yield tpm.clearing(RH_PLATFORM)
     yield from looks(tpm)
 
 
-# Comparing.
+# The comparison.
 
 
 def taken(text, commands):
-    """The commands, each for the device as it is after those before."""
+    """Yields the commands, each made for the device after the commands before it."""
     device = image.open_image(text)
     for prepared in commands(Commands(device)):
         buffer = prepared.buffer()
@@ -142,9 +147,10 @@ def taken(text, commands):
 
 
 def executed(device, buffers, clock):
-    """The outcomes of commands during the milliseconds that passed for the program. The answer to
-    the last command has them. All time passes before that command, except what passed before
-    TPM2_Clear: that sets Clock back, so that it then shows less than Time.
+    """Returns the outcomes of commands during the time that passed for the program, in
+    milliseconds. The response to the last command has that time. All of it passes before the
+    last command, except the time that passed before TPM2_Clear. TPM2_Clear sets Clock back, so
+    that Clock is then less than Time.
     """
     time, clock = int.from_bytes(clock[TIME], "big"), int.from_bytes(clock[CLOCK], "big")
     before_clear = max(time - clock, 0)
@@ -161,7 +167,7 @@ def is_clear(buffer):
 
 
 def told(outcomes):
-    """The outcomes of the commands of each name, one line each."""
+    """Returns the outcomes of the commands of each name, on a line for each name."""
     counts = {}
     for outcome in outcomes:
         refused = outcome.refused or "SUCCESS"
@@ -176,12 +182,14 @@ class Comparison:
         self.agree, self.differ = 0, 0
 
     def check(self, holds, words):
-        """Says what was tried, or what differs."""
+        """Prints what was tried, or what differs."""
         self.agree, self.differ = self.agree + holds, self.differ + (not holds)
         print(f"    {words}" if holds else f"    DIFFERS: {words}", flush=True)
 
     def run(self, text, buffers, connections=1):
-        """The program's answers in a run on an image, its messages, and the image that it saves."""
+        """Runs the program on an image. Returns its responses, its messages, and the image that it
+        saves.
+        """
         run = streams.Run(0, 0, text, True, b"".join(map(streams.random_of, buffers)))
         run.connections = [streams.Connection(AT_ONCE) for _ in range(connections)]
         for connection in run.connections:
@@ -190,7 +198,7 @@ class Comparison:
         return answers, error, self.folder.image.read_bytes()
 
     def kept(self, text, device):
-        """A kept image; the Python device must have it after its script."""
+        """Checks a kept image: the Python device has the same image after the script."""
         opened = image.open_image(text)
         again, of_script = version_1.image_of(opened), version_1.image_of(device)
         self.check(again == text, "the device in Python opens it, and has this image")
@@ -216,7 +224,7 @@ class Comparison:
         self.check(saved == image.image(device), f"{words}, it saves the same")
 
     def refused(self, fault, text, words):
-        """A text that is not an image."""
+        """Checks that a text that is not an image is refused."""
         _, error, left = self.run(text, [], connections=0)
         holds = image.fault_of(text) == fault and error == f"tpmsim: image {fault}"
         self.check(holds and left == text, f"{words}: {fault}")
@@ -237,7 +245,7 @@ def damaged(text):
 
 
 def beyond_limits(text):
-    """A full device has everything that an image of this version can have."""
+    """Yields images of a full device beyond the limits of version 1: an index or a byte more."""
     device = image.open_image(text)
     device.indices[LAST_INDEX] = nv_commands.Index(area(LAST_INDEX, BY_OWNER, size=0), b"", b"")
     assert len(device.indices) == image.VERSION_1.indices + 1

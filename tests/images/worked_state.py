@@ -1,4 +1,4 @@
-"""The device of the worked state text, and that text, which worked_state.txt lists by fields."""
+"""The device of the worked state text, and that text. worked_state.txt lists the text by fields."""
 
 import copy
 import functools
@@ -7,8 +7,9 @@ import pathlib
 from tpmsim.model.player import Player
 from tpmsim.model.state_text import Layer, state_text
 
-# Clock is three milliseconds ahead of Time; a try failed, and lockoutAuth is locked. Of three
-# sessions the first is gone, and the last is bound and has a policy.
+# Clock is three milliseconds ahead of Time. One authorization has failed, and lockoutAuth is
+# locked. Of the three sessions the first one has been flushed. The last one is bound, and is a
+# policy session.
 LINES = """
 entropy 000102030405060708090a0b0c0d0e0f101112131415161718191a1b1c1d1e1f202122232425262728292a2b2c2d2e2f303132333435363738393a3b3c3d3e3f
 do Startup 0
@@ -51,12 +52,12 @@ def played():
 
 
 def device():
-    """A new copy of the device each time, which may be changed."""
+    """Returns a new copy of the device each time. The caller may change it."""
     return copy.deepcopy(played())
 
 
 def layer():
-    """The contexts of an object, which waits, and of a session."""
+    """Returns a completing layer with the contexts of a waiting object and of a session."""
     return Layer(0x1122334455667788, 3, [(1, 3)] + [(0, 0)] * 7, [0, 2] + [0] * 14)
 
 
@@ -65,6 +66,6 @@ def text():
 
 
 def written():
-    """The text in the file: what precedes the first two blanks of each line."""
+    """Returns the text in the file: the bytes before the first two blanks of each line."""
     lines = FIELDS.read_text("ascii").splitlines()
     return bytes.fromhex("".join(it.partition("  ")[0] for it in lines if it[:1] != "#"))

@@ -2,11 +2,12 @@
 
     python3 all_at_once.py PROGRAM HOSTS SHIM SECONDS PROCESSES SEED [fills]
 
-LD_PRELOAD has loaded failing.c into this process, for clocks that jump by up to a day. Each process
-counts in one index of the device, cycles its power, opens it again, and forks. Signals interrupt
-its calls all the time; its calls of the operating system do not fail otherwise. With `fills` the
-disk of the working folder is full now and then. At the end the index has each increment that was
-answered, and at most those that were asked for. A process never reads less than it has counted.
+LD_PRELOAD has loaded failing.c into this process, for clocks that jump by up to a day. Each
+process counts in one index of the device, cycles its power, opens it again, and forks. Signals
+interrupt its calls all the time. Its system calls do not fail otherwise. With `fills` the disk
+of the working folder is full now and then. At the end the index has each increment that was
+answered, and no increment that was not requested. A process never reads a number that is less
+than its own count.
 """
 
 import contextlib
@@ -29,14 +30,14 @@ FOLDER, FULL, CLONE_NEWPID, SECONDS_TO_END = "state", "full", 0x20000000, 60
 INTERRUPT_EACH, KILL_EACH = 0.0007, 0.02
 ASKED, DONE, OTHER, WRONG = b"a", b"d", b"o", b"w"
 
-# Each of these begins in turn. With an odd seed the power is cycled often; otherwise the journals
-# grow.
+# The kinds of hosts, which begin in turn. With an odd seed the power is cycled often; otherwise the
+# journals grow.
 KINDS = ((Module, Python, Run, Module, Python), (Module, Python, Run, Module, Python, Simulator))
 CYCLES = 0.0005, 0.02
 
 
 class Worker:
-    """What a process does with a host, until its time is up."""
+    """The work of a process with a host, until its time is up."""
 
     def __init__(self, kind: type[Host], files: Files, tell: int, seed: int, until: float) -> None:
         self.kind, self.files, self.tell, self.until = kind, files, tell, until
@@ -94,7 +95,7 @@ class Worker:
             self.forks()
 
     def asks(self, act: str) -> object:
-        """The answer to an act; the device is started if the act needs that."""
+        """Returns the answer to an act. The device is started first if the act needs that."""
         answer = answer_of(act, does(self.host, act, FOLDER))
         if answer == INITIALIZE:
             does(self.host, STARTUP, FOLDER)
@@ -118,7 +119,9 @@ class Worker:
             self.least = answer[1]
 
     def forks(self) -> None:
-        """The child goes on with the host; if possible, with the same process number."""
+        """Forks a child that continues with the host. If possible, the child has the same process
+        number.
+        """
         self.has_forked = True
         ctypes.CDLL(None).unshare(CLONE_NEWPID)
         child = os.fork()
@@ -154,7 +157,7 @@ class Counts:
 
 
 def begun(kind: type[Host], files: Files, seed: int, until: float) -> tuple[int, int]:
-    """A process in a group of its own, and the pipe of its reports."""
+    """Begins a process in a group of its own. Returns its number and the pipe of its reports."""
     reads, writes = os.pipe()
     child = os.fork()
     if child == 0:
@@ -173,7 +176,9 @@ def begun(kind: type[Host], files: Files, seed: int, until: float) -> tuple[int,
 
 
 def plays(files: Files, seconds: float, processes: int, seed: int, fills: bool) -> Counts:
-    """Runs this many processes at once, for this long. Each killed one is replaced."""
+    """Runs this many processes at once, for this many seconds. Each process that is killed is
+    replaced.
+    """
     choices, counts, chooser = random.Random(seed), Counts(), selectors.DefaultSelector()
     until, kinds = time.monotonic() + seconds, KINDS[seed % 2]
     pids: dict[int, int] = {}
@@ -213,13 +218,13 @@ def plays(files: Files, seconds: float, processes: int, seed: int, fills: bool) 
 
 
 def kill(group: int) -> None:
-    """Kills a process with its children; or alone, while it has no group yet."""
+    """Kills a process with its children; or only the process, while it has no group yet."""
     with contextlib.suppress(ProcessLookupError):
         os.killpg(group, signal.SIGKILL)
 
 
 def fill(choices: random.Random) -> None:
-    """Fills the disk, perhaps to its last byte, or frees space on it."""
+    """Fills the disk, sometimes to its last byte, or frees space on it."""
     full = pathlib.Path(FULL)
     if full.exists():
         full.unlink()

@@ -1,8 +1,9 @@
-"""A counter in a kept device: its possible values after commands that were answered, and ones that
-failed.
+"""A counter in a kept device: its possible values after commands of which some were answered and
+some failed.
 
-A history of acts is recorded as it happens: an act with its answer, or acts the first few of which
-were done. The knowledge is a set of states. An answer that no state of the set allows is wrong.
+A history of acts is recorded as it happens: an act with its answer, or several acts of which the
+first few were done. The knowledge is a set of possible states. An answer that no state of the
+set allows is wrong.
 """
 
 from dataclasses import dataclass, replace
@@ -42,7 +43,7 @@ NOTHING = State()
 
 
 def outcome(state: State, act: str) -> tuple[State, object]:
-    """The state after an act, and its answer: a response code, the count, or None."""
+    """Returns the state after an act, and the act's answer: a response code, the count, or None."""
     if act == BEGIN:
         return replace(state, is_there=True), None
     if act == POWER:
@@ -61,7 +62,7 @@ def outcome(state: State, act: str) -> tuple[State, object]:
 
 
 def answer_of(act: str, response: bytes) -> object:
-    """What a response says, in the form of `outcome`."""
+    """Returns the content of a response, in the form of `outcome`."""
     if act in (BEGIN, POWER):
         return None
     code = int.from_bytes(response[6:10], "big")
@@ -77,7 +78,7 @@ class Counted:
         self.states = set(states)
 
     def answers(self, act: str, response: bytes) -> bool:
-        """Records that an act was answered. Returns whether a state allows the answer."""
+        """Records that an act was answered. Returns whether some state allows the answer."""
         told = answer_of(act, response)
         after = (outcome(state, act) for state in self.states if state.is_there or act == BEGIN)
         self.states = {state for state, answer in after if answer == told}
@@ -89,7 +90,7 @@ class Counted:
             self.states = {outcome(it, act)[0] for it in self.states if it.is_there or act == BEGIN}
 
     def may_have(self, acts: Iterable[str]) -> None:
-        """Records that acts were asked for; perhaps the first few of them were done."""
+        """Records that acts were requested. Perhaps the first few of them were done."""
         done = set(self.states)
         for act in acts:
             done = {outcome(it, act)[0] if it.is_there or act == BEGIN else it for it in done}

@@ -2,13 +2,15 @@
 
     python3 crash_each.py PROGRAM HOSTS SHIM SHARE [WORD]
 
-SHIM is the library of disk.c, which LD_PRELOAD has loaded into this process too: it logs what each
-host does to its folder. A crash keeps what was forced, and any prefix of the rest, perhaps followed
-by zeros. A name that was not forced may be gone, or may be an earlier file's again. After each line
-of the log some such folders are made, and another host opens them. With force=always each has the
-device that executed the answered acts, and perhaps the unanswered one; otherwise it has one of the
-devices since the last power cycle. One of SHARE crashes is made; with WORD, only those of hosts
-whose name contains it.
+SHIM is the library of disk.c, which LD_PRELOAD has loaded into this process too. It logs what
+each host does to its folder. A crash keeps the bytes that were synced, and any prefix of the
+rest, perhaps followed by zeros. A name that was not synced may be lost, or may be an earlier
+file's again.
+
+After each line of the log some such folders are made, and another host opens them. With
+force=always each has the device that executed the answered acts, and perhaps the unanswered one.
+Otherwise it has one of the devices since the last power cycle. One of SHARE crashes is made;
+with WORD, only those of hosts whose name contains it.
 """
 
 import ctypes
@@ -30,7 +32,7 @@ MOST_ZEROS, CHOICES = 5000, 3
 
 @dataclass
 class File:
-    """A file's content; its contents since it was forced; and how many of its first bytes are on
+    """A file's content; its contents since it was synced; and how many of its first bytes are on
     the disk.
     """
 
@@ -54,7 +56,7 @@ class File:
         self.past, self.forced = [], len(self.now)
 
     def left(self, choices: random.Random) -> bytes:
-        """What a crash leaves of it, by chance."""
+        """Returns the content after a crash, chosen at random."""
         text = choices.choice([*self.past, self.now])
         text = text[: max(self.forced, choices.randrange(len(text) + 1))]
         return text + bytes(choices.randrange(MOST_ZEROS) if choices.random() < 0.5 else 0)
@@ -73,7 +75,7 @@ class Disk:
                 self.files[number] = File(path.read_bytes(), [], path.stat().st_size)
 
     def name_of(self, path: str) -> str:
-        """The name of a file in the folder; empty for another file."""
+        """Returns the name of a file in the folder; empty for another file."""
         folder, _, name = path.rpartition("/")
         return name if folder == str(self.folder) else ""
 
@@ -112,7 +114,9 @@ class Disk:
             file.forces()
 
     def leaves(self, folder: pathlib.Path, choices: random.Random, how: int) -> None:
-        """Makes a folder that a crash leaves: the least, all, or a random part."""
+        """Makes a folder as a crash may leave it: with the least content, with all of it, or with a
+        random part.
+        """
         shutil.rmtree(folder, ignore_errors=True)
         if not self.is_there or (not self.is_named and (how == 0 or choices.random() < 0.5)):
             return
@@ -134,7 +138,9 @@ class Disk:
 
 
 class Allowed:
-    """The devices that may be there: the answered one, or all since the last power cycle."""
+    """The devices that may be in the folder: the device after the answered acts, or all devices
+    since the last power cycle.
+    """
 
     def __init__(self, state: State, is_always: bool) -> None:
         self.counted, self.is_always, self.waiting = Counted([state]), is_always, list[str]()
@@ -153,7 +159,7 @@ class Allowed:
         self.holds(last)
 
     def holds(self, act: str) -> None:
-        """Records that an act was done. It may be lost unless it was a power cycle."""
+        """Records that an act was done. The act may be lost, unless it was a power cycle."""
         before = set() if act == POWER else {it for it in self.since if it.is_there}
         self.since = before | self.counted.states
 
@@ -169,7 +175,7 @@ class Allowed:
 
 @dataclass(frozen=True)
 class Case:
-    """A host, what it begins with, and the acts that it is asked for."""
+    """A host, the folder and device that it begins with, and the acts that it has to do."""
 
     files: Files
     host: type[Host]
@@ -213,7 +219,7 @@ class Case:
         self.plays(self.host(self.files, {"DISK_LOG": str(log)}), folder, mark)
 
     def lines(self, room: pathlib.Path, folder: pathlib.Path) -> list[list[str]]:
-        """What the host does to the folder, and its answers."""
+        """Returns the log of what the host does to the folder, with its answers."""
         log = room / "log"
         log.unlink(missing_ok=True)
         runs = self.in_a_fork if self.host in (Module, Python) else self.as_a_program
@@ -221,7 +227,9 @@ class Case:
         return [line.split() for line in log.read_text("ascii").splitlines()]
 
     def check(self, room: pathlib.Path, share: int) -> tuple[int, int]:
-        """Makes one of `share` crashes. Returns how many were made, and how many were wrong."""
+        """Makes one of `share` crashes. Returns the number of crashes, and the number of wrong
+        ones.
+        """
         folder, left = room / "state", room / "left"
         self.start.put(folder)
         disk = Disk(folder, folder.exists())

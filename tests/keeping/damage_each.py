@@ -1,9 +1,11 @@
-"""Each call of a power cycle with --cut fails in turn, on a device with damage inside its journal:
+"""Makes each call of a power cycle with --cut fail in turn, on a device with damage inside its
+journal:
 
     python3 damage_each.py PROGRAM HOSTS SHIM SHARE
 
-Either the journal stays unchanged, byte for byte, or a new one replaces it: of the device before
-the damage, or of that device after the power cycle. One of SHARE runs is made.
+Either the journal stays unchanged, byte for byte, or a new journal replaces it. The new journal
+has the device before the damage, or that device after the power cycle. One of SHARE runs is
+made.
 """
 
 import functools
@@ -29,7 +31,7 @@ FRONT = State(is_there=True, is_started=True, is_defined=True, count=1)
 
 
 class Cut(Power):
-    """tpmsim-power --cut."""
+    """The host `tpmsim-power --cut`."""
 
     name = "tpmsim-power --cut"
 
@@ -38,7 +40,7 @@ class Cut(Power):
 
 
 class ProgramCut(ProgramPower):
-    """`tpmsim power --cut`."""
+    """The host `tpmsim power --cut`."""
 
     name = "tpmsim power --cut"
 
@@ -47,7 +49,7 @@ class ProgramCut(ProgramPower):
 
 
 def made(files: Files, folder: pathlib.Path) -> None:
-    """Makes a device that has counted to 3, with damage in the record of the second time."""
+    """Makes a device that has counted to 3, with damage in the record of the second increment."""
     host, journal, sizes = Python(files), folder / "journal", []
     for act in (BEGIN, STARTUP, DEFINE, INCREMENT, INCREMENT, INCREMENT):
         does(host, act, str(folder))
@@ -67,7 +69,7 @@ class Damaged:
         self.journal = (room / "damaged" / "journal").read_bytes()
 
     def tries(self, meeting: Meeting) -> tuple[str, str]:
-        """Which call had the fault, and what is wrong."""
+        """Returns which call had the fault, and what is wrong."""
         self.start.put(self.folder)
         told = Told(Counted([FRONT]))
         Trial(self.make, (POWER,), str(self.folder), told, self.shim, meeting).as_a_program()

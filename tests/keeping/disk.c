@@ -1,6 +1,7 @@
-/* Replaces the functions of the C library by which a host changes its folder, and logs what each has done.
- * The file that DISK_LOG names gets a line for each, with the path and the number of the file. LD_PRELOAD
- * loads it. A caller in the same process calls disk_logs before and after what counts. */
+/* Replaces the functions of the C library by which a host changes its folder, and logs each
+ * change. The environment variable DISK_LOG names the log. It gets a line for each change, with
+ * the path and the file's number. LD_PRELOAD loads this library. A caller in the same process
+ * calls disk_logs before and after the calls that count. */
 #define _GNU_SOURCE
 #include <errno.h>
 #include <fcntl.h>
@@ -24,7 +25,7 @@ __attribute__((constructor)) static void begins(void) {
     if (told) disk_logs(told);
 }
 
-/* Adds a line that ends with bytes in hex. */
+/* Adds a line that ends with these bytes in hex. */
 static void note(const char *line, const unsigned char *bytes, size_t size) {
     int error = errno, file;
     char *hex = malloc(2 * size + 2);
@@ -40,11 +41,11 @@ static void note(const char *line, const unsigned char *bytes, size_t size) {
     errno = error;
 }
 
-/* Adds a line for the caller. */
+/* Adds a line on behalf of the caller. */
 void disk_marks(const char *line);
 void disk_marks(const char *line) { note(line, NULL, 0); }
 
-/* Logs what was done to an open file, unless it failed. */
+/* Logs the change of an open file, unless it failed. */
 static void note_file(long done, const char *what, int file, long number,
                       const unsigned char *bytes, size_t size) {
     char link[64], path[PATH_BYTES], line[LINE_BYTES];
@@ -59,7 +60,7 @@ static void note_file(long done, const char *what, int file, long number,
     note(line, bytes, size);
 }
 
-/* The path of a name in an open folder, or in the working folder. */
+/* Writes the path of a name in an open folder, or in the working folder. */
 static void path_of(int folder, const char *name, char path[PATH_BYTES]) {
     char link[64];
     if (name[0] == '/') {

@@ -1,13 +1,12 @@
-"""Each call of each host of a kept device fails, in turn:
+"""Makes each call of each host of a kept device fail, in turn:
 
     python3 each_call.py PROGRAM HOSTS SHIM SHARE [WORD]
 
-HOSTS is the folder with the module and the programs, SHIM the library of failing.c, which
+HOSTS is the folder with the module and the programs. SHIM is the library of failing.c, which
 LD_PRELOAD has loaded into this process too. One of SHARE runs is made; with WORD, only those of
-hosts whose name contains it. In each run a host is asked for some acts, and one call of the
-operating system has a fault of VARIANTS. Then another host opens the folder. The device is the one
-that executed the answered acts, and perhaps the unanswered one. Standard error says what is wrong,
-and counts the runs.
+hosts whose name contains it. In each run a host has to do some acts, and one system call has a
+fault of VARIANTS. Then another host opens the folder. The device has executed the answered acts,
+and perhaps the unanswered one. Standard error says what is wrong, and the number of runs.
 """
 
 import collections
@@ -31,7 +30,7 @@ from tests.keeping.counted import POWER, READ, STARTUP, State, UNWRITTEN
 from tests.keeping.hosts import does, Files, Host, Module, Power, ProgramPower, Python, Refused
 from tests.keeping.hosts import Run, Simulator
 
-# The faults of failing.c for a call.
+# The faults that failing.c gives to a call.
 Act = IntEnum(
     "Act",
     "FAILS FAILS_ON STORMS DOES_AND_FAILS DOES_HALF IS_KILLED DOES_AND_IS_KILLED"
@@ -58,7 +57,7 @@ WELL, FAULT, KILLED = 0, 3, -signal.SIGKILL
 
 @dataclass(frozen=True)
 class Meeting:
-    """The number of a call, and its fault."""
+    """The number of the call that fails, and its fault."""
 
     number: int
     act: Act
@@ -70,7 +69,7 @@ class Meeting:
 
 
 class Shim:
-    """failing.c, in this process and in programs."""
+    """Controls failing.c, in this process and in programs."""
 
     def __init__(self, path: pathlib.Path, report: pathlib.Path) -> None:
         self.path, self.report, self.library = path, report, ctypes.CDLL(None)
@@ -89,7 +88,9 @@ class Shim:
         return {"LD_PRELOAD": str(self.path), "FAILING": told}
 
     def met(self) -> str:
-        """Which call had the fault; empty if there was no call of the number."""
+        """Returns the name of the call that had the fault; empty if there was no call of that
+        number.
+        """
         if not self.report.exists():
             return ""
         text = self.report.read_text("utf8").strip()
@@ -99,8 +100,8 @@ class Shim:
 
 @dataclass
 class Told:
-    """What a run reported. `waiting` are the acts that may be done, and are not answered. `untold`
-    are those that ended with an OSError and no sentence.
+    """The reports of a run. `waiting` are the acts that may be done, and are not answered yet.
+    `untold` are the acts that ended with an OSError and no sentence.
     """
 
     counted: Counted
@@ -113,7 +114,7 @@ class Told:
         self.waiting.append(act)
 
     def answers(self, response: bytes) -> None:
-        """Records that all waiting acts were done, and that this was the last one's answer."""
+        """Records that all waiting acts were done, and that this is the answer of the last one."""
         *before, last = self.waiting
         self.waiting = []
         self.counted.has(before)
@@ -128,7 +129,7 @@ class Told:
         self.waiting = []
 
     def ends(self, how: str) -> None:
-        """Records the end of the waiting acts; nobody knows whether they were done."""
+        """Records that the waiting acts ended without an answer. Perhaps they were done."""
         if self.waiting:
             self.acts.append(f"{'+'.join(self.waiting)}:{how}")
             self.counted.may_have(self.waiting)
@@ -155,7 +156,7 @@ def one_line(fault: object) -> str:
 
 
 class Child:
-    """A host in a fork of this process, which reports each act before and after it."""
+    """A host in a fork of this process. It reports each act before and after the act."""
 
     def __init__(self, host: Host, folder: str, shim: Shim, tells: int) -> None:
         self.host, self.folder, self.shim, self.tells = host, folder, shim, tells
@@ -192,7 +193,7 @@ class Child:
 
 
 def lines_of(pipe: int, child: int) -> Iterator[tuple[str, str]]:
-    """What a child reports, until it ends. A child that does not end is killed."""
+    """Yields the reports of a child, until it ends. A child that does not end is killed."""
     text, until = b"", time.monotonic() + SECONDS
     while True:
         ready, _, _ = select.select([pipe], [], [], max(0, until - time.monotonic()))
@@ -213,7 +214,7 @@ def lines_of(pipe: int, child: int) -> Iterator[tuple[str, str]]:
 
 @dataclass(frozen=True)
 class Trial:
-    """A host, the acts that it is asked for, and the call with the fault."""
+    """A host, the acts that it has to do, and the call with the fault."""
 
     make: Callable[..., Host]
     script: Sequence[str]
@@ -261,7 +262,7 @@ class Trial:
 
 
 def seen(files: Files, folder: str) -> State:
-    """The device in a folder, as a host without faults sees it."""
+    """Returns the state of the device in a folder, as a host without faults reads it."""
     if not os.path.exists(f"{folder}/journal"):
         return NOTHING
     host = Python(files)
@@ -285,7 +286,7 @@ def left_in(folder: str) -> list[str]:
 
 @dataclass(frozen=True)
 class Start:
-    """What a host begins with: a folder, if there is one, and its device."""
+    """The folder that a host begins with, if any, and the state of the device in it."""
 
     label: str
     state: State
@@ -299,7 +300,9 @@ class Start:
 
 @dataclass(frozen=True)
 class Starts:
-    """A kept device; one whose journal has grown so much that it begins again; and none."""
+    """The three beginnings: a kept device; one whose journal has grown so much that it begins
+    again; and no device.
+    """
 
     kept: Start
     grown: Start
@@ -314,7 +317,7 @@ class Starts:
 
 @dataclass(frozen=True)
 class Case:
-    """A host, what it begins with, and the acts that it is asked for."""
+    """A host, the folder and device that it begins with, and the acts that it has to do."""
 
     files: Files
     host: type[Host]
@@ -327,7 +330,7 @@ class Case:
         return f"{self.host.name}, {self.start.label}"
 
     def tries(self, room: pathlib.Path, shim: Shim, meeting: Meeting) -> tuple[str, Told, str]:
-        """Which call had the fault, what was reported, and what is wrong."""
+        """Returns which call had the fault, what was reported, and what is wrong."""
         folder = room / "state"
         self.start.put(folder)
         told = Told(Counted([self.start.state]))
@@ -343,7 +346,7 @@ class Case:
         return met, told, "; ".join(told.strange)
 
     def check(self, room: pathlib.Path, shim: Shim, share: int) -> tuple[int, int]:
-        """Makes one of `share` runs. Returns how many were made, and how many were wrong."""
+        """Makes one of `share` runs. Returns the number of runs, and the number of wrong ones."""
         runs, wrongs, untold = 0, 0, collections.Counter[str]()
         for turn, variant in enumerate(VARIANTS):
             for number in range(1 + turn % share, MOST_CALLS, share):
@@ -367,8 +370,8 @@ def said(line: str) -> None:
 
 
 def made(files: Files, folder: pathlib.Path, least: int) -> State:
-    """Makes a device that has counted to 2, or further until its journal has this size. Then adds
-    the beginning of one more record.
+    """Makes a device that has counted to 2, or further until its journal has the size `least`. Then
+    adds the beginning of one more record.
     """
     host, journal, count, sizes = Python(files), folder / "journal", 0, [0]
     for act in (BEGIN, STARTUP, DEFINE):

@@ -1,8 +1,9 @@
-/* Replaces the functions of the C library by which a host of a kept device reaches its folder, the clock,
- * random bytes and memory. The call of one number has one of these faults. LD_PRELOAD loads it. A program
- * reads FAILING: `NUMBER ACT ERROR REPORT`. A caller in the same process calls failing_begins, and
- * failing_goes_on before and after what counts. The name of the call with the fault is written to the file
- * REPORT. With FAILING_CLOCK the clock jumps, by at most a day. */
+/* Replaces the functions of the C library by which a host of a kept device reaches its folder,
+ * the clock, random bytes and memory. The call of one number has one of the faults below.
+ * LD_PRELOAD loads this library. A program reads the environment variable FAILING: `NUMBER ACT
+ * ERROR REPORT`. A caller in the same process calls failing_begins, and it calls failing_goes_on
+ * before and after the calls that count. The name of the call with the fault is written to the
+ * file REPORT. If FAILING_CLOCK is set, the clock jumps, by at most a day. */
 #define _GNU_SOURCE
 #include <errno.h>
 #include <fcntl.h>
@@ -18,8 +19,8 @@
 #include <time.h>
 #include <unistd.h>
 
-/* FAILS_ON: this call fails, and each later one of the function. STORMS: this call and two more that can
- * be interrupted fail with EINTR. */
+/* FAILS_ON: this call fails, and so does each later call of the same function. STORMS: this call
+ * and two more calls that can be interrupted fail with EINTR. */
 enum act {
     PASSES,
     FAILS,
@@ -39,7 +40,7 @@ static enum act act;
 static int error, is_on, jumps;
 static long number, counted;
 static char report[512], met[32], object[64];
-/* Calls for memory count if they come from here. */
+/* The addresses of an object. Only its calls for memory count. */
 static char *object_begins, *object_ends;
 
 static int is_object(struct dl_phdr_info *info, size_t size, void *unused) {
@@ -58,11 +59,11 @@ static int is_object(struct dl_phdr_info *info, size_t size, void *unused) {
 void failing_goes_on(int goes_on);
 void failing_goes_on(int goes_on) { is_on = goes_on; }
 
-/* Whether the clock jumps, for a caller in the same process. */
+/* Sets whether the clock jumps, for a caller in the same process. */
 void failing_jumps(int does_jump);
 void failing_jumps(int does_jump) { jumps = does_jump; }
 
-/* Gives the call of a number a fault. `from` is part of an object's name; "" is the program. */
+/* Sets the fault of call number `at`. `from` is part of an object's name; "" is the program. */
 void failing_begins(long at, int how, int with, const char *path, const char *from);
 void failing_begins(long at, int how, int with, const char *path, const char *from) {
     number = at;
@@ -95,7 +96,7 @@ static void note(const char *name, const char *of) {
     syscall(SYS_close, file);
 }
 
-/* Whether a call of this kind may have the fault. */
+/* Returns whether a call of this kind may have the fault. */
 static int may_meet(int kind, const void *caller) {
     int halves = act == DOES_HALF || act == DOES_HALF_AND_IS_KILLED;
     if (kind & IS_MEMORY)
@@ -106,7 +107,7 @@ static int may_meet(int kind, const void *caller) {
     return !(kind & CLOSES && (act == FAILS || act == FAILS_ON));
 }
 
-/* The fault of this call. */
+/* Returns the fault of this call. */
 static enum act meets(const char *name, int kind, const char *of, const void *caller) {
     if (!is_on || act == PASSES || !may_meet(kind, caller)) return PASSES;
     long at = ++counted;
@@ -198,7 +199,7 @@ CALL(ssize_t, getrandom, MOVES | WAITS, "", (void *bytes, size_t size, unsigned 
 CALL(int, madvise, OTHER, "", (void *page, size_t size, int advice),
      syscall(SYS_madvise, page, size, advice))
 
-/* The standard streams belong to a caller. */
+/* Calls on the standard streams do not count: they belong to the caller. */
 ssize_t read(int file, void *bytes, size_t size) {
     enum act how = file < 3 ? PASSES : meets("read", MOVES | WAITS, "", NULL);
     if (is_refused(how)) return -1;

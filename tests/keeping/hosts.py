@@ -1,7 +1,7 @@
-"""The hosts of a kept device, each with the acts of counted.py. `Files` says where they are.
+"""The hosts of a kept device, each with the acts of counted.py. `Files` says where the hosts are.
 
-The module and Python run in this process, and fork with it. The others are programs, which begin
-with an environment.
+The module and Python run in this process, and fork with it. The other hosts are programs, which
+begin with an environment.
 """
 
 import contextlib
@@ -22,7 +22,7 @@ SECONDS, RESPONSE_BYTES, RC = 20, 4096, ctypes.c_uint32
 
 @dataclass(frozen=True)
 class Files:
-    """The places of the hosts: the program, and a folder with the module and the other programs."""
+    """The paths of the hosts: the program, and a folder with the module and the other programs."""
 
     program: pathlib.Path
     folder: pathlib.Path
@@ -41,13 +41,13 @@ class Files:
 
 
 class Refused(Exception):
-    """A host's report that it did not do an act."""
+    """Raised when a host reports that it did not do an act."""
 
 
 class Host:
-    """What a host does. `part` is in the name of its library. A host that does not answer all acts
-    reports a beginning or a power cycle with the next response. If `comes_on`, power comes on as it
-    begins.
+    """The acts of a host. `part` is a part of its library's name. A host without `answers_all`
+    reports a beginning or a power cycle only with the next response. If `comes_on` is true,
+    power comes on when the host begins.
     """
 
     name, part, answers_all, comes_on = "", "", True, False
@@ -69,7 +69,7 @@ class Host:
         raise NotImplementedError
 
     def close(self) -> tuple[int, str]:
-        """How the host ended, and what it said."""
+        """Ends the host. Returns how it ended, and its output."""
         raise NotImplementedError
 
 
@@ -105,7 +105,7 @@ class Info(ctypes.Structure):
 
 
 class Module(Host):
-    """The module for libtss2, called as libtss2 does."""
+    """The module for libtss2. It is called as libtss2 calls it."""
 
     name, part = "the module", "libtss2-tcti-tpmsim"
 
@@ -171,7 +171,7 @@ class Python(Host):
 
     @contextlib.contextmanager
     def refusing(self) -> Iterator[None]:
-        """Turns DeviceEnded, BadImage, BadState and MemoryError into a refusal with its reason."""
+        """Turns DeviceEnded, BadImage, BadState and MemoryError into Refused, with the reason."""
         try:
             with warnings.catch_warnings():
                 warnings.simplefilter("ignore", RuntimeWarning)
@@ -199,8 +199,8 @@ class Python(Host):
 
 
 class Run(Host):
-    """`tpmsim run --state`, which gets one line after another. Its next answer shows that a power
-    cycle is done.
+    """`tpmsim run --state`, which gets one line after another. Only its next response shows that a
+    power cycle is done.
     """
 
     name, answers_all = "the program", False
@@ -209,7 +209,7 @@ class Run(Host):
 
     @property
     def pipes(self) -> tuple[IO[bytes], IO[bytes]]:
-        """Its standard input and output."""
+        """Returns its standard input and output."""
         assert self.process and self.process.stdin and self.process.stdout
         return self.process.stdin, self.process.stdout
 
@@ -256,7 +256,7 @@ class Run(Host):
 
 
 class Power(Run):
-    """tpmsim-power, or `tpmsim power`: one power cycle."""
+    """tpmsim-power, which makes one power cycle."""
 
     name = "tpmsim-power"
 
@@ -264,7 +264,7 @@ class Power(Run):
         return [str(self.files.power), folder]
 
     def power(self) -> None:
-        """Nothing: the program's run is the power cycle."""
+        """Does nothing, because the program's run is the power cycle."""
 
 
 class ProgramPower(Power):
@@ -275,7 +275,7 @@ class ProgramPower(Power):
 
 
 class Simulator(Run):
-    """tpmsim-simulator, with a client of its protocol. Its power comes on as it begins."""
+    """tpmsim-simulator, with a client of its protocol. Its power comes on when it begins."""
 
     name, answers_all, comes_on = "the simulator", True, True
     device: SimulatorDevice | None = None
@@ -321,7 +321,7 @@ class Simulator(Run):
 
 
 def does(host: Host, act: str, folder: str) -> bytes:
-    """Has a host do an act; returns the response, if it has one."""
+    """Has a host do an act. Returns the response, if there is one."""
     if act == BEGIN:
         host.begin(folder)
     elif act == POWER:

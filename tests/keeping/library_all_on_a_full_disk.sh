@@ -1,5 +1,5 @@
-# The test library_all_at_once.sh on a disk that is full now and then. It is mounted for this test alone, by
-# root or by a user who may be root in a namespace.
+# Does the same as library_all_at_once.sh on a disk that is full now and then. The disk is mounted only for
+# this test, by root or by a user who may be root in a namespace.
 if [ -z "${own_mounts:-}" ]; then
     for user in '' '--user --map-root-user'; do
         # shellcheck disable=SC2086 # it is two words, or none

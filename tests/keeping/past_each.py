@@ -1,9 +1,9 @@
-"""Each call fails in turn of a power cycle that keeps journals of the past:
+"""Makes each call fail in turn of a power cycle that keeps past journals:
 
     python3 past_each.py PROGRAM HOSTS SHIM
 
-Python keeps three of them. After another power cycle without a fault, the last journals have the
-first numbers in order, and none is missing.
+Python keeps three past journals. After another power cycle without a fault, the last journals
+have the first numbers in order, and none is missing.
 """
 
 import errno
@@ -22,7 +22,7 @@ VARIANTS = [(Act.FAILS, errno.EIO), (Act.DOES_AND_FAILS, errno.EIO), (Act.IS_KIL
 
 
 class KeepingPast(Python):
-    """Python, which keeps journals of the past."""
+    """Python as a host that keeps past journals."""
 
     def begin(self, folder: str) -> None:
         with self.refusing():
@@ -30,7 +30,8 @@ class KeepingPast(Python):
 
 
 def made(host: Host, folder: pathlib.Path) -> None:
-    """Makes a device with three journals of the past, each of one letter, the last one A."""
+    """Makes a device with three past journals. Each contains one letter; the last one contains A.
+    """
     for act in (BEGIN, STARTUP):
         does(host, act, str(folder))
     host.close()
@@ -39,7 +40,7 @@ def made(host: Host, folder: pathlib.Path) -> None:
 
 
 def past_in(folder: pathlib.Path, journal: bytes) -> list[str]:
-    """The journals with the numbers from 1 on."""
+    """Returns the journals with the numbers from 1 on."""
     told = []
     for number in range(1, KEPT + 1):
         path = folder / f"journal.{number}"

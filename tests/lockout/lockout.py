@@ -13,7 +13,7 @@ PIN, SECRET = b"2468", b"a secret"
 
 FIVE = b"0", b"1", b"2", b"3", b"4"
 
-# The objects, one of which is protected.
+# Two objects, of which one is protected.
 GUARDED, FREE = 0x8000_0000, 0x8000_0001
 
 tpm = Steps(__name__, __doc__)
@@ -40,14 +40,14 @@ def locked(what, *passwords, index=FIRST, after=0):
 
 
 def opened(what, wait):
-    """The device is locked until exactly this many milliseconds have passed."""
+    """Checks that the device stays locked until exactly this many milliseconds have passed."""
     tpm.chapter(what)
     locked(f"{wait - 1:,} milliseconds later", after=wait - 1)
     right("One more", after=1)
 
 
 def lock():
-    """The three tries that a new device has."""
+    """Makes the three failed tries that a new device allows."""
     wrong("Three wrong passwords", b"0000", b"1111", b"2222")
 
 
@@ -62,7 +62,7 @@ tpm.written("One with TPMA_NV_NO_DA", free, SECRET, auth=PIN)
 
 
 def sealed_objects():
-    """The objects, which are gone after a power cycle."""
+    """Makes the objects, which do not survive a power cycle."""
     for words, handle, more in (("without", GUARDED, 0), ("with", FREE, ObjectAttribute.NO_DA)):
         said, template = tpm(f"A sealed object {words} noDA"), sealed(attributes=PROTECTED | more)
         made = said.owned(template, user_auth=PIN, data=SECRET)

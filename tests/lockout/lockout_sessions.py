@@ -20,8 +20,8 @@ tpm = Steps(__name__, __doc__)
 
 @dataclass
 class Way:
-    """A way to use an entity: how a command is prepared, the place of the entry that becomes wrong,
-    and the assertions that the policy session needs before each use.
+    """A way to use an entity: how a command is prepared, the number of the entry that becomes
+    wrong, and the assertions that the policy session needs before each use.
     """
 
     words: str
@@ -36,7 +36,9 @@ class Way:
 
 
 def ways(handle, use):
-    """All ways in which an entry is a try at a protected entity, and the sessions for them."""
+    """Returns all ways in which an entry is an authorization attempt at a protected entity, and the
+    sessions for them.
+    """
     unbound = tpm.start("An HMAC session that is bound to nothing")
     to_owner = tpm.start("One that is bound to TPM_RH_OWNER", RH_OWNER)
     bound = tpm.start("One that is bound to the entity", handle)
@@ -79,7 +81,7 @@ def check(name, handle, use):
         if way.tell:
             tpm.restarts(sessions[4])
         tpm.unlocks()
-    # Ways without a protected value stay open while it is locked.
+    # Ways that need no protected value work while the device is locked.
     unbound, to_owner, bound, to_lockout, told, bound_policy = sessions
     tpm.chapter(f"What is no try, {name}.")
     others = (
@@ -109,7 +111,9 @@ def check(name, handle, use):
 
 
 def policy_without_value():
-    """A policy that demands no value is not a try, whatever its HMAC is."""
+    """A policy that demands no authorization value is no authorization attempt, whatever its HMAC
+    is.
+    """
     tpm.chapter("A policy that asks for no authorization value, and a session bound to nothing.")
     digest = policy.after_locality(SHA256, bytes(32), 1)
     tpm.define("An index with this policy", area(SECOND, BY_POLICY, auth_policy=digest))

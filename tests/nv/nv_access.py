@@ -6,7 +6,7 @@ from tests.common.vocabulary import area, bits, BY_POLICY, BY_VALUE, counter, ex
 from tests.common.vocabulary import nv, NvAttribute, RH_ENDORSEMENT, RH_LOCKOUT, RH_NULL, RH_OWNER
 from tests.common.vocabulary import RH_PLATFORM, RS_PW, SECOND, Teller, THIRD
 
-# What an index allows by one attribute for writing and one for reading, and who then may do it.
+# Pairs of one attribute for writing and one for reading, with the entity that they allow to do so.
 ALLOWED = (
     (NvAttribute.OWNERWRITE, NvAttribute.OWNERREAD, "owner"),
     (NvAttribute.PPWRITE, NvAttribute.PPREAD, "platform"),
@@ -24,7 +24,7 @@ tpm = Teller(__name__, __doc__)
 
 
 def refusal(asker, allowed):
-    """The outcome of a password of an asker, if only one kind of asker is allowed."""
+    """Returns the outcome of an entity's password if only one kind of entity is allowed."""
     if asker == allowed:
         return "SUCCESS"
     return "AUTH_UNAVAILABLE" if asker == "index" else "NV_AUTHORIZATION"
@@ -33,7 +33,8 @@ def refusal(asker, allowed):
 def each_asker(what, allowed, prepare):
     for words, handle, asker in ASKERS:
         tpm.comes_to(f"{words}, {what}: {refusal(asker, allowed)}", prepare(handle))
-    # Another index authorizes by its own attributes, and may not authorize this one.
+    # Another index may not authorize this one, although it can authorize itself by its own
+    # attributes.
     tpm.fails(f"Another index that can be written, {what}: NV_AUTHORIZATION", prepare(SECOND))
 
 
@@ -41,7 +42,7 @@ tpm.define("Another index, which can be used by its value", area(SECOND, BY_VALU
 tpm("It is written").writing(SECOND, b"other...")
 for write, read, allowed in ALLOWED:
     tpm.chapter(f"{write.name} alone.")
-    # All changes need the same attribute.
+    # All commands that change an index need the same attribute.
     for name, make, change in (
         ("An ordinary index", area, lambda it, by: tpm.writing(it, b"x", by=by)),
         ("A counter", counter, tpm.incrementing),

@@ -11,7 +11,9 @@ tpm = Steps(__name__, __doc__, tries=True)
 
 
 def changing_policy(algorithm=SHA256, before=None):
-    """The digest of TPM2_PolicyCommandCode after earlier assertions."""
+    """Returns the digest after TPM2_PolicyCommandCode, which comes after the assertions of
+    `before`.
+    """
     old = before or bytes(digest_bytes(algorithm))
     return policy.after_command_code(algorithm, old, CC.NV_ChangeAuth)
 

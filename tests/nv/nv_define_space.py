@@ -16,7 +16,7 @@ tpm = Teller(__name__, __doc__)
 
 
 def fitting(what, public, **more):
-    """An index that can be defined; it is read, and undefined again."""
+    """Defines an index, which must succeed. Then reads its public area, and undefines it."""
     by = more.get("by", RH_OWNER)
     tpm.define(what, public, **more)
     tpm.is_now("", public.index)
@@ -28,7 +28,7 @@ def unfitting(words, *publics, **more):
 
 
 def raw(text):
-    """The command with these parameters."""
+    """Returns the command with these parameters."""
     return tpm.defining(area()).but(parameters=text)
 
 

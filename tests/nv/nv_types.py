@@ -18,7 +18,8 @@ CHANGES = {
     "TPM2_NV_Extend": lambda index: tpm.extending(index, SECRET, by=RH_OWNER),
 }
 
-# Each type with what is read after the only change that it allows, in the order of the changes.
+# Each type, with the bytes that are read after the only change that it allows. The order is that of
+# the changes.
 TYPES = (
     ("An ordinary index", area, SECRET),
     ("A counter", counter, number(1, 8)),

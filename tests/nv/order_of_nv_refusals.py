@@ -19,7 +19,9 @@ tpm = OrderTeller(__name__, __doc__, tries=True)
 
 
 def handles_in_order(code, handles):
-    """Each handle cut, of another kind, and absent, and no right handle after it."""
+    """Sends each handle truncated, of another kind, and of a missing entity. No valid handle
+    follows it.
+    """
     for place, handle in enumerate(handles, 1):
         before = b"".join(number(it, 4) for it in handles[: place - 1])
         is_of_kind = handle_kinds.IS_OF_KIND[code.handles[place - 1].kind]
@@ -35,7 +37,7 @@ def handles_in_order(code, handles):
 
 
 def general_refusals(code, handles, cut, uses):
-    """All refusals up to the parameters, which are always `cut`."""
+    """Causes all refusals up to those of the parameters, which are always `cut`."""
     handles_in_order(code, handles)
     is_first = handle_kinds.IS_OF_KIND[code.handles[0].kind]
     closed = BY_OTHERS if code.authorized and is_first(BY_OTHERS) else None
@@ -44,7 +46,7 @@ def general_refusals(code, handles, cut, uses):
 
 
 def changes(code, what, index, locked, parameters, faults=(), ranges=()):
-    """One of the four commands that change an index; `locked` is of another type."""
+    """Tests one of the four commands that change an index. The index `locked` has another type."""
     tpm.chapter(f"TPM2_{code.name}{what}.")
     uses = [VALUE, Use(session, 1 | DECRYPT) if code.takes_sized else Use(session)]
     general_refusals(code, [index, index], parameters[:-1] or b"\0", uses)
@@ -140,7 +142,9 @@ def change_auth():
 
 
 def policy_in_order(told, both_wrong):
-    """A policy session's assertions, and the outcome of its two entries, which are both wrong."""
+    """Makes a policy session's assertions. `both_wrong` is the outcome if both of its entries are
+    wrong.
+    """
 
     def tell_code(code):
         tpm(f"TPM2_PolicyCommandCode of TPM2_{code.name}").command_code(told, code)

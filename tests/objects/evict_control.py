@@ -18,7 +18,8 @@ from tests.common.vocabulary import (
 from tests.common.vocabulary import RH_ENDORSEMENT, RH_LOCKOUT, RH_NULL, RH_OWNER, RH_PLATFORM
 from tests.common.vocabulary import sealed, SHA256, storage_key, wrong
 
-# Handles of persistent objects: the owner's are below 81800000, the platform's from there on.
+# Handles of persistent objects. Those below 81800000 are the owner's, and the others the
+# platform's.
 FIRST, OWNERS_LAST, PLATFORMS_FIRST, LAST = 0x8100_0000, 0x817F_FFFF, 0x8180_0000, 0x81FF_FFFF
 OTHER, THIRD = 0x8100_0001, 0x8100_0002
 
@@ -28,12 +29,14 @@ tpm = Steps(__name__, __doc__)
 
 
 def fails(words, *commands):
-    """By the password; with the hierarchy, the object, and the persistent handle."""
+    """Sends TPM2_EvictControl with the password. Each command has the hierarchy, the object, and
+    the persistent handle.
+    """
     tpm.says(words, *(tpm.evicting(*it, b"") for it in commands))
 
 
 def kept_handles(what, *handles):
-    """All persistent objects, as TPM2_GetCapability lists them."""
+    """Checks the handles of all persistent objects, by TPM2_GetCapability."""
     tpm.lists(what, HANDLES, FIRST, 64, handles)
 
 
@@ -64,7 +67,7 @@ def handles_and_parameter(owners):
 
 
 def in_order():
-    """Each refusal, with the later ones possible too."""
+    """Causes each refusal, by commands that also have the later faults."""
     tpm.chapter("The checks in their order; each command has the later faults too.")
     owners = tpm.owned("An object of the owner", storage_key())
     clears = tpm.owned("One with stClear", CLEARED)

@@ -1,10 +1,10 @@
-"""Writes object_vectors.tpm: objects whose every byte is computed here, step by step.
+"""Writes object_vectors.tpm: objects, each byte of which is computed here, step by step.
 
     tools/python.sh tests/objects/object_vectors.py    also prints each step, for tests that need numbers
 
-It uses hashlib and hmac, and aes.py for the cipher, but not object_rules.py: the equations of
-objects are here once more, each on its own line, with the numbers of one example. The script's
-answers, which the Python device gives, are compared with them.
+The program uses hashlib and hmac, and aes.py for the cipher, but not object_rules.py. It has the
+equations of objects once more, each on its own line, with the numbers of one example. The
+script's responses, which the Python device computes, are compared with them.
 """
 
 import hashlib
@@ -13,8 +13,9 @@ import hmac
 from tpmsim.standard import aes, CC, command, entry, number, on_handle, RH_OWNER, selection, sized
 from tests.common.script import Script
 
-# The device of a script is manufactured with the bytes 00 to ff, eight pieces of 32: the seeds of
-# the owner's, the endorsement, the platform and the null hierarchy, and then their proofs.
+# The device of a script is manufactured with the bytes 00 to ff. These are eight pieces of 32
+# bytes: the seeds of the owner's, the endorsement, the platform and the null hierarchy, and then
+# their proofs.
 OWNER_SEED, OWNER_PROOF = bytes(range(0x00, 0x20)), bytes(range(0x80, 0xA0))
 OWNER = number(RH_OWNER, 4)
 SHA256_NUMBER = bytes.fromhex("000B")
@@ -29,7 +30,7 @@ def hmac_sha256(key, *texts):
 
 
 def kdfa(key, label, u, v, bits):
-    """SP 800-108, counter mode with HMAC-SHA-256."""
+    """Computes KDFa: SP 800-108 in counter mode with HMAC-SHA-256."""
     given, block = b"", 1
     while len(given) < bits // 8:
         given += hmac_sha256(key, number(block, 4), label, b"\0", u, v, number(bits, 4))
@@ -43,8 +44,9 @@ def step(name, value):
 
 
 def creation(kind, name, above, outside_info):
-    """The answer about the creation: the data, with no PCRs and locality 0 (bit 0), their hash and
-    the ticket. `above` is the algorithm, the Name and the qualified name of the parent.
+    """Returns the part of the response about the creation: the creation data, with no PCRs and
+    locality 0 (bit 0), their hash and the ticket. `above` is the algorithm, the Name and the
+    qualified name of the parent.
     """
     algorithm, *names = above
     data = selection() + sized(sha256(b"")) + b"\x01" + algorithm
@@ -61,9 +63,9 @@ script = Script(
 )
 script.startup()
 
-# The primary key. inSensitive: the value "owner key", and no data. inPublic: a SYMCIPHER (0025),
-# SHA-256 (000B), attributes fixedTPM, fixedParent, sensitiveDataOrigin, userWithAuth, noDA,
-# restricted and decrypt (00030472), no policy, AES-128 in mode CFB (0006 0080 0043), no unique.
+# The primary key. inSensitive: the value "owner key", and no data. inPublic: a SYMCIPHER (0025);
+# SHA-256 (000B); attributes fixedTPM, fixedParent, sensitiveDataOrigin, userWithAuth, noDA,
+# restricted and decrypt (00030472); no policy; AES-128 in mode CFB (0006 0080 0043); empty unique.
 in_sensitive = sized(b"owner key") + sized(b"")
 template = bytes.fromhex("0025 000B 00030472 0000 0006 0080 0043 0000")
 of_template, of_sensitive = sha256(template), sha256(in_sensitive)
@@ -74,7 +76,7 @@ public = template[:-2] + sized(unique)
 name = step("primary Name", SHA256_NUMBER + sha256(public))
 qualified_name = step("primary qualified name", SHA256_NUMBER + sha256(OWNER, name))
 
-# The hierarchy takes the role of a parent.
+# The hierarchy is the parent.
 created = creation("primary", name, (bytes.fromhex("0010"), OWNER, OWNER), b"first")
 
 given = sized(in_sensitive) + sized(template)
@@ -86,9 +88,10 @@ assert answer[18:-5] == sized(public) + created + sized(name)
 answer = script.command("TPM2_ReadPublic: SUCCESS", command(CC.ReadPublic, number(0x8000_0000, 4)))
 assert answer[10:] == sized(public) + sized(name) + sized(qualified_name)
 
-# Data sealed under it, created with the random bytes 40, 41, 42, .., from which the seed and then
-# the first block of the cipher are taken. Attributes fixedTPM, fixedParent, userWithAuth, noDA
-# (00000452); scheme NULL. The value ends with two zeros, which do not count.
+# Data that are sealed under the key, and created with the random bytes 40, 41, 42, ... From these
+# come the seed and then the first block of the cipher. The attributes are fixedTPM, fixedParent,
+# userWithAuth and noDA (00000452). The scheme is NULL. The authorization value ends with two zeros,
+# which do not count.
 random = bytes(range(0x40, 0x40 + 64))
 data = b"what is sealed"
 in_sensitive = sized(b"pin\0\0") + sized(data)

@@ -16,7 +16,8 @@ def start(what, seed):
 
 
 def primaries():
-    """The Name of a storage key in each hierarchy, and a child that was created under each."""
+    """Returns the Name of a storage key in each hierarchy, and a child that was created under each.
+    """
     names, children = {}, {}
     for hierarchy, name in HIERARCHIES:
         with tpm.held(f"A storage key in {name}", storage_key(), hierarchy=hierarchy) as handle:
@@ -27,7 +28,7 @@ def primaries():
 
 
 def tickets():
-    """The tickets of a creation, by two hierarchies."""
+    """Returns the creation tickets of two hierarchies."""
     found = {}
     for hierarchy, name in (HIERARCHIES[0], HIERARCHIES[3]):
         with tpm.held(f"A key in {name}", hmac_key(), hierarchy=hierarchy, data=b"key"):

@@ -16,7 +16,9 @@ SECRET = b"secret"
 
 
 def general_refusals(code, handle, cut, uses):
-    """All refusals before the parameters: the handle, the authorization area, entries, HMACs."""
+    """Causes all refusals before the parameters: of the handle, the authorization area, the entries
+    and the HMACs.
+    """
     other = RH_LOCKOUT if code == CC.CreatePrimary else RH_OWNER
     for words, text in (
         ("Half a handle, and no sessions (tag 8001): INSUFFICIENT/h1", b"\x80\0"),
@@ -41,8 +43,8 @@ restricted = said.create_primary(RH_OWNER, RESTRICTED_KEY, user_auth=b"r", data=
 session = tpm.start("A session with AES, that is bound to TPM_RH_OWNER", bind=RH_OWNER, aes=True)
 DECRYPTS = Use(session, 1 | DECRYPT)
 
-# A template whose authPolicy, attributes and scheme are wrong, and others with some of these
-# faults.
+# A template with a wrong authPolicy, wrong attributes and a wrong scheme. The others have only some
+# of these faults.
 WRONG = hmac_key(SHA1, HERE | OPEN | ObjectAttribute.RESTRICTED, ALG_NULL, auth_policy=b"p")
 FIXED_ALONE = sealed(SHA1, ObjectAttribute.FIXED_TPM | OPEN, scheme=SHA1)
 PUBLIC_FAULTS = (
@@ -51,7 +53,7 @@ PUBLIC_FAULTS = (
     ("Scheme HMAC without sign", "SCHEME/p2", sealed(SHA1, scheme=SHA1)),
 )
 GOOD = frames.sensitive_create(data=SECRET)
-# Its userAuth is too long.
+# A sensitive area whose userAuth is too long.
 LONG = frames.sensitive_create(b"a" * 21, SECRET)
 NONE, BAD_TYPE = sized(b""), sized(number(1, 2))
 BANK = number(1, 4) + number(0x000C, 2) + b"\x03\0\0\0"

@@ -54,7 +54,8 @@ def sensitive(data=b"forged", auth=b"", seed=b"s" * 32, kind=KEYEDHASH):
 
 @dataclass(frozen=True)
 class Forger:
-    """A forger who knows the seed of the parent, and makes private areas for a public one."""
+    """A forger who knows the seed of the parent. The forger makes private areas for a public area.
+    """
 
     parent: int
     public: Public
@@ -64,7 +65,9 @@ class Forger:
         return tpm.script.device.objects[self.parent]
 
     def forge(self, text, iv=b"\x5a" * aes.BLOCK, name=None, algorithm=None):
-        """A private area with this encrypted text, by the equations and not by object_rules.py."""
+        """Returns a private area with this encrypted text. It uses the equations, and not
+        object_rules.py.
+        """
         seed = self.known.sensitive.seed_value
         algorithm = algorithm or self.known.public.name_algorithm
         name = self.public.name if name is None else name
@@ -75,7 +78,7 @@ class Forger:
         return sized(mac(algorithm, key, protected + name)) + protected
 
     def behind(self, rest):
-        """A private area with any rest after its right integrity value."""
+        """Returns a private area in which any bytes follow the right integrity value."""
         return sized(object_rules.integrity(self.known, rest, self.public.name)) + rest
 
     def refused(self, what, *privates):
@@ -85,7 +88,9 @@ class Forger:
         self.refused(what, *map(self.forge, texts))
 
     def made(self, given=b"", **parts):
-        """A private area with these parts of its sensitive area, and its authorization value."""
+        """Returns a private area with these parts of its sensitive area, and its authorization
+        value.
+        """
         return Made(self.forge(sensitive(**parts)), self.public, given)
 
     def loaded(self, what, given=b"", flushed="It is flushed", **parts):

@@ -26,15 +26,15 @@ tpm = Steps(__name__, __doc__)
 
 @dataclass(frozen=True)
 class Target:
-    """A command with inPublic, and its handle. Everything after inPublic is empty, also the private
-    area of TPM2_Load, which would be refused later.
+    """A command with inPublic, and its handle. Everything after inPublic is empty. So is the
+    private area of TPM2_Load, which would be refused later.
     """
 
     code: CC
     handle: int
 
     def prepared(self, public, first=None):
-        """The command with these texts, each with its size already before it."""
+        """Returns the command with these parameters, each of which already has its size."""
         if self.code == CC.Load:
             first, rest = first or sized(b""), b""
         else:
@@ -63,7 +63,7 @@ TARGETS = *CREATING, Target(CC.Load, parent)
 
 
 def shorts(*values):
-    """Numbers of two bytes."""
+    """Returns these numbers, with two bytes each."""
     return b"".join(number(it, 2) for it in values)
 
 
@@ -111,7 +111,7 @@ def read_head(target):
 
 
 def read_parameters(target):
-    """The parameters of a KEYEDHASH and of a SYMCIPHER."""
+    """Tests the parameters of a KEYEDHASH and of a SYMCIPHER."""
     case = "The scheme of a KEYEDHASH is neither HMAC nor NULL: XOR, AES, none"
     schemes = (head() + shorts(it, 0) for it in (0x000A, AES, 0, SHA256))
     target.also_cut(case, "SCHEME/p2", schemes, head() + shorts(0x0014))

@@ -1,11 +1,11 @@
-# tools/before_commit.sh, in a small repository: what it finds, what it skips, and that it lays out the
-# changed crates, by a stand-in for `rt`.
+# Runs tools/before_commit.sh in a small repository. Checks what it finds, what it skips, and that it formats
+# the changed crates, with a stand-in for `rt`.
 tests=$(cd "$(dirname "$0")/.." && pwd -P)
 . "$tests/common/cases.sh"
 needs git python3 shellcheck
 top=${tests%/*}
 
-# The tools that it needs, and in other folders those that are optional.
+# A folder with the tools that the script needs, and other folders with the optional tools.
 mkdir tools_there rt_there linters_there
 for tool in cat cut getconf git grep mv sed sh sort xargs; do
     ln -s "$(command -v "$tool")" "tools_there/$tool"
@@ -38,7 +38,7 @@ printf 'import sys\nprint(sys.path)\n' >good.py
 echo 'fn one() {}' | tee crates/tpm_one/src/lib.rt >crates/tpm_two/src/lib.rt
 git init -q . && git add . && git -c user.name=t -c user.email=t@localhost commit -q -m 'Begin'
 
-# before FOLDER..: checks the repository, with these folders of tools.
+# before FOLDER..: runs the script with these folders of tools.
 before() {
     path=$room/folder/tools_there
     for folder do path=$path:$room/folder/$folder; done

@@ -1,5 +1,5 @@
-# What bash completes: the program's subcommands, options, files and names of commands, and those in the
-# help of a program that is newer than any tpmsim.
+# Prints what bash completes: the program's subcommands, options, files and names of commands. Also the
+# subcommands in the help of a newer program.
 tests=$(cd "$(dirname "$0")/.." && pwd -P)
 . "$tests/common/cases.sh"
 needs bash python3

@@ -1,4 +1,4 @@
-# What zsh completes, as completion_bash.sh has it for bash, and the explanation of each.
+# Prints what zsh completes in the cases of completion_bash.sh, and the explanation of each completion.
 tests=$(cd "$(dirname "$0")/.." && pwd -P)
 . "$tests/common/cases.sh"
 needs zsh python3
@@ -39,7 +39,7 @@ tpmsim|help|_
 tpmsim-explain|-
 tpmsim-explain|_
 CODE
-# Each command of the TPM has a line; the first ones are enough here.
+# Each TPM command has a line. The first lines are enough here.
 awk '/^==/ { lines = 0 } lines++ < 9' completed
 
 echo '== a program with another subcommand'

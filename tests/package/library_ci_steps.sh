@@ -1,5 +1,5 @@
-# The steps of .github/actions/tpmsim, and those of its snippet for GitLab, start a device, which later steps
-# reach by the variables of the job. Wrong words, and a device that does not start, end the step.
+# Runs the steps of .github/actions/tpmsim, and those of its snippet for GitLab. They start a device, which
+# later steps reach by the variables of the job. Wrong words, and a device that does not start, end the step.
 tests=$(cd "$(dirname "$0")/.." && pwd -P)
 . "$tests/common/cases.sh"
 . "$tests/common/library.sh"
@@ -7,7 +7,7 @@ needs python3 git cc nm strip
 top=${tests%/*}
 trap 'end_devices; keep_journals; rm -rf "$room"' EXIT
 
-# end_devices: ends each device that a step started.
+# end_devices: ends all devices that steps have started.
 end_devices() {
     for file in "$room"/*/tpmsim/pid "$room"/*/.tpmsim-device/pid; do
         [ -f "$file" ] || continue
@@ -18,7 +18,7 @@ end_devices() {
     done
 }
 
-# The repository, as far as the steps need it, with the library under test.
+# A copy of the parts of the repository that the steps need, with the library under test.
 mkdir -p "$room/source/dist" "$room/source/.github"
 cp -r "$top/.github/actions" "$room/source/.github/" && cp -r "$top/hosts" "$room/source/" &&
     cp -L "$dist/tpmsim" "$archive" "$dist/tpmsim.h" "$room/source/dist/"

@@ -1,11 +1,12 @@
-# What is installed with the program: each link of a document leads to an installed file, the examples run,
-# and whatever man pages and documents name is installed, or they say that it is in the sources.
+# Checks the files that are installed with the program. Each link of a document leads to an installed file,
+# and the examples run. Whatever man pages and documents name is installed, or they say that it is in the
+# sources.
 tests=$(cd "$(dirname "$0")/.." && pwd -P)
 . "$tests/common/cases.sh"
 needs python3
 top=${tests%/*}
 
-# The modules are left out: this compiler has no headers for them.
+# The modules are left out, because this compiler has no headers for them.
 mkdir none
 printf '#!/bin/sh\nexit 1\n' >none/cc
 chmod +x none/cc
@@ -14,7 +15,7 @@ PATH=$room/folder/none:$PATH DESTDIR=$room/root PREFIX=/usr "$top/tools/install.
 documents=$room/root/usr/share/doc/tpmsim
 pages=$room/root/usr/share/man
 
-# follow: prints the faults of the links of all documents, of which there are many.
+# follow: prints the broken links in all documents. There are many documents.
 follow() {
     (cd "$documents" && find . -name '*.md' | sed 's|^\./||' | LC_ALL=C sort | tr '\n' '\0') |
         xargs -0 env PYTHONPATH= python3 -S "$tests/common/links.py" --count "$documents" |

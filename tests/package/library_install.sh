@@ -1,13 +1,13 @@
-# What `tools/install.sh` does for the loader and for Python, and what it says to a user, if there is no
-# DESTDIR: it calls root's ldconfig, and the package goes where python3 looks.
+# Checks what `tools/install.sh` does for the loader and for Python, and its messages, if there is no DESTDIR.
+# As root it calls ldconfig. It installs the package where python3 finds it.
 tests=$(cd "$(dirname "$0")/.." && pwd -P)
 . "$tests/common/cases.sh"
 needs python3
 top=${tests%/*}
 unset PYTHONPATH DESTDIR
 
-# The modules are left out: this compiler has no headers for them. The stand-in for ldconfig writes its
-# arguments to `asked`, and knows the content of `known`.
+# The modules are left out, because this compiler has no headers for them. The stand-in for ldconfig writes
+# its arguments to `asked`, and prints the content of `known`.
 mkdir bin
 printf '#!/bin/sh\nexit 1\n' >bin/cc
 cat >bin/ldconfig <<END
@@ -19,7 +19,7 @@ END
 printf '#!/bin/sh\necho "$USER_NUMBER"\n' >bin/id
 chmod +x bin/*
 
-# install_as USER PREFIX: what this user reads who installs there, and the arguments of ldconfig.
+# install_as USER PREFIX: installs as this user, and prints the messages and the arguments of ldconfig.
 install_as() {
     : >asked
     USER_NUMBER=$1 PREFIX=$2 PATH=$room/folder/bin:$PATH "$top/tools/install.sh" >said 2>&1 ||
@@ -27,7 +27,7 @@ install_as() {
     grep -v 'there is no \(module\|tpmsim-simulator\)' said | cat - asked | sed "s|$room|ROOM|g"
 }
 
-# import: whether python3 finds the package.
+# import: prints 1 if python3 finds the package, else 0.
 import() {
     (cd / && command python3 -c 'import tpmsim; print(tpmsim.__version__)') | grep -c '^[0-9.]*$'
 }

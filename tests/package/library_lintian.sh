@@ -1,5 +1,5 @@
-# lintian finds no error in the package, which has the modules if their headers are installed; and it finds
-# one in a package without a copyright file.
+# Checks that lintian finds no error in the package, and finds one in a package without a copyright file. The
+# package has the modules if their headers are installed.
 tests=$(cd "$(dirname "$0")/.." && pwd -P)
 . "$tests/common/cases.sh"
 needs dpkg-deb python3 lintian

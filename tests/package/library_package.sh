@@ -1,4 +1,4 @@
-# The package for Debian: it is unpacked into an empty root, and its contents run from there.
+# Unpacks the Debian package into an empty root, and runs its contents from there.
 tests=$(cd "$(dirname "$0")/.." && pwd -P)
 . "$tests/common/cases.sh"
 needs dpkg-deb cc c++ pkg-config man python3

@@ -1,5 +1,6 @@
-# tools/release.sh, in a copy of the repository whose dist/ claims to be of its sources: what prevents a
-# release, and what it makes. The copy has only the two crates of which dist/ is made.
+# Runs tools/release.sh in a copy of the repository whose dist/ claims to be made from its sources. Checks
+# what prevents a release, and what a release makes. The copy has only the two crates from which dist/ is
+# made.
 tests=$(cd "$(dirname "$0")/.." && pwd -P)
 . "$tests/common/cases.sh"
 needs git dpkg-deb python3

@@ -1,5 +1,5 @@
-# tools/wheel.py makes a wheel with the library in it, which pip installs in a plain venv without a network;
-# pip installs the folder python/ too, and changes nothing there. README's first example runs, and so does
+# tools/wheel.py makes a wheel that contains the library. pip installs it in a plain venv without a network.
+# pip also installs the folder python/, and changes nothing there. README's first example runs, and so does
 # the program.
 tests=$(cd "$(dirname "$0")/.." && pwd -P)
 . "$tests/common/cases.sh"
@@ -11,7 +11,7 @@ export PIP_NO_COMPILE=1 PIP_NO_INDEX=1 PIP_NO_CACHE_DIR=1 PIP_DISABLE_PIP_VERSIO
 command python3 -m venv venv >said 2>&1 || skip 'there is no venv of Python (Debian: python3-venv)'
 venv=$PWD/venv
 
-# try WHAT: installs it, and tries it from another folder.
+# try WHAT: installs WHAT, and tries it from another folder.
 try() {
     "$venv/bin/pip" install -q "$1" || echo "pip: status $?"
     (cd / && "$venv/bin/python" "$room/folder/example.py" | sed 's/^[0-9a-f]\{8\}$/4 random bytes/' &&
@@ -19,7 +19,7 @@ try() {
         "$venv/bin/tpmsim-explain" --help | grep -c '^    tpmsim-explain LOG')
 }
 
-# remove: uninstalls it, and prints what is left.
+# remove: uninstalls the package, and prints the files that are left.
 remove() {
     "$venv/bin/pip" uninstall -q -y tpmsim && find venv \( -name 'tpmsim*' -o -name 'libtpmsim*' \)
 }

@@ -1,4 +1,4 @@
-# Each wrong body can be applied: the lines that it replaces are in the sources, once.
+# Checks that each wrong body can be applied: the lines that it replaces are in the sources exactly once.
 tests=$(cd "$(dirname "$0")/.." && pwd -P)
 . "$tests/common/cases.sh"
 needs python3

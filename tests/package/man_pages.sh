@@ -1,12 +1,12 @@
-# The man pages: man reads each without a warning, and they have what the program, the header and the
-# documents say. A new subcommand of the program is in the page as soon as its --help names it.
+# Checks the man pages. man reads each without a warning. They contain what the program, the header and the
+# documents say. A new subcommand is in the page as soon as the program's --help names it.
 tests=$(cd "$(dirname "$0")/.." && pwd -P)
 . "$tests/common/cases.sh"
 needs python3 man groff
 top=${tests%/*}
 make="$top/tools/man/pages.py"
 
-# shown PAGE: a page as a reader sees it, without the spaces that fill a line.
+# shown PAGE: prints a page as a reader sees it, without the spaces that fill a line.
 shown() {
     LC_ALL=C.UTF-8 MANWIDTH=100 man --warnings=w --nj -l "$1" 2>>warnings |
         sed 's/ \{1,\}/ /g'

@@ -2,10 +2,10 @@
 
     python3 tests/package/steps.py FOLDER [--run]
 
-It prints each command of .github/workflows/*.yml and .gitlab-ci.yml in FOLDER, and what it names
-that does not exist: a path of the repository, or a target of the Makefile. The status is 1 if
-something does not exist. With --run it runs the commands in FOLDER, each once, except those of
-apt-get and git, and ends at the first that fails.
+The program prints each command of .github/workflows/*.yml and .gitlab-ci.yml in FOLDER. It also
+prints the paths of the repository and the targets of the Makefile that a command names and that
+do not exist. The status is 1 if there are any. With --run it runs the commands in FOLDER, each
+once, except those of apt-get and git. It ends at the first command that fails.
 """
 
 import pathlib
@@ -21,14 +21,14 @@ TARGET = re.compile(r"\bmake((?: +[a-z_]+)+)")
 
 
 def commands_of(text: str) -> list[str]:
-    """The commands of a workflow, in their order."""
+    """Returns the commands of a workflow in their order."""
     if "on:" in text.split("\njobs:")[0]:
         return STEP.findall(text)
     return [command for items in LISTS.findall(text) for command in ITEM.findall(items)]
 
 
 def missing(folder: pathlib.Path, command: str) -> list[str]:
-    """What a command names that does not exist."""
+    """Returns the paths and targets that a command names and that do not exist."""
     makefile = (folder / "Makefile").read_text()
     targets = [target for found in TARGET.findall(command) for target in found.split()]
     return [path for path in PATH.findall(command) if not (folder / path).exists()] + [

@@ -1,5 +1,5 @@
-# All places that have the version have the same one. In a copy with another version in one of them, that
-# place is found, whichever it is.
+# Checks that all files with the version have the same one. If one file in a copy has another version, that
+# file is found, whichever it is.
 tests=$(cd "$(dirname "$0")/.." && pwd -P)
 . "$tests/common/cases.sh"
 top=${tests%/*}
@@ -9,7 +9,7 @@ echo '== this repository'
 "$top/tools/version.sh" "$program" >told
 echo "status $?"
 
-# turn FILE FROM TO: checks a copy in which this file is changed.
+# turn FILE FROM TO: replaces FROM by TO in this file of a copy, and checks the copy.
 turn() {
     rm -rf copy
     mkdir -p copy/tools copy/python/tpmsim copy/js copy/rust

@@ -1,5 +1,5 @@
-# The workflows for GitHub and GitLab name only files and targets that exist. steps.py runs their commands
-# with --run, which no test does.
+# Checks that the workflows for GitHub and GitLab name only existing files and targets. steps.py runs their
+# commands with --run, which no test does.
 tests=$(cd "$(dirname "$0")/.." && pwd -P)
 . "$tests/common/cases.sh"
 needs python3

@@ -14,12 +14,14 @@ tpm = Teller(__name__, __doc__, tries=True)
 
 
 def refused(words, prepared, *wrong):
-    """With wrong hmacs in these places."""
+    """Sends a command that is refused. The HMACs of the entries `wrong` are wrong."""
     tpm.refused(words, wrong_in(prepared, *wrong) if wrong else prepared)
 
 
 def up_to_hmacs(text):
-    """All refusals before the parameters of a command with one handle; the last is text."""
+    """Causes all refusals before the parameters of a command with one handle. `text` is the
+    command's parameters.
+    """
 
     def using(*uses, handle=policy.handle):
         return tpm.prepare(code, [handle], text, *uses)
@@ -48,7 +50,9 @@ def symmetric(use):
 
 
 def by_right(words, text):
-    """By the right password, while the policy session itself decrypts nonceTPM."""
+    """Sends TPM2_PolicySecret with the right password, while the policy session itself decrypts
+    nonceTPM.
+    """
     refused(words, secret(text, b"lockout", policy.decrypting))
 
 
@@ -63,12 +67,12 @@ trial = tpm.trial("A trial session, with AES", bind=RH_OWNER, aes=True)
 
 
 def says(words, text, session=policy, attributes=CONTINUE_SESSION):
-    """The command of the chapter, with these parameters."""
+    """Sends the command of the chapter with these parameters."""
     tpm(words).told(code, session, text, Use(hmac, attributes))
 
 
 def decrypted(words, text, session=policy):
-    """The same, while the HMAC session decrypts."""
+    """Does the same while the HMAC session decrypts."""
     says(words, text, session, DECRYPTS)
 
 

@@ -20,10 +20,10 @@ COMMANDS = (
     (CC.PolicyGetDigest, b""),
 )
 
-# Two more, at the end.
+# Two more commands, at the end.
 LATER = ((CC.PolicyCpHash, frames.sized(bytes(32))), (CC.PolicyNvWritten, b"\1"))
 
-# PCR 0, an NV index, HMAC sessions, permanent entities, objects, and numbers of no kind.
+# PCR 0, an NV index, HMAC sessions, permanent entities, objects, and handles of no kind.
 OTHERS = (
     *(0, 0x0100_0000, 0x0200_0000, 0x0200_0001, RH_OWNER, RH_NULL, RS_PW),
     *(0x8000_0000, 0x8100_0000, 0x0400_0000, 0xFF00_0000),
@@ -38,7 +38,7 @@ def plain(code, *handles, text=b""):
 
 
 def by_password(handle, session=ABSENT[0]):
-    """TPM2_PolicySecret by the empty password."""
+    """Returns a TPM2_PolicySecret with the empty password."""
     text = number(handle, 4) + number(session, 4) + PASSWORD + NOTHING
     return frames.command(CC.PolicySecret, text, frames.SESSIONS)
 

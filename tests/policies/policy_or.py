@@ -10,7 +10,7 @@ tpm = PolicyTeller(__name__, __doc__)
 
 
 def other(count):
-    """Digests of this session's size that it never has."""
+    """Returns digests of this session's size. The session never has any of them."""
     return [digest(session.algorithm, b"branch %d" % it) for it in range(count)]
 
 
@@ -20,7 +20,7 @@ def joins(what, *branches):
 
 
 def again():
-    """The session is like a new one; its digest is zeros."""
+    """Restarts the session, and returns its digest, which is zeros."""
     tpm.restarts(session)
     return zeros(session)
 

@@ -12,18 +12,21 @@ tpm = PolicyTeller(__name__, __doc__)
 
 
 def changed(what, banks=ZERO):
-    """A change that is refused in a policy session, and not in a trial session."""
+    """Sends a command after a PCR has changed. A policy session refuses it, and a trial session
+    does not.
+    """
     outcome = "SUCCESS" if is_trial(session) else "PCR_CHANGED"
     tpm(f"{what}: {outcome}").pcrs(session, banks)
 
 
 def values_digest(banks):
-    """The hash of the values of a selection, bank by bank, and in each by number."""
+    """Returns the hash of the values of a selection, bank by bank, and in each bank by PCR number.
+    """
     return tpm.history.pcrs.digest(session.algorithm, [(bank, sorted(it)) for bank, it in banks])
 
 
 def texts(words, *those, front=EMPTY):
-    """Parameters; their pcrDigest is empty unless another one is given."""
+    """Sends these parameters. Their pcrDigest is empty unless another one is given."""
     tpm.texts(words, CC.PolicyPCR, session, *(front + it for it in those))
 
 
@@ -44,7 +47,7 @@ for pcr in (0, 1, 7, 8, 16, 23):
     event(f"TPM2_PCR_Event into PCR {pcr}", pcr, b"event %d" % pcr)
 
 for session in tpm.each_session():
-    # Refused parameters; the digest is still zeros after them.
+    # Parameters that are refused. The digest is still zeros after them.
     one, of_one = selection((SHA256, [0])), number(1, 4) + number(SHA256, 2)
     case = "pcrDigest that is cut: INSUFFICIENT/p1"
     texts(case, b"", b"\0", b"\0\x01", number(32, 2) + bytes(31), front=b"")

@@ -10,7 +10,7 @@ PCR_0 = [(SHA256, [0])]
 
 
 def forgets(what, told):
-    """An assertion, and then the restart."""
+    """Makes an assertion, and then restarts the session."""
     tpm.says(f"{what}: SUCCESS", told)
     tpm.restarts(session)
     tpm.digest_is("The digest is zeros", session, zeros(session))

@@ -26,12 +26,12 @@ def get_digest(handle):
 
 
 def random_by(handle):
-    """TPM2_GetRandom with a session of which only the handle is known."""
+    """Returns a TPM2_GetRandom with a session of which the caller knows only the handle."""
     return tpm.random(1).but(entries=[Entry(handle, b"", 1, b"")])
 
 
 def tell(session, code, mask, cp_hash):
-    """An assertion of each kind for which a session accepts no other value later."""
+    """Makes each kind of assertion after which a session accepts no other value of that kind."""
     said = tpm("TPM2_PolicyCommandCode, TPM2_PolicyLocality, TPM2_PolicyPCR: SUCCESS")
     said.says(
         tpm.command_code(session, code), tpm.locality(session, mask), tpm.pcrs(session, PCR_0)

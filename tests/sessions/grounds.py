@@ -27,12 +27,14 @@ HIERARCHIES = {
 
 tpm = GroundsCaller(__name__, __doc__)
 
-# The null hierarchy has no other use of its value, which is empty.
+# The null hierarchy's authorization value is empty, and has no other use than this command.
 at_null = partial(tpm.primary, RH_NULL, sealed(), data=SECRET)
 
 
 class Entity(NamedTuple):
-    """What its value authorizes: its handle, a command for it, and how an entry does it."""
+    """An entity whose authorization value authorizes a command: its handle, the command, and how an
+    entry authorizes it.
+    """
 
     words: str
     handle: int
@@ -41,7 +43,9 @@ class Entity(NamedTuple):
 
 
 def with_policy(auth_policy):
-    """A sealed object and an index that only this policy authorizes, and commands on them."""
+    """Makes a sealed object and an index that only this policy authorizes. Returns commands on
+    them.
+    """
     handle = tpm.sealed_object("An object and an index with this policy", auth_policy)
     index = tpm.index("", BY_POLICY, auth_policy)
     return handle, (
@@ -52,8 +56,9 @@ def with_policy(auth_policy):
 
 
 def condition(words, auth_policy, told, *assertions, demand=None, locality=0):
-    """The demands of a policy: the assertions for a session, of which one may depend on the command
-    that it then authorizes; the demand on the entry; and the locality of the command.
+    """Checks the demands of a policy: the assertions for a session, the demand on the entry, and
+    the locality of the command. One assertion may depend on the command that the session then
+    authorizes.
     """
     tpm.chapter(words)
     handle, commands = with_policy(auth_policy)
@@ -165,7 +170,7 @@ tpm.unseal("TPM2_Unseal by the policy", both, SECRET, session)
 tpm.unseal("And by the password", both, SECRET, PIN)
 tpm.flushed(both)
 
-# In the order of docs/table/policies.md.
+# The order is that of docs/table/policies.md.
 BRANCHES = AFTER_PCR_16, AFTER_AUTH_VALUE
 EITHER = policy.after_or(SHA256, BRANCHES)
 ONE_TO_THREE, THREE_OR_FOUR = 0b01110, 0b11000

@@ -1,5 +1,5 @@
-"""A caller for what grounds.py, lost_grounds.py and replays.py authorize: sealed objects and NV
-indices, whose value is "pin", and their policies.
+"""A caller for grounds.py, lost_grounds.py and replays.py. It makes sealed objects and NV indices
+with the value "pin", and their policies.
 """
 
 from tpmsim.caller import area, HERE, sealed
@@ -12,7 +12,7 @@ OWNER, PIN, SECRET, DATA = b"owner", b"pin", b"secret", b"8 bytes."
 PCR_16 = [(SHA256, [16])]
 AT_LOCALITY_1 = 0b10
 
-# The digest that a session starts with, and those after one assertion.
+# The initial digest of a session, and its digests after one assertion.
 ZEROS = bytes(32)
 AFTER_AUTH_VALUE = policy.after_auth_value(SHA256, ZEROS)
 AFTER_PCR_16 = policy.after_pcr(SHA256, ZEROS, frames.selection(*PCR_16), digest(SHA256, bytes(32)))
@@ -28,8 +28,8 @@ def after_secret(name, policy_ref=b""):
 
 
 def after_equal_data(name, old=ZEROS):
-    """TPM2_PolicyNV of an index of this Name, which holds `DATA`."""
-    compared = frames.policy_nv(DATA)[2:]  # what is hashed has no size
+    """Returns the digest after TPM2_PolicyNV of the index with this Name, which contains `DATA`."""
+    compared = frames.policy_nv(DATA)[2:]  # the hashed bytes have no size
     return policy.after_nv(SHA256, old, compared, name)
 
 
@@ -38,28 +38,28 @@ class GroundsCaller(PolicyTeller):
         super().__init__(name, told, **choices)
         self.free_indices = iter(range(0x0100_0001, 0x0100_0020))
 
-    # Entities.
+    # Methods for entities.
 
     def sealed_object(
         self, what, auth_policy=b"", attributes=HERE, algorithm=SHA256, value=PIN, by=RH_PLATFORM
     ):
-        """The handle of sealed data; the platform's survive TPM2_Clear."""
+        """Makes sealed data, and returns their handle. The platform's survive TPM2_Clear."""
         template = sealed(algorithm, attributes, auth_policy=auth_policy)
         return self.create_primary(what, by, template, user_auth=value, data=SECRET)
 
     def index(self, what, attributes, auth_policy=b"", value=PIN):
-        """The handle of an index of the owner, which is not written yet."""
+        """Defines an index of the owner, and returns its handle. The index is not written yet."""
         public = area(next(self.free_indices), attributes, auth_policy=auth_policy)
         return self.define(what, public, auth=value)
 
     def written_index(self, what, attributes, auth_policy=b""):
-        """The same, and the owner writes it."""
+        """Defines an index, which the owner then writes. Returns its handle."""
         index = self.index(what, attributes, auth_policy)
         self.does("", self.writing(index, DATA, by=RH_OWNER))
         return index
 
     def flushed_new(self, what, primary):
-        """A primary object that must be created, and is flushed afterwards."""
+        """Creates a primary object, which must succeed, and flushes it."""
         handle, _ = self.accepted(what, primary)
         self.says("SUCCESS", self.flush(handle))
 
@@ -71,10 +71,10 @@ class GroundsCaller(PolicyTeller):
         self.says(f"{what}: SUCCESS", *map(self.flush, those))
         self.forget(*objects)
 
-    # Assertions of a policy session.
+    # Methods that make assertions in a policy session.
 
     def asserts(self, what, *told):
-        """Makes assertions, in their order."""
+        """Makes the assertions in the given order."""
         self.says(f"{what}: SUCCESS", *told)
 
     def asserts_code(self, session, code=CC.Unseal):
@@ -87,10 +87,10 @@ class GroundsCaller(PolicyTeller):
     def asserts_password(self, session):
         self.asserts("TPM2_PolicyPassword", self.password_told(session))
 
-    # Sending.
+    # Methods that send commands.
 
     def tries_are(self, what, tries):
-        """TPM2_GetCapability of the number of failed tries."""
+        """Checks the number of failed tries, by TPM2_GetCapability."""
         asked = self.capability(PROPERTIES, LOCKOUT_COUNTER, 1)
         others_follow, given = b"\1", number(LOCKOUT_COUNTER, 4) + number(tries, 4)
         wanted = others_follow + number(PROPERTIES, 4) + number(1, 4) + given
@@ -104,5 +104,5 @@ class GroundsCaller(PolicyTeller):
             assert played.outcome.row.check == check, words
 
     def lost(self, words, *prepared):
-        """Commands that G9 refuses, which checks the entries that authorize."""
+        """Sends commands that G9 must refuse. G9 checks the entries that authorize."""
         self.refused_by("G9", words, *prepared)

@@ -14,22 +14,22 @@ from tests.sessions.grounds_caller import AFTER_AUTH_VALUE, DATA, GroundsCaller,
 VALUE, LOCKOUT_AUTH, OTHER_DATA = b"a", b"lockout", b"to write"
 RECOVERY = 1_000_000  # milliseconds of recoveryTime and lockoutRecovery of a new device
 
-# Random bytes that are given more than once.
+# Random bytes that the device gets more than once.
 SEED, OTHER_SEED = b"\xa1", b"\xb2"
 
 tpm = GroundsCaller(__name__, __doc__)
 
 
 def with_random(what, seed, prepared):
-    """Sends a command that must be accepted, with these random bytes; returns its answer."""
+    """Sends a command that must be accepted, with these random bytes. Returns its response."""
     tpm.chapter(f"{what}: SUCCESS.")
     tpm.script.entropy(seed)
     return tpm.received(prepared, tpm.raw("SUCCESS", prepared.buffer()))
 
 
 class Start:
-    """TPM2_StartAuthSession with random bytes of a seed. The session that it starts can be started
-    again, by the same buffer or with another nonce.
+    """A TPM2_StartAuthSession with random bytes from a seed. Its session can be started again, with
+    the same buffer or with another nonce.
     """
 
     def __init__(self, what, bind=RH_NULL, kind=SE_HMAC):
@@ -43,34 +43,34 @@ class Start:
         return tpm.started(answer, nonce, self.bind, SHA256, self.kind)
 
     def anew(self):
-        """The session ends, and begins again."""
+        """Flushes the session, and starts it again."""
         tpm.flushed(self.session)
         self.again()
 
     def again(self):
-        """The session is again as it was at first."""
+        """Starts the session again. Its state is then the same as at first."""
         what = "TPM2_StartAuthSession with the same bytes, and the same random bytes"
         assert self.sent(what, SEED, self.nonce) == self.at_first
         self.session.nonce_tpm = self.at_first.nonce_tpm
 
     def otherwise(self, what, seed=SEED, nonce=None):
-        """Another session, which the caller does not use, gets its place."""
+        """Starts another session in the session's slot. The caller does not use it."""
         assert self.sent(what, seed, nonce or self.nonce).handle == self.session.handle
 
 
 def again(words, prepared, check="G9"):
-    """Sends a command again, which this check must refuse."""
+    """Sends a command again. This check must refuse it."""
     tpm.refused_by(check, words, prepared)
 
 
 def accepted(what, prepared):
-    """Sends a command the first time, and returns it, to be sent again."""
+    """Sends a command for the first time. Returns it, so that it can be sent again."""
     tpm.does(what, prepared)
     return prepared
 
 
 def replayed(what, prepared, refusal, check="G9"):
-    """Sends a command the first time, and again."""
+    """Sends a command for the first time, and then again."""
     again(f"The same again: {refusal}", accepted(what, prepared), check)
     return prepared
 
@@ -84,7 +84,7 @@ said = tpm('An index with AUTHWRITE and AUTHREAD, whose value is "a"')
 assert FIRST == said.index(BY_VALUE, value=VALUE)
 tpm.does("It is written, so that its Name stays from here on", write(VALUE))
 
-# An unbound session, and one of its commands that was accepted.
+# An unbound session, and one of its accepted commands.
 tpm.chapter("A PROTECTED INDEX. It is no index with NO_DA, so each wrong entry is a try.")
 start = Start("TPM2_StartAuthSession of an HMAC session, bound to nothing")
 session = start.session

@@ -18,7 +18,7 @@ def entry(session, attributes=STAYS, nonce=b"", hmac=b""):
 
 
 def with_entries(code, handles, parameters):
-    """Makes a command with entries, whatever their hmacs are."""
+    """Returns a function that makes the command with any entries, whatever their HMACs are."""
     prepared = tpm.prepare(code, handles, parameters)
     return lambda *entries: prepared.but(entries=list(entries))
 

@@ -23,32 +23,32 @@ def start(**changes):
 
 
 def refused(words, *choices):
-    """The command with each of these choices."""
+    """Sends the command with each of these choices."""
     tpm.raw(words, *(start(**it) for it in choices))
 
 
 def each(words, name, *values):
-    """The command with each of these values of one choice."""
+    """Sends the command with each of these values of one choice."""
     refused(words, *({name: it} for it in values))
 
 
 def start_text(**changes):
-    """The parameters with these choices."""
+    """Returns the parameters with these choices."""
     return frames.start_auth_session(**{"nonce": NONCE, **changes})[1]
 
 
 def heads(words, *texts, tag=frames.NO_SESSIONS):
-    """The command with these bytes after the header."""
+    """Sends the command with these bytes after the header."""
     tpm.raw(words, *(command(CC.StartAuthSession, it, tag) for it in texts))
 
 
 def texts(words, *those):
-    """The command with these parameters."""
+    """Sends the command with these parameters."""
     tpm.raw(words, *(on(NULLS, it) for it in those))
 
 
 def ciphers(words, *those, rest=number(SHA256, 2)):
-    """The command with these bytes from symmetric on, followed by those of authHash."""
+    """Sends the command with these bytes as the parameter symmetric. `rest` is authHash."""
     texts(words, *(sized(NONCE) + sized(b"") + b"\0" + it + rest for it in those))
 
 

@@ -1,14 +1,15 @@
-"""Writes callers_in_turn.tpm and two more scripts, of three callers of one device. Each caller does
-one thing: the first measures into PCR 10 and reads it; the second has data unsealed by a policy on
-PCR 10; and the third writes an NV index in an HMAC session, and sends one command again. They take
-turns, or take them the other way round, or come one after another:
+"""Writes three scripts of three callers of one device. Each caller does one thing. The first one
+measures into PCR 10 and reads it. The second one has data unsealed by a policy on PCR 10. The
+third one writes an NV index in an HMAC session, and sends one command again. The callers take
+turns, take turns in reverse order, or come one after another:
 
     tests/sessions/callers_in_turn.tpm
     tests/sessions/callers_in_reverse_turn.tpm
     tests/sessions/callers_one_after_another.tpm
 
-The answer to each command depends on what was accepted before it. After each command the device is
-compared with what its history determines, and so is the answer to TPM2_PCR_Read.
+The response to each command depends on the commands that were accepted before it. After each
+command the device is compared with the state that its history determines. The response to
+TPM2_PCR_Read is compared too.
 """
 
 import copy
@@ -58,7 +59,7 @@ def extending(caller, handle):
 
 
 def measuring(stage, caller):
-    """PCR 10 is extended by zeros, and read; later it is extended again."""
+    """Extends PCR 10 with zeros and reads it; later extends it again."""
     yield caller.says("The first caller extends PCR 10 by zeros: SUCCESS", extending(caller, 10))
     for _ in range(2):
         reading = caller.prepare(CC.PCR_Read, [], selection(*CHOSEN))
@@ -71,7 +72,7 @@ def measuring(stage, caller):
 
 
 def unsealing(stage, caller):
-    """Data are unsealed by a policy on the value that PCR 10 has after one extension by zeros."""
+    """Unseals data by a policy on the value that PCR 10 has after one extend with zeros."""
     parent = caller.create_primary("The second caller makes a storage key", RH_OWNER, storage_key())
     yield
     template = sealed(attributes=HERE | ObjectAttribute.NO_DA, auth_policy=AUTH_POLICY)
@@ -88,7 +89,7 @@ def unsealing(stage, caller):
 
 
 def replaying(stage, caller):
-    """An index is written in a session, and the same buffer is sent once more."""
+    """Writes an index in a session, and sends the same buffer once more."""
     public = area(attributes=ONCE_WRITTEN)
     index = caller.define("The third caller defines an index", public, auth=b"a")
     yield
@@ -106,7 +107,7 @@ PLAYS = measuring, unsealing, replaying
 
 
 def interleaved(plays, is_in_turn):
-    """The callers go on by one command each, in turn; or each goes on to its end."""
+    """Has the callers send one command each, in turn; or has each caller continue to its end."""
     if not is_in_turn:
         for play in plays:
             yield from play

@@ -20,14 +20,16 @@ BOTH = DECRYPTS | ENCRYPT
 HASHES = {SHA1: hashlib.sha1, SHA256: hashlib.sha256}
 OWNER_AUTH = b"owner"
 
-# Sizes of a first buffer: none, a byte, those of digests and a byte more, and the largest data.
+# Sizes of a first buffer: none, one byte, the sizes of digests and one byte more, and the maximum.
 SIZES = 0, 1, 20, 21, 32, 33, 1024
 
 tpm = Teller(__name__, __doc__, tries=True)
 
 
 def mask(use, newer, older, size, auth_value):
-    """SP 800-108 in counter mode, with HMAC: blocks i, "XOR", 0, both nonces, and the bits."""
+    """Computes the mask by SP 800-108 in counter mode, with HMAC. Each block is the HMAC of i,
+    "XOR", 0, both nonces, and the number of bits.
+    """
     key, given, block = use.session.key + auth_value, b"", 0
     while len(given) < size:
         block += 1
@@ -42,25 +44,27 @@ def exclusive_or(left, right):
 
 
 def first_buffer(text):
-    """The first buffer of parameters, without its size."""
+    """Returns the first buffer of parameters, without its size."""
     return text[2 : 2 + int.from_bytes(text[:2], "big")]
 
 
 def is_masked(prepared, plain, place=1, auth_value=b""):
-    """Checks that a command's first buffer is plain bytes, masked by both nonces."""
+    """Checks that a command's first buffer is the plain bytes, masked with both nonces."""
     use = prepared.uses[place - 1]
     wanted = mask(use, use.nonce, use.session.nonce_tpm, len(plain), auth_value)
     assert first_buffer(prepared.parameters) == exclusive_or(plain, wanted)
 
 
 def masking(what, prepared, plain, place=1, auth_value=b""):
-    """Sends such a command, which is accepted; returns its answer."""
+    """Sends a command whose first buffer is masked. It must be accepted. Returns its response."""
     is_masked(prepared, plain, place, auth_value)
     return tpm.accepted(what, prepared)[1]
 
 
 def masked(what, prepared, plain, place=1, auth_value=b""):
-    """The same for an answer: the mask is that of the device's new nonce and the caller's."""
+    """Checks the same for a response. Its mask depends on the device's new nonce and the caller's
+    nonce.
+    """
     use = prepared.uses[place - 1]
     tpm.accepted(what, prepared)
     given = first_buffer(tpm.last.response[14:])
@@ -70,20 +74,22 @@ def masked(what, prepared, plain, place=1, auth_value=b""):
 
 
 def drawn(count):
-    """The answer of TPM2_GetRandom: the first random bytes, which the next seed has."""
+    """Returns the first random bytes of TPM2_GetRandom, which come from the next seed."""
     seed = hashlib.sha256(b"entropy %d" % (tpm.script.seeds + 1)).digest()[:SEED_BYTES]
     return (seed * RANDOM_BYTES)[:count]
 
 
 def both_ways(what, attributes, *more, to, back, auth_values):
-    """TPM2_HMAC, whose data and answer are masked by the entries of two places."""
+    """Sends TPM2_HMAC. Entry number `to` masks its data, and entry number `back` masks its
+    response.
+    """
     prepared = tpm.hmac(key, TEXT, SHA256, Use(session, attributes), *more)
     is_masked(prepared, TEXT, to, auth_values[0])
     masked(what, prepared, KNOWN, back, auth_values[1])
 
 
 def of_size(size):
-    """TPM2_PCR_Event in an entry whose nonce and hmac are both empty."""
+    """Returns a TPM2_PCR_Event with an entry whose nonce and HMAC are both empty."""
     entries = [frames.entry(empty.handle, b"", DECRYPTS)]
     return frames.on_handle(CC.PCR_Event, 16, sized(bytes(size)), entries)
 
