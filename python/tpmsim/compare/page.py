@@ -11,24 +11,25 @@ from tpmsim.model.player import BadLine
 
 HEAD = """# Other TPMs
 
-The table says what another TPM, {version}, answers otherwise: what a program that passes
-here has left to try elsewhere. `tpmsim-compare` plays a script on both, with sessions computed for each,
-and compares response codes, answered fields, HMACs, and what can be read of the state at the end:
+This page lists where another TPM, {version}, differs from tpmsim. A program that passes its tests here
+should be tried there for these points. `tpmsim-compare` plays a script on both TPMs, and computes the
+sessions for each. It compares the response codes, the response fields, the HMACs, and the state that can
+be read at the end:
 
 ```sh
 PYTHONPATH=python python3 -m tpmsim.compare.main tests/pcrs/pcr_read.tpm --with swtpm
 ```
 
-The other one may be `swtpm:path=..`, `swtpm:host=..,port=..`, `mssim:host=..,port=..` or
-`device:/dev/tpmrm0` too. The page is made by
+The other TPM can also be `swtpm:path=..`, `swtpm:host=..,port=..`, `mssim:host=..,port=..` or
+`device:/dev/tpmrm0`. This command makes the page, from all stored scripts:
 
 ```sh
 PYTHONPATH=python python3 -m tpmsim.compare.page tests/*/*.tpm examples/*.tpm > docs/OTHER_TPMS.md
 ```
 
-Of {commands} commands in {scripts} scripts {own} are answered otherwise, and {follow} more only as an
-earlier one was. {missing} are not comparable: most by a size that a stream cannot carry, the others for
-want of a session or an object.
+The {scripts} scripts contain {commands} commands. {own} of them have different responses, and {follow} more
+differ only because an earlier command did. {missing} cannot be compared: most because a stream cannot carry
+their size, the others because they need a session or an object that only one TPM has.
 
 | what differs | times | example | here | there | our decision |
 |---|---|---|---|---|---|"""
