@@ -106,7 +106,8 @@ is_test() {
 }
 
 # The programs that make a script when it is played, one in each line.
-programs_of_made=$(grep -lE '^"""Makes [a-z_0-9]+[.]tpm' "$top"/tests/*/*.py)
+programs_of_made=$(find "$top/tests" -mindepth 2 -maxdepth 2 -name '*.py' \
+    -exec grep -lE '^"""Makes [a-z_0-9]+[.]tpm' {} + | sort)
 
 # makes PROGRAM: whether it is one of them.
 makes() {
