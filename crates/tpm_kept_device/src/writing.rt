@@ -94,6 +94,32 @@ pub fn beginning(alloc: Global, seed: &[u8]) -> Result<Vec<u8>, AllocError>
     Ok(text)
 }
 
+/// The seed of a new device, whose secrets are these random bytes.
+pub fn seed_of_random(
+    alloc: Global,
+    now_ms: u64,
+    start: u64,
+    random: &[u8; 256],
+) -> Result<Vec<u8>, AllocError>
+    ensures { IfOk result (λ text. seed_in text.items
+        ≡ Ok (record { kind = 0; now = now_ms; start = start; content = random.now })) }
+{
+    seed(alloc, 0, now_ms, start, random)
+}
+
+/// The seed of the device of a state text.
+pub fn seed_of_state(
+    alloc: Global,
+    now_ms: u64,
+    start: u64,
+    state: &[u8],
+) -> Result<Vec<u8>, AllocError>
+    ensures { IfOk result (λ text. seed_in text.items
+        ≡ Ok (record { kind = 2; now = now_ms; start = start; content = state.now })) }
+{
+    seed(alloc, 2, now_ms, start, state)
+}
+
 /// A seed. Kind 0: the content is 256 random bytes. Kind 1: an image. Kind 2: a state text.
 #[tactic(auto, using(crate::proofs::Texts::seed_read))]
 pub fn seed(

@@ -1,4 +1,3 @@
 pub mod Answer
 pub mod Fault
 pub mod Stop
-pub mod Texts

@@ -5,11 +5,10 @@
 //!
 //! [`Kept`] is a kept device: it does in the folder what the keeper asks for. Several processes may
 //! hold one at the same time. [`playing`] plays a script on it, and [`serving`] serves it on a
-//! connection. [`command`] writes the texts that the keeper takes, and [`answer`] reads its
-//! responses. The folder, its lock and what faults say of it are in tpmsim_folder.
+//! connection. [`answer`] reads the keeper's responses. The folder, its lock and what faults say of
+//! it are in tpmsim_folder.
 
 mod answer;
-mod command;
 mod keeping;
 mod playing;
 mod said;

@@ -4,15 +4,15 @@ ghost use Rattle.std.specs.Prelude.{IfOk};
 ghost use Rattle.tpmsim.specs.kept.Answer.{IsTraced};
 
 use crate::kept::answer::{Answer, read_answer};
-use crate::kept::command::{
-    beginning, command_after, command_at, power_cycle, seed_of_random, seed_of_state,
-};
 use crate::kept::said::said_of_text;
 use crate::kept::tail::Tail;
 use tpm_journal_text::{CONTENT_LIMIT, read_head};
 use tpm_keeping::holder::{End, Fault, Force, Job};
 use tpm_keeping::keeper::{Ask, Got, Keeper};
 use tpm_kept_device::KeptDevice;
+use tpm_kept_device::writing::{
+    beginning, command_after, command_at, power_cycle, seed_of_random, seed_of_state,
+};
 use tpm_types::Locality;
 use tpmsim_folder::moment::{clock_of, start_of};
 use tpmsim_folder::{Host, KeptFault, Place, Said};
@@ -87,7 +87,8 @@ impl<'a> Kept<'a> {
         self.execute(&command)
     }
 
-    /// Executes a command of the standard so many milliseconds after the one before it.
+    /// Executes a command of the standard so many milliseconds after the one before it, without the
+    /// completing layer.
     pub fn execute_after(
         &mut self,
         elapsed_ms: u32,
@@ -97,7 +98,8 @@ impl<'a> Kept<'a> {
     ) -> Result<Answer<'_>, KeptFault>
         ensures { IfOk result (λ answer. IsTraced answer) }
     {
-        let command = command_after(self.rt.alloc(), elapsed_ms, locality, random, buffer)?;
+        let alloc = self.rt.alloc();
+        let command = command_after(alloc, elapsed_ms, locality, false, random, buffer)?;
         self.execute(&command)
     }
 
