@@ -1,4 +1,4 @@
--- A stopwatch tells no time twice.
+-- No time counts twice on a stopwatch.
 use Rattle.std.proofs.Common.{◌≡◌, ℕ, ◌+◌, ◌-◌, ◌/◌, ◌≤◌, List, [], ◌∷◌, Some, max, arith}
 use Rattle.std.specs.List.{AllByRecursion}
 use Rattle.tpmsim_image.specs.Stopwatch.{StopwatchState, told}

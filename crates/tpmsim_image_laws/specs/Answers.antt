@@ -1,4 +1,4 @@
--- What connections are answered.
+-- The responses on connections.
 use Rattle.std.specs.Prelude.{Bool, List}
 use Rattle.std.specs.List.{AllByRecursion}
 use Rattle.tpm_containers.specs.Slots.{free}
@@ -21,7 +21,7 @@ abbrev pub IsExecuted : Bool → Event → Type 0
 IsExecuted can (Executed event outcome) = HasOutcome can event outcome
 IsExecuted can PowerCycled = Unit {0}
 
--- Each buffer that an answered turn executed has the outcome that the connection was answered.
+-- If a turn ends with a response, the connection gets exactly the outcome of the executed buffer.
 abbrev pub AnswersAreOutcomes : Type 0
 AnswersAreOutcomes = (can : Bool) (r : Record) (calls : List Call) (new : Wire)
     → IsRecord r → Schedules can (new_wire r) calls new

@@ -1,9 +1,9 @@
--- What a stopwatch tells commands together.
+-- The elapsed times of all commands together, by a stopwatch.
 use Rattle.std.specs.Prelude.{ℕ, ◌+◌, ◌-◌, ◌/◌, ◌≤◌, List, [], ◌∷◌, None}
 use Rattle.std.specs.List.{AllByRecursion}
 use Rattle.tpmsim_image.specs.Stopwatch.{StopwatchState, after_command, told}
 
--- the milliseconds that commands are told together, which come at these times, one after another
+-- the sum of the elapsed milliseconds of commands that come at these times, one after another
 abbrev pub told_together : StopwatchState → (times : List ℕ) → ℕ
 told_together s [] = 0
 told_together s (now ∷ times) = told now s + told_together (after_command now s) times
@@ -12,7 +12,7 @@ told_together s (now ∷ times) = told now s + told_together (after_command now 
 abbrev pub new_stopwatch : StopwatchState
 new_stopwatch = record { first = None; passed = 0 }
 
--- No more is told than passes from the first command to the latest, whether the times ascend or
+-- The sum is at most the time from the first command to the latest, whether the times ascend or
 -- not.
 abbrev pub TellsNoTimeTwice : Type 0
 TellsNoTimeTwice = (first latest : ℕ) (times : List ℕ) → AllByRecursion (λ now. now ≤ latest) times

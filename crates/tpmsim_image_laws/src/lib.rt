@@ -1,23 +1,23 @@
 #![tactic(auto)]
 
-//! Laws of a served device: of the time that its commands are told, and of what its connections are
-//! answered.
+//! Laws of a served device: about the elapsed time of its commands, and about the responses on its
+//! connections.
 //!
-//! The laws are of the definitions of tpmsim_image and tpm_wire: each is the contract of a function
-//! that does nothing. No crate uses this one.
+//! The laws are about definitions of tpmsim_image and tpm_wire. Each law is the contract of a
+//! function that does nothing. No crate uses this one.
 
 ghost use Rattle.tpmsim_image_laws.specs.Answers.{AnswersAreOutcomes};
 ghost use Rattle.tpmsim_image_laws.specs.Times.{TellsNoTimeTwice};
 
-/// No millisecond is told twice: all commands together are told at most the milliseconds from the
-/// first of them to the latest, whatever times of the host's clock they come at.
+/// No millisecond counts twice: the elapsed times of all commands add up to at most the time from
+/// the first command to the latest, whatever the host's clock shows at each of them.
 #[inline(always)]
 #[tactic(auto, using(crate::proofs::Times::tells_no_time_twice))]
 pub fn stopwatch_laws()
     ensures { TellsNoTimeTwice }
 {}
 
-/// Each buffer that an answered turn executed has the outcome that its connection was answered.
+/// If a turn ends with a response, the connection gets exactly the outcome of the executed buffer.
 #[inline(always)]
 #[tactic(auto, using(crate::proofs::Answers::answers_are_outcomes))]
 pub fn answer_laws()
