@@ -67,7 +67,7 @@ class Parts:
 
 class Drawn:
     """A random session on a device, and a command that it authorizes. A choice that is not given is
-    made at random: `kind` is the kind of the session, and `bind` is none, own or other.
+    made at random: `kind` is the kind of the session, and `bind` is one of none, own and other.
     """
 
     def __init__(self, seed, **choices):
