@@ -21,7 +21,7 @@ from journals import Journal
 
 TESTS = pathlib.Path(__file__).resolve().parents[2] / "tests"
 
-# Sessions of all kinds, policies, objects, guesses and waits.
+# Scripts with sessions of all kinds, policies, objects, guesses and waits.
 SCRIPTS = (
     *("hmac_sessions", "xor_sessions", "session_encryption", "policy_sessions_that_encrypt"),
     *("policy_secret", "object_policies", "nv_sessions", "lockout", "lockout_sessions", "waits"),

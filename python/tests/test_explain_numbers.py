@@ -45,7 +45,7 @@ GENERAL = (
     ("do SelfTest 2", "SelfTest/parameters", 10, "wanted 00 or 01, and there is 02"),
 )
 
-# Attributes of an entry of TPM2_GetRandom.
+# Wrong attributes in the entry of a TPM2_GetRandom.
 ATTRIBUTES = (
     ("09", "G8/RESERVED_BITS", "bits 3 and 4 are reserved"),
     ("81", "G8/ATTRIBUTES.1", "no session audits"),
@@ -53,7 +53,7 @@ ATTRIBUTES = (
     ("41", "G8/SYMMETRIC", "without a cipher in line 2"),
 )
 
-# Authorization areas.
+# Wrong authorization areas.
 AREAS = (
     ("0000", "authorizationSize is cut: 2 of 4 bytes are left.", 10),
     ("00000008" + "00" * 8, "8 < 9", 10),

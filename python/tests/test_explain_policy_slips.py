@@ -110,7 +110,8 @@ class Case:
 
 
 def link(place, make):
-    """Makes one link in another way, from the case and the digest before it."""
+    """Returns a change that makes one link in another way, from the case and the digest before it.
+    """
 
     def of_link(case, links):
         links[place] = lambda old: make(case, old)

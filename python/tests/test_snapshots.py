@@ -132,7 +132,7 @@ class Snapshots:
             self.assertEqual(self.tpm.device.snapshot(), other.snapshot())
 
     def test_no_state_text(self):
-        """Bytes that are not a state text change nothing."""
+        """Restoring bytes that are not a state text is refused, and changes nothing."""
         taken, device = self.worked(), self.tpm.device
         before = list(device.events)
         bent = bytes([taken[300] ^ 1])
@@ -353,7 +353,7 @@ class Explained(unittest.TestCase):
     """A log that begins with a state text is explained like any other log."""
 
     def test_wrong_password(self):
-        """The earlier index and its authValue are in the text."""
+        """The text has the index that was defined before, and its authValue."""
         with ModelDevice() as device:
             tpm = Caller(device)
             tpm.start_up()

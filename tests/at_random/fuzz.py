@@ -129,7 +129,7 @@ def shown(wanted, given):
 
 
 class Fuzz:
-    """Rounds, and their results."""
+    """Plays rounds, and collects their results."""
 
     def __init__(self, program):
         self.program, self.folder = program, None

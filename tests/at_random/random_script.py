@@ -437,7 +437,7 @@ class Writer(random.Random):
 
     assert COMMANDS.keys() == set(CC)
 
-    # Entries.
+    # Methods that make entries.
 
     def entries(self, code, handles):
         """Returns the entries of a command. A handle that needs authorization gets a session or the
@@ -505,7 +505,7 @@ class Writer(random.Random):
         others = device.nonces_of_others(command, place, handle)
         return sessions.entry_hmac(*given, others, entry.attributes)
 
-    # Sending.
+    # Methods that send commands.
 
     @property
     def lines(self):

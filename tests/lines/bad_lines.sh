@@ -81,7 +81,7 @@ third 'power\r'
 third 'poweroff'
 third 'trace'
 
-# Commands in wrong words; assemble.sh has more of them.
+# Wrong commands in words; assemble.sh has more of them.
 third 'do'
 third 'do '
 third 'do GetRandom'
@@ -98,7 +98,7 @@ third 'DO GetRandom 4'
 third 'GetRandom 4'
 third "do PCR_Event NULL pw:- $(zeros 4096)" 'do PCR_Event with 4096 bytes'
 
-# A blank line that is not empty, and a comment that does not begin with its sign.
+# A line with only white space, and a comment that does not begin with `#`.
 third ' '
 third '\t'
 third '\r'

@@ -18,7 +18,7 @@ line 'digits of both cases' 80010000000C0000017b0020
 line 'a handle that is a parameter' 80010000000e0000016503000000
 line 'a list of no digests' 80020000001f00000182000000000000000940000009000001000000000000
 
-# Buffers that no line encodes.
+# Buffers for which there is no line.
 entry=400000090000010000
 line 'no bytes' ''
 line 'a header that is cut' 80010000000c00000144

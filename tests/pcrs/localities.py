@@ -1,7 +1,7 @@
-"""Writes localities.tpm: each PCR extended and reset from each locality.
+"""Writes localities.tpm: extends and resets each PCR from each locality.
 
-Which locality can change which PCR is the table of TPM2_PCR_Extend in docs/table/pcrs.md, once
-more.
+The table of TPM2_PCR_Extend in docs/table/pcrs.md says which locality can change which PCR. This
+program contains that table once more.
 """
 
 from tpmsim.standard import CC, command, digests, on_handle, selection, SHA1, SHA256

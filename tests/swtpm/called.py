@@ -1,4 +1,4 @@
-"""A device behind the caller that replaces swtpm (caller.c). The caller reads lines and answers
+"""A device of the caller that replaces swtpm (caller.c). The caller reads lines and answers
 them. The device's states are files in the caller's working folder.
 """
 

@@ -17,7 +17,7 @@ chmod +x "$room/bin/swtpm"
 export room
 tools=/usr/bin:/bin
 
-# started LABEL PROGRAM PATH: prints the result of a start.
+# started LABEL PROGRAM PATH: starts the program with this path, and prints the result.
 started() {
     label "$1"
     PATH=$3 "$2" socket '--log=two words' '' 2>&1 | sed "s|$room|ROOM|g"
