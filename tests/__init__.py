@@ -1,1 +1,2 @@
-"""The tests' programs in Python. This package lets those in one folder find those in another."""
+"""The tests' programs in Python. As a package, programs in one folder can import those in another.
+"""

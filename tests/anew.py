@@ -1,9 +1,9 @@
-"""Writes scripts and their outputs again, by the programs next to them:
+"""Writes scripts and their outputs again, by running the programs next to them:
 
     tools/python.sh tests/anew.py tests/objects/create.py ..
 
-A program has either the caller `tpm`, whose script is written when the program has ended, or a
-function `write_script`; or it has written its own script by then.
+A program has either a caller `tpm`, whose script is written when the program has ended, or a
+function `write_script`. Otherwise it writes its own script while it runs.
 """
 
 import importlib

@@ -1,6 +1,6 @@
-"""Random commands for a device with the completing layer: objects and sessions that come and go,
-their contexts, lists, and what else the layer answers. A few commands are bent, or come from a
-caller without the layer.
+"""Random commands for a device with the completing layer: objects and sessions that are made and
+flushed, their contexts, lists, and the other commands that the layer answers. A few commands are
+bent, or come from a caller without the layer.
 """
 
 from tpmsim.caller import storage_key
@@ -14,7 +14,8 @@ OF_FAMILY_1 = bytes.fromhex("00c10000000c00000099") + b"\0\1"
 KINDS, OTHERS = (0x80, 0x80, 0x80, 0x80, 0x02, 0x03), (0x81, 0x01, 0x00, 0x40)
 PASSWORD, TAG = frames.area(frames.entry()), frames.SESSIONS
 
-# The parameters of a KEYEDHASH or a SYMCIPHER, those that the device does not take, and RSA's.
+# The parameters of a KEYEDHASH or a SYMCIPHER, of RSA, and parameters that the device does not
+# accept.
 PARAMETERS = tuple(
     bytes.fromhex(it)
     for it in (
@@ -61,7 +62,7 @@ def listing(chance):
 
 
 def testing(chance):
-    """A test, a digest, or a question about parameters."""
+    """Returns a command of a self-test, a digest, or a test of parameters."""
     data = chance.choice((b"", bytes.fromhex("ff544347"), b"\xff\x54\x43", chance.randbytes(1024)))
     algorithm = chance.choice((SHA256, frames.SHA1, 0x0C))
     hierarchy = chance.choice((*PRIMARY_HIERARCHIES, RH_LOCKOUT))
@@ -78,8 +79,9 @@ def testing(chance):
 
 
 def changed(chance):
-    """A command that changes what the properties report: an authorization value, a counter, whether
-    TPM2_Clear is disabled, or a shutdown."""
+    """Returns a command that changes what the properties report: an authorization value, a counter,
+    whether TPM2_Clear is disabled, or a saved state.
+    """
     owner, platform = number(RH_OWNER, 4), number(RH_PLATFORM, 4)
     counter = frames.nv_public_area(NV << 24 | chance.randrange(3), SHA256, COUNTER, b"", 8)
     return chance.choice(
@@ -94,8 +96,8 @@ def changed(chance):
 
 
 class Scripts:
-    """The next command of a caller, which depends on the earlier answers. With `changes` some commands
-    change what outlasts the power.
+    """Makes the next command of a caller, which depends on the earlier responses. With `changes`
+    some commands change state that survives a power cycle.
     """
 
     def __init__(self, chance, changes=False):
@@ -138,8 +140,8 @@ class Scripts:
 
 
 def play(device, chance, count, completed=0.97, changes=False):
-    """Plays `count` commands, a fraction `completed` of them with the layer. Returns what was
-    answered since the last time that power came on.
+    """Plays `count` commands, a fraction `completed` of them with the layer. Returns the responses
+    since the last power-on.
     """
     scripts, answered = Scripts(chance, changes), list[bytes]()
     device.execute(command(CC.Startup, bytes(2)))

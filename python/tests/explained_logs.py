@@ -1,4 +1,4 @@
-"""Logs that tests explain, and a caller that makes a slip."""
+"""Logs that tests explain, and a caller that makes a mistake."""
 
 import pathlib
 
@@ -9,12 +9,13 @@ EXAMPLE = TOP / "examples" / "disk_unlock.tpm"
 
 
 def lines_with(words):
-    """The numbers of the lines of the example that begin with these words."""
+    """Returns the numbers of the example's lines that begin with these words."""
     lines = EXAMPLE.read_text().splitlines()
     return [at for at, it in enumerate(lines, 1) if it.startswith(words)]
 
 
-# Where the disk stays locked, since another text went into PCR 7.
+# The line at which the disk stays locked, and the earlier line that measured another text into PCR
+# 7.
 LOCKED, MOVED = lines_with("do Unseal")[-1], lines_with("do PCR_Event 00000007")[-1]
 
 
@@ -23,12 +24,12 @@ def events_of(*lines, answers=None):
 
 
 def last(*lines):
-    """The reason of the last line, after a start."""
+    """Returns the reason of the last line, after TPM2_Startup."""
     return events_of("do Startup 0", *lines)[-1].reason
 
 
 def explained(device, tried=()):
-    """The last event of a device's trace, explained with values to try."""
+    """Returns the last event of a device's trace, explained with values to try."""
     play = Play()
     play.tried = tried
     events = list(play.events("\n".join(device.trace).encode()))
@@ -38,13 +39,13 @@ def explained(device, tried=()):
 
 
 def sessions_of(device):
-    """What is known of each session of a trace."""
+    """Returns the explanation's knowledge of each session in a trace."""
     play = Play()
     list(play.events("\n".join(device.trace).encode()))
     return play.past.sessions.values()
 
 
 def without_value(tpm):
-    """Encrypts as a caller does that leaves the authorization value out of its key."""
+    """Encrypts as a caller that leaves the authorization value out of the encryption key."""
     right = type(tpm).encrypted
     return lambda use, handle, parameters: right(tpm, use, None, parameters)

@@ -1,4 +1,6 @@
-"""Journals as in docs/ATTACHED.md, written by the device in Python, so that tests need no library."""
+"""Journals of the form of docs/ATTACHED.md. The device in Python writes them, so that tests need no
+library.
+"""
 
 from tpmsim.model.image import image
 from tpmsim.model.machine import Model
@@ -9,8 +11,8 @@ from tpmsim.standard import number
 
 
 class Journal:
-    """The text of a device that plays lines; a power cycle begins it again. All random bytes that a
-    command receives are recorded as drawn.
+    """The journal of a device that plays lines. A power cycle begins it again. All random bytes
+    that a command receives are recorded as drawn.
     """
 
     def __init__(self, model=None):
@@ -23,12 +25,13 @@ class Journal:
         self.head(1, self.image)
 
     def cycle(self):
-        """A power cycle, after which the journal begins again with the whole state."""
+        """Makes a power cycle, and begins the journal again with the whole state."""
         self.model.power_cycle()
         self.go_on()
 
     def go_on(self, layer=None):
-        """Begins again with the whole state, instead of everything that was executed."""
+        """Begins the journal again with the whole state. The executed commands are no longer in it.
+        """
         self.head(2, state_text(self.model, layer))
 
     def head(self, kind, text):

@@ -15,7 +15,9 @@ NEEDS_SIMULATOR = unittest.skipUnless(SIMULATOR, "there is no tpmsim-simulator")
 
 
 def folder_of_compiled():
-    """Where a Python program puts compiled modules: where they are kept already, or a new folder."""
+    """Returns the folder for the compiled modules of a Python program: the present one, or a new
+    one.
+    """
     kept = os.environ.get("PYTHONPYCACHEPREFIX")
     if kept:
         return kept
@@ -29,8 +31,8 @@ COMPILES = {"PYTHONDONTWRITEBYTECODE": "", "PYTHONPYCACHEPREFIX": folder_of_comp
 
 @contextlib.contextmanager
 def running(*words, ready):
-    """Runs a program, and yields as soon as it is ready; ends it by SIGTERM, and checks that it
-    ends well.
+    """Runs a program, and yields as soon as it is ready. Then ends it by SIGTERM, and checks that
+    it ends well.
     """
     given = {"env": {**os.environ, **COMPILES}, "stdout": subprocess.PIPE, "text": True}
     with subprocess.Popen(words, **given) as process:
@@ -46,12 +48,12 @@ def check_ending(status, words):
 
 
 def address_from(output):
-    """The host and the port, as a server of Microsoft's protocol prints them."""
+    """Reads the host and the port, as a server of Microsoft's protocol prints them."""
     host, port = output.readline().split()
     return host, int(port)
 
 
 def simulator(*words):
-    """A server of Microsoft's protocol, and its address."""
+    """Runs a server of Microsoft's protocol, and yields its address."""
     program = SIMULATOR, "--port", "0", *words
     return running(*program, ready=lambda process: address_from(process.stdout))

@@ -1,5 +1,6 @@
-"""The sentences of all checks, as docs/table has them: `python3 -B table_rules.py` in this folder
-writes them to tpmsim/explain/rules.json, which ships without docs/table. A test compares the two.
+"""Extracts the sentences of all checks from docs/table. `python3 -B table_rules.py` in this folder
+writes them to tpmsim/explain/rules.json, which is shipped without docs/table. A test compares
+the two.
 """
 
 import json
@@ -17,8 +18,8 @@ LIST_OF_CHECKS = re.compile(r"\[the checks of [^\]]*\]\(([^)]*)\)")
 
 
 def plain(text):
-    """A text on one line, without the targets of links; items of a list in it end with a semicolon
-    each.
+    """Returns a text on one line, without the targets of links. Each item of a list in it ends with
+    a semicolon.
     """
     text = LINK.sub(r"\1", text).replace("`", "")
     text = re.sub(r"\n *- ", "; ", text).replace(":; ", ": ")
@@ -26,12 +27,12 @@ def plain(text):
 
 
 def anchor_of(title):
-    """The anchor of a heading."""
+    """Returns the anchor of a heading."""
     return re.sub(r"[^\w\- ]", "", title.lower()).replace(" ", "-")
 
 
 def sections_of(page):
-    """Each section of a page: its title, its link and its text."""
+    """Yields each section of a page: its title, its link and its text."""
     parts = re.split(r"^#+ (.*)$", (TABLE / page).read_text(), flags=re.MULTILINE)[1:]
     for title, text in zip(parts[::2], parts[1::2]):
         yield title, f"{page}#{anchor_of(title)}", text.strip()
@@ -43,13 +44,15 @@ def section_at(link):
 
 
 def paragraphs(text):
-    """The paragraphs of a text, except the one that leads to a definition and its code."""
+    """Returns the paragraphs of a text, without the paragraph with links to a definition and its
+    code.
+    """
     found = filter(str.strip, re.split(r"\n\n+", text))
     return [it for it in found if not it.startswith("Definition: ")]
 
 
 def table_rows(text):
-    """The cells of each row of the tables in a text, without their heads."""
+    """Returns the cells of each row of the tables in a text, without the tables' headers."""
     rows = [
         [cell.strip() for cell in it.strip("|").split("|")]
         for it in text.split("\n")
@@ -59,11 +62,11 @@ def table_rows(text):
 
 
 def items(text):
-    """The items of the lists in a text, each with the lines on which it continues."""
+    """Returns the items of the lists in a text, each with its continuation lines."""
     return re.findall(r"^(?:- |\d\. ).*(?:\n(?: +\S.*))*", text, flags=re.MULTILINE)
 
 
-# Sentences that several checks share: the section, how they begin, and their number.
+# Sentences that several checks share: the section, how the sentences begin, and their number.
 OTHERS = (
     ("integrity", "objects.md#integrity", "TPM2_Load refuses", 1),
     ("tries", "lockout.md#failed-tries", "While failedTries", 2),
@@ -92,7 +95,7 @@ class Rules:
         self.found[key] = text + end, f"docs/table/{link}"
 
     def general(self):
-        """The rules of G1 to G11, and of M."""
+        """Adds the rules of G1 to G11, and of M."""
         for title, link, text in sections_of("order_of_refusals.md"):
             check = title.partition(":")[0]
             if not re.fullmatch(r"G\d+|M", check):
@@ -161,7 +164,7 @@ class Rules:
 
 
 def rules():
-    """The sentence and the link of each check, by its key."""
+    """Returns the sentence and the link of each check, by its key."""
     made = Rules()
     for part in (made.general, made.conditions, made.structures, made.others, made.commands):
         part()
@@ -169,7 +172,7 @@ def rules():
 
 
 def text_of(found):
-    """The rules as JSON, one per line."""
+    """Returns the rules as JSON, one on each line."""
     said = [f" {json.dumps(it, ensure_ascii=False)}: " for it in found]
     told = [json.dumps(list(it), ensure_ascii=False) for it in found.values()]
     return "{\n" + ",\n".join(map("".join, zip(said, told))) + "\n}\n"

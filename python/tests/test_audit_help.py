@@ -1,4 +1,4 @@
-"""The help of the audit's command line, and its words on refusals that are not for an entry."""
+"""Tests the help of the audit's command line, and its words for refusals that no entry causes."""
 
 import contextlib
 import io
@@ -22,7 +22,7 @@ class Help(unittest.TestCase):
         self.assertIn("SCRIPT [OUTPUT] [--image START] [--policy FILE]..", output.getvalue())
 
     def test_refusals_that_are_no_entrys(self):
-        """The audit says in the words of tpmsim.explain why a PolicyNV is answered 126."""
+        """The audit uses the words of tpmsim.explain for the reason why TPM2_PolicyNV got 126."""
         script = """do Startup 0
 do NV_DefineSpace OWNER pw:- - 01000001000b0002000200000008
 do NV_Write OWNER 01000001 pw:- 0000000000000002 0

@@ -1,5 +1,5 @@
-"""Commands by their names: an example of each, the types of its response, words as values, and
-faults that name the field.
+"""Tests commands by their names: an example of each, the types of its response, words as values,
+and faults that name the field.
 """
 
 import builtins
@@ -25,12 +25,12 @@ PACKAGE = pathlib.Path(__file__).resolve().parents[1]
 sys.path.append(str(PACKAGE / "packing"))
 import call_types
 
-# The packages for people, whose functions all have a docstring.
+# The packages for users. All functions in them have a docstring.
 FOR_PEOPLE = "caller", "device", "policies", "records", "script", "standard", "faults"
 
 
 def modules(*packages):
-    """The modules of these packages, or all that need no other package."""
+    """Yields the modules of these packages, or all modules that need no other package."""
     for it in pkgutil.walk_packages(tpmsim.__path__, "tpmsim."):
         if it.name != "tpmsim.pytest_plugin" and (
             not packages or it.name.split(".")[1] in packages
@@ -39,14 +39,14 @@ def modules(*packages):
 
 
 def defined(module, is_wanted):
-    """What a module defines and does not import."""
+    """Yields what a module defines itself and does not import."""
     for _, it in inspect.getmembers(module, is_wanted):
         if it.__module__ == module.__name__:
             yield it
 
 
 def played(kind):
-    """Each example on a device of this kind: the command and its response."""
+    """Plays each example on a device of this kind. Yields the command and its response."""
     with kind(seed=b"seed") as device:
         scene = Scene.on(device)
         before = device.snapshot()
@@ -62,7 +62,7 @@ class Examples(unittest.TestCase):
     """An example of each command."""
 
     def test_each(self):
-        """Two devices accept each example, and each field has the type of the stub."""
+        """Two devices accept each example, and each field has the type that the stub declares."""
         self.assertEqual(list(EXAMPLES), list(CC))
         for (prepared, here), (_, there) in zip(played(Device), played(ModelDevice)):
             with self.subTest(prepared.code.name):
@@ -88,7 +88,9 @@ class Examples(unittest.TestCase):
             self.assertEqual(value, item)
 
     def test_lines(self):
-        """Each example has a line, which assembles to the same bytes, and fields of all of them."""
+        """Each example has a line, which assembles to the same bytes. Its fields have all of these
+        bytes.
+        """
         for prepared, _ in played(ModelDevice):
             with self.subTest(prepared.code.name):
                 buffer = prepared.buffer()
@@ -99,7 +101,7 @@ class Examples(unittest.TestCase):
                 self.assertEqual(shown, len(buffer))
 
     def test_wrong_values(self):
-        """Each parameter and each handle with a wrong value raises ValueError with its name."""
+        """A wrong value of any parameter or handle raises ValueError with its name."""
         for prepared, _ in played(ModelDevice):
             code, handles = prepared.code, prepared.handles
             arguments = values.read_all(code.parameters, prepared.parameters)
@@ -118,7 +120,7 @@ class Examples(unittest.TestCase):
 
 
 class Words(unittest.TestCase):
-    """Words mean the same as numbers."""
+    """Words have the same meaning as numbers."""
 
     def test_attributes(self):
         public = area(attributes="ownerread|OWNER_WRITE|nt=counter|no_da", algorithm="sha1")
@@ -135,7 +137,7 @@ class Words(unittest.TestCase):
             storage_key("sha3")
 
     def test_structures(self):
-        """A field of a structure that does not fit is named too."""
+        """If a field of a structure does not fit, the fault names that field too."""
         for name, public in (
             ("data_size", area(size=70_000)),
             ("auth_policy", area(auth_policy="x")),
@@ -148,7 +150,7 @@ class Words(unittest.TestCase):
             self.assertEqual(caught.exception.field, name)
 
     def test_calls(self):
-        """The words of handles, numbers, selections and sessions."""
+        """Words for handles, numbers, selections and sessions."""
         with ModelDevice() as device:
             tpm = Caller(device)
             tpm.start_up()
@@ -183,7 +185,8 @@ class Words(unittest.TestCase):
 
 
 def tpm_session(session, bind):
-    """The session, if its facts are those of one that was started with numbers."""
+    """Returns the session if its properties are those of a session that was started with numbers.
+    """
     wanted = given.algorithm("sha1"), given.cipher("xor"), given.handle("bind", "OWNER")
     return session if wanted == (session.algorithm, session.cipher, bind) else None
 
@@ -202,7 +205,7 @@ class Faults(unittest.TestCase):
         self.assertTrue(issubclass(BadValue, ValueError))
 
     def test_other_structures(self):
-        """The public area of a key of another TPM stays bytes."""
+        """The public area of a key of another TPM remains bytes."""
         rsa = bytes.fromhex("0001 000b 00030072 0000 0006 0080 0043 0010 0800 00000000 0000")
         text = sized(rsa) + sized(b"") + sized(b"")
         response = calls.RESPONSES[CC.ReadPublic](CC.ReadPublic, None, text)
@@ -212,10 +215,10 @@ class Faults(unittest.TestCase):
 
 
 class Documented(unittest.TestCase):
-    """What an editor and the README show."""
+    """Tests the documentation that an editor and the README show."""
 
     def test_readme(self):
-        """The example of words runs, and prints what it says."""
+        """README's example with words runs, and prints what the README says."""
         code, printed = (PACKAGE / "README.md").read_text("utf-8").split("```")[7], io.StringIO()
         with contextlib.redirect_stdout(printed):
             exec(code.removeprefix("python"), {})
@@ -225,7 +228,7 @@ class Documented(unittest.TestCase):
         self.assertTrue(wrong.startswith("bytesRequested takes an integer from 0 to 65535"))
 
     def test_stub(self):
-        """calls.pyi is made from the table of commands; to make it again, run call_types.py."""
+        """calls.pyi is made from the table of commands. call_types.py makes it again."""
         stub = (PACKAGE / "tpmsim/caller/calls.pyi").read_text("ascii")
         self.assertEqual(stub, call_types.stub())
         self.assertTrue((PACKAGE / "tpmsim/py.typed").is_file())
@@ -234,14 +237,15 @@ class Documented(unittest.TestCase):
             self.assertIn(f"class {name}(", stub)
 
     def test_docstrings(self):
-        """Each class and each function for people says what it does."""
+        """Each class and each function for users has a docstring."""
         found = [it for module in modules(*FOR_PEOPLE) for it in named(module)]
         self.assertGreater(len(found), 500)
         self.assertEqual([name for name, it in found if not inspect.getdoc(it)], [])
 
 
 def named(module):
-    """The public classes, functions, methods and properties that a module defines, by name."""
+    """Yields the public classes, functions, methods and properties that a module defines, by name.
+    """
     for it in defined(module, inspect.isfunction):
         yield f"{module.__name__} {it.__qualname__}", it
     for kind in defined(module, inspect.isclass):

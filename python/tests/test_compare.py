@@ -1,4 +1,6 @@
-"""Scripts on two TPMs: the device here with other seeds, which differs in nothing, and other TPMs."""
+"""Plays scripts on two TPMs: on this device with other seeds, which shows no difference, and on
+other TPMs.
+"""
 
 import pathlib
 import random
@@ -19,7 +21,7 @@ from journals import Journal
 
 TESTS = pathlib.Path(__file__).resolve().parents[2] / "tests"
 
-# Sessions of all kinds, policies, objects, guesses and waits.
+# Scripts with sessions of all kinds, policies, objects, guesses and waits.
 SCRIPTS = (
     *("hmac_sessions", "xor_sessions", "session_encryption", "policy_sessions_that_encrypt"),
     *("policy_secret", "object_policies", "nv_sessions", "lockout", "lockout_sessions", "waits"),
@@ -30,12 +32,14 @@ DEFINE = "do NV_DefineSpace OWNER pw:- - 01000001000b0002000200000008"
 
 
 def script(name):
-    """The bytes of the script with a name, in any folder of tests/."""
+    """Returns the bytes of the script with this name, in any folder of tests/."""
     return next(TESTS.glob(f"*/{name}.tpm")).read_bytes()
 
 
 class OtherSeeds(unittest.TestCase):
-    """Sessions are computed again correctly: fresh seeds and nonces lead to the same answers."""
+    """The values of sessions are computed again correctly: with new seeds and nonces the outcomes
+    are the same.
+    """
 
     def test_nothing_differs(self):
         for name in SCRIPTS:
@@ -45,8 +49,8 @@ class OtherSeeds(unittest.TestCase):
                 self.assertLess(len(report.not_comparable), report.commands / 4)
 
     def test_a_difference_is_told(self):
-        """A device that answers otherwise is found, and later differences are said to follow from
-        it.
+        """A device with other responses is found. The report says which later differences follow
+        from the first.
         """
 
         class Bent(type(Device())):
@@ -71,7 +75,8 @@ do GetRandom 4
         self.assertEqual(told(pathlib.Path("script"), report), [f"script: {it}" for it in lines])
 
     def test_journals(self):
-        """A journal of a new device is played, whatever its seeds are; another journal is refused."""
+        """A journal of a new device is played, whatever its seeds are. Another journal is refused.
+        """
         for begin in Journal.cycle, Journal.begin:
             journal = Journal(Model(bytes(256)))
             journal.play("do Startup 0", DEFINE, "do GetRandom 4")
@@ -89,7 +94,7 @@ do GetRandom 4
             self.assertRaisesRegex(ValueError, words, Comparison(other).play, text)
 
     def test_state_texts(self):
-        """A new device may begin as a state text, if it was just powered on."""
+        """The device may begin as a state text whose device was just powered on."""
         journal = Journal(Model(bytes(256)))
         journal.go_on()
         journal.play("do Startup 0", "do GetRandom 4")
@@ -104,7 +109,7 @@ do GetRandom 4
 
 @unittest.skipUnless(library.is_there(), "there is no library")
 class Completed(unittest.TestCase):
-    """A journal with the completing layer, compared with another TPM that has contexts."""
+    """Compares a journal with the completing layer with another TPM, which has contexts itself."""
 
     def recorded(self, play):
         with tempfile.TemporaryDirectory() as folder:
@@ -118,7 +123,7 @@ class Completed(unittest.TestCase):
                 return Comparison(other).play(journal)
 
     def test_commands_at_random(self):
-        """A journal begins again when the device is power-cycled, so some have fewer commands."""
+        """A power cycle begins a journal again, so some journals have fewer commands."""
         commands = 0
         for seed in range(4):
             chance = random.Random(seed)
@@ -130,14 +135,16 @@ class Completed(unittest.TestCase):
         self.assertGreater(commands, 800)
 
     def test_an_object_with_another_handle(self):
-        """Its context is loaded to another handle there, by which it is used."""
+        """The other TPM loads the object's context to another handle. Later uses have that handle.
+        """
         journal = self.recorded(contexts_that_move)
         report = self.compared(journal)
         self.assertEqual((report.differences, report.not_comparable), ([], []))
 
 
 def contexts_that_move(device):
-    """Two keys whose contexts are loaded in the other order, as by tools that hold no handles."""
+    """Makes two keys, and loads their contexts in reverse order, like tools that keep no handles.
+    """
     tpm = Caller(device)
     tpm.start_up()
     contexts = []
@@ -159,7 +166,7 @@ def saved_context(device, handle):
 class Others(unittest.TestCase):
     @unittest.skipUnless(shutil.which("swtpm"), "there is no swtpm")
     def test_swtpm(self):
-        """Each difference from swtpm has a known cause."""
+        """Each difference between swtpm and this device has a known cause."""
         with StartedSwtpm() as other:
             report = Comparison(other).play(script("passwords"))
         own = [it for it in report.differences if it.follows is None]

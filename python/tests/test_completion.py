@@ -1,4 +1,6 @@
-"""The completing layer in Python next to the library's, and how a completed command is explained."""
+"""Compares the completing layer in Python with the library's, and tests how a completed command is
+explained.
+"""
 
 import pathlib
 import random
@@ -18,7 +20,7 @@ from tpmsim.standard import lines
 
 SEEDS, COMMANDS = 12, 500
 
-# What the layer does, with N for each number.
+# The actions of the layer, with N for each number.
 DEEDS = {
     "context N of object N, which stays in its place",
     "context N of session N, which stays in its place",
@@ -54,7 +56,7 @@ def deed(words):
 
 
 def recorded(seed, count):
-    """The journal of random commands, and what the commands in it were answered."""
+    """Returns the journal of random commands, and the responses to the commands in it."""
     with tempfile.TemporaryDirectory() as folder:
         with KeptDevice(folder, forces=False, completes=True) as device:
             answered = completed_scripts.play(device, random.Random(seed), count, changes=True)
@@ -62,14 +64,14 @@ def recorded(seed, count):
 
 
 def wrong(event, response):
-    """Whether the explanation of an event differs from what was answered."""
+    """Returns whether the explanation of an event differs from the response."""
     is_refused = any(response[6:10])
     is_said = bool(event.refused), event.reason is not None
     return event.response != response or event.differences or is_said != (is_refused,) * 2
 
 
 def trace_of(event):
-    """The trace of an event as `tpmsim replay` prints it."""
+    """Returns the trace of an event as `tpmsim replay` prints it."""
     scene = event.scene
     if event.completes:
         return COMPLETED
@@ -79,8 +81,8 @@ def trace_of(event):
 @unittest.skipUnless(library.is_there(), "there is no library")
 class Completed(unittest.TestCase):
     def test_commands_at_random(self):
-        """Each command is answered as by the library, and is explained as refused only if that
-        refuses it.
+        """Each command gets the same response from Python and from the library. It is explained as
+        refused only if the library refuses it.
         """
         seen = set()
         for seed in range(SEEDS):
@@ -94,7 +96,9 @@ class Completed(unittest.TestCase):
         self.assertEqual(seen - {""}, DEEDS)
 
     def test_an_audit(self):
-        """The layer's answers are counted apart, and what it makes of the device is in the history."""
+        """The layer's responses are counted separately. Its changes of the device are in the
+        history.
+        """
         for seed in range(2):
             journal, answered = recorded(seed, COMMANDS)
             auditor = Auditor(start.of_log(journal, None), NoLog())
@@ -111,7 +115,7 @@ class Completed(unittest.TestCase):
             self.assertIn(words, "\n".join(report(auditor)))
 
     def test_words(self):
-        """What the layer answered is reported, and what the device itself said."""
+        """Reports both the layer's response and the device's own response."""
         save, stir = "8001 0000000e 00000162 80000000", "8001 0000000e 00000146 0002 0102"
         with tempfile.TemporaryDirectory() as folder:
             with KeptDevice(folder, forces=False, completes=True) as device:

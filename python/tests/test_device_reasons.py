@@ -1,4 +1,6 @@
-"""Why a device refused a command, wherever it is, from what it was sent and what it answered."""
+"""Tests why a device refused a command. The reason follows from the sent commands and the
+responses, wherever the device is.
+"""
 
 import os
 import pathlib
@@ -20,7 +22,7 @@ SERVE = "serve --socket socket --image image --entropy /dev/urandom --locality 0
 
 
 def use(device):
-    """A session proves an index's value, and then a wrong password is given for it."""
+    """Proves an index's value in a session, and then sends a wrong password for the index."""
     tpm = Caller(device)
     tpm.start_up()
     index = tpm.define(area(attributes=BY_VALUE), auth=b"right")
@@ -54,7 +56,7 @@ class Reasons(unittest.TestCase):
 
     @unittest.skipUnless(library.is_there(), "there is no library")
     def test_kept(self):
-        """Explained also after a power cycle, and with the completing layer."""
+        """A refusal is explained also after a power cycle, and with the completing layer."""
         self.assert_explained(KeptDevice(self.folder / "kept"))
         with KeptDevice(self.folder / "other", completes=True) as device:
             Caller(device).start_up()
@@ -69,7 +71,7 @@ class Reasons(unittest.TestCase):
         self.assert_explained(ModelDevice())
 
     def test_of_an_image(self):
-        """What is in the image of the start is known."""
+        """The explanation knows what is in the image from which the device starts."""
         with ModelDevice() as device:
             index, image = use(device), device.save()
         (self.folder / "image").write_bytes(image)
@@ -87,7 +89,7 @@ class Reasons(unittest.TestCase):
             self.assertIn(f"The password of the entry is not the authValue of {index:08x}", why)
 
     def served(self):
-        """A device on a socket, whose random bytes nobody reports."""
+        """Returns a device on a socket. Nobody reports its random bytes."""
         process = subprocess.Popen([program_found(), *SERVE.split()], cwd=self.folder)
         self.addCleanup(process.wait)
         self.addCleanup(process.kill)
@@ -108,7 +110,8 @@ class Reasons(unittest.TestCase):
 
     @unittest.skipUnless(shutil.which("swtpm"), "there is no swtpm")
     def test_of_another_maker(self):
-        """Another maker's TPM is explained as long as it answers as this one does."""
+        """Another maker's TPM is explained as long as its responses are the same as this device's.
+        """
         with StartedSwtpm() as device:
             tpm = Caller(device)
             tpm.start_up()
@@ -119,7 +122,7 @@ class Reasons(unittest.TestCase):
             self.assertIn("The password of the entry is not", why_refused(log_of(device)))
 
     def test_what_was_there_before(self):
-        """A device that had something before its first event is not explained wrongly."""
+        """A device that had an index before its first event is not explained wrongly."""
         with ChildDevice(image=self.folder / "image") as device:
             index = use(device)
         with self.served() as device:

@@ -39,7 +39,7 @@ NEEDS_LIBRARY = unittest.skipUnless(tpmsim.device.library.is_there(), "there is 
 
 
 class Told(TwentyTests):
-    """Devices that receive their locality, time and random bytes."""
+    """Tests of devices that receive their locality, time and random bytes."""
 
     def test_trace_is_a_script(self):
         self.tpm.device.locality = 3
@@ -51,7 +51,7 @@ class Told(TwentyTests):
         self.assertIn("# GetRandom L3 +7 ok 00000000", self.tpm.device.trace)
 
     def test_seed(self):
-        """A device with a seed draws the same in each run."""
+        """A device with a seed draws the same bytes in each run."""
         answers = set()
         for _ in range(2):
             with self.device() as device:
@@ -68,7 +68,7 @@ class Told(TwentyTests):
 
 
 class Shipped(unittest.TestCase):
-    """The files that a clone of the repository ships are found by the machine."""
+    """The files in a clone of the repository are found by the name of the machine."""
 
     def test_machines(self):
         for machine, folder in (("x86_64", "dist"), ("aarch64", "aarch64")):
@@ -132,26 +132,28 @@ class OverSimulator(TwentyTests, unittest.TestCase):
 
 
 def differs(test):
-    """A test that must fail on another TPM, which answers otherwise."""
+    """Marks a test that must fail on another TPM, whose responses differ."""
     return unittest.expectedFailure(lambda self: test(self))
 
 
 @unittest.skipUnless(shutil.which("swtpm"), "there is no swtpm")
 class OverSwtpm(TwentyTests, unittest.TestCase):
-    """docs/OTHER_TPMS.md has the differences; a test for each one shows that it is still there."""
+    """docs/OTHER_TPMS.md lists the differences. A test for each difference shows that it still
+    exists.
+    """
 
     lacks = {"test_lockout": HOSTS_TIME}
     device = StartedSwtpm
 
-    # A session that neither authorizes nor encrypts is refused there: ATTRIBUTES/s1.
+    # swtpm refuses a session that neither authorizes nor encrypts: ATTRIBUTES/s1.
     test_end_of_a_session = differs(TwentyTests.test_end_of_a_session)
     test_wrong_hmac_of_a_response = differs(TwentyTests.test_wrong_hmac_of_a_response)
 
-    # TPM2_PCR_Event there answers digests of all banks, even of those without PCRs.
+    # swtpm's TPM2_PCR_Event returns digests of all banks, even of banks without PCRs.
     test_fields = differs(TwentyTests.test_fields)
 
-    # If a command undoes a session's binding, it is answered there as if the session were still
-    # bound.
+    # If a command ends a session's binding, swtpm computes the response as if the session were
+    # still bound.
     test_indices = differs(TwentyTests.test_indices)
     test_wrong_hmac = differs(TwentyTests.test_wrong_hmac)
 
@@ -161,7 +163,7 @@ class Devices(unittest.TestCase):
         self.folder = pathlib.Path(self.enterContext(tempfile.TemporaryDirectory()))
 
     def test_wrong_words(self):
-        """Wrong words from a caller, whichever device it has."""
+        """A caller's wrong words are refused, whichever device it has."""
         tpm = Caller(ModelDevice())
         with self.assertRaisesRegex(KeyError, "Quote is not a command that the device serves"):
             tpm.call("Quote")
@@ -197,7 +199,7 @@ class Devices(unittest.TestCase):
             before = but_clock(image(model))
 
     def test_image_of_one_device(self):
-        """A file belongs to one device at a time, and bytes that are not an image stay as they are."""
+        """A file belongs to one device at a time. Bytes that are not an image stay as they are."""
         path = self.folder / "image"
         with Device(path), self.assertRaises((FileExistsError, DeviceEnded)):
             Device(path).execute(b"")
@@ -208,8 +210,8 @@ class Devices(unittest.TestCase):
         self.assertEqual(path.read_bytes(), b"TPMI")
 
     def test_kept_state(self):
-        """Two hold a device at once; a journal that is damaged or is not one is reported as such,
-        and stays.
+        """Two processes can hold a device at once. A journal that is damaged, or that is no
+        journal, is reported as such, and stays as it is.
         """
         with KeptDevice(self.folder) as device, KeptDevice(self.folder) as other:
             tpm = Caller(device)
@@ -258,7 +260,7 @@ class Devices(unittest.TestCase):
         self.assertRaisesRegex(DeviceEnded, words, device.execute, bytes(40_000))
 
     def test_readme(self):
-        """The examples of README.md run, and print what they say."""
+        """The examples of README.md run, and print what the README says."""
         printed, codes = io.StringIO(), (PACKAGE / "README.md").read_text("utf-8").split("```")
         with contextlib.redirect_stdout(printed):
             for code in (codes[1], codes[3]):
@@ -277,7 +279,7 @@ class Devices(unittest.TestCase):
 
 
 class Documented(unittest.TestCase):
-    """Each device, and each of its calls, has an example, and the examples hold."""
+    """Each device and each of its calls has an example. The examples run as shown."""
 
     def test_examples(self):
         given = {it: getattr(tpmsim.device, it) for it in tpmsim.device.__all__}

@@ -1,4 +1,4 @@
-"""Slips that a device accepts, and what an explanation says of them."""
+"""Tests mistakes that a device accepts, and their explanations."""
 
 import random
 import unittest
@@ -12,7 +12,7 @@ from explained_logs import events_of, explained, without_value
 
 
 class Accepted(unittest.TestCase):
-    """Slips that a device accepts."""
+    """Mistakes that a device accepts."""
 
     def setUp(self):
         self.device = ModelDevice(seed=b"accepted")
@@ -41,7 +41,9 @@ class Accepted(unittest.TestCase):
         self.assertEqual(self.slips(), ["not encrypted"])
 
     def test_misread_structure(self):
-        """If inSensitive was encrypted without the parent's value, it is no longer a structure."""
+        """If inSensitive was encrypted without the parent's value, it is decrypted to bytes that
+        are no structure.
+        """
         parent = self.tpm.create_primary(storage_key(), user_auth=b"\xf1parent")
         named = 0
         for at in range(8):

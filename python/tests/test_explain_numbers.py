@@ -1,4 +1,4 @@
-"""The reasons of single commands, with their numbers, bytes and values."""
+"""Tests the reasons of single commands, with their numbers, bytes and values."""
 
 import random
 import unittest
@@ -13,7 +13,7 @@ UNSIGNED_GE = 7
 START = "do StartAuthSession NULL NULL 00112233445566778899aabbccddeeff - %d null sha256"
 DEFINE = "do NV_DefineSpace OWNER pw:- - 01000001000b0002000200000008"
 
-# Refused lines, each with its rule, its byte and its words.
+# Refused lines, each with its rule, the offset of the fault, and the words of the reason.
 GENERAL = (
     ("cmd 8001", "G1", 0, "The buffer has 2 bytes: 2 < 10."),
     ("cmd 80030000000a0000017b", "G2", 0, "The tag is 8003."),
@@ -45,7 +45,7 @@ GENERAL = (
     ("do SelfTest 2", "SelfTest/parameters", 10, "wanted 00 or 01, and there is 02"),
 )
 
-# Attributes of an entry of TPM2_GetRandom.
+# Wrong attributes in the entry of a TPM2_GetRandom.
 ATTRIBUTES = (
     ("09", "G8/RESERVED_BITS", "bits 3 and 4 are reserved"),
     ("81", "G8/ATTRIBUTES.1", "no session audits"),
@@ -53,7 +53,7 @@ ATTRIBUTES = (
     ("41", "G8/SYMMETRIC", "without a cipher in line 2"),
 )
 
-# Authorization areas.
+# Wrong authorization areas.
 AREAS = (
     ("0000", "authorizationSize is cut: 2 of 4 bytes are left.", 10),
     ("00000008" + "00" * 8, "8 < 9", 10),
@@ -62,7 +62,7 @@ AREAS = (
     ("00000024" + ("40000009" + "0000" + "01" + "0000") * 4, "4 > 3", 10),
 )
 
-# Other fields of the public area of an index, with what is expected and what is there.
+# Wrong fields in the public area of an index, with the expected value and the actual one.
 PUBLIC = dict(nvIndex="01000001", nameAlg="000b", attributes="00020002", authPolicy="0000")
 PUBLIC["dataSize"] = "0008"
 STRUCTURES = (
@@ -74,7 +74,7 @@ STRUCTURES = (
     ("dataSize", "000800", 45, "the end of the structure", "1 byte more"),
 )
 
-# Operands of TPM2_PolicyNV, for an index that holds 2.
+# Operands of TPM2_PolicyNV for an index that contains 2.
 COMPARISONS = (
     ("0000000000000001", 9, "UNSIGNED_LE does not hold: 2 <= 1 is false."),
     ("0000000000000001", 5, "UNSIGNED_LT does not hold: 2 < 1 is false."),
@@ -91,7 +91,7 @@ def facts_of(reason):
 
 
 class Numbers(unittest.TestCase):
-    """The reasons of single commands, each worked out by hand."""
+    """The reasons of single commands. Each was worked out by hand."""
 
     def assert_reason(self, lines, rule, at, words):
         found = last(*lines)
@@ -122,7 +122,7 @@ class Numbers(unittest.TestCase):
             self.assertEqual((facts["wanted"], facts["had"]), (wanted, had))
 
     def test_policy_nv(self):
-        """Comparisons such as "2 <= 1 is false"."""
+        """The reason contains comparisons such as "2 <= 1 is false"."""
         write = "do NV_Write OWNER 01000001 pw:- 0000000000000002 0"
         for operand, operation, words in COMPARISONS:
             line = f"do PolicyNV OWNER 01000001 03000000 pw:- {operand} 0 {operation}"
@@ -140,7 +140,7 @@ class Numbers(unittest.TestCase):
         self.assertEqual(last(DEFINE, DEFINE).words, "There is an index 01000001 since line 2.")
 
     def test_others_of_its_kind(self):
-        """For a missing session or index the log names those that are there."""
+        """If a session or an index is missing, the reason names the existing ones."""
         start = "do StartAuthSession NULL NULL 00112233445566778899aabbccddeeff - 0 null sha256"
         for wrong, there in (
             (
@@ -163,7 +163,7 @@ class Policies(unittest.TestCase):
         self.tpm.start_up()
 
     def reason(self, condition, prepared):
-        """Why a command is refused, which must be because of this condition of a policy."""
+        """Returns the reason of a refused command. It must be this condition of a policy."""
         self.assertRaises(Refused, self.tpm.send, prepared)
         found = explained(self.device).reason
         self.assertEqual(found.rule, f"condition/{condition}")
@@ -212,7 +212,7 @@ class Policies(unittest.TestCase):
         self.assertEqual(facts_of(found)["cpHash recorded"], "11" * 32)
 
     def test_digests(self):
-        """One assertion too many, one too few, two swapped, and none."""
+        """Makes one assertion too many, one too few, two in the wrong order, and none."""
         first, second = "PolicyCommandCode Unseal\n", "PolicyAuthValue\n"
         handle = self.sealed(digest_of(first + second), user_auth=b"pin")
         for words, slip in (
@@ -237,7 +237,7 @@ class Policies(unittest.TestCase):
         )
 
     def test_name_of_an_index(self):
-        """A policy that has the Name of an index from before its first write."""
+        """The policy contains the Name that an index had before its first write."""
         index = self.tpm.define(counter(FIRST))
         operand = number(1, 8)
         args = operand + number(0, 2) + number(UNSIGNED_GE, 2)

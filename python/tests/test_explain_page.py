@@ -1,5 +1,5 @@
-"""The page of a log: it has the log and what is reported of it, and nothing of a log is markup.
-tests/web/page_browser.sh opens it in a browser.
+"""Tests the page of a log. It contains the log and the report about it. Nothing in a log is treated
+as markup. tests/web/page_browser.sh opens the page in a browser.
 """
 
 import html.parser
@@ -12,7 +12,7 @@ from tpmsim.explain import page
 from tpmsim.explain.play import Play
 from tpmsim.explain.text import Counts
 
-# A log may hold anything: in its name, in comments, in words, and in bytes that are a text.
+# A log may contain any text: in its name, in comments, in words, and in bytes that are text.
 HOSTILE = "</script><script>alert(1)</script><!--<img src=x onerror=alert(2)>&amp;@FACTS@"
 LOG = f"""# {HOSTILE}
 do Startup 0
@@ -27,8 +27,8 @@ def page_of(name, log, answers=None, image=None):
 
 
 class Elements(html.parser.HTMLParser):
-    """The elements of a page with their attributes, and the text of each, by its id or else its
-    tag.
+    """The elements of a page with their attributes. Also the text of each element, by the element's
+    id or, without an id, by its tag.
     """
 
     def __init__(self, text):
@@ -49,7 +49,7 @@ class Elements(html.parser.HTMLParser):
 
 
 def log_of(text):
-    """The log in a page."""
+    """Returns the log in a page."""
     return json.loads(Elements(text).texts["log"])
 
 
@@ -88,7 +88,9 @@ class Page(unittest.TestCase):
         self.assertEqual(image, "")
 
     def test_random_bytes_of_another_log(self):
-        """A log of another TPM has no entropy lines: the page gets what the answers show."""
+        """A log of another TPM has no entropy lines. The page then takes random bytes from the
+        responses.
+        """
         log = b"cmd 80010000000c000001440000\ncmd 80010000000c0000017b0004\n# 80010000001000000000000401020304\n"
         value = log_of(page_of("", log))
         self.assertTrue(value["events"]["2"]["random"].startswith("01020304"))

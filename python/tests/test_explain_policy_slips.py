@@ -1,5 +1,6 @@
-"""Each usual slip in a policy digest, which is made elsewhere with one change: one slip is named
-alone, two are named as two, and nothing is named if no slip explains the digest.
+"""Tests each usual mistake in a policy digest. The test computes the digest itself, with one
+change. One mistake is named as one, two are named as two, and none is named if no mistake
+explains the digest.
 """
 
 import hashlib
@@ -50,7 +51,7 @@ class Case:
         return hashlib.new(HASHES[algorithm or self.algorithm], data).digest()
 
     def told(self):
-        """The session, in which the device makes the right assertions."""
+        """Returns the session after the device has made the right assertions in it."""
         session = self.tpm.session(kind=SE_POLICY, algorithm=self.algorithm)
         self.tpm.send(self.tpm.pcrs(session, [(SHA256, [self.PCR])]))
         secret = self.tpm.secret(session, of=RH_ENDORSEMENT, policy_ref=self.reference)
@@ -62,7 +63,9 @@ class Case:
         return session
 
     def links(self):
-        """The texts of the assertions in order, each made of the digest before it."""
+        """Returns functions for the digests after each assertion, in order. Each takes the digest
+        before it.
+        """
         return {
             "pcr": lambda old: self.hash(old + self.pcr_text()),
             "secret": lambda old: self.secret_hash(old, number(RH_ENDORSEMENT, 4)),
@@ -93,7 +96,7 @@ class Case:
         return made
 
     def refused(self, auth_policy, tried=()):
-        """Why TPM2_Unseal refuses an object with this policy."""
+        """Returns the reason why TPM2_Unseal refuses an object with this policy."""
         session = self.told()
         template = sealed(self.algorithm, HERE | Attribute.NO_DA, auth_policy=auth_policy)
         handle = self.tpm.create_primary(template, data=b"x", user_auth=b"pin")
@@ -107,7 +110,8 @@ class Case:
 
 
 def link(place, make):
-    """Makes one link in another way, from the case and the digest before it."""
+    """Returns a change that makes one link in another way, from the case and the digest before it.
+    """
 
     def of_link(case, links):
         links[place] = lambda old: make(case, old)
@@ -233,8 +237,8 @@ NONE = (
 
 
 def pairs_of(rows, most=60):
-    """Some pairs of rows: first those that are made in another way, then those that are arranged
-    so.
+    """Yields some pairs of rows. Links that are made in another way come first, then links in
+    another order.
     """
     pairs = list(itertools.combinations(rows, 2))
     for first, second in random.Random("pairs").sample(pairs, most):
@@ -259,7 +263,7 @@ class PolicySlips(unittest.TestCase):
                     self.assertEqual(found.slips, [name])
 
     def test_two(self):
-        """Any two in different places, neither of which undoes the other."""
+        """Makes any two mistakes at different links, neither of which undoes the other."""
         named = 0
         for at, (first, second) in enumerate(pairs_of(ROWS)):
             case = Case(f"two {at} {first[0]}, {second[0]}")
@@ -284,7 +288,7 @@ class PolicySlips(unittest.TestCase):
             )
 
     def test_so_much_is_tried(self):
-        """Few links are tried for a policy with many assertions."""
+        """For a policy with many assertions only a few links are tried."""
         tpm = Caller(ModelDevice(seed=b"much"))
         tpm.start_up()
         session = tpm.session(kind=SE_POLICY)
@@ -330,7 +334,7 @@ class PolicySlips(unittest.TestCase):
         self.assertIn('"in none of them", in PolicySecret', found.words)
 
     def test_or(self):
-        """The branches in another order, the digest before them, and no zeros."""
+        """Makes mistakes with the branches: another order, the digest before them, and no zeros."""
         branches = b"\1" * 32, bytes(32), b"\3" * 32
         text = number(CC.PolicyOR, 4)
         for name, wanted in (
@@ -349,7 +353,7 @@ class PolicySlips(unittest.TestCase):
 
 
 class ByATrial(unittest.TestCase):
-    """The expected digest is that of a trial session in the log."""
+    """The expected digest is the digest of a trial session in the log."""
 
     def setUp(self):
         self.device = ModelDevice(seed=b"trials")

@@ -1,5 +1,5 @@
-"""Each usual slip of a caller, made in random sessions: the explanation names it, and names no slip
-if an HMAC is random.
+"""Makes each usual mistake of a caller in random sessions. The explanation names the mistake. If an
+HMAC is random, it names none.
 """
 
 import random
@@ -13,7 +13,7 @@ from tpmsim.standard import RH_OWNER, sessions, SHA1, SHA256, sized, XOR
 from tpmsim.standard.objects import Attribute
 from explained_logs import explained, sessions_of, without_value
 
-# The number of random sessions in which each slip is tried.
+# The number of random sessions in which each mistake is made.
 ROUNDS = 10
 
 
@@ -45,7 +45,7 @@ class Case:
         )
 
     def fresh_value(self):
-        """A value that does not end in zeros, is not empty, and is not a text."""
+        """Returns a value that is not empty, does not end with zeros, and is not a text."""
         return self.pick.randbytes(self.pick.randrange(3, 16)) + b"\xfe"
 
     def with_owner(self):
@@ -59,7 +59,7 @@ class Case:
         return self.tpm.create_primary(hmac_key(), data=b"key", user_auth=self.value)
 
     def use(self, *more, attributes=CONTINUE_SESSION):
-        """A command that the entity authorizes, without any mistake."""
+        """Returns a command that the entity authorizes, without any mistake."""
         means = Use(self.session, attributes), *more
         if self.entity == "owner":
             return self.tpm.change_auth(RH_OWNER, self.pick.randbytes(8), *means)
@@ -68,7 +68,7 @@ class Case:
         return self.tpm.hmac(self.handle, self.pick.randbytes(8), SHA256, *means)
 
     def by_policy(self, words, bind=RH_NULL, demand=None):
-        """TPM2_Unseal of an object whose value is "pin", by its policy."""
+        """Returns a TPM2_Unseal of an object with the value "pin", authorized by its policy."""
         digest = digest_of(words, self.algorithm)
         template = sealed(self.algorithm, HERE | Attribute.NO_DA, auth_policy=digest)
         handle = self.tpm.create_primary(template, self.value, data=b"x", user_auth=b"pin")
@@ -77,12 +77,13 @@ class Case:
         return self.tpm.unsealing(handle, use)
 
     def go_on(self, times):
-        """Uses the session this number of times, so that its nonce changes each time."""
+        """Uses the session `times` times, so that its nonce changes each time."""
         for _ in range(times):
             self.tpm.call("GetRandom", uses=[self.session], bytesRequested=1)
 
     def parts(self, prepared):
-        """The ingredients of the first entry's HMAC, by the names of sessions.entry_hmac."""
+        """Returns the ingredients of the first entry's HMAC, with the names of sessions.entry_hmac.
+        """
         means, tpm, handle = prepared.uses[0], self.tpm, prepared.authorized(1)
         algorithm = means.session.algorithm
         return {
@@ -96,7 +97,8 @@ class Case:
         }
 
     def bent(self, prepared, hashed=None, **changes):
-        """The command with an HMAC of other parts; `hashed` is what differs in its cpHash."""
+        """Returns the command with an HMAC of other parts. `hashed` are the changes in its cpHash.
+        """
         if hashed is not None:
             changes["parameters"] = self.cp_hash(prepared, **hashed)
         return prepared.but_entry(1, hmac=sessions.entry_hmac(**(self.parts(prepared) | changes)))
@@ -108,8 +110,8 @@ class Case:
         return sessions.digest(algorithm or self.session.algorithm, text)
 
 
-# What a caller may do in every command: the seed and the choices of its sessions, the slip that
-# this is, and the parts that differ in the HMAC.
+# Mistakes that a caller may make in every command. Each has a seed, the choices for its sessions,
+# the name of the mistake, and the parts that differ in the HMAC.
 ALWAYS = (
     ("left out", {"bound": False}, "authValue left out", lambda it: {"key": b""}),
     ("put in", {"bound": True}, "authValue put in", lambda it: {"key": it.session.key + it.value}),
@@ -126,18 +128,18 @@ def hashed(names, front=b""):
 
 class Slips(unittest.TestCase):
     def slips_of(self, case, prepared):
-        """The slips that are named for a command, which must be refused."""
+        """Returns the mistakes that are named for a command. The command must be refused."""
         with self.assertRaises(Refused) as caught:
             case.tpm.send(prepared)
         self.assertIn(caught.exception.name, ("BAD_AUTH", "AUTH_FAIL"))
         return explained(case.device).reason.slips
 
     def refused(self, case, prepared, *wanted):
-        """Checks that a command is refused, with exactly these slips."""
+        """Checks that a command is refused, and that exactly these mistakes are named."""
         self.assertEqual(self.slips_of(case, prepared), list(wanted), "\n".join(case.device.trace))
 
     def bends(self, case, wanted, prepared=None, **changes):
-        """Checks a command that is right except in these parts of its HMAC."""
+        """Checks a command that is right except for these parts of its HMAC."""
         self.refused(case, case.bent(prepared or case.use(), **changes), wanted)
 
     def cases(self, name, **choices):
@@ -185,7 +187,7 @@ class Slips(unittest.TestCase):
             self.bends(case, "authValue put in", case.tpm.random(4, case.session), key=key)
 
     def test_auth_value_in_a_policy(self):
-        """The value is put in without PolicyAuthValue, and left out after it."""
+        """The authorization value is put in without PolicyAuthValue, and left out after it."""
         for words, in_key, wanted in (
             ("PolicyCommandCode Unseal\n", b"pin", "authValue put in"),
             ("PolicyAuthValue\n", b"", "authValue left out"),
@@ -218,7 +220,7 @@ class Slips(unittest.TestCase):
             self.bends(case, "old Name", hashed={"names": [old, old]})
 
     def test_old_name_and_lapsed_binding(self):
-        """What a caller does that does not know of the first write."""
+        """The caller does not know of the index's first write."""
         for case in self.cases("both", bound=True, entity="index"):
             old = case.tpm.name(case.handle)
             case.tpm.send(case.use())
@@ -248,7 +250,9 @@ class Slips(unittest.TestCase):
             self.bends(case, "parameters hashed plain", prepared, hashed=hashed)
 
     def test_zeros(self):
-        """A padded value counts if the key is longer than a block, and if the zeros are in front."""
+        """A padded value is a mistake if the key is longer than a block, or if the zeros are in
+        front.
+        """
         for case in self.cases("zeros", bound=False):
             prepared = case.use()
             for padded in (

@@ -1,5 +1,5 @@
-"""Each usual slip in an HMAC, by a caller that changes one ingredient: one slip is named alone, two
-are named as two, and nothing is named if no slip explains the HMAC.
+"""Tests each usual mistake in an HMAC, by a caller that changes one ingredient. One mistake is
+named as one, two are named as two, and none is named if no mistake explains the HMAC.
 """
 
 import base64
@@ -15,19 +15,19 @@ from tpmsim.explain import slips
 from tpmsim.standard import AES, ALG_NULL, CC, number, RH_ENDORSEMENT, RH_OWNER, RS_PW, SE_HMAC
 from tpmsim.standard import SHA1, SHA256, XOR
 
-# The number of random sessions in which each slip is tried.
+# The number of random sessions in which each mistake is made.
 ROUNDS = 3
 
 BOUND = {"bind": ("own", "other")}
 UNBOUND = {"bind": "none"}
-# The key has both a session key and a value.
+# The key contains both a session key and an authorization value.
 BOTH = {"bind": "other"}
 NAMED = {"entity": ("index", "object")}
 INDEX, OBJECT = {"entity": "index"}, {"entity": "object"}
 
 
 def setting(**parts):
-    """Sets parts of an HMAC, which are made from the right ones."""
+    """Sets parts of an HMAC. They are made from the right parts."""
 
     def turn(case, it):
         vars(it).update({name: made(it) for name, made in parts.items()})
@@ -40,7 +40,7 @@ def valued(turn):
 
 
 def keyed(**changes):
-    """Sets a session key, some of whose parts are made from the case."""
+    """Sets a session key. Some of its parts are made from the case."""
 
     def turn(case, it):
         it.session_key = case.kdf(**{name: made(case) for name, made in changes.items()})
@@ -49,7 +49,7 @@ def keyed(**changes):
 
 
 def renamed(turn):
-    """Changes the Name of what authorizes, wherever it is."""
+    """Changes the Name of the authorizing entity, wherever it is used."""
 
     def change(case, it):
         own = case.tpm.name(case.handle)
@@ -289,7 +289,7 @@ OTHERS = (
 
 ROWS = (*VALUES, *KEYS, *NAMES, *HASHED, *REST, *OTHERS)
 
-# Ingredients that no slip changes in this way.
+# Changes of ingredients that no known mistake makes.
 NONE = (
     ({}, valued(lambda it: it[::-1] + b"?")),
     ({}, setting(newer=lambda it: it.newer[1:])),
@@ -300,11 +300,11 @@ NONE = (
     ({}, setting(parameters=lambda it: it.parameters[1:])),
 )
 
-# The order in which one goes into the next.
+# The order in which the ingredients are made: each kind is an input of the next.
 IN_ORDER = VALUES, KEYS, NAMES, HASHED, OTHERS, REST
 PLACES = {id(row): place for place, rows in enumerate(IN_ORDER) for row in rows}
 
-# Two slips that together make what one or two others make, which are reported instead.
+# Pairs of mistakes with the same result as one or two other mistakes, which are reported instead.
 TOLD_OTHERWISE = {
     frozenset(("nonceCaller left out", "nonceTPM left out")),
     frozenset(("nonceCaller with its size", "nonceTPM with its size")),
@@ -318,7 +318,7 @@ TOLD_OTHERWISE = {
 
 
 def together(first, second):
-    """The choices of both, if they are compatible."""
+    """Returns the choices of both, or None if they are incompatible."""
     if len({first.get("more"), second.get("more")} - {None}) > 1:
         return None
     choices = first | second
@@ -331,7 +331,9 @@ def together(first, second):
 
 
 def pairs_of(count):
-    """Random pairs of rows in different places, or both in the last one, with the choices of both."""
+    """Yields random pairs of rows, with the choices of both. The rows are in different places, or
+    both in the last place.
+    """
     pairs = list(itertools.combinations(ROWS, 2))
     for pair in random.Random("pairs").sample(pairs, count):
         first, second = sorted(pair, key=lambda it: PLACES[id(it)])
@@ -340,7 +342,7 @@ def pairs_of(count):
             yield first, second, choices
 
 
-# What is given instead of a password.
+# Passwords that a caller sends instead of the right one.
 PASSWORDS = (
     ("password left out", lambda it: b""),
     ("password with a line break", lambda it: it + b"\n"),
@@ -360,7 +362,9 @@ PASSWORDS = (
 
 class Turned(unittest.TestCase):
     def slips_of(self, case, *turns):
-        """The slips that are named for a refused command; the right command is accepted afterwards."""
+        """Returns the mistakes that are named for a refused command. The right command is accepted
+        afterwards.
+        """
         with self.assertRaises(Refused) as caught:
             case.tpm.send(case.turned(*turns))
         self.assertIn(caught.exception.name, ("BAD_AUTH", "AUTH_FAIL"), case.seed)
@@ -377,8 +381,8 @@ class Turned(unittest.TestCase):
                     self.assertEqual(self.slips_of(case, turn).slips, [name])
 
     def test_two(self):
-        """Random pairs, neither of which undoes the other; two forms of one value have their own
-        test.
+        """Makes random pairs of mistakes, neither of which undoes the other. Two forms of one value
+        have a test of their own.
         """
         named = 0
         for at, (first, second, choices) in enumerate(pairs_of(70)):
@@ -398,7 +402,7 @@ class Turned(unittest.TestCase):
         self.assertGreater(named, 40)
 
     def made(self, name, choices, *turns):
-        """The HMAC of a random session."""
+        """Returns the HMAC of a random session, after these changes."""
         case = Drawn(name, **choices)
         parts = case.parts()
         for turn in turns:
@@ -406,7 +410,7 @@ class Turned(unittest.TestCase):
         return parts.hmac()
 
     def test_two_forms_of_a_value(self):
-        """Two forms of a value, as `echo PIN | sha256sum` makes them."""
+        """Changes a value twice, as `echo PIN | sha256sum` does."""
         for at, (turn, *wanted) in enumerate(
             (
                 (lambda it: hashed(SHA256, it + b"\n"), "with a line break", "as SHA-256"),
@@ -432,7 +436,7 @@ class Turned(unittest.TestCase):
                 self.assertRegex(found.facts[-1].value, words)
 
     def test_so_much_is_tried(self):
-        """Few HMACs and few pairs are tried, even if there are many candidates."""
+        """Only a few HMACs and a few pairs are tried, even if there are many candidates."""
         case = Drawn("much", kind=SE_HMAC, entity="owner", bind="own")
         for at in range(60):
             case.tpm.define(area(FIRST + at, attributes=BY_VALUE), auth=case.pick.randbytes(9))
@@ -445,10 +449,10 @@ class Turned(unittest.TestCase):
         alone, pairs = map(int, re.findall(r"[\d,]+", found.facts[-1].value.replace(",", ""))[:2])
         self.assertTrue(300 < alone <= slips.MOST_ALONE and 1000 < pairs <= slips.MOST_PAIRS)
 
-    # Passwords.
+    # Tests with passwords.
 
     def refused_password(self, case, password):
-        """Sends a password instead of the right HMAC, which is refused."""
+        """Sends a password instead of the right HMAC. The device refuses it."""
         entry = case.prepared.entries[0]
         entry = type(entry)(RS_PW, b"", 1, password)
         prepared = case.tpm.prepare(case.prepared.code, case.prepared.handles, b"", b"")
@@ -475,10 +479,10 @@ class Turned(unittest.TestCase):
             self.assertEqual(found.slips, [])
             self.assertRegex(found.facts[-1].value, r"none of [\d,]+ that were tried: other forms")
 
-    # Values that the user tries.
+    # Tests with values that the user tries.
 
     def test_tried(self):
-        """Each value is named with --try, and not without it."""
+        """Each value is named with --try, and is not named without it."""
         for at, (choices, turn, *forms) in enumerate(TRIED):
             with self.subTest(at):
                 case = Drawn(f"tried {at}", **choices)

@@ -1,5 +1,6 @@
-"""Guesses that need no try: what the explanation and the audit say if a value encrypts that an
-entry did not have to know. Ordinary encryption is no alarm.
+"""Tests for guesses that need no authorization attempt. The explanation and the audit report if a
+value encrypts, and the entry did not have to know that value. They do not report ordinary
+encryption.
 """
 
 import pathlib
@@ -21,7 +22,7 @@ BOUND = "is bound to LOCKOUT, and encrypts an answer to a command that needs no 
 
 
 def guessed(script):
-    """The slips that are reported about guesses, with their lines."""
+    """Returns the mistakes that are reported about guesses, with their lines."""
     events = Play().events(script)
     return [
         (it.line, note.slips[0]) for it in events for note in it.notes if note.rule == "guesses"
@@ -29,7 +30,9 @@ def guessed(script):
 
 
 def encrypting(script):
-    """The number of encrypting entries in a script whose session is bound to a nonempty value."""
+    """Returns the number of encrypting entries in a script whose session is bound to a nonempty
+    value.
+    """
     play, many = Play(), 0
     for event in play.events(script):
         for _, entry, _ in event.scene.known.places if event.scene.known else []:
@@ -40,7 +43,7 @@ def encrypting(script):
 
 
 def audited(script):
-    """The report of an audit."""
+    """Returns the report of an audit."""
     log = "".join(f"{line}\n" for _, line in played(script)[0])
     auditor = Auditor(start.new(), Log(log.encode()))
     auditor.read(script)
@@ -48,7 +51,7 @@ def audited(script):
 
 
 class OfflineGuesses(unittest.TestCase):
-    """A value that encrypts, and that nobody had to show."""
+    """A value that encrypts, although nobody had to prove it."""
 
     def test_attack(self):
         slip = "guesses of a bound value need no try"

@@ -1,4 +1,4 @@
-"""The plugin of pytest, if that is installed; pytest runs this test in a folder of its own."""
+"""Tests the pytest plugin, if pytest is installed. pytest runs this test in a folder of its own."""
 
 import importlib.util
 import os

@@ -1,5 +1,5 @@
-"""Records are read as they were made: heads with images, cut ends, and answers before and after
-their commands.
+"""Tests that records are read as they were made: heads with images, incomplete ends, and responses
+before and after their commands.
 """
 
 import contextlib
@@ -26,7 +26,9 @@ RIGHT = "do NV_Read 01000001 01000001 pw:736563726574 8 0"
 
 
 def journal_with_index():
-    """A journal whose image has an index, for which a wrong value is then given."""
+    """Returns a journal whose image has an index. The journal then has a command with a wrong value
+    for it.
+    """
     journal = Journal().play(START, DEFINE, WRITE)
     journal.begin()
     return journal.play(START, WRONG, RIGHT)
@@ -70,8 +72,8 @@ class Heads(unittest.TestCase):
         self.assertFalse(any(it.differences for it in events))
 
     def test_one_log_after_another(self):
-        """A log of the same device continues, and knows what came before; another log is of another
-        device.
+        """A log of the same device continues, with the knowledge of the log before. Another log is
+        of another device.
         """
         for begin in Journal.begin, Journal.cycle:
             first = Journal().play(START, DEFINE)
@@ -104,7 +106,8 @@ class Heads(unittest.TestCase):
         self.assertEqual(played(bent)[0].damages, [words])
 
     def test_a_word_in_hex(self):
-        """A hex word in a comment begins no log, unless it may be an image or a state text."""
+        """A hex word in a comment does not begin a log, unless it may be an image or a state text.
+        """
         for words in "# state bad", "# state deed", "# image ", "# image of the device":
             play, events = played("\n".join((words, START, words, RIGHT)).encode())
             self.assertEqual((codes(events), play.fault), (["", "18b"], ""), words)
@@ -121,7 +124,9 @@ def records_of(line):
 
 class Ends(unittest.TestCase):
     def test_a_cut_end(self):
-        """A journal that ends anywhere, with or without zeros after it, has its whole records."""
+        """A journal that is cut at any offset, with or without zeros after it, has its whole
+        records.
+        """
         journal = journal_with_index()
         for size in range(journal.head_bytes, len(journal.text)):
             whole = sum(it <= size for it in journal.ends) - 1
@@ -134,7 +139,8 @@ class Ends(unittest.TestCase):
                 self.assertFalse(any(it.differences for it in events))
 
     def test_a_byte_left_out(self):
-        """A last record without one of its bytes is not cut off, unless that is its last byte."""
+        """A last record that lacks one of its bytes is not cut off, unless it lacks its last byte.
+        """
         journal = journal_with_index()
         text = journal.text
         for place in range(journal.ends[-2], len(text)):
@@ -149,7 +155,7 @@ class Ends(unittest.TestCase):
             self.assertEqual((codes(events)[-2:], play.fault), (["98e", ""], ""))
 
     def test_lines_after_a_journal(self):
-        """Lines that somebody adds to a journal by hand are played."""
+        """Lines that somebody has added to a journal by hand are played."""
         journal = journal_with_index()
         play, events = played(journal.text + f"{WRONG}\n# by hand".encode())
         self.assertEqual((codes(events), play.cuts), (["", "98e", "", "98e"], []))
@@ -164,8 +170,8 @@ class Answers(unittest.TestCase):
         self.assertEqual([len(it.differences) for it in bent], [0, 1])
 
     def test_the_sum_of_an_answer(self):
-        """A different answer is reported first, by its line; so are a mark and lines that were
-        bent.
+        """A changed response is reported first, by its line. A changed mark and changed lines are
+        reported too.
         """
         journal = journal_with_index()
         at = journal.ends[1] + 2
@@ -184,7 +190,9 @@ class Answers(unittest.TestCase):
             self.assertTrue(output.startswith("line 12: NV_Read: the record is damaged"), output)
 
     def test_another_image(self):
-        """The image of --image is that of the log; otherwise this is a difference."""
+        """The image of --image must be the image of the log. If it is not, this is reported as a
+        difference.
+        """
         journal = journal_with_index()
         text, own = journal.text, bytes.fromhex(journal.text.split(b"\n")[1][2:].decode())
         output, error, status = told(text, own)
@@ -203,7 +211,7 @@ class Answers(unittest.TestCase):
 
 
 class Audits(unittest.TestCase):
-    """A journal is judged by its own head and sums, with an output or without one."""
+    """A journal is judged by its own head and sums, with or without an output."""
 
     def test_a_journal(self):
         journal = journal_with_index()
@@ -248,9 +256,7 @@ class Audits(unittest.TestCase):
 
 
 def audited(text, start=None):
-    """The status of an audit without an output, what it prints, and what it writes to standard
-    error.
-    """
+    """Returns the status of an audit without an output, what it prints, and its standard error."""
     output, error = io.StringIO(), io.StringIO()
     with tempfile.TemporaryDirectory() as folder:
         log, image = pathlib.Path(folder, "log"), pathlib.Path(folder, "start")
@@ -269,7 +275,7 @@ HANDLES, OTHER_HANDLES = b"0100000101000001", b"0100000201000001"
 
 
 def told(text, start=None, form=None):
-    """What the command line prints of a log, what it writes to standard error, and its status."""
+    """Returns the command line's report about a log, its standard error, and its status."""
     output, error = io.TextIOWrapper(io.BytesIO()), io.StringIO()
     with tempfile.TemporaryDirectory() as folder:
         log = pathlib.Path(folder, "log")

@@ -1,4 +1,4 @@
-"""Layered scripts: their plain scripts, their faults, and served devices."""
+"""Tests layered scripts: their plain scripts, their faults, and served devices."""
 
 import dataclasses
 import os
@@ -24,7 +24,7 @@ let session = StartAuthSession.sessionHandle
 
 
 def played(script, device=None, traces=False):
-    """The lines of the plain script."""
+    """Returns the lines of the plain script."""
     with device or own_device() as it:
         return list(Layer(it, traces).plain(script))
 
@@ -38,13 +38,13 @@ def commands(lines):
 
 
 def outcomes(script, device=None):
-    """The codes of all responses, from the traces."""
+    """Returns the codes of all responses, from the traces."""
     lines = played(script, device, traces=True)
     return [it.split()[-1] for it in lines if it.startswith("# ") and " L0 +" in it]
 
 
 def traced_by_the_model(lines):
-    """The traces that a model prints for plain lines."""
+    """Returns the traces that a model prints for plain lines."""
     player, printed = Player(), []
     for line in lines:
         printed += player.play(line.encode())
@@ -221,7 +221,7 @@ class Faults(unittest.TestCase):
                 played(f"{start}let a = {value}")
 
     def test_a_device_that_is_none(self):
-        """A response whose HMAC is wrong ends the script."""
+        """If the HMAC of a response is wrong, the script ends."""
 
         class Liar(OwnModelDevice):
             def answer(self, buffer, locality, elapsed, random):
@@ -243,7 +243,9 @@ class Faults(unittest.TestCase):
 
 
 class Served(unittest.TestCase):
-    """A device at a socket: nonces are random, and what it cannot be given is refused."""
+    """A device at a socket. Its nonces are random. Random bytes, times and power cycles cannot be
+    set, and such lines are refused.
+    """
 
     def test_a_served_device(self):
         program = os.environ.get("TPMSIM") or shipped("tpmsim")
@@ -264,7 +266,7 @@ class Served(unittest.TestCase):
 
 
 def wait_for(path):
-    """Waits until a program listens."""
+    """Waits until a program listens on the socket."""
     for _ in range(500):
         if os.path.exists(path):
             return

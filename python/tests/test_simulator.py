@@ -1,4 +1,4 @@
-"""The server of Microsoft's protocol: its clients, their faults, and what it keeps."""
+"""Tests the server of Microsoft's protocol: its clients, their faults, and what it keeps."""
 
 import pathlib
 import select
@@ -14,7 +14,8 @@ from tpmsim.caller import Caller
 from tpmsim.device import SimulatorDevice
 from tpmsim.standard import number
 
-# PCR 17 after a launch of abc, by sha1sum and sha256sum of zeros and the digest of abc.
+# The values of PCR 17 after a launch with the data abc, computed by sha1sum and sha256sum from
+# zeros and the digest of abc.
 LAUNCHED = [
     "ccd5bd41458de644ac34a2478b58ff819bef5acf",
     "589f9ffed4c477966bfb8d41f37895b08c69047df8f911d6f3b57fbe08faee8d",
@@ -24,8 +25,8 @@ SEND_COMMAND, STOP = number(8, 4), number(21, 4)
 STARTUP = bytes.fromhex("80010000000c000001440000")
 GET_RANDOM = bytes.fromhex("80010000000c0000017b0010")
 
-# The bytes that a host takes for a client that never reads, few so that they are soon full; and the
-# number of seconds in which nothing more is taken, once the server waits for that client.
+# LEAST_BUFFER is the size of the host's buffer for a client that never reads. It is small, so that
+# it is soon full. If nothing more is taken for STUCK seconds, the server waits for that client.
 LEAST_BUFFER, STUCK = 4096, 0.2
 
 
@@ -44,7 +45,7 @@ class Simulator(unittest.TestCase):
         return self.enterContext(SimulatorDevice(*self.address))
 
     def started(self):
-        """A client, after TPM2_Startup."""
+        """Returns a client after TPM2_Startup."""
         device = self.client()
         Caller(device).start_up()
         return device
@@ -58,7 +59,9 @@ class Simulator(unittest.TestCase):
         self.assertEqual(stream.recv(len(answer), socket.MSG_WAITALL), answer)
 
     def test_faults_are_of_one_client(self):
-        """One client vanishes within a request, one never reads, one is slow, one sends nonsense."""
+        """One client vanishes within a request, one never reads, one is slow, and one sends
+        nonsense. The other clients are served.
+        """
         device = self.started()
         vanishing = self.connection()
         vanishing.sendall(request(GET_RANDOM)[:7])
@@ -78,7 +81,9 @@ class Simulator(unittest.TestCase):
         self.asks(slow, request(GET_RANDOM)[3:], number(28, 4))
 
     def test_pieces_take_no_time(self):
-        """A client whose host waits for acknowledgements sends a request in four pieces."""
+        """A client sends a request in four pieces, and its host waits for acknowledgements. That
+        causes no delay.
+        """
         self.started()
         stream, buffer = self.connection(), request(GET_RANDOM)
         began = time.monotonic()
@@ -117,7 +122,7 @@ class Simulator(unittest.TestCase):
         self.assertEqual([it.hex() for it in values], LAUNCHED)
 
     def test_image(self):
-        """What is written is in the file before the answer, and is there for the next server."""
+        """A change is in the file before its response is sent, and is there for the next server."""
         self.started()
         before = (self.folder / "image").read_bytes()
         stop = self.connection(1)

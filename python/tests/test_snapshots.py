@@ -1,4 +1,6 @@
-"""Snapshots, which are state texts: for one device the library's and the model's are the same."""
+"""Tests snapshots, which are state texts. For one device, the library's text and the model's text
+are the same.
+"""
 
 import errno
 import functools
@@ -40,8 +42,8 @@ def in_library():
 
 
 class Pair(Transport):
-    """The library's device and the model's, which get the same events and must answer alike. After
-    each command, each continues from the other's state text.
+    """The library's device and the model's. They get the same events and must give the same
+    responses. After each command, each one continues from the other's state text.
     """
 
     def __init__(self):
@@ -93,7 +95,7 @@ class OverPair(TwentyTests, unittest.TestCase):
 
 
 class Snapshots:
-    """What holds for each device that has its state text."""
+    """The tests for each device that has a state text."""
 
     def device(self):
         raise NotImplementedError
@@ -103,13 +105,13 @@ class Snapshots:
         self.tpm.start_up()
 
     def worked(self):
-        """A snapshot with a session and an object in it."""
+        """Returns a snapshot with a session and an object in it."""
         self.tpm.create_primary(completed_scripts.storage_key())
         self.tpm.session(RH_OWNER, cipher=AES)
         return self.tpm.device.snapshot()
 
     def test_bytes(self):
-        """A snapshot may be kept as bytes alone, and equal devices have equal ones."""
+        """The bytes of a snapshot are enough to restore it. Equal devices have equal snapshots."""
         taken, device = self.worked(), self.tpm.device
         self.assertIsInstance(taken, bytes)
         self.assertEqual(state_text.state_text(*state_text.open_state(taken)), taken)
@@ -120,7 +122,7 @@ class Snapshots:
             self.assertEqual(device.snapshot(), taken)
 
     def test_other_devices(self):
-        """Any other device continues from it."""
+        """Any other device continues from the snapshot."""
         taken = self.worked()
         with ModelDevice(seed=SEED) as other:
             other.restore(bytes(taken))
@@ -130,7 +132,7 @@ class Snapshots:
             self.assertEqual(self.tpm.device.snapshot(), other.snapshot())
 
     def test_no_state_text(self):
-        """Bytes that are not a state text change nothing."""
+        """Restoring bytes that are not a state text is refused, and changes nothing."""
         taken, device = self.worked(), self.tpm.device
         before = list(device.events)
         bent = bytes([taken[300] ^ 1])
@@ -158,8 +160,8 @@ class Told(Snapshots):
     """Tests of devices that receive their locality, time and random bytes."""
 
     def test_what_was_told(self):
-        """A snapshot brings back what the device was given; a text alone has none of it, and begins
-        the trace.
+        """A snapshot restores what the device was given. Its bytes have none of that, and begin a
+        new trace.
         """
         device = self.tpm.device
         device.locality = 3
@@ -175,7 +177,7 @@ class Told(Snapshots):
         self.assertEqual((device.trace, device.locality), ([f"# state {taken.hex()}"], 0))
 
     def test_after_power(self):
-        """The device is power-cycled, and comes back as another device, that of the snapshot."""
+        """After a power cycle, the device is restored from an earlier snapshot."""
         taken, device = self.worked(), self.tpm.device
         device.power_cycle()
         off = device.snapshot()
@@ -195,7 +197,7 @@ class OverChild(Told, unittest.TestCase):
     device = functools.partial(ChildDevice, seed=SEED)
 
     def test_at_once(self):
-        """A device is restored before its process has begun."""
+        """A device can be restored before its process has begun."""
         with self.device() as first, self.device() as other:
             taken = first.snapshot()
             other.restore(taken)
@@ -215,7 +217,7 @@ class InProcess(Told, unittest.TestCase):
     device = staticmethod(in_library)
 
     def test_image(self):
-        """The file has the image of what was restored."""
+        """The file has the image of the restored device."""
         file = pathlib.Path(self.enterContext(tempfile.TemporaryDirectory()), "image")
         taken = self.worked()
         with LibraryDevice(image=file) as device:
@@ -237,7 +239,9 @@ class InProcess(Told, unittest.TestCase):
             self.assertRaisesRegex(ValueError, "^the device is closed$", act)
 
     def test_an_image_that_is_not_written(self):
-        """The command was executed and not answered, so no other one is executed until `restore`."""
+        """If the image cannot be written, the command was executed and not answered. No other
+        command is executed until `restore`.
+        """
         file = pathlib.Path(self.enterContext(tempfile.TemporaryDirectory()), "image")
         tpm = Caller(self.enterContext(LibraryDevice(image=file)))
         tpm.start_up()
@@ -251,8 +255,8 @@ class InProcess(Told, unittest.TestCase):
         tpm.define(area())
 
     def test_no_memory(self):
-        """If there is no memory for another device, this one is unchanged; if memory is missing
-        later, it is not.
+        """If there is no memory for the restored device, this device is unchanged. If an allocation
+        fails later, it is not.
         """
         taken, device = self.worked(), self.tpm.device
         with mock.patch.object(device, "library") as calls:
@@ -273,7 +277,8 @@ class OverKeptState(Snapshots, unittest.TestCase):
         return KeptDevice(self.folder, forces=False)
 
     def test_other_holders(self):
-        """Each holder continues from the snapshot, and so does whoever opens the folder."""
+        """Each holder continues from the snapshot. So does a process that opens the folder later.
+        """
         taken = self.worked()
         with KeptDevice(self.folder) as other:
             self.tpm.call("PCR_Reset", 16)
@@ -290,7 +295,7 @@ class OverKeptState(Snapshots, unittest.TestCase):
 
 
 class CompletedDevice(LibraryDevice):
-    """A device that receives its time and random bytes, with the completing layer above it."""
+    """A device with the completing layer, which receives its time and random bytes."""
 
     completes = True
 
@@ -302,7 +307,7 @@ class CompletedDevice(LibraryDevice):
 
 @NEEDS_LIBRARY
 class Completed(unittest.TestCase):
-    """Random commands with the completing layer, which is in the text."""
+    """Random commands with the completing layer, whose state is in the text."""
 
     def test_commands_at_random(self):
         for seed in range(SEEDS):
@@ -321,7 +326,9 @@ class Completed(unittest.TestCase):
         self.assertEqual(state_text.state_text(model, numbers), taken)
 
     def test_going_on(self):
-        """A restored device answers what this one does, and is the same after it."""
+        """A restored device gives the same responses as this one, and has the same state
+        afterwards.
+        """
         for seed in range(SEEDS):
             with self.subTest(seed=seed), CompletedDevice(seed=SEED) as device:
                 completed_scripts.play(device, random.Random(seed), COMMANDS)
@@ -336,17 +343,17 @@ class Completed(unittest.TestCase):
 
     @staticmethod
     def executed(device, seed):
-        """What a device answers to random commands from here on."""
+        """Returns a device's responses to random commands from here on."""
         first = len(device.events)
         completed_scripts.play(device, random.Random(seed), COMMANDS)
         return [it.response for it in device.events[first:] if not isinstance(it, str)]
 
 
 class Explained(unittest.TestCase):
-    """A log that begins with a state text is explained as any other."""
+    """A log that begins with a state text is explained like any other log."""
 
     def test_wrong_password(self):
-        """The earlier index and its authValue are in the text."""
+        """The text has the index that was defined before, and its authValue."""
         with ModelDevice() as device:
             tpm = Caller(device)
             tpm.start_up()
@@ -374,8 +381,8 @@ class Stored(unittest.TestCase):
 
     @NEEDS_LIBRARY
     def test_between_kinds(self):
-        """The script of a device does not begin with the events of a device in a folder, nor the
-        other way round.
+        """A device's script does not begin with the events of a device in a folder, nor the other
+        way round.
         """
         folder = self.enterContext(tempfile.TemporaryDirectory())
         with KeptDevice(folder) as kept, Device() as device:

@@ -1,5 +1,5 @@
-"""Logs that begin with a whole state: sessions, objects, PCRs and policies continue from it when a
-log is explained, judged or compared.
+"""Tests logs that begin with a whole state. Its sessions, objects, PCRs and policies continue when
+a log is explained, judged or compared.
 """
 
 import random
@@ -39,7 +39,9 @@ EXTEND = "do PCR_Event 00000010 pw:- 01"
 
 
 def before():
-    """A journal of a device that has an index with a policy, and a session that asserted a PCR."""
+    """Returns a journal of a device that has an index with a policy, and a session that asserted a
+    PCR.
+    """
     return Journal().play(START, DEFINE, WRITE, *SESSION, PCR)
 
 
@@ -57,7 +59,7 @@ def judged(text, *policies):
 
 
 def loaded_twice():
-    """A log in which an object is loaded, used by its policy, flushed, and loaded again."""
+    """Returns a log in which an object is loaded, used by its policy, flushed, and loaded again."""
     device = ModelDevice(seed=b"reloads")
     tpm = Caller(device, random.Random(1).randbytes)
     tpm.start_up()
@@ -90,7 +92,8 @@ class Explained(unittest.TestCase):
         self.assertIn("began before the log", events[-1].reason.words)
 
     def test_one_head_after_another(self):
-        """The state is that of the log before, which continues with all that is known of it."""
+        """A head with the state of the log before continues that log, with all knowledge from it.
+        """
         first = before()
         text = first.text
         first.go_on()
@@ -99,7 +102,7 @@ class Explained(unittest.TestCase):
         self.assertIn("told by", " ".join(map(str, events[-1].reason.facts)))
 
     def test_another_device(self):
-        """Nothing is known of another device but its state, and its power is on."""
+        """About another device, only its state is known. Its power is on."""
         text = Journal().play(START).text + gone_on(CODE, READ).text
         play = Play()
         events = list(play.events(text))
@@ -107,7 +110,7 @@ class Explained(unittest.TestCase):
         self.assertEqual((play.fault, play.damages), ("", []))
 
     def test_the_completing_layer(self):
-        """The layer knows the contexts of a state that has it."""
+        """The layer knows the contexts that are in the state."""
         journal = Journal().play(START, *SESSION)
         layer = Layer(start=7, count=1)
         layer.sessions[0] = 1
@@ -135,21 +138,25 @@ class Explained(unittest.TestCase):
 
 class Judged(unittest.TestCase):
     def test_a_policy(self):
-        """The digest in the state is that of what was asserted before the log."""
+        """The policy digest in the state covers the assertions that were made before the log
+        begins.
+        """
         auditor, told = judged(gone_on(CODE, READ).text, POLICY)
         self.assertEqual(auditor.policies.faults(), [])
         words = "policy line 1, PolicyPCR: a line before the log asserts it, and the PCRs have these values"
         self.assertTrue(any(it.strip().startswith(words) for it in told))
 
     def test_a_refusal(self):
-        """A PCR is written after the state, and that is what the use lacks."""
+        """A PCR is written after the state. That is why the use does not meet the policy."""
         auditor, told = judged(gone_on(EXTEND, CODE, READ).text, POLICY)
         self.assertEqual(auditor.policies.faults(), [])
         words = "refused by PCR_CHANGED: line 7 wrote a PCR after its first TPM2_PolicyPCR, before the log"
         self.assertTrue(any(it.endswith(words) for it in told))
 
     def test_another_device(self):
-        """A later head is that of the device before it; otherwise the audit ends there."""
+        """A later head must have the state of the device before it. If it does not, the audit ends
+        there.
+        """
         with self.assertRaises(Disagreement):
             judged(Journal().play(START).text + gone_on(CODE).text)
         first = before()
@@ -159,7 +166,7 @@ class Judged(unittest.TestCase):
         self.assertEqual((auditor.counts.power_cycles, auditor.policies.faults()), (0, []))
 
     def test_an_index_after_power_cycles(self):
-        """Each use in each journal is judged."""
+        """Each use in each journal is judged, also after power cycles."""
         journal = before().play(CODE, READ)
         text = journal.text
         journal.begin()
@@ -177,8 +184,8 @@ class Judged(unittest.TestCase):
 
 
 class AtRandom(unittest.TestCase):
-    """Scripts whose journals begin again and again with the whole state. Each of these is a log of
-    its own, and all of them in sequence are one log.
+    """Scripts whose journals begin again and again with the whole state. Each of these journals is
+    a log of its own. All of them in sequence are one log.
     """
 
     SCRIPTS = "lost_grounds", "lockout_sessions", "startup_state"

@@ -1,5 +1,5 @@
-"""A caller that computes an HMAC with one ingredient changed, in random sessions: bound or not, by
-both hashes, of both kinds, with encrypted parameters or without. It uses nothing of the
+"""A caller that computes an HMAC with one ingredient changed, in random sessions: bound or not,
+with both hashes, of both kinds, with encrypted parameters or without. It uses no code of the
 explanation.
 """
 
@@ -30,8 +30,8 @@ def sized(data):
 
 
 class Parts:
-    """The ingredients of an HMAC. A key, a cpHash, a text or an HMAC that is set here is used as it
-    is.
+    """The ingredients of an HMAC. If a key, a cpHash, a text or an HMAC is set here, it is used as
+    it is.
     """
 
     key = cp_hash = text = made = None
@@ -67,7 +67,7 @@ class Parts:
 
 class Drawn:
     """A random session on a device, and a command that it authorizes. A choice that is not given is
-    drawn: `kind` is that of the session, and `bind` is one of none, own and other.
+    made at random: `kind` is the kind of the session, and `bind` is one of none, own and other.
     """
 
     def __init__(self, seed, **choices):
@@ -88,7 +88,7 @@ class Drawn:
         self.prepared = self.command()
 
     def drawn(self, name, among):
-        """A choice is one value, or several of which one is drawn."""
+        """Returns a choice. It is the given value, or a random one of several values."""
         given = self.choices.get(name, among)
         return (
             self.pick.choice([it for it in given if it in among])
@@ -97,7 +97,7 @@ class Drawn:
         )
 
     def fresh_value(self):
-        """A PIN."""
+        """Returns a random PIN."""
         return bytes(self.pick.choices(b"abcdefghjkmnpqrstuvwxyz", k=7)) + b"jX7"
 
     def make_entities(self):
@@ -145,7 +145,7 @@ class Drawn:
         return Use(self.session, attributes, demand=demand)
 
     def command(self):
-        """A command that the entity authorizes, with other entries if they are chosen."""
+        """Returns a command that the entity authorizes, with other entries if they are chosen."""
         tpm, data = self.tpm, self.pick.randbytes(8)
         more = [make(self) for make in self.choices.get("more", ())]
         if self.entity == "owner":
@@ -156,7 +156,9 @@ class Drawn:
 
     @property
     def in_key(self):
-        """Whether the value is in the key, and not in the session key alone."""
+        """Returns whether the authorization value itself is in the key, and not only in the session
+        key.
+        """
         return self.kind == SE_POLICY or self.bind != "own"
 
     def parts(self):
@@ -175,7 +177,7 @@ class Drawn:
         )
 
     def kdf(self, **changes):
-        """The session key of other parts."""
+        """Returns the session key after these changes of its parts."""
         parts = {
             "algorithm": self.algorithm,
             "key": self.bind_value,
@@ -190,14 +192,14 @@ class Drawn:
         return mac(algorithm, key, b"".join(text))
 
     def with_value(self, parts, turn):
-        """Puts the value in another form, wherever it is."""
+        """Changes the form of the authorization value, wherever it is used."""
         if self.in_key:
             parts.value = turn(self.value)
         if not self.in_key or self.bind == "own" and self.pick.random() < 0.5:
             parts.session_key = self.kdf(key=turn(self.value))
 
     def turned(self, *turns):
-        """The command with an HMAC of changed ingredients."""
+        """Returns the command with an HMAC of changed ingredients."""
         parts = self.parts()
         assert parts.hmac() == self.prepared.entries[0].hmac
         for turn in turns:

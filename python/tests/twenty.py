@@ -1,4 +1,4 @@
-"""What a caller does with a device of any kind."""
+"""Tests of what a caller does with a device of any kind."""
 
 from hashlib import sha256
 
@@ -11,8 +11,8 @@ from tpmsim.standard.objects import Attribute
 
 
 class TwentyTests:
-    """What a caller does with a device of any kind; each test has a fresh device, which is started.
-    `lacks` has the tests that a device cannot play, with the reason.
+    """Tests of what a caller does with a device of any kind. Each test has a new device, which is
+    started. `lacks` has the tests that a device cannot play, with the reasons.
     """
 
     lacks = {}
@@ -33,7 +33,7 @@ class TwentyTests:
         return caught.exception
 
     def refused(self, prepared, code, check="G9"):
-        """Checks a refusal; only devices with a trace report the check."""
+        """Checks a refusal. Only devices with a trace report the check that refused."""
         refused = self.refusal(prepared)
         self.assertEqual(refused.code, code)
         self.assertIn(refused.check, (check, None))
@@ -115,7 +115,7 @@ class TwentyTests:
         )
         public = area(attributes=BY_POLICY, auth_policy=digest_of(words))
         index = self.tpm.define(public, auth=b"pin")
-        # No PCR has this digest, so the second branch is asserted.
+        # PCR 0 has another value, so the second branch is asserted.
         use = self.tpm.policy(words)
         self.refused(self.tpm.writing(index, b"8 bytes.", use), "LOCALITY")
         self.tpm.device.locality = 1
@@ -160,7 +160,8 @@ class TwentyTests:
         self.assertEqual(self.tpm.auth_value(RH_PLATFORM), b"")
 
     def test_snapshot(self):
-        """Sessions and objects come back with their nonces, however often they are restored."""
+        """A snapshot restores sessions and objects with their nonces, however often it is restored.
+        """
         handle = self.tpm.create_primary(sealed(), data=b"data")
         session = self.tpm.session(RH_OWNER)
         nonce, before = session.nonce_tpm, self.tpm.device.snapshot()
@@ -177,7 +178,7 @@ class TwentyTests:
         self.refused(again, "REFERENCE_S0", "G8")
 
     def test_wrong_hmac(self):
-        """The session and its nonce stay."""
+        """After a wrong HMAC, the session and its nonce are unchanged."""
         session = self.tpm.session(RH_OWNER)
         self.refused(wrong(self.tpm.change_auth(RH_OWNER, b"new", session)), "BAD_AUTH/s1")
         self.tpm.send(self.tpm.change_auth(RH_OWNER, b"new", session))

@@ -1,5 +1,5 @@
-"""Bent scripts: a script in which some commands have random bytes changed, some lines are lost or
-swapped, and now and then a byte of the text is changed. And bent images.
+"""Bent scripts and bent images. In a bent script, some commands have random bytes changed, some
+lines are lost or swapped, and sometimes a byte of the text is changed.
 """
 
 from tpmsim.model.image import BODY_AT, DIGEST_AT_END, HEAD_BYTES
@@ -7,10 +7,10 @@ from tpmsim.standard import CC, digest, frames
 from tests.common.expected import buffer_of
 from tests.common.script import line
 
-# The place of its length in an image, and the place after the seeds and proofs.
+# The offset of an image's length, and the offset after the seeds and proofs.
 LENGTH_AT, BEHIND_SEEDS = 6, BODY_AT + 4 * 66
 
-# How often a line is bent, and how often a byte of the text is.
+# The probability that a line is bent, and the probability that a byte of the text is changed.
 SELDOM, OFTEN = 0.06, 0.3
 
 SIZES = 0, 1, 2, 8, 9, 16, 20, 32, 33, 64, 128, 1024, 1025, 4096, 0xFFFF
@@ -22,7 +22,7 @@ HANDLES = (
 
 
 def put(buffer, at, data):
-    """The buffer with these bytes instead of those from a place on."""
+    """Returns the buffer with these bytes written at an offset."""
     return buffer[:at] + data + buffer[at + len(data) :]
 
 
@@ -30,7 +30,7 @@ def sized_right(buffer):
     return put(buffer, 2, frames.number(len(buffer), 4)) if len(buffer) >= 6 else buffer
 
 
-# Ways to bend bytes, each with a source of random numbers.
+# Ways to bend bytes. Each takes a source of random numbers.
 
 
 def bit(random, buffer):
@@ -59,12 +59,12 @@ def more(random, buffer):
 
 
 def doubled(random, buffer):
-    """A buffer with a piece of it repeated, as an entry or a handle may be."""
+    """Returns a buffer with a piece of it repeated. The piece may be an entry or a handle."""
     at, size = random.randrange(len(buffer)), random.choice((4, 9, 9, 20))
     return buffer[: at + size] + buffer[at:]
 
 
-# The same for the bytes of a command.
+# Ways to bend the bytes of a command.
 
 
 def handle_within(random, buffer):
@@ -104,8 +104,8 @@ def bent_buffer(random, buffer):
 
 
 def bent_image(random, text):
-    """An image that is bent at one or two places, mostly after its seeds, and mostly with its new
-    length and digest.
+    """Returns an image that is bent at one or two offsets, mostly after its seeds. Mostly it has
+    the right length and digest.
     """
     for _ in range(random.choice((1, 1, 2))):
         first = 0 if random.random() < 0.2 else BEHIND_SEEDS
@@ -117,7 +117,7 @@ def bent_image(random, text):
 
 
 def bent_lines(random, lines):
-    """The lines, some of them bent, lost, doubled, or swapped with the next one."""
+    """Returns the lines. Some of them are bent, lost, doubled, or swapped with the next line."""
     lines, bent = list(lines), 0
     for at, text in enumerate(lines):
         if random.random() >= SELDOM:
@@ -134,7 +134,7 @@ def bent_lines(random, lines):
 
 
 def bent_script(random, lines):
-    """The text of a bent script, and how many of its lines are bent."""
+    """Returns the text of a bent script, and the number of its bent lines."""
     lines, bent = bent_lines(random, lines)
     text = bytearray("\n".join(lines).encode("ascii") + b"\n")
     if random.random() < OFTEN:

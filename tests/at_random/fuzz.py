@@ -4,8 +4,8 @@
     fuzz.py PROGRAM --rounds N SEED    N rounds
     fuzz.py PROGRAM --replay FILE      a script or a stream that an earlier run left
 
-A round has a random script, a bent one, and a stream. A stream is connections to a served device in
-consecutive runs, some of them on a bent image. A round depends on its seed alone.
+A round has a random script, a bent script, and a stream. A stream is connections to a served
+device in consecutive runs, some of them on a bent image. A round depends only on its seed.
 """
 
 import contextlib
@@ -33,7 +33,7 @@ SHRINKING_SECONDS = 60
 SHOWN = 200
 
 
-# Scripts.
+# The comparison of scripts.
 
 
 def bytes_text(lines):
@@ -41,7 +41,9 @@ def bytes_text(lines):
 
 
 def script_difference(program, lines):
-    """The number of the script's line, the expected output, and the actual one; or None."""
+    """Returns the number of the script's line that differs, the expected output, and the actual
+    one; or None.
+    """
     printed, error = player.played(bytes_text(lines))
     with tempfile.NamedTemporaryFile() as script:
         script.write(bytes_text(lines))
@@ -65,9 +67,9 @@ def bytes_lines(text):
     return text.removesuffix(b"\n").split(b"\n")
 
 
-# What is compared. A failure of the Python device is a difference too.
+# The kinds of input. A failure of the Python device is a difference too.
 
-# What a Python device with a defect raises.
+# The exceptions that a Python device with a defect raises.
 DEFECTS = (
     *(ArithmeticError, AssertionError, AttributeError, LookupError, TypeError, ValueError),
     *(Refusal, Short),
@@ -76,8 +78,9 @@ DEFECTS = (
 
 @dataclass
 class Kind:
-    """Scripts, bent ones or streams: the file's suffix, how a file's text is cut into lines and put
-    together, how a difference is found, how many were tried, and what was in them.
+    """A kind of input: scripts, bent scripts or streams. It has the file's suffix, how a file's
+    text is divided into lines and joined, and how a difference is found. It counts how many were
+    tried, and what they contained.
     """
 
     name: str
@@ -99,7 +102,7 @@ class Kind:
 
 
 def shrunken(lines, differs):
-    """The lines that are needed for the difference."""
+    """Returns the lines that are necessary for the difference."""
     until = time.monotonic() + SHRINKING_SECONDS
     size, before = len(lines), len(lines)
     while size and time.monotonic() < until:
@@ -117,7 +120,7 @@ def shrunken(lines, differs):
 
 
 def shown(wanted, given):
-    """Two texts; long ones begin shortly before the place at which they differ."""
+    """Yields two texts. Long texts begin shortly before the offset at which they differ."""
     same = next((at for at, (a, b) in enumerate(zip(wanted, given)) if a != b), 0)
     first = max(0, same - SHOWN // 4) if max(len(wanted), len(given)) > SHOWN else 0
     for text in (wanted, given):
@@ -126,7 +129,7 @@ def shown(wanted, given):
 
 
 class Fuzz:
-    """Rounds, and their results."""
+    """Plays rounds, and collects their results."""
 
     def __init__(self, program):
         self.program, self.folder = program, None
@@ -177,7 +180,7 @@ class Fuzz:
             self.leave(f"{name}.shrunken.{kind.ending}", lines, found)
 
     def leave(self, name, lines, found):
-        """Writes a file, and says at which line it differs."""
+        """Writes a file, and prints at which line it differs."""
         self.folder = self.folder or pathlib.Path(tempfile.mkdtemp(prefix="fuzz."))
         path = self.folder / name
         path.write_bytes(bytes_text(lines))
@@ -192,7 +195,7 @@ def show(path, number, wanted, given):
 
 
 def replay(program, name):
-    """Whether the file of an earlier run still differs."""
+    """Returns whether the file of an earlier run still differs."""
     path = pathlib.Path(name)
     lines = bytes_lines(path.read_bytes())
     found = (stream_difference if path.suffix == ".stream" else script_difference)(program, lines)

@@ -1,11 +1,11 @@
-"""Plays random events on the Python device, and compares it after each event with what the history
-alone determines:
+"""Plays random events on the Python device. After each event, compares the device with the state
+that its history determines:
 
     histories.py EVENTS [SEED]
 
-An event is a command, perhaps a refused one, or a power cycle. A new device begins every thousand
-events, with the next seed. It prints how many events were compared, and how many of them were
-accepted. The first difference ends it, with status 1.
+An event is a power cycle or a command, which may be refused. A new device begins every thousand
+events, with the next seed. The program prints how many events were compared, and how many of
+them were accepted. The first difference ends the program, with status 1.
 """
 
 import itertools
@@ -18,7 +18,9 @@ EVENTS_OF_ONE = 1000
 
 
 def compare(events, seed):
-    """Plays this many events on one device; how many were accepted, and the first difference."""
+    """Plays this many events on one device. Returns how many were accepted, and the first
+    difference.
+    """
     writer, history, accepted = Writer(seed), History(), itertools.count()
 
     def add(event):

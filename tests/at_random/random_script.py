@@ -1,10 +1,10 @@
-"""A random script, and the answers of the Python device:
+"""A random script, and the responses of the Python device:
 
     random_script.py SEED COUNT FOLDER
 
-writes FOLDER/SEED.tpm, with COUNT commands, and FOLDER/SEED.out. Most commands may succeed; some
-have a wrong field, and some have wrong bytes. tools/soak/random_scripts.sh compares the program's
-answers with these.
+writes FOLDER/SEED.tpm, with COUNT commands, and FOLDER/SEED.out. Most commands may succeed. Some
+have a wrong field, and some have wrong bytes. tools/soak/random_scripts.sh compares the
+program's responses with these.
 """
 
 import contextlib
@@ -31,7 +31,8 @@ KINDS = frames.SE_HMAC, frames.SE_HMAC, frames.SE_POLICY, frames.SE_POLICY, fram
 OPEN = Attribute.FIXED_TPM | Attribute.FIXED_PARENT | Attribute.USER_WITH_AUTH
 STORES = OPEN | Attribute.RESTRICTED | Attribute.DECRYPT | Attribute.SENSITIVE_DATA_ORIGIN
 USES = CC.Unseal, CC.HMAC, CC.Create, CC.Load, CC.PolicySecret
-# What an index can authorize; the command that only a policy can authorize is the most frequent.
+# The commands that an index can authorize. NV_ChangeAuth, which only a policy can authorize, is the
+# most frequent.
 NV_USES = (
     *(it for it in CC if it.handles and it.handles[0].kind == HandleKind.NV_AUTH),
     *(CC.NV_ChangeAuth,) * 6,
@@ -40,7 +41,7 @@ INDEX_NUMBERS = range(12)
 TYPES = *(nv.Type.ORDINARY,) * 2, *nv.Type
 ASKERS = frames.RH_OWNER, frames.RH_PLATFORM
 
-# Milliseconds that pass, and the parameters of dictionary attack protection.
+# Times that pass, in milliseconds; and the parameters of dictionary attack protection.
 WAITS = 1, 999, 1000, 999_999, 1_000_000, 1_000_001, 2**32 - 1
 MOST_TRIES = 3, 3, 3, 10, 1, 0
 RECOVERIES = 1000, 1000, 1, 0, 2**32 - 1
@@ -51,7 +52,7 @@ def size_of(algorithm):
 
 
 class Writer(random.Random):
-    """Random commands for a device whose state the writer can see."""
+    """Writes random commands for a device whose state it knows."""
 
     def __init__(self, seed):
         super().__init__(seed)
@@ -59,7 +60,7 @@ class Writer(random.Random):
         self.events, self.played = [f"# Random script {seed}."], []
         self.made, self.digests = [], [b""]
 
-    # Choices.
+    # Random choices.
 
     def happens(self, chance=SELDOM):
         return self.random() < chance
@@ -68,12 +69,12 @@ class Writer(random.Random):
         return self.randbytes(self.choice((0, 1, most // 2, most, most)) + self.happens(0.01))
 
     def bent(self, data):
-        """The data with one bit changed."""
+        """Returns the data with one bit changed."""
         at = self.randrange(len(data))
         return data[:at] + bytes([data[at] ^ 1 << self.randrange(8)]) + data[at + 1 :]
 
     def fitting(self, digest, algorithm):
-        """The digest, if it has the size of this hash; else mostly an empty one."""
+        """Returns the digest if it has the size of this hash; otherwise mostly an empty digest."""
         return digest if len(digest) in (0, size_of(algorithm)) or self.happens(0.1) else b""
 
     def hash(self):
@@ -83,14 +84,18 @@ class Writer(random.Random):
         return self.choice(handle_kinds.PRIMARY_HIERARCHIES)
 
     def object(self, test=lambda it: True):
-        """The handle of a loaded object, if any; rarely of one that does not exist."""
+        """Returns the handle of a loaded object, if there is one; rarely the handle of a missing
+        object.
+        """
         fitting = [it for it in self.device.objects if test(self.device.objects[it])]
         if self.happens(0.02) or not fitting:
             return self.choice((0x80000000 + self.randrange(9), 0x81000000, RH_NULL))
         return self.choice(fitting)
 
     def session(self, *kinds):
-        """The handle of a session of one of these kinds; rarely of none or of another."""
+        """Returns the handle of a session of one of these kinds; rarely of a missing session or of
+        another kind.
+        """
         held = self.device.sessions
         fitting = [it for it in held if held[it].kind in kinds or self.happens(0.02)]
         return self.choice(fitting) if fitting else 0x03000000 + self.randrange(17)
@@ -100,7 +105,9 @@ class Writer(random.Random):
         return self.choice((*HIERARCHIES, *held))
 
     def index(self, test=lambda it: True):
-        """The handle of a defined index, if any; rarely of one that is not defined."""
+        """Returns the handle of a defined index, if there is one; rarely of an index that is not
+        defined.
+        """
         indices = self.device.indices
         fitting = [it for it in indices if test(indices[it].public) or self.happens()]
         if self.happens(0.02) or not indices:
@@ -111,10 +118,10 @@ class Writer(random.Random):
         banks = self.sample((SHA1, SHA256), self.randrange(3))
         return [(bank, self.sample(PCR_NUMBERS, self.randrange(4))) for bank in banks]
 
-    # Objects.
+    # Parameters for objects.
 
     def attributes(self, usual):
-        """The usual attributes of an object, with some changed."""
+        """Returns the usual attributes of an object, with some changed."""
         extra = self.choice((0, 0, Attribute.NO_DA, Attribute.NO_DA | Attribute.ADMIN_WITH_POLICY))
         if self.happens(0.15):
             usual &= ~Attribute.USER_WITH_AUTH
@@ -142,10 +149,10 @@ class Writer(random.Random):
         sensitive = frames.sensitive_create(user_auth, data)
         return frames.creation(sensitive, sized(public.text), self.some_bytes(34), self.selection())
 
-    # NV indices.
+    # Parameters for NV indices.
 
     def nv_attributes(self, hierarchy):
-        """Attributes: who may write and read, what may be locked, and the type."""
+        """Returns attributes: who may write and read, what may be locked, and the type."""
         some = self.getrandbits(32) & self.getrandbits(32) & nv.NAMED & ~nv_commands.NOT_DEFINED
         attributes = some & ~nv.of_type(nv.TYPE_MASK) | self.choice((0, 0x000E_000E, 0x0006_0006))
         attributes &= ~nv.Attribute.PLATFORMCREATE
@@ -165,7 +172,9 @@ class Writer(random.Random):
         return size_of(algorithm) if kind == nv.Type.EXTEND else nv.NUMBER_BYTES
 
     def nv_policy(self, algorithm):
-        """A digest that a session has now, one that a session will have, or an earlier one."""
+        """Returns a policy digest: one that a session has now, one that a session will have, or an
+        earlier one.
+        """
         held = self.device.sessions.values()
         told = [it.policy for it in held if it.algorithm == algorithm and not it.is_trial]
         digests = [it.digest for it in told if it.code == CC.NV_ChangeAuth or self.happens()]
@@ -195,7 +204,9 @@ class Writer(random.Random):
         return [frames.RH_PLATFORM if by_platform else self.choice(ASKERS), handle]
 
     def asked(self, kind=None, reads=False):
-        """An index, mostly of a type, and the handle that authorizes, which mostly may."""
+        """Returns an index, mostly of a certain type, and the handle that authorizes. Mostly that
+        handle may do so.
+        """
         handle = self.index(lambda it: kind in (None, it.kind))
         held = self.device.indices.get(handle)
         if held is None or self.happens(0.1):
@@ -223,7 +234,7 @@ class Writer(random.Random):
         return handles, frames.nv_read(self.choice((size, max(0, size - offset), 1)), offset)
 
     def nv_change_auth(self):
-        """Mostly for an index that a session's policy can authorize now."""
+        """Changes mostly the value of an index that a session's policy can authorize now."""
         told = [it.policy for it in self.device.sessions.values()]
         digests = [it.digest for it in told if it.code == CC.NV_ChangeAuth]
         handle = self.index(lambda it: it.auth_policy in digests)
@@ -245,7 +256,7 @@ class Writer(random.Random):
         (session,), _ = self.told()
         return [*handles, session], frames.policy_nv(operand, offset, operation)
 
-    # The commands: handles and parameters.
+    # The commands. Each function returns handles and parameters.
 
     def start(self):
         algorithm = self.hash()
@@ -269,7 +280,8 @@ class Writer(random.Random):
         return [self.entity(), handle], parameters
 
     def policy_cp_hash(self):
-        """Mostly the cpHash of a possible command without parameters, or a recorded one."""
+        """Mostly asserts the cpHash of a possible command without parameters, or a recorded cpHash.
+        """
         (handle,), _ = self.told()
         held = self.device.sessions.get(handle)
         algorithm = held.algorithm if held else SHA256
@@ -300,7 +312,7 @@ class Writer(random.Random):
         return [handle], frames.sized_list(*branches)
 
     def load(self):
-        """A previously created object, mostly under its parent, which is loaded again."""
+        """Loads an object again that was created before, mostly under its parent."""
         parent = self.object(lambda it: it.public.is_parent)
         name = self.device.name(parent)
         fitting = [it for it in self.made if it[0] == name or self.happens(0.02)]
@@ -315,7 +327,7 @@ class Writer(random.Random):
         return [self.keyed(signs=True)], sized(data) + number(algorithm, 2)
 
     def keyed(self, signs):
-        """An HMAC key, or sealed data; rarely the other of the two, or a storage key."""
+        """Returns an HMAC key or sealed data; rarely the other of the two, or a storage key."""
         wanted = KEYEDHASH, signs
         is_one = lambda public: (public.kind, public.has(Attribute.SIGN)) == wanted
         return self.object(lambda it: is_one(it.public) or self.happens())
@@ -324,15 +336,15 @@ class Writer(random.Random):
         held = [*self.device.objects, *self.device.sessions, 0x80000007, 0x02000000, RH_NULL]
         return [], number(self.choice(held), 4)
 
-    # What a device keeps.
+    # Commands for what a device keeps.
 
     def parameters(self):
-        """The parameters of dictionary attack protection."""
+        """Returns the parameters of dictionary attack protection."""
         numbers = (self.choice(it) for it in (MOST_TRIES, RECOVERIES, RECOVERIES))
         return [frames.RH_LOCKOUT], frames.attack_parameters(*numbers)
 
     def capability(self):
-        """Mostly of existing entities, from the first or from a handle on."""
+        """Lists mostly existing entities, from the first one or from a given handle on."""
         kinds = 0, 0x40, 1, 2, 2, 3, 0x80, 0x81, 4
         held = [*self.device.objects, *self.device.sessions, *self.device.indices]
         wanted = self.choice((self.choice(kinds) << 24, self.choice(held or [0])))
@@ -425,11 +437,11 @@ class Writer(random.Random):
 
     assert COMMANDS.keys() == set(CC)
 
-    # Entries.
+    # Methods that make entries.
 
     def entries(self, code, handles):
-        """The authorization of a command: a session or the password for a handle that needs it, and
-        rarely sessions that only encrypt.
+        """Returns the entries of a command. A handle that needs authorization gets a session or the
+        password. Rarely there are also sessions that only encrypt.
         """
         found = []
         if code.authorized and not self.happens(0.01):
@@ -463,7 +475,7 @@ class Writer(random.Random):
             entry.attributes |= ENCRYPT
 
     def authenticated(self, command):
-        """The same command with its first parameter encrypted and its HMACs computed."""
+        """Returns the same command with its first parameter encrypted and its HMACs computed."""
         device, found = self.device, command.with_attribute(DECRYPT)
         if found and found[1].handle in device.sessions:
             _, entry, handle = found
@@ -493,15 +505,17 @@ class Writer(random.Random):
         others = device.nonces_of_others(command, place, handle)
         return sessions.entry_hmac(*given, others, entry.attributes)
 
-    # Sending.
+    # Methods that send commands.
 
     @property
     def lines(self):
-        """The script's lines so far; those of the buffers are found here."""
+        """Returns the script's lines so far. The lines of buffers are computed here."""
         return [line(it) if isinstance(it, bytes) else it for it in self.events]
 
     def code(self):
-        """The code of a served command. For a locked device mostly soon one that unlocks it."""
+        """Returns the code of a served command. If the device is locked, about one in ten is a
+        command that unlocks it.
+        """
         if self.device.lockout.is_locked() and self.happens(0.1):
             return self.choice((CC.DictionaryAttackLockReset, CC.DictionaryAttackParameters))
         codes = list(self.COMMANDS)
@@ -520,7 +534,7 @@ class Writer(random.Random):
         return self.damaged(frames.buffer_of(code, handles, entries, command.parameters))
 
     def damaged(self, buffer):
-        """The buffer; rarely with a bit changed, or cut with the right commandSize."""
+        """Returns the buffer; rarely with a bit changed, or cut with the right commandSize."""
         if self.happens(0.02):
             return self.bent(buffer)
         if self.happens(0.01):
@@ -529,7 +543,7 @@ class Writer(random.Random):
         return buffer
 
     def startup(self):
-        """A start, which mostly restores what was saved."""
+        """Returns a TPM2_Startup, which mostly resumes from a saved state if there is one."""
         is_saved = self.device.saved == state.Saved.STATE
         kind = state.STATE if is_saved and self.happens(0.7) else state.CLEAR
         return frames.command(CC.Startup, number(kind, 2))
@@ -557,7 +571,7 @@ class Writer(random.Random):
         self.note(buffer, outcome.response, outcome.refused)
 
     def note(self, buffer, response, refused):
-        """Keeps the decrypted response of TPM2_Create, and the digests that policies have."""
+        """Keeps the decrypted responses of TPM2_Create, and the digests that policies have."""
         if not refused and buffer[:2] == number(frames.SESSIONS, 2):
             if int.from_bytes(buffer[6:10], "big") == CC.Create:
                 fields = reading.Fields(response[14:])
@@ -569,7 +583,7 @@ class Writer(random.Random):
 
 
 def written(seed, count):
-    """The writer after this many commands."""
+    """Returns the writer after this many commands."""
     writer = Writer(seed)
     for _ in range(count):
         writer.step()

@@ -1,4 +1,4 @@
-"""Random connections to a served device in consecutive runs: the lines of streams.py."""
+"""Random connections to a served device in consecutive runs, as the lines of streams.py."""
 
 from tpmsim.model import state
 from tpmsim.model.image import Fault, image, open_image, VERSION_1
@@ -7,8 +7,8 @@ from tests.at_random.bent_script import bent_image
 from tests.at_random.random_script import MOST_TRIES, Writer
 from tests.common import streams
 
-# No time passes that matters for dictionary attack protection: each of these times ends after the
-# runs, or never.
+# The times of dictionary attack protection, in seconds. Each ends after the runs, or never, so that
+# the time that really passes has no effect.
 RECOVERIES = 1000, 2**32 - 1, 0
 LEAST_RECOVERY = 500
 
@@ -17,13 +17,15 @@ MOST_CONNECTIONS, MOST_COMMANDS = 6, 24
 
 
 def parameters(writer):
-    """The parameters of dictionary attack protection."""
+    """Returns the parameters of dictionary attack protection."""
     numbers = (writer.choice(it) for it in (MOST_TRIES, RECOVERIES, RECOVERIES))
     return [frames.RH_LOCKOUT], frames.attack_parameters(*numbers)
 
 
 def is_quick(text):
-    """Whether the device of an image may forgive a failed try while a run goes on."""
+    """Returns whether the device of an image may reset a failed try during a run, because time
+    passes.
+    """
     try:
         lockout = open_image(text).lockout
     except Fault:
@@ -33,7 +35,7 @@ def is_quick(text):
 
 
 class StreamWriter(Writer):
-    """Connections, and the answers of a device whose state the writer can see."""
+    """Writes connections, with the responses of a device whose state it knows."""
 
     COMMANDS = {**Writer.COMMANDS, CC.DictionaryAttackParameters: (2, parameters)}
 
@@ -74,8 +76,8 @@ class StreamWriter(Writer):
             self.send(buffer[: self.randrange(len(buffer) or 1)])
 
     def give_image(self):
-        """A run on an image of either version, which is mostly bent. If it is not an image, the one
-        that was there before is put back after the run.
+        """Adds a run on an image of either version, which is mostly bent. If it is not an image,
+        the earlier image is restored after the run.
         """
         self.served.end()
         before = given = self.served.image
@@ -103,7 +105,7 @@ class StreamWriter(Writer):
 
 
 def random_stream(seed, runs):
-    """The lines of this many runs on an image, which is rarely removed."""
+    """Returns the lines of this many runs on an image, which is rarely removed."""
     writer = StreamWriter(seed)
     for at in range(runs):
         if at == 0 or writer.happens(0.1):

@@ -1,4 +1,5 @@
-"""Runs of `tpmsim serve` by the lines of streams.py: the program's answers, and the expected ones.
+"""Runs of `tpmsim serve` by the lines of streams.py: the program's responses, and the expected
+ones.
 """
 
 import pathlib
@@ -15,7 +16,8 @@ SECONDS = 60
 
 
 def exchanged(client, connection):
-    """What the program sends, while the connection's bytes are sent in their pieces."""
+    """Sends the connection's bytes in their pieces, and returns what the program sends meanwhile.
+    """
     left, answered, is_sending = connection.sent, b"", True
     while True:
         writers = [client] if is_sending else []
@@ -36,7 +38,7 @@ def exchanged(client, connection):
         except BrokenPipeError:
             is_sending = False
         except ConnectionResetError:
-            # The program closed the connection before it had read all of it.
+            # The program closed the connection before it had read all of the bytes.
             return answered
 
 
@@ -66,7 +68,7 @@ class Folder:
         )
 
     def serve(self, run):
-        """What each connection is answered, what the run says at its end, and the image."""
+        """Returns the responses to each connection, the run's message at its end, and the image."""
         process, answers = self.began(run), []
         try:
             for connection in run.connections:
@@ -86,7 +88,7 @@ class Folder:
 
 
 def compared(run, answers, error, image):
-    """Pairs of expected and actual results of a run, each with the number of its line."""
+    """Yields pairs of expected and actual results of a run, each with the number of its line."""
     for connection, given in zip(run.connections, answers):
         number = run.number
         for answered, response in zip_longest(connection.answered, given):
@@ -99,7 +101,9 @@ def compared(run, answers, error, image):
 
 
 def first_difference(program, lines):
-    """The number of the line, the expected result, and the actual one; or None."""
+    """Returns the number of the line that differs, the expected result, and the actual one; or
+    None.
+    """
     runs = streams.played(lines)
     with tempfile.TemporaryDirectory() as path:
         folder = Folder(program, path)

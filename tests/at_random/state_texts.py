@@ -1,13 +1,14 @@
-"""Plays the same random events on three devices: one of the library that always goes on; a second
-one that goes on in another device from the first one's state text; and the Python device, which
-also goes on from it:
+"""Plays the same random events on three devices. The first is a device of the library that always
+continues. The second is a device of the library that is restored from the first one's state
+text. The third is the Python device, which is restored from it too:
 
     state_texts.py EVENTS [SEED]
 
-TPMSIM_LIBRARY names the shared object. Each answer, and the state text after each event, has to be
-the same, byte for byte. An event is a command, perhaps a refused one, or a power cycle. A new
-device begins every thousand events, with the next seed. It prints how many events were compared,
-and how often a text was restored. The first difference ends it, with status 1.
+TPMSIM_LIBRARY names the shared object. Each response, and the state text after each event, must
+be the same, byte for byte. An event is a power cycle or a command, which may be refused. A new
+device begins every thousand events, with the next seed. The program prints how many events were
+compared, and how often a text was restored. The first difference ends the program, with status
+1.
 """
 
 import sys
@@ -21,12 +22,12 @@ from tests.common.outputs import repeated
 
 EVENTS_OF_ONE = 1000
 
-# How often a text is restored: after each event, or rarely, so that an error can grow.
+# The probabilities that a text is restored: after each event, or rarely, so that an error can grow.
 CHANCES = 1, 0.2, 0.01
 
 
 class Differs(Exception):
-    """The devices differ, as these words say."""
+    """Raised if the devices differ. Its words describe the difference."""
 
 
 class Devices:
@@ -53,7 +54,7 @@ class Devices:
             self.go_on()
 
     def tell(self, event, answers):
-        """Plays an event of the writer, which the Python device has executed already."""
+        """Plays an event of the writer. The Python device has executed it already."""
         if isinstance(event, bytes):
             self.execute(event, next(answers).outcome.response)
         elif event == "power":
@@ -85,7 +86,7 @@ class Devices:
             raise Differs("the state texts differ")
 
     def go_on(self):
-        """Goes on in other devices, from the text of the device that always goes on."""
+        """Restores the other devices from the text of the device that always continues."""
         text = self.whole.state()
         self.restored.close()
         self.restored = LibraryDevice()
@@ -99,7 +100,9 @@ class Devices:
 
 
 def play(events, seed):
-    """Plays this many events of one seed; how often a text was restored, and any difference."""
+    """Plays this many events of one seed. Returns how often a text was restored, and any
+    difference.
+    """
     devices = Devices(seed)
     try:
         for number in range(1, events + 1):

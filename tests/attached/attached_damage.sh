@@ -1,5 +1,5 @@
-# Journals whose bytes are changed or cut, and whose records are missing, doubled or swapped:
-# attached/damage.c is the caller.
+# Changes or cuts the bytes of journals; removes, doubles and swaps their records: attached/damage.c is the
+# caller.
 tests=$(cd "$(dirname "$0")/.." && pwd -P)
 . "$tests/common/cases.sh"
 . "$tests/common/library.sh"

@@ -1,4 +1,4 @@
-# Several processes that hold one device at once: attached/processes.c is the caller.
+# Has several processes hold one device at once: attached/processes.c is the caller.
 tests=$(cd "$(dirname "$0")/.." && pwd -P)
 . "$tests/common/cases.sh"
 . "$tests/common/library.sh"

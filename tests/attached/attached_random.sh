@@ -1,4 +1,4 @@
-# The random bytes of a kept device: attached/random.c is the caller.
+# Checks the random bytes of a kept device: attached/random.c is the caller.
 tests=$(cd "$(dirname "$0")/.." && pwd -P)
 . "$tests/common/cases.sh"
 . "$tests/common/library.sh"

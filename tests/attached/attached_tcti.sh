@@ -1,4 +1,4 @@
-# The module for libtss2: attached/client.c loads it and calls it as libtss2 does.
+# Tests the module for libtss2. attached/client.c loads it and calls it as libtss2 does.
 tests=$(cd "$(dirname "$0")/.." && pwd -P)
 . "$tests/common/cases.sh"
 . "$tests/common/library.sh"

@@ -186,7 +186,7 @@ static void kill_at_each(const struct values *values) {
     }
 }
 
-/* Executes random commands, until one is not answered. A forked child does so too. */
+/* Executes random commands until a command is not answered. A forked child does so too. */
 static void run_at_random(void) {
     struct kept *kept = opened_so();
     if (!kept || (!told->is_started && !start_telling(kept))) return;

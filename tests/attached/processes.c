@@ -1,4 +1,4 @@
-/* Several processes that hold one device at once. The argument is the file of the values of the
+/* Has several processes hold one device at once. The argument is the file of the values of the
  * PCR. */
 #include "common.h"
 #include <sys/wait.h>

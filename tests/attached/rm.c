@@ -191,7 +191,7 @@ static void forked(bool loads) {
     show("and after its parent's end");
 }
 
-/* A process that is killed flushes nothing. */
+/* Kills a process, which therefore flushes nothing. */
 static void killed(void) {
     fflush(stdout);
     pid_t child = fork();

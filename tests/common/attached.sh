@@ -1,5 +1,5 @@
-# Shared by the tests of the kept device. Each is given the archive, and reads this file after cases.sh
-# and library.sh.
+# Shared by the tests of the kept device. Each test gets the path of the archive, and reads this file after
+# cases.sh and library.sh.
 # shellcheck shell=sh disable=SC2154 # library.sh has `archive` and `sanitizers`
 hosts=$tests/../hosts
 callers=$tests/attached
@@ -78,7 +78,7 @@ for count in range(int(sys.argv[1]) + 1):
 ' "$1"
 }
 
-# The words for the linker that put tests/attached/calls.h in front of these calls.
+# Linker options that replace these calls by those of tests/attached/calls.h.
 # shellcheck disable=SC2034 # tests use them
 wrapped_calls=$(printf -- '-Wl,--wrap=%s ' mkdir fchmod fchmodat fstat fstatat flock ftruncate fsync \
     fdatasync unlinkat renameat clock_gettime mmap munmap madvise pread pwrite getrandom malloc calloc \

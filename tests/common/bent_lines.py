@@ -24,7 +24,7 @@ from tests.common.shims import Ending, ran, Shim, Turns
 TESTS = pathlib.Path(__file__).resolve().parent.parent
 STARTUP, STARTED = b"do Startup 0\n", b"80010000000a00000000\n"
 
-# Each way bends every third token, and begins one token later than the way before it.
+# Each way bends every third token. It begins one token later than the way before it.
 EACH = 3
 
 # Every fifth bad line is also played in a script of its own, between two commands.
@@ -87,7 +87,8 @@ BYTES = {
 }
 
 
-# Ways to bend a line at one token. Each takes the tokens before it, the token, and those after it.
+# Ways to bend a line at one token. Each takes the tokens before it, the token itself, and the
+# tokens after it.
 
 
 def replaced(word, before, token, behind):

@@ -60,8 +60,8 @@ script() {
     echo "$1"
 }
 
-# TPM2_Startup(CLEAR), whose response is SUCCESS (80010000000a00000000), and INITIALIZE
-# (80010000000a00000100) the second time. The response to `cmd` alone is COMMAND_SIZE
+# `startup` is TPM2_Startup(CLEAR). Its response is SUCCESS (80010000000a00000000) the first time, and
+# INITIALIZE (80010000000a00000100) the second time. The response to `cmd` without bytes is COMMAND_SIZE
 # (80010000000a00000142).
 # shellcheck disable=SC2034 # the tests use it
 startup='cmd 80010000000c000001440000'

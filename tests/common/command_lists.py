@@ -112,8 +112,8 @@ def named(document: str, before: str, behind: str, is_wanted: Callable[[CC], boo
     return check
 
 
-# Counts of commands: the document, the text before the count, the text after it, and the format of
-# the count.
+# Counts of commands in documents: the document, the text before the count, the text after it, and
+# the count's format.
 COUNTS = (
     (README, "It serves ", " commands", str),
     (CAPABILITIES, "| the number of served commands, ", " |", "{:X}".format),

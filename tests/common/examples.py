@@ -67,7 +67,7 @@ STARTUP = command(CC.Startup, number(0, 2))
 AES = start(aes=True)
 
 
-# The device, its PCRs and its sessions.
+# Commands on the device, its PCRs and its sessions.
 
 
 def extending(*values: tuple[int, bytes]) -> bytes:
@@ -193,7 +193,7 @@ OBJECTS = [
 ]
 
 
-# NV indices.
+# Commands on NV indices.
 
 ORDINARY, COUNTER, BITS, EXTENDED = range(0x0100_0001, 0x0100_0005)
 LOCKS = nv.Attribute.WRITE_STCLEAR | nv.Attribute.READ_STCLEAR

@@ -119,7 +119,7 @@ def device_behind(script):
     return device
 
 
-# The expected results of `tpmsim`.
+# Functions for the expected results of `tpmsim`.
 
 
 def fault_of(line):

@@ -56,7 +56,7 @@ class Run:
         return wanted
 
     def tell(self, *lines):
-        """Sends lines, and checks the image after each."""
+        """Sends lines, and checks the image after each one."""
         before = without_clock(self.player.device)
         for line in lines:
             old = identity()
@@ -160,7 +160,9 @@ def check_unsaved():
 
 
 def check_pieces():
-    """With many commands at once, responses that are held back are saved before they are sent."""
+    """If many commands come at once, responses wait for the save of their changes, and are sent
+    after it.
+    """
     run = Run()
     lines = [b"do Startup 0", DEFINE, *[INCREMENT] * 400, b"do NV_Read OWNER 01000002 pw:- 8 0"]
     run.write(*lines)

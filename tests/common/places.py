@@ -1,4 +1,4 @@
-"""Finds the scripts."""
+"""Finds the scripts of the tests and the examples."""
 
 import atexit
 import functools

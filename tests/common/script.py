@@ -18,7 +18,7 @@ COLUMNS = 100
 # differ.
 SEED_BYTES = 7
 
-# The end of a script's first comment, which begins with the name of its program.
+# How a script's first comment ends. It begins with the name of the script's program.
 WROTE_THIS, MADE_THIS = ", next to it, wrote this.", " made this."
 
 # An outcome in a description: it comes after a colon, and before a comma or the end.

@@ -85,7 +85,7 @@ class ScriptCaller(PreparedCommands):
         """Sends a command that must be accepted, and returns its response as fields."""
         return Response(prepared.code, *self.accepted(what, prepared))
 
-    # Sessions.
+    # Commands for sessions.
 
     def start(
         self,
@@ -127,7 +127,7 @@ class ScriptCaller(PreparedCommands):
         response = self.says(f"{what}: SUCCESS", self.get_digest(session))
         assert response == frames.success(sized(wanted))
 
-    # Objects.
+    # Commands for objects.
 
     def creation_answer(self, response: Response) -> Public:
         """Returns the public area in a response. The response's creation data must have its
@@ -194,7 +194,7 @@ class ScriptCaller(PreparedCommands):
     def remove(self, what: str, asker: int, handle: int, *uses: Means) -> None:
         self.does(what, self.evicting(asker, handle, handle, *uses))
 
-    # NV indices.
+    # Commands for NV indices.
 
     def define(
         self, what: str, public: nv.Public, *uses: Means, auth: bytes = b"", by: int = RH_OWNER

@@ -1,10 +1,11 @@
-"""The caller of every program that writes a script: it has the script, and says what comes next.
+"""The caller of every program that writes a script. It has the script and its device.
 
-Each command follows its words, which name its outcome after a colon unless it is a success:
+Each command follows its description. The description names the command's outcome after a colon,
+unless it is a success:
 
     tpm("By another password: AUTH_FAIL/s1").reading(FIRST, 8, b"other")
 
-Long words have a line of their own:
+A long description has a line of its own:
 
     said = tpm("By the empty password, and by another one: AUTH_FAIL/s1")
     said.fails(*(tpm.reading(FIRST, 8, it) for it in (b"", b"other")))

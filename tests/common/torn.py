@@ -211,7 +211,7 @@ class Model:
         return device_told(self.device)
 
 
-# The calls that fail within a connection.
+# Calls that fail within a connection.
 IN_CONNECTION = {"recv connection", "send connection", "read entropy", "clock_gettime"}
 
 

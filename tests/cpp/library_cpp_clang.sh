@@ -1,4 +1,4 @@
-# tpmsim.hpp by clang++, with sanitizers: devices.cpp.
+# Compiles tpmsim.hpp with clang++, with sanitizers: devices.cpp.
 tests=$(cd "$(dirname "$0")/.." && pwd -P)
 . "$tests/common/cases.sh"
 . "$tests/common/library.sh"

@@ -1,4 +1,4 @@
-# examples/cargo, a project in Rust whose tests use devices: cargo test.
+# Runs `cargo test` in examples/cargo, a project in Rust whose tests use devices.
 tests=$(cd "$(dirname "$0")/.." && pwd -P)
 . "$tests/common/cases.sh"
 . "$tests/common/library.sh"

@@ -1,4 +1,4 @@
-# examples/go_module, a project in Go whose tests use devices: go test.
+# Runs `go test` in examples/go_module, a project in Go whose tests use devices.
 tests=$(cd "$(dirname "$0")/.." && pwd -P)
 . "$tests/common/cases.sh"
 . "$tests/common/library.sh"

@@ -1,4 +1,5 @@
-# examples/pytest, a project in Python whose tests use devices: pytest, and once more with a device of the job.
+# Runs pytest in examples/pytest, a project in Python whose tests use devices. Runs it once more with a device
+# that the CI job has started.
 tests=$(cd "$(dirname "$0")/.." && pwd -P)
 . "$tests/common/cases.sh"
 . "$tests/common/library.sh"

@@ -1,4 +1,4 @@
-# The examples in C print what those in Python print, except for the words of a refusal.
+# Checks that the examples in C print the same as those in Python, except for the words of a refusal.
 tests=$(cd "$(dirname "$0")/.." && pwd -P)
 . "$tests/common/cases.sh"
 . "$tests/common/library.sh"

@@ -1,4 +1,4 @@
-# The examples in Python.
+# Runs the examples in Python.
 tests=$(cd "$(dirname "$0")/.." && pwd -P)
 . "$tests/common/cases.sh"
 . "$tests/common/library.sh"

@@ -1,4 +1,4 @@
-# The examples in Rust print what those in Python print.
+# Checks that the examples in Rust print the same as those in Python.
 tests=$(cd "$(dirname "$0")/.." && pwd -P)
 . "$tests/common/cases.sh"
 . "$tests/common/library.sh"

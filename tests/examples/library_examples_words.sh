@@ -1,5 +1,6 @@
-# The examples in words: tpmsim-script plays each in its own process, and the program plays the plain script
-# with the same traces. A plain script is its own plain script. A fault has its line and column.
+# Plays the examples in words. tpmsim-script plays each in its own process, and the program plays the plain
+# script with the same traces. The plain script of a plain script is that script itself. A fault has its line
+# and column.
 tests=$(cd "$(dirname "$0")/.." && pwd -P)
 . "$tests/common/cases.sh"
 . "$tests/common/library.sh"

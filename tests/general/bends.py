@@ -78,7 +78,7 @@ class Walk:
             self.sized(f"the hmac in entry {place}")
 
 
-# The forms of parameters, by the names of their kinds.
+# How the parameters of each kind are read, by the names of the kinds.
 FORMS = {
     "u8": lambda walk, name: walk.take(1),
     "u16": lambda walk, name: walk.take(2),

@@ -1,5 +1,6 @@
-# The glue: six functions in C that proved code calls. The kit has them compiled for x86-64, and ours are for
-# other machines. Both have to do the same for the same calls, here and, with ours, on ARM64.
+# Tests the glue: six functions in C that proved code calls. The kit has them compiled for x86-64, and ours
+# are for other machines. Both must do the same for the same calls, on this machine. Ours must do so on ARM64
+# too.
 tests=$(cd "$(dirname "$0")/.." && pwd -P)
 . "$tests/common/cases.sh"
 needs cc
@@ -8,8 +9,8 @@ kit=${rattle%/bin/*}
 glue=${tests%/*}/glue
 flags='-std=c11 -O2 -Wall -Wextra -Werror -Wconversion'
 
-# play NAME RUNNER COMPILER SOURCES..: compiles the calls with one glue, and keeps their output. The program's
-# own name, argument 0, is the same with each glue.
+# play NAME RUNNER COMPILER SOURCES..: compiles the calls with one glue, and keeps their output. Argument 0,
+# the program's own name, is the same with each glue.
 play() {
     name=$1
     runner=$2

@@ -1,4 +1,5 @@
-/* Calls each function of the glue, and prints what it does: the same over the kit's functions and ours. */
+/* Calls each function of the glue, and prints what it does. The output is the same with the
+   kit's functions and with ours. */
 #define _GNU_SOURCE
 #include "glue.h"
 #include <errno.h>
@@ -28,7 +29,8 @@ static void try_sizes(void) {
     }
 }
 
-/* A block that grows, shrinks and cannot grow keeps its first bytes, which are written once. */
+/* Makes a block grow, shrink, and fail to grow. It keeps its first bytes, which are written
+   once. */
 static void try_growing(void) {
     static const size_t sizes[] = {1 << 20, 7, 3, 5000, 0, 16};
     size_t kept = 5;

@@ -1,4 +1,4 @@
-# The form of the Go module, and its tests.
+# Checks the formatting of the Go module, and runs its tests.
 tests=$(cd "$(dirname "$0")/.." && pwd -P)
 . "$tests/common/cases.sh"
 . "$tests/common/library.sh"

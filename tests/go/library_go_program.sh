@@ -1,4 +1,4 @@
-# A program that replaces the module by the folder go/ runs: README's example. The device of a seed is the
+# Runs README's example in a program that replaces the module by the folder go/. The device of a seed is the
 # same as in Python, and so are the names of codes and of commands.
 tests=$(cd "$(dirname "$0")/.." && pwd -P)
 . "$tests/common/cases.sh"

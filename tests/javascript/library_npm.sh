@@ -1,5 +1,5 @@
-# What npm packs of the package for JavaScript, without a network: it has the module, and its tests pass when
-# another project has installed it. The repository stays as it was.
+# Checks what npm packs of the package for JavaScript, without a network. The packed package has the module.
+# Its tests pass when another project has installed it. The repository stays as it was.
 tests=$(cd "$(dirname "$0")/.." && pwd -P)
 . "$tests/common/cases.sh"
 . "$tests/common/javascript.sh"

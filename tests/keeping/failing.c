@@ -145,7 +145,8 @@ static size_t half(enum act how, size_t size) {
 
 #define CALL(type, name, kind, of, words, real) type name words MET(type, #name, kind, of, real)
 
-/* The same with its name for large files, which the header declares with other types. */
+/* Defines a call twice: with its own name, and with its name for large files. The header
+   declares that name with other types. */
 #define CALL_TWICE(type, name, kind, of, words, real)                                              \
     CALL(type, name, kind, of, words, real)                                                        \
     type large_##name words __asm__(#name "64");                                                   \

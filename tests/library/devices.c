@@ -4,7 +4,8 @@
 #include "common.h"
 #include <malloc.h>
 
-/* TPM2_PCR_Extend of PCR 10 in the SHA-256 bank by a password, and TPM2_PCR_Read of it. */
+/* EXTEND is TPM2_PCR_Extend of PCR 10 in the SHA-256 bank with a password. READ is TPM2_PCR_Read
+   of that PCR. */
 enum { EXTEND_BYTES = 65, DIGEST_BYTES = 32, READ_BYTES = 20, VALUE_AT = 30 };
 static const uint8_t EXTEND[EXTEND_BYTES] = {0x80, 0x02, 0,  0, 0, 65, 0, 0,    0x01, 0x82, 0,
                                              0,    0,    10, 0, 0, 0,  9, 0x40, 0,    0,    9,

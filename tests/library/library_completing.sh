@@ -1,4 +1,4 @@
-# The completing layer of a device that has a journal: completing.c, with sanitizers and without them.
+# Tests the completing layer of a device that has a journal: completing.c, with and without sanitizers.
 tests=$(cd "$(dirname "$0")/.." && pwd -P)
 . "$tests/common/cases.sh"
 . "$tests/common/library.sh"

@@ -22,7 +22,7 @@ from tests.images import state_bodies, worked_state
 
 MOST_BYTES, RANDOM = 36_323, bytes(range(256))
 
-# The results of a call.
+# The fault for each return code of tpmsim_restore.
 FAULTS = {0: None}
 FAULTS |= dict(enumerate(("Short", "Magic", "Version", "Length", "Digest", "Body"), 13))
 

@@ -1,7 +1,7 @@
-"""Writes assemble.out: the results of the lines of assemble.lines, which tests/lines/assemble.sh
-passes to `tpmsim asm`, and of longer lines.
+"""Writes assemble.out: the results of the lines of assemble.lines, and of longer lines.
+tests/lines/assemble.sh passes them to `tpmsim asm`.
 
-assemble.lines has a line as printf takes it: a byte that is not ASCII is \\ooo, in octal.
+A line of assemble.lines has the escapes of printf: a byte that is not ASCII is \\ooo, in octal.
 """
 
 import pathlib
@@ -11,7 +11,7 @@ from tests.common.expected import assembled
 
 
 def spelled(written):
-    """The bytes of a line in printf's form."""
+    """Returns the bytes of a line with printf's escapes."""
     named = {b"t": b"\t", b"r": b"\r", b"n": b"\n"}
     return re.sub(
         rb"\\([0-7]{3}|[trn])",
@@ -27,7 +27,7 @@ def outcome(label, line):
 
 
 def long_lines():
-    """The lines that assemble.sh writes itself, with their labels."""
+    """Yields the lines that assemble.sh makes itself, with their labels."""
     zeros = "0" * 59999
     yield "GetRandom and 60000 digits", f"GetRandom {zeros}7"
     yield "GetRandom and 0x and 60000 digits", f"GetRandom 0x{zeros}7"

@@ -1,5 +1,6 @@
-# What `tpmsim asm` makes of lines: those of assemble.lines, with the escapes of printf (\ooo is a byte in
-# octal), and some that are too long for a file. assemble.py, next to it, writes assemble.out.
+# Checks the buffers that `tpmsim asm` makes from the lines of assemble.lines, with the escapes of printf
+# (\ooo is a byte in octal), and from some lines that are too long for a file. assemble.py, next to this file,
+# writes assemble.out.
 here=$(cd "$(dirname "$0")" && pwd -P)
 tests=${here%/*}
 . "$tests/common/cases.sh"
@@ -13,7 +14,7 @@ assembled() {
     printf '%s: status %s, output "%s", error "%s"\n' "$1" "$status" "$output" "$error"
 }
 
-# zeros DIGITS: DIGITS digits 0.
+# zeros DIGITS: prints that many digits 0.
 zeros() {
     printf '%0*d' "$1" 0
 }
@@ -28,7 +29,7 @@ while IFS= read -r written; do
     esac
 done <"$here/assemble.lines"
 
-# A number of tens of thousands of digits, and commands of 4,096 bytes and of 4,097.
+# A number with tens of thousands of digits, and commands of 4,096 and of 4,097 bytes.
 assembled 'GetRandom and 60000 digits' "GetRandom $(zeros 59999)7"
 assembled 'GetRandom and 0x and 60000 digits' "GetRandom 0x$(zeros 59999)7"
 assembled 'GetRandom and a number of 60000 digits' "GetRandom 1$(zeros 59999)"
@@ -37,7 +38,7 @@ for bytes in 4067 4068 4096 32767 40000; do
     assembled "PCR_Event and $bytes bytes" "PCR_Event 00000000 pw:- $data"
 done
 
-# Another fault is reported first, wherever it is.
+# Any other fault is reported before the command's size, wherever it is.
 data=$(zeros 8192)
 assembled 'NV_Write of 4096 bytes' "NV_Write OWNER 01000000 pw:- $data 0"
 assembled 'NV_Write of 4096 bytes without an offset' "NV_Write OWNER 01000000 pw:- $data"

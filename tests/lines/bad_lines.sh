@@ -1,17 +1,17 @@
-# Lines that a script may not have. Each is the third of four, between two commands, of which the first is
-# answered and the second is not. Lines are written and shown with the escapes of printf: \t is a tab, \r a
-# carriage return, and \ooo a byte in octal.
+# Lines that are not valid in a script. Each one is the third of four lines, between two commands. The first
+# command is answered, and the second one is not. Lines are written and shown with the escapes of printf: \t
+# is a tab, \r a carriage return, and \ooo a byte in octal.
 tests=$(cd "$(dirname "$0")/.." && pwd -P)
 . "$tests/common/cases.sh"
 
-# third LINE [LABEL]: plays a script with this third line.
+# third LINE [LABEL]: plays a script whose third line is LINE.
 third() {
     # shellcheck disable=SC2059 # a line has escapes of printf
     printf "$startup\n# the second\n$1\n$startup\n" >script
     run "${2:-\"$1\"}" run script
 }
 
-# zeros BYTES: BYTES bytes 00 in hex.
+# zeros BYTES: prints that many zero bytes in hex.
 zeros() {
     printf '%0*d' "$((2 * $1))" 0
 }
@@ -29,13 +29,13 @@ third 'cmd\r'
 third 'cmd 00\000'
 third 'cmd\t00'
 
-# Another word than cmd.
+# Another first word than cmd.
 third ' cmd 00'
 third 'CMD 00'
 third 'cmd00'
 third 'command 00'
 
-# A locality that is not one of 0 to 4, or not a decimal number.
+# A locality that is not 0 to 4, or not a decimal number.
 third 'loc'
 third 'loc '
 third 'loc 5'
@@ -49,7 +49,7 @@ third 'loc 256'
 third 'loc 4294967296'
 third 'loc 18446744073709551616'
 
-# Milliseconds over 4,294,967,295, or not a decimal number.
+# More than 4,294,967,295 milliseconds, or not a decimal number.
 third 'wait'
 third 'wait '
 third 'wait 4294967296'
@@ -63,7 +63,7 @@ third 'wait  1'
 third 'wait 1.5'
 third 'wait 1s'
 
-# No random bytes, more than 256 of them, or no hex.
+# No random bytes, more than 256 of them, or digits that are not hex.
 third 'entropy'
 third 'entropy '
 third 'entropy 0'
@@ -73,7 +73,7 @@ third 'entropy 0g'
 third "entropy $(zeros 257)" 'entropy and 257 bytes'
 third "entropy $(zeros 512)" 'entropy and 512 bytes'
 
-# More than the word, or another.
+# Anything after the word `power`, or another word.
 third 'power '
 third 'power 1'
 third 'Power'
@@ -81,7 +81,7 @@ third 'power\r'
 third 'poweroff'
 third 'trace'
 
-# Commands in wrong words; assemble.sh has more of them.
+# Wrong commands in words; assemble.sh has more of them.
 third 'do'
 third 'do '
 third 'do GetRandom'
@@ -98,7 +98,7 @@ third 'DO GetRandom 4'
 third 'GetRandom 4'
 third "do PCR_Event NULL pw:- $(zeros 4096)" 'do PCR_Event with 4096 bytes'
 
-# A blank line that is not empty, and a comment that does not begin with its sign.
+# A line with only white space, and a comment that does not begin with `#`.
 third ' '
 third '\t'
 third '\r'
@@ -110,7 +110,7 @@ third '\303\251'
 third '\377'
 third '\000'
 
-# Similar lines that are right.
+# Similar lines that are good.
 third 'cmd '
 third 'cmd 00'
 third 'do GetRandom 4'
@@ -121,13 +121,13 @@ third 'power'
 third ''
 third '#\377'
 
-# The first line, and the last, which no line break ends.
+# A bad first line, and a bad last line without a line break.
 printf '\377\n' >script
 run 'the first line' run script
 printf '%s\n\n\n\ncmd 8' "$startup" >script
 run 'the last line, the fifth' run script
 
-# Of two bad lines the first, and the same from standard input.
+# If there are two bad lines, the first one is reported. The same holds for standard input.
 printf '%s\nbad\nworse\n' "$startup" >script
 run 'two of them' run script
 run 'two of them on standard input' run - <script

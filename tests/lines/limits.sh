@@ -1,13 +1,14 @@
-# The limits of a script: bytes in a line, lines, milliseconds; and that none of many responses is lost.
+# Tests the limits of a script: the bytes in a line, the lines, and the milliseconds. Also checks that no
+# response is lost if there are many.
 tests=$(cd "$(dirname "$0")/.." && pwd -P)
 . "$tests/common/cases.sh"
 
-# padded START BYTES: a line of BYTES bytes without its line break, filled with zeros.
+# padded START BYTES: prints a line of BYTES bytes, filled with zeros, without its line break.
 padded() {
     printf '%s%0*d' "$1" "$(($2 - ${#1}))" 0
 }
 
-# A line has at most 65,536 bytes, whether a line break follows or the end.
+# A line has at most 65,536 bytes. It ends with a line break or with the script.
 for bytes in 65536 65537; do
     { echo "$startup"; padded '#' "$bytes"; } >script
     run "a comment of $bytes bytes, at the end" run script
@@ -48,8 +49,8 @@ for _ in 1 2 3; do
 done >script
 run 'three commands in lines of 65536 bytes, between three empty ones' run script
 
-# A script has at most 1,048,576 lines. If it has one more, these are run, and that one is not, whatever it
-# is.
+# A script has at most 1,048,576 lines. If it has more, these are executed, and the next one is not, whatever
+# it is.
 empty_lines() {
     yes '' | head -n "$1"
 }
@@ -69,7 +70,7 @@ run '1048577 lines on standard input' run - <longer
 { echo "$startup"; empty_lines 1048573; echo "$startup"; echo bad; } >script
 run '1048576 lines, of which the last is bad' run script
 
-# More responses than the program holds before it writes them.
+# More responses than the program buffers before it writes them.
 yes cmd | head -n 7000 >script
 run '7000 commands' run script
 echo bad >>script
@@ -88,7 +89,7 @@ else
     echo 'TPM2_GetRandom with 20000 different random bytes: not answered in order'
 fi
 
-# Milliseconds add up to at most 4,294,967,295 before a command.
+# The sum of the waits before a command is at most 4,294,967,295 milliseconds.
 waits() {
     # shellcheck disable=SC2059 # it has escapes of printf
     printf "$1\n" >script

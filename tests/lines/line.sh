@@ -1,5 +1,5 @@
-# What `tpmsim line` finds for buffers: those of the `do` lines and of `cmd` lines of the scripts, which
-# common/line.py looks up, and some others.
+# Checks the lines that `tpmsim line` finds for buffers: for the `do` and `cmd` lines of the scripts, which
+# common/line.py passes to it, and for some other buffers.
 tests=$(cd "$(dirname "$0")/.." && pwd -P)
 . "$tests/common/cases.sh"
 needs cc python3
@@ -11,14 +11,14 @@ line() {
     run "$1" line "$2"
 }
 
-# A password has one form in an entry. Other entries are written like those of a session.
+# A password has one form in an entry. Any other entry is written like a session's entry.
 line 'a password' 80020000001d0000012940000001000000094000000900000100000000
 line 'one with a nonce' 80020000001e00000129400000010000000a400000090001610100000000
 line 'digits of both cases' 80010000000C0000017b0020
 line 'a handle that is a parameter' 80010000000e0000016503000000
 line 'a list of no digests' 80020000001f00000182000000000000000940000009000001000000000000
 
-# Buffers that no line encodes.
+# Buffers for which there is no line.
 entry=400000090000010000
 line 'no bytes' ''
 line 'a header that is cut' 80010000000c00000144
@@ -31,7 +31,7 @@ line 'an area of four entries' "8002000000360000013d0000001000000024$entry$entry
 line 'a list that is longer than its command' 80010000000e0000017effffffff
 line '4,097 bytes' "800200001001$(printf '%08190d' 0)"
 
-# What is not hex.
+# Arguments that are not hex.
 line 'an odd number of digits' 8
 line 'another digit' 8g
 line 'a space' '80 01'

@@ -1,10 +1,10 @@
-# What `tpmsim lines` and `tpmsim code` print: each command is described as in its section of docs/table, and
-# its example is assembled; response codes have the names of the table.
+# Checks the output of `tpmsim lines` and `tpmsim code`. Each command is described as in its section of
+# docs/table, and its example can be assembled. Response codes have the names of the table.
 tests=$(cd "$(dirname "$0")/.." && pwd -P)
 . "$tests/common/cases.sh"
 table=${tests%/*}/docs/table
 
-# count WHAT NUMBER WRONG: prints how many there are of something, and how many of these are wrong.
+# count WHAT NUMBER WRONG: prints the number of things of a kind, and the number of wrong ones.
 count() {
     printf '%s: %s, of which wrong: %s\n' "$1" "$2" "$3"
 }
@@ -29,7 +29,7 @@ done <"$room/lines"
 count 'examples that are assembled' "$examples" "$wrong"
 count 'commands that are told alone' "$examples" "$alone"
 
-# told_code CODE NAME: counts a code, and whether it has this name.
+# told_code CODE NAME: counts a code, and whether `tpmsim code` has this name for it.
 codes=0
 wrong=0
 told_code() {
@@ -37,7 +37,7 @@ told_code() {
     [ "$("$program" code "$1")" = "$2" ] || wrong=$((wrong + 1))
 }
 
-# plus CODE NUMBER: their sum, in hex.
+# plus CODE NUMBER: prints their sum in hex.
 plus() {
     printf '%x' "$((0x$1 + $2))"
 }

@@ -1,5 +1,6 @@
-# The program for ARM64, in qemu: every third script, stored or made, or with EVERY=1 each, prints the responses
-# and traces of its files. Both machines read each other's device in a folder and image.
+# Runs the program for ARM64 in qemu. It plays every third script, stored or made; with EVERY=1 it plays each.
+# Each prints the responses and traces of its files. Each machine reads the other one's device in a folder and
+# image.
 tests=$(cd "$(dirname "$0")/.." && pwd -P)
 . "$tests/common/cases.sh"
 needs qemu-aarch64 python3
@@ -14,7 +15,7 @@ arm() {
     qemu-aarch64 -L /usr/aarch64-linux-gnu "$arm" "$@"
 }
 
-# compare NAME: whether a script prints the responses and traces of its files, and ends as they say.
+# compare NAME: prints whether a script prints the responses and traces of its files, and ends as they say.
 compare() {
     base=${1%.tpm}
     wanted=0

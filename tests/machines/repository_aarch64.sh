@@ -1,6 +1,6 @@
-# The two commands of the README on an ARM64 machine: a copy of the repository, where uname names that machine,
-# and programs for it run in qemu, in a namespace of their own. There the launcher verifies the program for
-# ARM64, and not the one for x86-64.
+# Runs the two commands of the README as on an ARM64 machine. In a copy of the repository uname names that
+# machine, and programs for it run in qemu, in a namespace of their own. There the launcher verifies the
+# program for ARM64, and not the one for x86-64.
 tests=$(cd "$(dirname "$0")/.." && pwd -P)
 . "$tests/common/cases.sh"
 needs git qemu-aarch64 unshare
@@ -16,7 +16,7 @@ printf '#!/bin/sh\necho Linux aarch64\n' >"$room/machine/uname"
 printf '#!/bin/sh\necho "rt builds nothing here" >&2\nexit 1\n' >"$room/machine/rt"
 chmod +x "$room/machine"/*
 
-# on_arm COMMAND..: runs a command of the copy as on an ARM64 machine.
+# on_arm COMMAND..: runs a command in the copy as on an ARM64 machine.
 on_arm() {
     (cd "$room/copy" && PATH=$room/machine:$PATH QEMU_LD_PREFIX=/usr/aarch64-linux-gnu \
         with_arm64 "$note" timeout 60 "$@")

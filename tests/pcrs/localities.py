@@ -1,13 +1,13 @@
-"""Writes localities.tpm: each PCR extended and reset from each locality.
+"""Writes localities.tpm: extends and resets each PCR from each locality.
 
-Which locality can change which PCR is the table of TPM2_PCR_Extend in docs/table/pcrs.md, once
-more.
+The table of TPM2_PCR_Extend in docs/table/pcrs.md says which locality can change which PCR. This
+program contains that table once more.
 """
 
 from tpmsim.standard import CC, command, digests, on_handle, selection, SHA1, SHA256
 from tests.common.script import Script
 
-# The PCRs, their use, and the localities from which they are extended and reset.
+# The PCRs, their use, and the localities from which they can be extended and reset.
 ANY, NONE = range(5), ()
 USES = (
     (range(0, 16), "of the platform's start", ANY, NONE),
@@ -33,7 +33,7 @@ def change(code, pcrs, parameters, use, is_accepted):
 
 
 def read(algorithm, name):
-    """The 24 PCRs of a bank, eight at a time."""
+    """Reads the 24 PCRs of a bank, eight at a time."""
     banks = (selection((algorithm, range(first, first + 8))) for first in (0, 8, 16))
     words = f"TPM2_PCR_Read of the {name} bank: SUCCESS"
     script.command(words, *(command(CC.PCR_Read, bank) for bank in banks))

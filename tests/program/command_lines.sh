@@ -25,7 +25,7 @@ words run ./-
 # The script is read from standard input, although there is a file with the name `-`.
 words run -
 
-# No words, or no script.
+# No words, and no script.
 words
 words run
 
@@ -93,7 +93,7 @@ words line
 words line 80 01
 words line --trace 80010000000c000001440000
 
-# Other options; help and the version.
+# Invalid options, help and the version.
 words run -x
 words run -h
 words run --help
@@ -103,7 +103,7 @@ words -h
 words --version
 words -V
 
-# Other commands.
+# Words that are not commands.
 words a
 words walk a
 words ru a

@@ -60,7 +60,7 @@ status=0
 timeout 60 "$program" run script 2>"$room/error" >&- || status=$?
 report 'standard output that is closed' "$status"
 
-# Standard error that cannot be written changes no status.
+# If standard error cannot be written, the status stays the same.
 rm "$room/error"
 for script in script bad_second_line missing; do
     status=0

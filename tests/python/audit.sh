@@ -43,7 +43,7 @@ run_audit() {
     echo "status $status"
 }
 
-# The wrong devices are judged at the same time as all others.
+# The wrong devices are judged while the other cases run.
 python3 "$scripts/wrong_devices.py" >wrong_devices &
 wrong_devices=$!
 

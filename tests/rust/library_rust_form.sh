@@ -1,4 +1,4 @@
-# The layout of the Rust package, and the lints of clippy.
+# Checks the formatting of the Rust package, and clippy's lints.
 tests=$(cd "$(dirname "$0")/.." && pwd -P)
 . "$tests/common/cases.sh"
 . "$tests/common/library.sh"

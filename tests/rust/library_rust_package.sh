@@ -1,4 +1,4 @@
-# The tests and the documents of the Rust package, by cargo.
+# Runs the tests of the Rust package, and builds its documentation, with cargo.
 tests=$(cd "$(dirname "$0")/.." && pwd -P)
 . "$tests/common/cases.sh"
 . "$tests/common/library.sh"

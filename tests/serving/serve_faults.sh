@@ -1,5 +1,5 @@
-# The command lines of `tpmsim serve`, and the files that it cannot use. It checks in this order: the
-# command line, the image, the random bytes, the socket, and then each connection.
+# Tests the command lines of `tpmsim serve`, and the files that it cannot use. The program checks the command
+# line first, then the image, the random bytes and the socket. Last comes each connection.
 common=$(cd "$(dirname "$0")/.." && pwd -P)/common
 tests=$(cd "$(dirname "$0")/.." && pwd -P)
 . "$tests/common/cases.sh"
@@ -101,7 +101,7 @@ talk 'random bytes for two commands' "$startup" "$random" "$random"
 [ -e image ] && echo '    an image is there'
 talk 'with an image for three' "$startup" "$random" "$random" "$random"
 
-# Sockets that cannot be made.
+# Sockets that cannot be created.
 serve 'a folder in place of a socket' --socket a_folder
 serve 'a socket in no folder' --socket missing/socket
 serve 'a path that is too long' --socket "$(printf '%0108d' 0)"

@@ -1,4 +1,5 @@
-/* The functions of a library by their versions, and swtpm's callbacks over files. */
+/* Finds the functions of a library by their versions. Also has swtpm's callbacks, which keep
+   states in files. */
 #include "caller.h"
 
 #include <dlfcn.h>
@@ -23,7 +24,7 @@ unsigned char *read_file(const char *path, size_t *size) {
     must(fseek(file, 0, SEEK_END) == 0, "a file has no end");
     long end = ftell(file);
     must(end >= 0 && fseek(file, 0, SEEK_SET) == 0, "a file has no start");
-    /* A byte more than the file has, for the state with a byte more. */
+    /* The block has one byte more than the file, for the case of a state with a byte more. */
     unsigned char *bytes = calloc(1, (size_t)end + 1);
     must(bytes != NULL && fread(bytes, 1, (size_t)end, file) == (size_t)end, "a file is not read");
     must(fclose(file) == 0, "a file is not closed");
@@ -98,7 +99,7 @@ static struct libtpms_callbacks callbacks = {
 
 static void *handle;
 
-/* Finds a function. The result of dlsym is copied, because C has no conversion of it. */
+/* Finds a function. The result of dlsym is copied, because C cannot convert it to a function. */
 static void find(void *place, const char *name, const char *version) {
     void *found = dlvsym(handle, name, version);
     if (found == NULL) fprintf(stderr, "caller: %s of %s is missing\n", name, version);

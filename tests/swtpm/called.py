@@ -1,5 +1,5 @@
-"""A device of the caller that replaces swtpm (caller.c); the caller reads lines and answers them.
-Its states are files in its working folder.
+"""A device of the caller that replaces swtpm (caller.c). The caller reads lines and answers
+them. The device's states are files in the caller's working folder.
 """
 
 import pathlib
@@ -15,7 +15,7 @@ class Answered(NamedTuple):
 
 
 class Called:
-    """A caller with a library, in a folder; its environment has only these variables."""
+    """A caller with a library, in a folder. Its environment has only these variables."""
 
     def __init__(
         self, caller: str, library: str, folder: str | pathlib.Path, **variables: str
@@ -41,7 +41,7 @@ class Called:
         self.process.stdin.flush()
 
     def told(self, line: str, last: str | tuple[str, ...]) -> list[str]:
-        """The answer to a line, up to a line that begins with `last`."""
+        """Returns the answer to a line, up to an answer line that begins with `last`."""
         assert self.process.stdout
         self.say(line)
         said: list[str] = []
@@ -53,7 +53,7 @@ class Called:
         return said
 
     def number(self, line: str, name: str) -> int:
-        """The number that a call returns."""
+        """Returns the number that a call returned."""
         return int(self.told(line, f"{name}: ")[-1].split(": ")[1].split(",")[-1])
 
     def done(self, line: str, name: str) -> None:
@@ -74,7 +74,7 @@ class Called:
         self.process.stdout.close()
 
     def resume(self) -> None:
-        """Saves the device, ends its process, and goes on in another one."""
+        """Saves the device, ends its process, and continues in another process."""
         self.done("save volatile", "VolatileAll_Store")
         self.done("get permanent permanent", "GetState")
         self.end()

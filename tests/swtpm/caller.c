@@ -32,7 +32,8 @@ static int digit(char c) {
     return (int)(found - digits);
 }
 
-/* The bytes of a word in hex, in a block of exactly their size, so that a sanitizer sees reads beyond it. */
+/* Returns the bytes of a word in hex, in a block of exactly their size, so that a sanitizer
+   finds reads beyond it. */
 static uint8_t *bytes_of(const char *hex, size_t *size) {
     *size = strlen(hex) / 2;
     uint8_t *bytes = malloc(*size == 0 ? 1 : *size);
@@ -90,13 +91,13 @@ static void get_state(const char *type, const char *path) {
     free(bytes);
 }
 
-/* Sets a state that must be refused, and prints that; counts one that is not refused. */
+/* Sets a state that must be refused with one log line. Counts the cases in which it is not. */
 static void must_be_refused(const char *type, const unsigned char *bytes, size_t size, size_t *wrong) {
     if (library.set_state(type_of(type), bytes, (uint32_t)size) != TPM_FAIL) ++*wrong;
     if (logged_lines() != 1) ++*wrong;
 }
 
-/* Changes each byte of a state in its lowest bit, in its highest, and in all. */
+/* Changes each byte of a state: its lowest bit, its highest bit, and all its bits. */
 static void turn(const char *type, const char *path) {
     static const uint8_t masks[] = {0x01, 0x80, 0xff};
     size_t size, wrong = 0;
@@ -113,7 +114,8 @@ static void turn(const char *type, const char *path) {
     free(bytes);
 }
 
-/* Each beginning of a state, in a block of exactly its size, and the state with a byte more. */
+/* Sets each beginning of a state, in a block of exactly its size, and the state with a byte
+   more. */
 static void cut(const char *type, const char *path) {
     size_t size, wrong = 0;
     unsigned char *bytes = read_file(path, &size);
@@ -180,7 +182,7 @@ static void blob(void) {
     printf("DecodeBlob: %u, %zu bytes\n", result, size);
 }
 
-/* The lines about the power, commands and states. */
+/* Executes the lines about the power, commands and states. */
 static int drive(char *words[WORDS]) {
     const char *name = words[0];
     if (strcmp(name, "on") == 0) tell("MainInit", library.main_init());
@@ -203,7 +205,8 @@ static int drive(char *words[WORDS]) {
     return 1;
 }
 
-/* The lines about the hardware's part, and about information on the TPM. */
+/* Executes the lines about dynamic launches and other hardware signals, and about information on
+   the TPM. */
 static int ask(char *words[WORDS]) {
     const char *name = words[0];
     if (strcmp(name, "hash") == 0) hash(words[1], words[2]);

@@ -1,6 +1,6 @@
 """A device that is left with a bound and an unbound HMAC session, a policy session, objects,
-contexts of the completing layer, and a launch; and the commands that it has to accept when it goes
-on.
+contexts of the completing layer, and a launch. Also the commands that it has to accept when it
+continues.
 """
 
 from tests.swtpm.called import Called
@@ -15,7 +15,7 @@ BY_POLICY = Attribute.FIXED_TPM | Attribute.FIXED_PARENT | Attribute.NO_DA
 
 
 def succeeded(device: Called, buffer: bytes) -> bytes:
-    """What follows the header of a response."""
+    """Returns the bytes after the header of a response, which must be a success."""
     response = device.execute(buffer).response
     if any(response[6:10]):
         raise ValueError(f"{buffer.hex()} is answered {response.hex()}")
@@ -23,7 +23,7 @@ def succeeded(device: Called, buffer: bytes) -> bytes:
 
 
 class LeftDevice:
-    """`loads` are the commands that load the contexts."""
+    """A device with these entities. `loads` are the commands that load the contexts."""
 
     def __init__(self, device: Called) -> None:
         self.tpm = tpm = Caller(device)
@@ -59,7 +59,7 @@ class LeftDevice:
         self.tpm.send(self.writing(data))
 
     def buffers(self) -> list[bytes]:
-        """The commands that must succeed now, in this order."""
+        """Returns the commands that must succeed now, in this order."""
         last = self.tpm.unsealing(self.data, self.judged), self.tpm.reset(self.free)
         writing, unsealing, resetting = (it.buffer() for it in (self.writing(b"goes on."), *last))
         return [writing, unsealing, *self.loads, resetting]

@@ -1,6 +1,7 @@
-# The states of a device that an older libtpms.so.0 left while it ran. Its volatile state was the journal since
-# power came on: swtpm/journal_state, which swtpm/make_journal_state.py wrote by such a library. The device goes
-# on, with its sessions, objects, contexts of the completing layer, and a launch; damaged states are refused.
+# The states of a running device that an older libtpms.so.0 left. Its volatile state was the journal since
+# power-on: swtpm/journal_state. swtpm/make_journal_state.py wrote it with such a library. The device
+# continues with its sessions, objects, contexts of the completing layer, and a launch. Damaged states are
+# refused.
 tests=$(cd "$(dirname "$0")/.." && pwd -P)
 . "$tests/common/cases.sh"
 . "$tests/common/swtpm.sh"

@@ -1,6 +1,6 @@
-# What libtpms.so.0 records if TPMSIM_RECORD asks for it: a journal of each time of power, which the program
-# plays, and of each device that goes on; and a record that cannot be begun or written. swtpm/caller.c is the
-# caller.
+# The records of libtpms.so.0, if TPMSIM_RECORD requests them. There is a journal for each period from
+# power-on to power-off, and for each device that continues. The program plays the journals. Also tests a
+# record that cannot be begun or written. swtpm/caller.c is the caller.
 tests=$(cd "$(dirname "$0")/.." && pwd -P)
 . "$tests/common/cases.sh"
 . "$tests/common/swtpm.sh"
@@ -9,7 +9,7 @@ TPMSIM_RECORD=.
 export TPMSIM_RECORD
 umask 0
 
-# power_on_of RECORD: prints the image with which a record begins.
+# power_on_of RECORD: writes the image with which a record begins.
 power_on_of() {
     sed -n '2s/^# //p' "$1" | python3 -c \
         'import sys; sys.stdout.buffer.write(bytes.fromhex(sys.stdin.read()))'

@@ -1,6 +1,6 @@
-# A device under swtpm that is suspended and goes on in another process: with sessions that are used before and
-# after, objects, and contexts of the completing layer; and random commands on a device that is suspended and
-# on one that never is (tools/soak/suspended.sh plays more).
+# A device under swtpm that is suspended and continues in another process: with sessions that are used before
+# and after, objects, and contexts of the completing layer. Then random commands run on a device that is
+# suspended and on one that never is (tools/soak/suspended.sh plays more).
 tests=$(cd "$(dirname "$0")/.." && pwd -P)
 . "$tests/common/cases.sh"
 . "$tests/common/swtpm.sh"

@@ -1,6 +1,6 @@
-# The states of libtpms.so.0 with a caller that replaces swtpm: a device that goes on in another process, the
-# content of its volatile state, states of other devices and libraries, and states with each byte turned, cut,
-# or set at the wrong time. swtpm/caller.c is the caller.
+# The states of libtpms.so.0 with a caller that replaces swtpm: a device that continues in another process,
+# and the content of its volatile state. Also states of other devices and libraries, and states in which each
+# byte is changed, that are cut, or that are set at the wrong time. swtpm/caller.c is the caller.
 tests=$(cd "$(dirname "$0")/.." && pwd -P)
 . "$tests/common/cases.sh"
 . "$tests/common/swtpm.sh"

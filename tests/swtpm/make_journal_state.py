@@ -1,11 +1,11 @@
-"""Writes tests/swtpm/journal_state: the states of a running device that was left by a library whose
-volatile state was its journal, and the commands that the device must accept afterwards:
+"""Writes tests/swtpm/journal_state: the states of a running device, and the commands that the
+device must accept afterwards. A library left the states whose volatile state was its journal:
 
     tools/python.sh tests/swtpm/make_journal_state.py CALLER LIBRARY SHIM
 
-CALLER is caller.c's program, LIBRARY a libtpms.so.0 of that kind, and SHIM what is built of
-common/clock.c. Power came on when the clock showed 1,000 seconds, and the last command came at
-1,009. The files are never written again.
+CALLER is the program of caller.c, LIBRARY is such a libtpms.so.0, and SHIM is built from
+common/clock.c. Power came on when the clock was at 1,000 seconds. The last command came at 1,009
+seconds. The files are never written again.
 """
 
 import pathlib

@@ -1,13 +1,13 @@
-"""Devices under swtpm that are suspended and resumed at random, compared with devices that never
+"""Suspends and resumes devices under swtpm at random, and compares them with devices that never
 are:
 
     tools/python.sh tests/swtpm/suspended.py CALLER LIBRARY SHIM FIRST LAST COUNT
 
-CALLER is caller.c's program, LIBRARY a libtpms.so.0, and SHIM what is built of common/host.c. The
-scripts of the seeds FIRST to LAST have COUNT commands each. For half of them the Python device says
-the result of each command, and the state text. The other half come from a caller with the
-completing layer, and a device that is not suspended says the results. A device that is resumed goes
-on in another process.
+CALLER is the program of caller.c, LIBRARY is a libtpms.so.0, and SHIM is built from
+common/host.c. The scripts of the seeds FIRST to LAST have COUNT commands each. For half of them
+the Python device computes the response to each command, and the state text. The other half come
+from a caller with the completing layer; a device that is not suspended gives the expected
+responses. A device that is resumed continues in another process.
 """
 
 import pathlib
@@ -32,7 +32,7 @@ HEAD_BYTES = 10
 
 
 class Host:
-    """The host, as the shim has it: a clock and random bytes."""
+    """The host's clock and random bytes, which the shim reads."""
 
     def __init__(self, folder: pathlib.Path) -> None:
         self.path, self.milliseconds, self.random = folder / "host", 10**9, MANUFACTURED
@@ -49,7 +49,7 @@ class Host:
 
 
 class Pair:
-    """What a script is played on, in a folder."""
+    """The devices on which a script is played, in a folder."""
 
     def __init__(self, words: list[str], folder: str, completes: bool, is_twin: bool) -> None:
         caller, library, shim = words
@@ -75,7 +75,9 @@ class Pair:
             device.say(f"loc {number}")
 
     def cycle_power(self) -> None:
-        """Cycles the power of the device as it is now; its stored Clock is older."""
+        """Cycles the power, and keeps the device's present permanent state. The stored state has an
+        older Clock.
+        """
         for device in self.devices:
             device.done("get permanent permanent", "GetState")
             device.say("off")
@@ -88,7 +90,7 @@ class Pair:
         self.resumed += 1
 
     def volatile(self) -> bytes:
-        """The volatile state that was saved last."""
+        """Returns the volatile state that was saved last."""
         return (self.devices[0].folder / "volatile").read_bytes()
 
     def execute(self, buffer: bytes) -> list[bytes]:
@@ -100,7 +102,7 @@ class Pair:
 
 
 def of_device(pair: Pair, chance: random.Random, count: int) -> Iterator[list[bytes]]:
-    """Each response with that of the Python device; and the state texts at each suspend."""
+    """Yields each response with that of the Python device, and the state texts at each suspend."""
     writer, played = random_script.Writer(chance.randrange(2**32)), 0
     locality, seed, elapsed = 0, b"", 0
     for _ in range(count):
@@ -129,7 +131,7 @@ def of_device(pair: Pair, chance: random.Random, count: int) -> Iterator[list[by
 
 
 def of_layer(pair: Pair, chance: random.Random, count: int) -> Iterator[list[bytes]]:
-    """Each response with that of a device that is never suspended."""
+    """Yields each response with that of a device that is never suspended."""
     scripts, buffer = Scripts(chance), command(CC.Startup, bytes(2))
     for _ in range(count):
         if chance.random() < SUSPENDED:

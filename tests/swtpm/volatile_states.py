@@ -1,11 +1,11 @@
-"""Volatile states, as Python reads and bends them:
+"""Reads and bends volatile states:
 
     volatile_states.py read FILE
     volatile_states.py time FILE
     volatile_states.py bend FILE FOLDER
 
-`read` prints what is in a state, and `time` whether it is of the last few minutes. `bend` writes
-bad states into a folder, and prints the files' names.
+`read` prints the content of a state. `time` prints whether its time is within the last few
+minutes. `bend` writes bad states into a folder, and prints the files' names.
 """
 
 import hashlib
@@ -17,7 +17,7 @@ from typing import Iterator
 from tpmsim.model import image, state_text
 from tpmsim.standard import number
 
-# What follows the text: the time, whether there was a launch, and the digest.
+# The sizes of the parts after the text: the time, whether there was a launch, and the digest.
 TIME_BYTES, TAIL_BYTES, DIGEST_BYTES = 8, 41, 32
 HEAD_BYTES = 10
 

@@ -1,4 +1,5 @@
-# The module for web pages, in node: how it keeps devices and takes them. module_devices.mjs says what is checked.
+# Tests the module for web pages in node: how it keeps and restores devices. module_devices.mjs says what is
+# checked.
 tests=$(cd "$(dirname "$0")/.." && pwd -P)
 . "$tests/common/cases.sh"
 needs node

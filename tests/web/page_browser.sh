@@ -1,5 +1,6 @@
-# The page in a browser without a window: examples, faults, keys, names for screen readers, lessons, a
-# hostile log, files, links, an explained log, sizes, times; and what it downloads, by the program.
+# Tests the page in a browser without a window: examples, faults, keys, names for screen readers, lessons, a
+# hostile log, files, links, an explained log, sizes and times. Plays the files that it downloads with the
+# program.
 tests=$(cd "$(dirname "$0")/.." && pwd -P)
 . "$tests/common/cases.sh"
 needs chromium node python3

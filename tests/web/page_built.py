@@ -1,5 +1,5 @@
 """Checks dist/tpmsim.html without a browser: page_built.py PAGE CSS. It prints a line for each
-thing that it checks, and the status is 1 if one is wrong.
+check. The status is 1 if a check fails.
 """
 
 import base64
@@ -13,7 +13,7 @@ import sys
 TOP = pathlib.Path(__file__).resolve().parents[2]
 MOST_BYTES = 700_000
 
-# What treats text as markup or as code, and what fetches.
+# Functions that treat text as markup or as code, and functions that load something.
 FORBIDDEN = re.compile(
     r"innerHTML|outerHTML|insertAdjacentHTML|document\.write|\beval\(|new Function|srcdoc"
     r"|\bfetch\(|XMLHttpRequest|WebSocket|EventSource|sendBeacon|importScripts|\bimport\(|https?://"

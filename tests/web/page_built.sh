@@ -1,5 +1,6 @@
-# The page in dist/, without a browser: it is what web/build.py makes; its policy has the hashes of its
-# style and its script; its links lead to sections of docs/table; and its colours can be read.
+# Checks the page in dist/ without a browser. It is the page that web/build.py makes. Its policy has the
+# hashes of its style and its script. Its links lead to sections of docs/table. Its colours have enough
+# contrast.
 tests=$(cd "$(dirname "$0")/.." && pwd -P)
 . "$tests/common/cases.sh"
 needs python3

@@ -1,6 +1,6 @@
-"""Prints, as lines of JSON, the commands of the scripts of tests/ and examples/ with their
-responses, and the fields of both by tpmsim.explain. page_fields.mjs compares the page's fields with
-them.
+"""Prints the commands of the scripts of tests/ and examples/ with their responses, as lines of
+JSON. Also prints the fields of both by tpmsim.explain. page_fields.mjs compares the page's
+fields with these.
 """
 
 import json
@@ -14,7 +14,7 @@ MOST_BYTES = 500_000
 
 
 def scripts() -> list[pathlib.Path]:
-    """All scripts of tests/ and examples/, and those that are made."""
+    """Returns all scripts of tests/ and examples/, and the made scripts."""
     found = [*places.TESTS.glob("**/*.tpm"), *places.EXAMPLES.glob("*.tpm")]
     return [*sorted(found), *sorted(places.folder_of_made().glob("*/*.tpm"))]
 

@@ -1,5 +1,5 @@
-# The fields of commands and responses: the page, in JavaScript, and tools/explain.py, in Python, have the same
-# for all scripts.
+# Compares the fields of commands and responses. The page, in JavaScript, and tools/explain.py, in Python,
+# have the same fields for all scripts.
 tests=$(cd "$(dirname "$0")/.." && pwd -P)
 . "$tests/common/cases.sh"
 needs node python3

@@ -2,8 +2,8 @@
 
     tests/web/page_firefox.py [PAGE]
 
-It is not part of the gate, and needs Debian's firefox-esr and python3. It prints a line for each
-thing that it checks; the status is 1 if one of them is wrong.
+The test is not part of the gate. It needs Debian's firefox-esr and python3. It prints a line for
+each check. The status is 1 if a check fails.
 """
 
 import contextlib
@@ -21,7 +21,7 @@ SECONDS = 120
 
 
 class Firefox:
-    """A browser that answers requests: JSON messages with their size before them."""
+    """A browser that answers requests. They are JSON messages with their size before them."""
 
     def __init__(self, port: int) -> None:
         self.stream = connected(port)
@@ -48,14 +48,14 @@ class Firefox:
         return value
 
     def value(self, script: str) -> Any:
-        """The value of a script in the page, which may be a promise."""
+        """Returns the value of a script in the page. The value may be a promise."""
         words = "const done = arguments[arguments.length - 1]; Promise.resolve().then(async () => {"
         text = f"{words} {script} }}).then(done, (fault) => done(`fault: ${{fault}}`));"
         return self.asks("WebDriver:ExecuteAsyncScript", script=text, args=[])["value"]
 
 
 def connected(port: int) -> socket.socket:
-    """A connection, as soon as the browser accepts one."""
+    """Connects as soon as the browser accepts a connection."""
     until = time.monotonic() + SECONDS
     while True:
         try:

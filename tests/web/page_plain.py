@@ -1,6 +1,6 @@
-"""Prints, as lines of JSON, the scripts of tests/ and examples/ in which sessions encrypt. For each
-it has the decrypted first parameter of each command and response, by its line, as the Python device
-sees it. page_plain.mjs compares the page's values with them.
+"""Prints the scripts of tests/ and examples/ in which sessions encrypt, as lines of JSON. Each line
+has the decrypted first parameter of each command and response, by its line in the script, as the
+Python device decrypts it. page_plain.mjs compares the page's values with these.
 """
 
 import json
@@ -15,13 +15,13 @@ MOST_BYTES = 500_000
 
 
 def scripts() -> list[pathlib.Path]:
-    """All scripts of tests/ and examples/, and those that are made."""
+    """Returns all scripts of tests/ and examples/, and the made scripts."""
     found = [*places.TESTS.glob("**/*.tpm"), *places.EXAMPLES.glob("*.tpm")]
     return [*sorted(found), *sorted(places.folder_of_made().glob("*/*.tpm"))]
 
 
 class Watched(Model):
-    """A device that keeps what it decrypted, and what it is about to encrypt."""
+    """A device that records what it decrypted, and what it is about to encrypt."""
 
     decrypted: bytes | None = None
     answered: bytes | None = None
@@ -39,8 +39,8 @@ class Watched(Model):
 
 
 def plain_of(script):
-    """The decrypted first parameters of commands and of responses, by their lines, which count from
-    0.
+    """Returns the decrypted first parameters of commands and of responses, by their lines. The
+    first line has the number 0.
     """
     device, asked, answered = Watched(), {}, {}
     for step in steps_of(script):

@@ -1,4 +1,5 @@
-# What sessions encrypted in scripts: the page decrypts it as the device in Python does.
+# Checks that the page decrypts the parameters that sessions encrypted in scripts as the device in Python
+# does.
 tests=$(cd "$(dirname "$0")/.." && pwd -P)
 . "$tests/common/cases.sh"
 needs node python3

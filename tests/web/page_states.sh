@@ -1,5 +1,5 @@
-# Scripts as the page plays them, in node: responses, logs, edits, the lessons' tasks; and the devices that it
-# reads, compared with the device in Python.
+# Plays scripts as the page does, in node: responses, logs, edits, and the lessons' tasks. Compares the
+# devices that it reads with the device in Python.
 tests=$(cd "$(dirname "$0")/.." && pwd -P)
 . "$tests/common/cases.sh"
 needs node python3
@@ -11,7 +11,7 @@ echo '{ "type": "module" }' >package.json
 make_scripts
 find "$tests" "$top/examples" "$TPMSIM_MADE" -name '*.tpm' -size -450k | sort >names
 while read -r name; do
-    # The program ends a script with a bad line there, and the page goes on.
+    # At a bad line the program ends the script. The page continues, so such scripts are left out.
     [ ! -f "${name%.tpm}.out" ] || [ -f "${name%.tpm}.status" ] || echo "$name"
 done <names >scripts
 xargs node "$tests/web/page_states.mjs" web/page facts.json "$top/dist/tpmsim.wasm" \

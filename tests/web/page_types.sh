@@ -1,4 +1,4 @@
-# The types of the page's JavaScript, which are in its comments.
+# Checks the types of the page's JavaScript, which are in its comments.
 tests=$(cd "$(dirname "$0")/.." && pwd -P)
 . "$tests/common/cases.sh"
 needs tsc
