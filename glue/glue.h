@@ -1,8 +1,9 @@
 /* The C functions that Rattle's libraries `libc` and `os` need in addition to the C library. Proved code
- * relies on the contracts of these six functions; no proof shows that their C code meets the contracts. The
+ * relies on the contracts of these nine functions; no proof shows that their C code meets the contracts. The
  * kit contains them compiled for x86-64; for other machines they are built from this folder. */
 #ifndef GLUE_H
 #define GLUE_H
+#include <stdbool.h>
 #include <stddef.h>
 #include <stdint.h>
 #include <sys/types.h>
@@ -31,5 +32,16 @@ void rattle_set_errno(int error);
 /* Writes the argument with this number to the front of a buffer, without its terminating zero, and returns its
  * length. Returns -1 if there is no such argument, and -2 if it does not fit; the buffer then has its front. */
 ssize_t rattle_arg(size_t number, unsigned char *buffer, size_t size);
+
+/* Writes the value of an environment variable to the front of a buffer, without its terminating zero, and returns
+ * its length. `name` ends with a zero. Returns -1 if there is no such variable, and -2 if the value does not fit;
+ * the buffer then has its front. */
+ssize_t rattle_env(const char *name, unsigned char *buffer, size_t size);
+
+/* Writes the entry of the environment with this number, NAME=VALUE, and returns as rattle_env does. */
+ssize_t rattle_env_at(size_t number, unsigned char *buffer, size_t size);
+
+/* Sets whether reads and writes of the descriptor's open file wait (`on` is false) or not. Returns 0 or -1. */
+int rattle_set_nonblocking(int descriptor, bool on);
 
 #endif

@@ -33,7 +33,7 @@ compile_here() {
         verdict=$(grep -x "logic=proved .* target=$target .*" "$log") && echo "$1: $verdict"
 }
 
-# Compiles the six functions that the kit has only for x86-64.
+# Compiles the nine functions that the kit has only for x86-64.
 compile_glue() {
     for source in glue/*.c; do
         # shellcheck disable=SC2086 # they are words
@@ -44,7 +44,7 @@ compile_glue() {
 
 link_program() (
     cd "$work" && "${prefix}gcc" -pie -Wl,--build-id=none -Wl,-z,relro -Wl,-z,now -o tpmsim \
-        program.o heap.o arguments.o errors.o && "${prefix}strip" --strip-unneeded tpmsim
+        program.o heap.o arguments.o errors.o environment.o descriptors.o && "${prefix}strip" --strip-unneeded tpmsim
 ) >>"$log" 2>&1
 
 # Makes the archive and the shared object, as tools/library.sh does.

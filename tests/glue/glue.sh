@@ -1,4 +1,4 @@
-# Tests the glue: six functions in C that proved code calls. The kit has them compiled for x86-64, and ours
+# Tests the glue: nine functions in C that proved code calls. The kit has them compiled for x86-64, and ours
 # are for other machines. Both must do the same for the same calls, on this machine. Ours must do so on ARM64
 # too.
 tests=$(cd "$(dirname "$0")/.." && pwd -P)
