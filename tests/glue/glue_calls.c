@@ -3,10 +3,12 @@
 #define _GNU_SOURCE
 #include "glue.h"
 #include <errno.h>
+#include <fcntl.h>
 #include <stdbool.h>
 #include <stdio.h>
 #include <string.h>
 #include <sys/resource.h>
+#include <unistd.h>
 
 static const size_t HUGE_SIZE = (size_t)1 << 40;
 
@@ -68,6 +70,39 @@ static void try_arguments(void) {
         }
 }
 
+/* Reads variables by name, and entries by number, into buffers of several sizes. */
+static void try_environment(void) {
+    static char *entries[] = {"NONE=", "FOUR=four", "EIGHTISH=eightish", NULL};
+    static const char *names[] = {"NONE", "FOUR", "EIGHTISH", "FIVE"};
+    unsigned char buffer[10];
+    environ = entries;
+    for (size_t number = 0; number < 4; number++)
+        for (size_t size = 0; size < sizeof buffer; size += 3) {
+            memset(buffer, '.', sizeof buffer);
+            ssize_t length = rattle_env(names[number], buffer, size);
+            printf("variable %s, %zu bytes: %zd %.10s\n", names[number], size, length,
+                   (char *)buffer);
+            memset(buffer, '.', sizeof buffer);
+            length = rattle_env_at(number, buffer, size);
+            printf("entry %zu, %zu bytes: %zd %.10s\n", number, size, length, (char *)buffer);
+        }
+}
+
+/* Reads an empty pipe that does not wait, and makes it wait again. */
+static void try_descriptors(void) {
+    int ends[2];
+    char byte;
+    if (pipe(ends) != 0)
+        return;
+    printf("not waiting: %d\n", rattle_set_nonblocking(ends[0], true));
+    ssize_t size = read(ends[0], &byte, 1);
+    printf("read: %zd, EAGAIN %d\n", size, errno == EAGAIN);
+    printf("waiting: %d\n", rattle_set_nonblocking(ends[0], false));
+    printf("O_NONBLOCK %d\n", (fcntl(ends[0], F_GETFL) & O_NONBLOCK) != 0);
+    close(ends[0]);
+    printf("closed: %d\n", rattle_set_nonblocking(ends[0], true));
+}
+
 int main(void) {
     struct rlimit limit = {.rlim_cur = (rlim_t)1 << 34, .rlim_max = (rlim_t)1 << 34};
     if (setrlimit(RLIMIT_AS, &limit) != 0)
@@ -77,4 +112,6 @@ int main(void) {
     print_tried("alloc without memory", rattle_alloc(HUGE_SIZE, 16));
     try_errors();
     try_arguments();
+    try_environment();
+    try_descriptors();
 }
