@@ -254,19 +254,23 @@ class Refusals(Shim):
         if turn == 1:
             fail("nothing could be refused")
 
-    def compare(self, label, turns, run, whole, starved, needed=FOREVER):
+    def compare(self, label, turns, run, whole, starved, needed=FOREVER, explains=False):
         """Checks that a run results in `starved` if all allocations from one on fail. If a single
         allocation fails, the result may also be `whole`. After the first `needed` allocations
-        the result is always `whole`. Returns the number of allocations.
+        the result is always `whole`. If the program `explains` a fault that it has printed, it
+        needs its last allocations only for that: `needed` is then at least 1, and the first run
+        that results in `whole` shows how much. Returns the number of allocations.
         """
         for turn, alone, rest in self.each(turns, run):
+            if explains and turn > 1 and turn <= needed and rest == whole:
+                needed = turn - 1
             if alone not in ((whole, starved) if turn <= needed else (whole,)):
                 fail(f"{label}, allocation {turn} refused: {alone}")
             if rest != (starved if turn <= needed else whole):
                 fail(f"{label}, refused all from allocation {turn}: {rest}")
         return turn
 
-    def check(self, label, words, whole, memory, stdin=b"", needed=FOREVER):
+    def check(self, label, words, whole, memory, stdin=b"", needed=FOREVER, explains=False):
         """Does the same as `compare` for how a run ends. The ending must be `whole` if no
         allocation fails.
         """
@@ -275,6 +279,6 @@ class Refusals(Shim):
             given = run()
             if given != whole:
                 fail(f"{label}, nothing refused: {given}")
-            allocations = self.compare(label, turns, run, whole, memory, needed)
+            allocations = self.compare(label, turns, run, whole, memory, needed, explains)
         print(f"{label}: {memory.error.decode().strip()}")
         return allocations

@@ -68,7 +68,8 @@ def check_words(program):
         ("a number that is none", [*SERVE, "x"], usage),
     ]
     for label, words, whole in cases:
-        program.check(label, words, whole, MEMORY)
+        # After a fault the program looks in the environment whether it has to explain the fault.
+        program.check(label, words, whole, MEMORY, explains=whole.status != 0)
     program.check("a script on standard input", ["run", "-"], played, MEMORY, SCRIPT.read_bytes())
     for words in ["--help", "--version", "run --help", "serve --help"]:
         program.check(words, words.split(), program.whole(words.split()), MEMORY)
