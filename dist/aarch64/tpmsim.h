@@ -24,10 +24,10 @@
      The last call is tpmsim_free; without it the memory is lost.
    - No pointer is NULL, not even with a size of 0. The memory at a pointer has the stated size, needs
      to exist only during the call, and does not overlap the memory at another pointer or the handle.
-   - Each call has 96 KB of stack.
-   - malloc, realloc and free are the C library's, or others of one allocator that meet the same
-     guarantees. A device allocates about 82 KB, once. No call is made from a signal handler, or in
-     a forked child of a process with threads.
+   - At least 96 KB of stack are free at each call.
+   - malloc, realloc and free are the C library's, or those of another allocator with the same
+     guarantees. A device allocates about 82 KB, once.
+   - No call is made from a signal handler, or in a forked child of a process with threads.
 
    Numbers are in the byte order of the machine; commands, responses and images are byte strings. */
 #ifndef TPMSIM_H
@@ -58,33 +58,42 @@ enum tpmsim_told {
     TPMSIM_NO_LOCALITY = 2,
     /* Out of memory: malloc failed. */
     TPMSIM_NO_MEMORY = 3,
-    /* Why bytes are not an image, in the order of the checks: there are fewer than 42 bytes; they do
-       not begin with TPMI; the version is not 1 or 2; the length field is not their number; the last
-       32 bytes are not the SHA-256 of the bytes before them; the body does not encode a state within
-       the limits of the version. */
+    /* The next six results say why bytes are not an image. The checks are made in this order. */
+    /* There are fewer than 42 bytes. */
     TPMSIM_IMAGE_SHORT = 4,
+    /* The bytes do not begin with TPMI. */
     TPMSIM_IMAGE_MAGIC = 5,
+    /* The version of the image is not 1 or 2. */
     TPMSIM_IMAGE_VERSION = 6,
+    /* The length field is not the number of bytes. */
     TPMSIM_IMAGE_LENGTH = 7,
+    /* The last 32 bytes are not the SHA-256 of the bytes before them. */
     TPMSIM_IMAGE_DIGEST = 8,
+    /* The body does not encode a state within the limits of the version. */
     TPMSIM_IMAGE_BODY = 9,
-    /* Why a text is not a journal, or was not followed to its end: it does not begin with a head; bytes
-       that are as long as a record claims to be are not a record; the device's response to the last
-       executed record differs from the recorded one. */
+    /* The text does not begin with the head of a journal. */
     TPMSIM_NO_JOURNAL = 10,
+    /* A record of the journal has its full length, but its bytes do not encode a record. */
     TPMSIM_DAMAGED = 11,
+    /* The device's response to the last executed record differs from the recorded response. */
     TPMSIM_OTHERWISE = 12,
-    /* Why bytes are not a state text, in the order of the checks: there are fewer than 42 bytes; they do
-       not begin with TPMS; the version is not 1; the length field is not their number; the last 32 bytes
-       are not the SHA-256 of the bytes before them; the body does not encode a state. */
+    /* The next six results say why bytes are not a state text. The checks are made in this order. */
+    /* There are fewer than 42 bytes. */
     TPMSIM_STATE_SHORT = 13,
+    /* The bytes do not begin with TPMS. */
     TPMSIM_STATE_MAGIC = 14,
+    /* The version of the state text is not 1. */
     TPMSIM_STATE_VERSION = 15,
+    /* The length field is not the number of bytes. */
     TPMSIM_STATE_LENGTH = 16,
+    /* The last 32 bytes are not the SHA-256 of the bytes before them. */
     TPMSIM_STATE_DIGEST = 17,
+    /* The body does not encode a state. */
     TPMSIM_STATE_BODY = 18,
-    /* A number is not one of tpmsim_force, or not one of tpmsim_job. */
-    TPMSIM_NO_WORD = 19
+    /* An argument is not a number of tpmsim_force or of tpmsim_job. */
+    TPMSIM_NO_WORD = 19,
+    /* The keeper has no response to a TPM command. */
+    TPMSIM_NO_ANSWER = 20
 };
 
 /* A buffer size that is enough for every state text. */
@@ -93,17 +102,17 @@ enum { TPMSIM_STATE_SIZE = 36323 };
 /* A buffer size that is enough for every record of a journal. */
 enum { TPMSIM_RECORD_ROOM = 9216 };
 
-/* What a call reports of a command, in addition to its response. */
+/* What a call reports about a command, in addition to its response. */
 typedef struct tpmsim_answered {
     /* The size of the response in bytes, 10 to 4,096. */
     size_t size;
-    /* How many of the 256 random bytes the command drew, from their front: 0 if it was refused. The
-       bytes after these were not used, and may be passed again. */
+    /* The number of random bytes that the command drew, from the front of the 256: 0 if it was
+       refused. The bytes after these were not used, and may be passed again. */
     size_t drawn;
-    /* The number of the command, TPM_CC; 0 if the buffer contains none. */
+    /* The command code, TPM_CC; 0 if the buffer contains none. */
     uint32_t code;
     /* The number of the check that refused the command, 0 if none did: n for the general check Gn,
-       20 + n for the command's own check An, 255 for memory, which never fails here. */
+       20 + n for the command's own check An, 255 for memory. Memory never fails here. */
     uint8_t check;
 } tpmsim_answered;
 
@@ -132,79 +141,81 @@ static inline char *tpmsim_check_text(uint8_t check, char text[5]) {
 uint32_t tpmsim_version(void);
 
 /* Makes a new device, with these random bytes as its seeds and proofs. The handle's previous device is
-   freed. The new device expects TPM2_Startup. The same bytes always make the same device: if it is to
-   have secrets, pass random bytes of the system.
+   freed. The new device expects TPM2_Startup. The same bytes always make the same device: if its secrets
+   must be secret, pass random bytes of the system.
 
-   TPMSIM_DONE, TPMSIM_NO_MEMORY. */
+   Returns TPMSIM_DONE or TPMSIM_NO_MEMORY. */
 uint8_t tpmsim_manufacture(tpmsim *device, const uint8_t random[256]);
 
 /* Executes a command: any `size` bytes at `buffer`, from a locality of 0 to 4, `elapsed_ms`
-   milliseconds after the previous command. A buffer of more than 4,096 bytes gets the response for a
-   bad command size.
+   milliseconds after the previous command. For a buffer of more than 4,096 bytes, the response is
+   the one for a bad command size.
 
    `random` contains the random bytes that the command may draw. Pass new ones for each command;
    `drawn` says how many it drew. The same bytes make the same nonces again.
 
    The response is written to the front of `response`; the other bytes there are unchanged. `answered`
-   contains its size. A command that the device refuses also has a response, and TPMSIM_DONE.
+   contains its size. A command that the device refuses also has a response, and the call returns
+   TPMSIM_DONE.
 
-   TPMSIM_DONE, TPMSIM_NO_LOCALITY, TPMSIM_NO_DEVICE. */
+   Returns TPMSIM_DONE, TPMSIM_NO_LOCALITY or TPMSIM_NO_DEVICE. */
 uint8_t tpmsim_execute(tpmsim *device, const uint8_t *buffer, size_t size, uint8_t locality,
                        uint32_t elapsed_ms, const uint8_t random[256], uint8_t response[4096],
                        tpmsim_answered *answered);
 
-/* Executes a command like tpmsim_execute, with the completing layer above the device, which
-   tpmsim_journal_execute describes. No record is made, so the command is missing in a journal: for a
-   device with a journal use tpmsim_journal_execute. A snapshot includes what the layer remembers.
+/* Executes a command like tpmsim_execute, with the completing layer above the device.
+   tpmsim_journal_execute describes the layer. This call writes no record, so a journal would lack the
+   command: for a device with a journal use tpmsim_journal_execute. A snapshot includes the layer's
+   memory.
 
-   TPMSIM_DONE, TPMSIM_NO_LOCALITY, TPMSIM_NO_DEVICE. */
+   Returns TPMSIM_DONE, TPMSIM_NO_LOCALITY or TPMSIM_NO_DEVICE. */
 uint8_t tpmsim_complete(tpmsim *device, const uint8_t *buffer, size_t size, uint8_t locality,
                         uint32_t elapsed_ms, const uint8_t random[256], uint8_t response[4096],
                         tpmsim_answered *answered);
 
-/* Power-cycles the device: it retains what it keeps without power, and expects TPM2_Startup.
+/* Power-cycles the device: it retains only what it keeps without power, and expects TPM2_Startup.
 
-   TPMSIM_DONE, TPMSIM_NO_DEVICE. */
+   Returns TPMSIM_DONE or TPMSIM_NO_DEVICE. */
 uint8_t tpmsim_power_cycle(tpmsim *device);
 
 /* Saves the device: writes its image, which is what it keeps without power, to the front of `buffer` if
    all of it fits; otherwise writes nothing. The device is unchanged.
 
-   Returns the size of the image, written or not, at most 28,361; 0 if there is no device. So a result
-   above `size` says how large the buffer has to be. */
+   Returns the size of the image, written or not, at most 28,361; 0 if there is no device. If the result
+   is greater than `size`, it is the size that the buffer needs. */
 size_t tpmsim_save(tpmsim *device, uint8_t *buffer, size_t size);
 
 /* Writes what the device keeps without power, except Clock, to the front of `buffer` if all of it fits;
-   otherwise writes nothing. The device is unchanged. Two such texts of a device differ only if more of
-   its image has changed than Clock and the digest, so they show when to save it again.
+   otherwise writes nothing. The device is unchanged. The text changes only if more of the image changes
+   than Clock and the digest. So save the device again when this text has changed.
 
    Returns the size of the text, written or not, at most 28,319; 0 if there is no device. */
 size_t tpmsim_kept(tpmsim *device, uint8_t *buffer, size_t size);
 
 /* Opens the device of an image, in the state after a power cycle. The handle's previous device is freed.
 
-   TPMSIM_DONE; TPMSIM_IMAGE_SHORT to TPMSIM_IMAGE_BODY if the bytes are not an image;
+   Returns TPMSIM_DONE; TPMSIM_IMAGE_SHORT to TPMSIM_IMAGE_BODY if the bytes are not an image;
    TPMSIM_NO_MEMORY only if they are one. */
 uint8_t tpmsim_open(tpmsim *device, const uint8_t *image, size_t size);
 
 /* Writes the state text of the device to the front of `buffer` if all of it fits; otherwise writes
    nothing. The text is the whole state: what the device keeps without power, its PCRs, sessions,
-   transient objects and times, and what the completing layer remembers. The device is unchanged, and
+   transient objects and times, and the completing layer's memory. The device is unchanged, and
    the call allocates no memory. The text contains the device's secrets, in the clear.
 
    Returns the size of the text, written or not, at most TPMSIM_STATE_SIZE; 0 without a device. */
 size_t tpmsim_snapshot(tpmsim *device, uint8_t *buffer, size_t size);
 
 /* Restores a device from its state text, with its sessions and the completing layer. The handle's
-   previous device is freed. The device is not power-cycled, and no time passes. For a text without a
-   completing layer the layer is new. The device has no journal: start one with
-   tpmsim_journal_checkpoint, or after a power cycle with tpmsim_journal_begin. Before that,
+   previous device is freed. The device is not power-cycled, and no time passes. If the text contains no
+   completing layer, the layer is new. The device has no journal: start one with
+   tpmsim_journal_checkpoint or, with a power cycle, with tpmsim_journal_begin. Before that,
    tpmsim_journal_execute counts the host's whole clock, up to 49.7 days, as elapsed time.
 
    A state text does not show whether it is the newest of its device. Restoring an older text rolls back
    counters, failed tries and nonces.
 
-   TPMSIM_DONE; TPMSIM_STATE_SHORT to TPMSIM_STATE_BODY if the bytes are not a state text;
+   Returns TPMSIM_DONE; TPMSIM_STATE_SHORT to TPMSIM_STATE_BODY if the bytes are not a state text;
    TPMSIM_NO_MEMORY, whatever the bytes are. */
 uint8_t tpmsim_restore(tpmsim *device, const uint8_t *text, size_t size);
 
@@ -216,9 +227,9 @@ size_t tpmsim_journal_begin(tpmsim *device, uint64_t now_ms, uint8_t *buffer, si
 
 /* Starts a new journal from the current state: writes its head to the front of `buffer` if all of it
    fits; otherwise does nothing. The head contains the whole state of the device, as tpmsim_snapshot
-   writes it. The device is not power-cycled, and it and the completing layer are unchanged. The head
-   contains the time of the journal, so that the time since the last command still counts. `now_ms` is
-   used only if the device has no journal yet, for example after tpmsim_restore.
+   writes it. The device is not power-cycled; the device and the completing layer are unchanged. The
+   head contains the time of the journal, so that the time since the last command still counts. `now_ms`
+   is used only if the device has no journal yet, for example after tpmsim_restore.
 
    Returns the size of the head, written or not, at most 72,726; 0 without a device. */
 size_t tpmsim_journal_checkpoint(tpmsim *device, uint64_t now_ms, uint8_t *buffer, size_t size);
@@ -227,29 +238,30 @@ size_t tpmsim_journal_checkpoint(tpmsim *device, uint64_t now_ms, uint8_t *buffe
    and the complete records. After them there may be a record that a crash cut off: the front of a
    record, followed by zeros or nothing. The caller removes it before adding a record.
 
-   TPMSIM_DONE; TPMSIM_NO_JOURNAL, TPMSIM_DAMAGED, TPMSIM_OTHERWISE; TPMSIM_IMAGE_SHORT to
-   TPMSIM_IMAGE_BODY if the image in the head is invalid, and TPMSIM_STATE_SHORT to TPMSIM_STATE_BODY if
-   the state text in the head is; TPMSIM_NO_MEMORY. */
+   Returns TPMSIM_DONE, TPMSIM_NO_JOURNAL, TPMSIM_DAMAGED, TPMSIM_OTHERWISE or TPMSIM_NO_MEMORY;
+   TPMSIM_IMAGE_SHORT to TPMSIM_IMAGE_BODY if the image in the head is invalid; TPMSIM_STATE_SHORT to
+   TPMSIM_STATE_BODY if the state text in the head is invalid. */
 uint8_t tpmsim_journal_open(tpmsim *device, const uint8_t *text, size_t size, size_t *taken);
 
-/* Executes the complete records of a text that follows, in the journal, what this device has executed.
-   On every result but TPMSIM_NO_DEVICE, the device has executed the records in the first `taken` bytes.
+/* Executes the complete records of a later part of the journal: the text after the records that this
+   device has executed. On every result but TPMSIM_NO_DEVICE, the device has executed the records in the
+   first `taken` bytes.
 
-   TPMSIM_DONE, TPMSIM_DAMAGED, TPMSIM_OTHERWISE, TPMSIM_NO_DEVICE. */
+   Returns TPMSIM_DONE, TPMSIM_DAMAGED, TPMSIM_OTHERWISE or TPMSIM_NO_DEVICE. */
 uint8_t tpmsim_journal_follow(tpmsim *device, const uint8_t *text, size_t size, size_t *taken);
 
 /* Executes a command like tpmsim_execute, at a time of the host's clock in milliseconds, and writes its
    record. The caller adds the record to the journal before it releases the response. A buffer of more
-   than 4,097 bytes is cut to 4,097 bytes, which are refused in the same way.
+   than 4,097 bytes is truncated to 4,097 bytes, which are refused in the same way.
 
    If `completes` is not 0, the completing layer is above the device for this command, and the record
-   says so. The device is asked first. The layer answers what the device by design does not:
-   TPM2_ContextSave, TPM2_ContextLoad, TPM2_StirRandom, more of TPM2_GetCapability, and the command by
-   which firmware looks for a TPM 1.2. It also makes room for a ninth object if one of the eight can
-   be reloaded. `code` and `check` are the device's own. What the layer remembers belongs to the
-   journal: the layer starts over with each head except that of a checkpoint.
+   says so. The device is asked first. The layer responds where the device by design does not:
+   to TPM2_ContextSave, TPM2_ContextLoad, TPM2_StirRandom, to more of TPM2_GetCapability, and to the
+   command by which firmware looks for a TPM 1.2. It also makes room for a ninth object if one of the
+   eight can be reloaded. `code` and `check` are the device's own. The layer's memory belongs to the
+   journal: it is empty after each head except that of a checkpoint.
 
-   TPMSIM_DONE, TPMSIM_NO_LOCALITY, TPMSIM_NO_DEVICE. */
+   Returns TPMSIM_DONE, TPMSIM_NO_LOCALITY or TPMSIM_NO_DEVICE. */
 uint8_t tpmsim_journal_execute(tpmsim *device, const uint8_t *buffer, size_t size,
                                uint8_t locality, uint64_t now_ms, uint8_t completes,
                                const uint8_t random[256], uint8_t response[4096],
@@ -269,8 +281,9 @@ typedef struct tpmsim_keeper {
     void *private_;
 } tpmsim_keeper;
 
-/* When written data are synced to the disk: never, except for a new journal; also when a journal is
-   restarted, as at a power cycle, together with the folder; or before each response. */
+/* When written data are synced to the disk. NEVER: only when a new journal is made. POWER: also when a
+   journal is restarted, for example at a power cycle; the folder is synced too. ALWAYS: also before each
+   response. */
 enum tpmsim_force { TPMSIM_FORCE_NEVER = 0, TPMSIM_FORCE_POWER = 1, TPMSIM_FORCE_ALWAYS = 2 };
 
 /* The size of the report at the start of a response to a command of the standard. */
@@ -286,9 +299,9 @@ enum tpmsim_job {
     TPMSIM_JOB_SHOW = 2,
     /* Check that there is a device, or make one from the seed in the text. */
     TPMSIM_JOB_BEGIN = 3,
-    /* Remove damage: a damaged journal is restarted with the device of its head and of the records
-       before the damage; nothing else changes. If the keeper had opened the device before the damage,
-       the call ends with TPMSIM_FAULT_DAMAGED, and the next one cuts. The text is ignored. */
+    /* Remove damage: restart a damaged journal with the device of its head and of the records before
+       the damage. Nothing else changes. If the keeper had opened the device before the damage, this call
+       ends with TPMSIM_FAULT_DAMAGED, and the next call removes the damage. The text is ignored. */
     TPMSIM_JOB_CUT = 4
 };
 
@@ -317,12 +330,12 @@ enum tpmsim_task {
     TPMSIM_TASK_UNLOCK = 9
 };
 
-/* Why a call was not done. */
+/* The reason why a call was not done. */
 enum tpmsim_fault {
     TPMSIM_FAULT_NONE = 0,
     /* No call was begun, or the call was abandoned. */
     TPMSIM_FAULT_IDLE = 1,
-    /* The host failed to do one of these tasks. */
+    /* The host failed to do the task with the same name; FAULT_WRITE is about TPMSIM_TASK_PUT. */
     TPMSIM_FAULT_LOCK = 2,
     TPMSIM_FAULT_LOOK = 3,
     TPMSIM_FAULT_READ = 4,
@@ -347,8 +360,9 @@ enum tpmsim_fault {
 
 /* The next task. A field that a task does not use is 0. */
 typedef struct tpmsim_ask {
-    /* For PUT: the size to which the file is truncated first. For MAKE: the size of the part of the old journal
-       that the device has executed, 0 without one. The new journal contains nothing of the later bytes. */
+    /* For PUT: the size to which the file is truncated first. For MAKE: the size of the part of the old
+       journal that the device has executed, 0 if there is no old journal. The new journal contains nothing
+       of the bytes after that part. */
     uint64_t cut;
     /* For READ and PUT: the offset in the file. */
     uint64_t at;
@@ -359,25 +373,68 @@ typedef struct tpmsim_ask {
     uint8_t task;
     /* For NOTHING: a number of tpmsim_fault, 0 if the call is done and the response may be released. */
     uint8_t fault;
+    /* For MAKE: 1 if the old journal is damaged after its first `cut` bytes, which are all that the new
+       one keeps; else 0. */
+    uint8_t drops;
 } tpmsim_ask;
 
-/* The result of a task: the host did all of it; there is no journal (only for LOOK); it failed, was not
-   completed, or may not have been. Any other number counts as the last one. */
+/* The result of a task. DONE: the host did all of it. GONE, only for LOOK: there is no journal. FAILED:
+   the task failed, or it is not certain that it was completed. Any other number counts as FAILED. */
 enum tpmsim_got { TPMSIM_GOT_DONE = 0, TPMSIM_GOT_GONE = 1, TPMSIM_GOT_FAILED = 2 };
 
-/* Makes a new keeper. The handle's previous keeper is freed. A journal is restarted once it has `limit`
-   bytes, and twice the size that it would have after the restart.
+/* Makes a new keeper. The handle's previous keeper is freed. A journal is restarted when it has at least
+   `limit` bytes and at least twice the size that it would have after the restart.
 
-   TPMSIM_DONE, TPMSIM_NO_WORD, TPMSIM_NO_MEMORY. */
+   Returns TPMSIM_DONE, TPMSIM_NO_WORD or TPMSIM_NO_MEMORY. */
 uint8_t tpmsim_keeper_new(tpmsim_keeper *keeper, uint8_t force, uint64_t limit);
 
-/* Begins a call. An abandoned call is dropped: a host that abandoned it, or a fork of such a host, first
-   closes its lock file. If allocation fails, the abandoned call is dropped too, and no call begins.
+/* Sets whether later calls cut damage. If `cuts` is not 0, a call that finds a damaged journal does the job
+   of TPMSIM_JOB_CUT, and then begins again. Otherwise the call ends with TPMSIM_FAULT_DAMAGED; so it does
+   after tpmsim_keeper_new.
 
-   TPMSIM_DONE, TPMSIM_NO_WORD, TPMSIM_NO_DEVICE, TPMSIM_NO_MEMORY. */
+   Returns TPMSIM_DONE or TPMSIM_NO_DEVICE. */
+uint8_t tpmsim_keeper_cuts(tpmsim_keeper *keeper, uint8_t cuts);
+
+/* Begins a call. If the host abandoned the previous call, that call is dropped; such a host, or a fork of
+   it, first closes its lock file. If the result is not TPMSIM_DONE, nothing has changed, and the host does
+   no task.
+
+   Returns TPMSIM_DONE, TPMSIM_NO_WORD, TPMSIM_NO_DEVICE or TPMSIM_NO_MEMORY. */
 uint8_t tpmsim_keeper_begin(tpmsim_keeper *keeper, uint8_t job, const uint8_t *text, size_t size);
 
-/* Writes the host's next task to `ask`. Without a keeper it is NOTHING, with TPMSIM_FAULT_NO_KEEPER. */
+/* Begins the execution of a TPM command at this time of the host's clock, with the completing layer if
+   `completes` is not 0. The command may draw the random bytes. tpmsim_keeper_answer writes the response.
+
+   Returns TPMSIM_DONE, TPMSIM_NO_LOCALITY, TPMSIM_NO_DEVICE or TPMSIM_NO_MEMORY. */
+uint8_t tpmsim_keeper_execute(tpmsim_keeper *keeper, const uint8_t *buffer, size_t size, uint8_t locality,
+                              uint64_t now_ms, uint8_t completes, const uint8_t random[256]);
+
+/* Begins a power cycle. `start` is a number for the completing layer's start. Use a number that no earlier
+   start of the device had.
+
+   Returns TPMSIM_DONE, TPMSIM_NO_DEVICE or TPMSIM_NO_MEMORY. */
+uint8_t tpmsim_keeper_power(tpmsim_keeper *keeper, uint64_t now_ms, uint64_t start);
+
+/* What a new device is made from: 256 random bytes; an image, as after a power cycle; or a state text. */
+enum tpmsim_seed { TPMSIM_SEED_RANDOM = 0, TPMSIM_SEED_IMAGE = 1, TPMSIM_SEED_STATE = 2 };
+
+/* Begins the call that checks whether there is a device, and makes one from the content if there is none.
+   `seed` is a number of tpmsim_seed. If it is another number, or if the content does not fit it, the call
+   ends with TPMSIM_FAULT_UNREADABLE when it has to make a device.
+
+   Returns TPMSIM_DONE, TPMSIM_NO_DEVICE or TPMSIM_NO_MEMORY. */
+uint8_t tpmsim_keeper_seed(tpmsim_keeper *keeper, uint8_t seed, uint64_t now_ms, uint64_t start,
+                           const uint8_t *content, size_t size);
+
+/* Begins the call that replaces the device by the device of a state text. A damaged journal is cut first.
+   The response is one byte: 1, or 0 if the text is not a state text; then the device is unchanged.
+
+   Returns TPMSIM_DONE, TPMSIM_NO_DEVICE or TPMSIM_NO_MEMORY. */
+uint8_t tpmsim_keeper_restore(tpmsim_keeper *keeper, uint64_t now_ms, uint64_t start, const uint8_t *state,
+                              size_t size);
+
+/* Writes the host's next task to `ask`. Without a keeper the task is NOTHING, with
+   TPMSIM_FAULT_NO_KEEPER. */
 void tpmsim_keeper_ask(tpmsim_keeper *keeper, tpmsim_ask *ask);
 
 /* Writes the text for PUT or MAKE to the front of a buffer if all of it fits; otherwise writes nothing.
@@ -390,8 +447,21 @@ size_t tpmsim_keeper_text(tpmsim_keeper *keeper, uint8_t *buffer, size_t size);
    the check that refused it, as in tpmsim_answered (1), and how many random bytes it drew (2). */
 size_t tpmsim_keeper_response(tpmsim_keeper *keeper, uint8_t *buffer, size_t size);
 
-/* Takes the result of the task. For LOOK and NAME pass the number of the file, which no other file ever
-   has; for LOOK also its size; for READ the bytes. The other arguments are not read. */
+/* Writes the response to a TPM command to the start of the buffer, after the call has ended. The rest of
+   the buffer stays unchanged.
+
+   Returns TPMSIM_DONE or TPMSIM_NO_DEVICE; or TPMSIM_NO_ANSWER if the last call executed no TPM command or
+   has not ended. */
+uint8_t tpmsim_keeper_answer(tpmsim_keeper *keeper, uint8_t response[4096], tpmsim_answered *answered);
+
+/* Writes the device's state text to the start of the buffer if all of it fits, after a call of
+   TPMSIM_JOB_SHOW has ended; otherwise writes nothing. Returns the size of the text, written or not, at most
+   TPMSIM_STATE_SIZE. Returns 0 after another call, before the call has ended, and without a keeper. */
+size_t tpmsim_keeper_state(tpmsim_keeper *keeper, uint8_t *buffer, size_t size);
+
+/* Passes the result of the task to the keeper. For LOOK and NAME pass the number of the file, which no
+   other file ever has; for LOOK also pass its size; for READ pass the bytes. The other arguments are not
+   read. */
 void tpmsim_keeper_next(tpmsim_keeper *keeper, uint8_t got, uint64_t file, uint64_t file_size,
                         const uint8_t *bytes, size_t size);
 

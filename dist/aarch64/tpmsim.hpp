@@ -1,4 +1,4 @@
-/* libtpmsim for C++17 and later: a TPM 2.0 in this process. tpmsim.h says more of each call.
+/* libtpmsim for C++17 and later: a TPM 2.0 in this process. tpmsim.h describes each call.
 
        libtpmsim::Device tpm;
        tpm.execute(libtpmsim::startup);
@@ -34,13 +34,14 @@ namespace libtpmsim {
 using Told = std::uint8_t;
 inline constexpr Told NO_RANDOM = 255;
 
-/* Its name in tpmsim.h. */
+/* Returns the name in tpmsim.h of what a call returned. */
 inline std::string name_of(Told told) {
     static const char *const names[] = {
         "DONE",          "NO_DEVICE",     "NO_LOCALITY",  "NO_MEMORY",    "IMAGE_SHORT",
         "IMAGE_MAGIC",   "IMAGE_VERSION", "IMAGE_LENGTH", "IMAGE_DIGEST", "IMAGE_BODY",
         "NO_JOURNAL",    "DAMAGED",       "OTHERWISE",    "STATE_SHORT",  "STATE_MAGIC",
-        "STATE_VERSION", "STATE_LENGTH",  "STATE_DIGEST", "STATE_BODY",   "NO_WORD"};
+        "STATE_VERSION", "STATE_LENGTH",  "STATE_DIGEST", "STATE_BODY",   "NO_WORD",
+        "NO_ANSWER"};
     return std::string("TPMSIM_") + (told < std::size(names) ? names[told] : "NO_RANDOM");
 }
 
@@ -72,16 +73,16 @@ class Bytes {
 inline constexpr std::array<std::uint8_t, 12> startup{0x80, 1, 0, 0, 0, 12, 0, 0, 1, 0x44, 0, 0};
 
 struct Response {
-    std::vector<std::uint8_t> bytes; /* all of it; none if nothing was executed */
-    std::uint32_t code = 0;          /* TPM_RC, 0 for a command that was accepted */
-    std::uint32_t command = 0;       /* TPM_CC, 0 if none was found */
-    std::string check;               /* "ok", or which check refused, as "G9" in docs/table */
+    std::vector<std::uint8_t> bytes; /* the whole response; empty if nothing was executed */
+    std::uint32_t code = 0;          /* the response code, TPM_RC; 0 if the command was accepted */
+    std::uint32_t command = 0;       /* the command code, TPM_CC; 0 if the buffer contains none */
+    std::string check;               /* "ok", or the check that refused, such as "G9" in docs/table */
 };
 
-/* Fills this many bytes; returns whether it succeeded. */
+/* A source of random bytes: fills this many bytes, and returns whether it succeeded. */
 using Random = std::function<bool(std::uint8_t *, std::size_t)>;
 
-/* Uses the system's random bytes. */
+/* Fills a buffer with the system's random bytes. */
 inline bool system_random(std::uint8_t *start, std::size_t size) {
     while (size > 0) {
         const ssize_t count = getrandom(start, size, 0);
@@ -95,7 +96,7 @@ inline bool system_random(std::uint8_t *start, std::size_t size) {
 class Device {
     tpmsim holder{};
     Random random;
-    std::array<std::uint8_t, 256> drawable{}; /* what the next command may draw */
+    std::array<std::uint8_t, 256> drawable{}; /* the random bytes that the next command may draw */
 
     explicit Device(Random source) : random(std::move(source)) {}
     bool draw(std::size_t count) { return random(drawable.data(), count); }
@@ -103,7 +104,7 @@ class Device {
         static constexpr std::uint8_t none = 0;
         return bytes.size() ? bytes.data() : &none;
     }
-    /* The device that a call makes here, if the call succeeded. */
+    /* Returns the device that a call makes, if the call succeeds. */
     template <class Call> static std::optional<Device> made(Told &told, Random source, Call call) {
         Device device(std::move(source));
         told = device.draw(256) ? call(device) : NO_RANDOM;
@@ -117,7 +118,7 @@ class Device {
                     out.data(), &answered);
         if (told != TPMSIM_DONE) return {};
         elapsed_ms = 0;
-        if (!draw(answered.drawn)) { /* so that nothing is drawn again */
+        if (!draw(answered.drawn)) { /* without new bytes, the next command would draw these again */
             told = NO_RANDOM;
             tpmsim_free(&holder);
         }
@@ -134,8 +135,8 @@ class Device {
     }
 
   public:
-    std::uint8_t locality = 0;    /* of the next commands, 0 to 4 */
-    std::uint32_t elapsed_ms = 0; /* what passes before the next command */
+    std::uint8_t locality = 0;    /* the locality of the next commands, 0 to 4 */
+    std::uint32_t elapsed_ms = 0; /* the time that passes before the next command */
 
     Device(Device &&other) noexcept
         : holder(std::exchange(other.holder, {})), random(std::move(other.random)),
