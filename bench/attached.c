@@ -37,26 +37,26 @@ static double now(void) {
     return (double)time.tv_sec * 1e6 + (double)time.tv_nsec / 1e3;
 }
 
-static size_t read_hex(const char *text, uint8_t *room) {
+static size_t read_hex(const char *text, uint8_t *buffer) {
     size_t size = strlen(text) / 2;
     unsigned byte = 0;
     for (size_t i = 0; i < size; i++) {
         must(sscanf(text + 2 * i, "%2x", &byte) == 1, "hex");
-        room[i] = (uint8_t)byte;
+        buffer[i] = (uint8_t)byte;
     }
     return size;
 }
 
-/* Writes a command to `room`, and the offset of its filling to `filling`: the command's end if it has
+/* Writes a command to `buffer`, and the offset of its filling to `filling`: the command's end if it has
  * none. Returns the command's size. */
-static size_t command_of(const char *name, uint8_t *room, size_t *filling) {
+static size_t command_of(const char *name, uint8_t *buffer, size_t *filling) {
     for (size_t i = 0; i < sizeof COMMANDS / sizeof *COMMANDS; i++) {
         if (strcmp(name, COMMANDS[i].name) != 0) continue;
-        size_t size = read_hex(COMMANDS[i].front, room);
+        size_t size = read_hex(COMMANDS[i].front, buffer);
         *filling = size;
-        memset(room + size, 0x5a, COMMANDS[i].filling);
+        memset(buffer + size, 0x5a, COMMANDS[i].filling);
         size += COMMANDS[i].filling;
-        return size + read_hex(COMMANDS[i].behind, room + size);
+        return size + read_hex(COMMANDS[i].behind, buffer + size);
     }
     must(0, "there is no such command");
     return 0;
@@ -65,9 +65,9 @@ static size_t command_of(const char *name, uint8_t *room, size_t *filling) {
 /* Executes a command, and returns its response code. */
 static unsigned execute(TSS2_TCTI_CONTEXT *device, const uint8_t *command, size_t size) {
     uint8_t response[4096];
-    size_t room = sizeof response;
+    size_t received = sizeof response;
     must(Tss2_Tcti_Transmit(device, size, command) == TSS2_RC_SUCCESS, "transmit");
-    must(Tss2_Tcti_Receive(device, &room, response, TSS2_TCTI_TIMEOUT_BLOCK) == TSS2_RC_SUCCESS,
+    must(Tss2_Tcti_Receive(device, &received, response, TSS2_TCTI_TIMEOUT_BLOCK) == TSS2_RC_SUCCESS,
          "receive");
     return (unsigned)response[8] << 8 | response[9];
 }
