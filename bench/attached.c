@@ -47,8 +47,8 @@ static size_t read_hex(const char *text, uint8_t *buffer) {
     return size;
 }
 
-/* Writes a command to `buffer`, and the offset of its filling to `filling`: the command's end if
-   it has * none. Returns the command's size. */
+/* Writes a command to `buffer`, and the offset of its filling to `filling`: the command's end if it
+   has none. Returns the command's size. */
 static size_t command_of(const char *name, uint8_t *buffer, size_t *filling) {
     for (size_t i = 0; i < sizeof COMMANDS / sizeof *COMMANDS; i++) {
         if (strcmp(name, COMMANDS[i].name) != 0) continue;
