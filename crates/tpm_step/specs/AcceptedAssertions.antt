@@ -1,5 +1,5 @@
--- What an assertion found in its policy session when it was accepted. TPM 2.0 Library, Part 3,
--- section 23, where the section of each assertion says why it is refused.
+-- When a policy session accepts an assertion, given the policy before it. TPM 2.0 Library, Part 3,
+-- section 23: the section of each assertion says when it is refused.
 use Rattle.std.specs.Prelude.{◌≡◌, ◌<◌, ◌^◌, ℕ, true, false, IfSome, List, [], ◌∷◌, Some, Ok}
 use Rattle.tpm_mac.specs.declared.algorithm.HashAlg.{HashAlg}
 use Rattle.tpm_policy.specs.Assertion as assertion
@@ -12,10 +12,9 @@ use Rattle.tpm_types.specs.declared.session_type.SessionType.TheVariants as type
 use Rattle.tpm_step.specs.History.{AcceptedCommand, Done, History, ObjectPlaced, PowerCycled}
 use Rattle.tpm_step.specs.Sessions.{LiveSession, sessions_of}
 
--- What an accepted assertion found in the policy before it. TPM2_PolicyOR found the policy's
--- digest among its digests. A command code, a cpHash and a written value were recorded before
--- with the same value, or not at all. A command code has 32 bits. TPM2_PolicyNV found bytes to
--- compare.
+-- The assertion meets its condition on the policy before it. The digests of TPM2_PolicyOR contain
+-- the policy's digest. A command code, a cpHash and a written state were not recorded before, or
+-- with the same value. A command code has 32 bits. TPM2_PolicyNV found bytes to compare.
 abbrev pub Finds : Assertion → Policy → Type 0
 Finds (assertion.Or digests) p = IsAmong p.digest digests
 Finds (assertion.CommandCode number) p =
@@ -28,20 +27,20 @@ Finds (assertion.Secret parts) p =
 Finds (assertion.Nv parts) p = (bytes : List ℕ) × (parts.compared ≡ Ok bytes)
 Finds _ p = Unit {0}
 
--- Each of these assertions, the latest first, found what it needs, and its numbers fit their
--- types.
+-- Each of these assertions, the latest first, met its condition on the policy before it, and its
+-- numbers fit their types.
 abbrev pub AllFind : HashAlg → List Assertion → Type 0
 AllFind hash [] = Unit {0}
 AllFind hash (latest ∷ earlier) =
     (Finds latest (evaluated hash false earlier) × HasWidths hash latest) × AllFind hash earlier
 
--- The assertions of each policy session of a history found what they need.
+-- In each policy session after a history, each assertion met its condition when it was accepted.
 abbrev pub SessionsFind : History → Type 0
 SessionsFind history =
     (handle : Handle) (s : LiveSession) → sessions_of history handle ≡ Some s
     → s.kind ≡ type.Policy → AllFind s.hash s.assertions
 
--- The request of each accepted command of a history has the handles that the command had.
+-- The request of each accepted command of a history has the same handles as the command.
 abbrev pub AllAskForTheirHandles : History → Type 0
 AllAskForTheirHandles [] = Unit {0}
 AllAskForTheirHandles (Done c ∷ history) =

@@ -9,17 +9,17 @@ use Rattle.tpm_step.specs.Follows.{Follows}
 use Rattle.tpm_step.specs.History.{History}
 use Rattle.tpm_step.specs.View.{view_of}
 
--- Two devices follow one history. Everybody may read the same of each handle on both. They have
--- the same failed tries and the same parameters against dictionary attacks, which no history has.
--- Their seeds, private areas, data of indices and clocks may differ.
+-- Two devices follow one history. On both, everybody may read the same about each handle. They have
+-- the same failed tries and the same parameters against dictionary attacks, which a history does
+-- not determine. Their seeds, private areas, index data and clocks may differ.
 pub record AreAlike (one other : Record) (history : History) : Type 0 where
   pub first : Follows one history
   pub second : Follows other history
   pub views : (handle : Handle) → view_of one handle ≡ view_of other handle
   pub lockout : one.fixed.lockout ≡ other.fixed.lockout
 
--- If two devices are alike, they authorize each command from each locality alike: with the same
--- grants, or with the same refusal.
+-- Two such devices authorize each command from each locality with the same grants, or refuse it
+-- with the same refusal.
 abbrev pub AuthorizeAlike : Type 0
 AuthorizeAlike =
     (one other : Record) (history : History) → AreAlike one other history

@@ -36,9 +36,9 @@ abbrev pub handle_answer : Option Handle → List ℕ
 handle_answer None = []
 handle_answer (Some handle) = handle_text handle
 
--- the response of a success: the handle of what was made, if there is one, and the parameters. If
--- the command has sessions, the size of the parameters comes before them, and the answers to the
--- entries come after them
+-- the response of a success: the handle that the command returns, if any, and the parameters. If
+-- the command has sessions, the size of the parameters comes before them, and the answer to each
+-- entry after them
 unfoldable pub success_text : List Entry → Option Handle → (answer area : List ℕ) → List ℕ
 success_text [] handle answer area = framed 0x8001 0 (handle_answer handle ++ answer)
 success_text (entry ∷ entries) handle answer area =
@@ -49,7 +49,7 @@ pub record Answered : Type 0 where
   pub response : List ℕ
   pub after : Record
 
--- an answer with its parameters encoded
+-- an answer whose parameters are encoded
 pub record Written : Type 0 where
   pub handle : Option Handle
   pub parameters : List ℕ
@@ -58,14 +58,14 @@ pub record Written : Type 0 where
 abbrev pub written_of : AnswerParts → Written
 written_of a = record { handle = a.handle; parameters = answer_body_text a.body; drawn = a.drawn }
 
--- the answer that the code wrote
+-- the parts of an answer that the code wrote
 abbrev pub text_of : Answer → Written
 text_of a = record { handle = a.handle; parameters = a.parameters; drawn = a.drawn }
 
--- the answer to a command after its effect, with the handle that each entry authorized, if any.
--- First new nonces are drawn, after the command's own random bytes. Then the parameters are
--- encrypted if an entry asks for that, and each entry is answered. Last, policies return to their
--- start and sessions end
+-- the answer to a command after its effect, given the grant of each entry. First, new nonces are
+-- drawn from the random bytes after those of the command. Then the parameters are encrypted if an
+-- entry asks for it, and each entry is answered. Last, policies return to their start, and sessions
+-- without continueSession end
 unfoldable pub answer_to : Whole → List (Option Grant) → Written → Record → List ℕ → Answered
 answer_to c grants a effect random =
     let granted : List Granted = granted_entries c grants in

@@ -25,7 +25,7 @@ Stands one handle history =
     (s : LiveSession) × (sessions_of history handle ≡ Some s) × IsAmong one s.assertions
 
 -- After each of these events, the latest first, the session still has this assertion. So none of
--- them starts, restarts, ends or uses the session, which would leave it no assertion.
+-- the events starts, restarts, ends or uses the session: each of these clears the assertions.
 abbrev pub StandsThrough : Assertion → Handle → (events before : History) → Type 0
 StandsThrough one handle [] before = Unit {0}
 StandsThrough one handle (event ∷ events) before =
@@ -45,7 +45,7 @@ pub record IsAssertedBy (history : History) (handle : Handle) (one : Assertion) 
       ≡ Ok one
   pub stands : StandsThrough one handle (since ++ Done command ∷ []) before
 
--- The first entry of a command authorized its first handle, on this ground.
+-- The first entry of a command authorized the command's first handle, on this ground.
 pub record IsFirstAuthorized (history : History) (c : AcceptedCommand) : Type 0 where
   pub handle : Handle
   pub used : used_in c.command 0 ≡ Some handle
@@ -55,8 +55,8 @@ pub record IsFirstAuthorized (history : History) (c : AcceptedCommand) : Type 0 
 
 -- ---- TPM2_PolicySecret and TPM2_PolicyNV
 
--- TPM2_PolicySecret was accepted with this policyRef for the entity of this Name, which was
--- authorized. The session at this handle has had the assertion since then.
+-- TPM2_PolicySecret was accepted with this policyRef for the entity with this Name, and that entity
+-- was authorized. The session at this handle has had the assertion since then.
 pub record ShowsSecret (history : History) (handle : Handle) (name reference : List ℕ) : Type 0
   where
     pub parts : SecretParts
@@ -66,9 +66,9 @@ pub record ShowsSecret (history : History) (handle : Handle) (name reference : L
     pub authorized : IsFirstAuthorized asserted.before asserted.command
     pub for_reference : parts.reference ≡ reference
 
--- TPM2_PolicyNV was accepted for the NV index of this Name, with this operand, offset and
--- operation. It is refused unless the operation holds between the index's bytes from the offset
--- and the operand. The handle that lets it read the index was authorized. The session at this
+-- TPM2_PolicyNV was accepted for the NV index with this Name, with this operand, offset and
+-- operation. It is refused unless the operation holds between the index's bytes from the offset and
+-- the operand. The handle that authorizes the read of the index was authorized. The session at this
 -- handle has had the assertion since then.
 pub record ComparesIndex (history : History) (handle : Handle) (name operand : List ℕ) (offset : ℕ)
     (operation : Operation) : Type 0

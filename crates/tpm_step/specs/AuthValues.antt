@@ -42,15 +42,15 @@ defined_value q = do
   p ← definition.parameters_in q.parameters
   Ok (p.public.nv_index, p.auth_value)
 
--- TPM2_CreatePrimary sets userAuth, without the zeros at its end, for the handle that it answers.
+-- TPM2_CreatePrimary sets userAuth, without the zeros at its end, for the handle that it returns.
 abbrev pub created_value : Request → (made : Option Handle) → Result (Handle × List ℕ) Refused
 created_value q made = do
   handle ← ok_or made handle_refusal
   p ← creation.parameters_in q.parameters
   Ok (handle, trimmed p.given.user_auth)
 
--- TPM2_Load sets the sensitive area's authorization value, without the zeros at its end, for the
--- handle that it answers.
+-- TPM2_Load sets the authorization value in the sensitive area, without the zeros at its end, for
+-- the handle that it returns.
 abbrev pub loaded_value : Option Sensitive → (made : Option Handle)
     → Result (Handle × List ℕ) Refused
 loaded_value area made = do
@@ -58,8 +58,8 @@ loaded_value area made = do
   sensitive ← ok_or area handle_refusal
   Ok (handle, trimmed sensitive.auth_value)
 
--- TPM2_EvictControl sets the value of objectHandle for persistentHandle. If it removes a
--- persistent object, the two are one handle, and nothing changes.
+-- TPM2_EvictControl copies the value of objectHandle to persistentHandle. If it removes a
+-- persistent object, both are the same handle, and nothing changes.
 abbrev pub copied_value : Request → AuthValues → Result (Handle × List ℕ) Refused
 copied_value q values = do
   handle ← second_handle q.handles
@@ -70,7 +70,7 @@ abbrev pub with_value : Result (Handle × List ℕ) Refused → AuthValues → A
 with_value (Ok set) values = with_at set.0 set.1 values
 with_value (Err e) values = values
 
--- the values after TPM2_Startup, which with CLEAR makes platformAuth empty
+-- the values after TPM2_Startup; with CLEAR, platformAuth becomes empty
 abbrev pub started_values : Result StartupType Refused → AuthValues → AuthValues
 started_values (Ok type.Clear) values = with_at platform_handle [] values
 started_values (Ok type.State) values = values
@@ -83,10 +83,9 @@ cleared_values values =
 
 -- ---- the values after a history
 
--- the values after an accepted command, by its request, the handle that it answered, and the
--- sensitive area that it loaded. A command that removes an object or an index changes no value:
--- the value of the handle then belongs to nobody, and what comes under the handle next sets its
--- own
+-- the values after an accepted command, given its request, the handle that it returned, and the
+-- sensitive area that it loaded. A command that removes an object or an index changes no value: no
+-- entity has the handle then, and the next one with this handle sets its own value
 abbrev pub values_by : CommandCode → Request → (made : Option Handle) → Option Sensitive
     → AuthValues → AuthValues
 values_by command.HierarchyChangeAuth q made area values = with_value (changed_value q) values
@@ -100,9 +99,8 @@ values_by command.Startup q made area values =
 values_by command.Clear q made area values = cleared_values values
 values_by _ q made area values = values
 
--- the authorization value of each handle after a history; at first all are empty, a power cycle
--- changes none, and an object that came from a saved context brings its own, without the zeros at
--- its end
+-- the authorization value of each handle after a history. At first all are empty, and a power cycle
+-- changes none. An object from a saved context brings its own value, without the zeros at its end
 abbrev pub auth_of : History → AuthValues
 auth_of [] handle = []
 auth_of (Done c ∷ history) handle =

@@ -12,8 +12,8 @@ use Rattle.tpm_nvactions.specs.NvDefineSpace.{parameters_in}
 use Rattle.tpm_step.specs.HandleMap.{by_handle, with_at}
 use Rattle.tpm_step.specs.History.{AcceptedCommand, Done, History, ObjectPlaced, PastEvent, PowerCycled}
 
--- the value of the counter at each handle, which a counter has from its first increment after its
--- definition; and all values that any counter ever had, the latest first
+-- the value of the counter at each handle, if it was incremented since its definition; and all
+-- values that any counter ever had, the latest first
 pub record Counters : Type 0 where
   pub at : Handle → Option ℕ
   pub all : List ℕ
@@ -51,8 +51,8 @@ defined_handle text = do
   Ok p.public.nv_index
 
 -- the counters after an accepted command. A command that removes an index, such as
--- TPM2_NV_UndefineSpace and TPM2_Clear, changes nothing here: no command counts under the handle
--- before the next definition, which begins again
+-- TPM2_NV_UndefineSpace and TPM2_Clear, changes nothing here: no counter has the handle until its
+-- next definition, and that begins again without a value
 abbrev pub counters_by : CommandCode → Request → Counters → Counters
 counters_by command.NvIncrement q c = by_handle (second_handle q.handles) counted_at c
 counters_by command.NvDefineSpace q c = by_handle (defined_handle q.parameters) begun_at c
@@ -107,19 +107,18 @@ HasNoDefinition handle history =
 abbrev pub AllBelow : ℕ → List ℕ → Type 0
 AllBelow n numbers = AllByRecursion (λ m. m < n) numbers
 
--- what holds of the counters of every history
+-- The claims about the counters of every history.
 pub record CountLaws : Type 0 where
-  -- an accepted TPM2_NV_DefineSpace defines an index, and no other event does
+  -- an event defines an index exactly if it is an accepted TPM2_NV_DefineSpace of this index
   pub definitions : (one : PastEvent) (handle : Handle)
       → (defines one handle ≡ true ↔ IsDefinition one handle)
-  -- a counter without a value exceeds, once it has one, every value that any counter had before,
-  -- whatever happened in between
+  -- if a counter has no value after the old history, each later value of it exceeds all counter
+  -- values of the old history
   pub first_exceeds : (old new : History) (handle : Handle) (n : ℕ)
       → count_at old handle ≡ None
       → count_at (new ++ old) handle ≡ Some n
       → AllBelow n (counts_of old)
-  -- once a defined counter has a value, it exceeds every value that any counter had before the
-  -- definition
+  -- the value of a counter exceeds all values that counters had before its definition
   pub defined_exceeds : (old new : History) (definition : PastEvent) (handle : Handle) (n : ℕ)
       → defines definition handle ≡ true
       → count_at (new ++ definition ∷ old) handle ≡ Some n

@@ -26,15 +26,15 @@ index_auth found = option_map (λ (index : NvIndex). index.auth_value) found
 abbrev pub object_auth : Option Object → Option (List ℕ)
 object_auth found = option_map (λ (object : Object). object.auth_value) found
 
--- the authorization value of the entity of a handle, if that exists; a handle of neither an index
--- nor an object always has an entity
+-- the authorization value of the entity that a handle names, if the entity exists; a handle that is
+-- not of an index's or an object's type always names an entity
 abbrev pub auth_seen : Record → Handle → Option (List ℕ)
 auth_seen r handle =
     by_type handle (index_auth (index_at r.nv handle))
     (object_auth (persistent_at r.persistent handle)) (object_auth (object_at r.objects handle))
     (Some (permanent_auth_value r handle))
 
--- Each handle whose entity exists has its authorization value among these.
+-- Each entity that exists has the authorization value that these values have at its handle.
 abbrev pub HaveValues : Record → AuthValues → Type 0
 HaveValues r values =
     (handle : Handle) (value : List ℕ) → auth_seen r handle ≡ Some value → value ≡ values handle

@@ -9,13 +9,13 @@ use Rattle.tpm_step.specs.rows.IndexChanges.{IsCounter, stored_count}
 use Rattle.tpm_step.specs.Counters.{AllBelow, Counters, HasNoDefinition, counters_of, counts_of, defines, largest}
 use Rattle.tpm_step.specs.History.{History, PastEvent}
 
--- An NV index has this value as a counter, and no startup clears the value.
+-- An NV index contains this counter value, if there is one, and no startup clears it.
 pub record IsCounted (index : NvIndex) (count : Option ℕ) : Type 0 where
   pub stays : index_has index attribute.ClearStClear ≡ false
   pub value : stored_count index ≡ count
 
--- The largest value that any counter of the device ever had is the largest of these, and each
--- counter has its value.
+-- The largest value that any counter of the device ever had is the largest of these values, and
+-- each counter of the device has its value here.
 pub record AreCounted (contents : NvContents) (c : Counters) : Type 0 where
   pub most : contents.max_count ≡ largest c.all
   pub each : (handle : Handle) (index : NvIndex)
@@ -41,8 +41,8 @@ KeepsCounter old new meanwhile handle before after =
     → stored_count before ≡ Some n
     → (m : ℕ) × (stored_count after ≡ Some m) × (n ≤ m)
 
--- If a counter had no value before a stretch of events and has one after it, that value exceeds
--- every one that any counter had before the stretch.
+-- If a counter had no value before a stretch of events and has one after it, this value exceeds all
+-- values that any counter had before the stretch.
 abbrev pub BeginsAbove : (old new : Record) → (history : History) → Handle
     → NvIndex → NvIndex → Type 0
 BeginsAbove old new history handle before after =
@@ -55,8 +55,8 @@ BeginsAbove old new history handle before after =
     → stored_count after ≡ Some n
     → AllBelow n (counts_of history)
 
--- The value of a counter that was defined in a stretch of events exceeds every value that any
--- counter had before its definition, in the stretch or before it.
+-- The value of a counter that was defined in a stretch of events exceeds all values that any
+-- counter had before this definition, in the stretch or before it.
 abbrev pub ExceedsEarlier : (new : Record) → (history meanwhile : History) → Handle → NvIndex
     → Type 0
 ExceedsEarlier new history meanwhile handle after =

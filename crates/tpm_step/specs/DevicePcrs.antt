@@ -27,8 +27,8 @@ IsSavedAs Nothing values = Unit {0}
 IsSavedAs Clear values = Unit {0}
 IsSavedAs (State saved) values = AreSaved saved values
 
--- A device and its history have the same PCRs: all 24 values of both banks, the number of
--- updates, and what is saved of them.
+-- A device and its history have the same PCRs: all 24 values of both banks, the number of updates,
+-- and the values that a shutdown saved.
 pub record ArePcrs (banks : BankValues) (saved : SavedState) (history : History) : Type 0 where
   pub all : HaveAll banks
   pub values : HaveValues banks (pcr_of history)

@@ -9,8 +9,8 @@ use Rattle.tpm_record.specs.Record.{Record}
 use Rattle.tpm_step.specs.History.{History}
 use Rattle.tpm_step.specs.Sessions.{Bound, LiveSession, LiveSessions, Start, key_of, nonce_of, policy_in, policy_of, sessions_of, start_in, start_of}
 
--- the facts of a session that the history determines: its start, its key, its latest nonceTPM,
--- and its policy
+-- the facts of a session that the history determines: how it was started, its key, its latest
+-- nonceTPM, and its policy
 pub record SessionFacts : Type 0 where
   pub start : Start
   pub key : List ℕ
@@ -28,7 +28,7 @@ facts_of s = record {
 abbrev pub bound_of : Binding → Bound
 bound_of b = record { name = b.name; auth_value = b.auth_value; protection = b.protection }
 
--- the start of a device's session
+-- how a device's session was started
 abbrev pub session_start : Session → Start
 session_start s = record {
   kind = s.kind;
@@ -52,7 +52,7 @@ AreLive places live =
     (handle : Handle) → option_map session_facts (session_at places handle)
     ≡ option_map facts_of (live handle)
 
--- A device and its history have the same sessions, and none while the device is not started.
+-- A device and its history have the same sessions. Before TPM2_Startup there are none.
 pub record AreSessions (places : List (Option Session)) (is_started : Bool) (history : History)
     : Type 0
   where
@@ -62,8 +62,8 @@ pub record AreSessions (places : List (Option Session)) (is_started : Bool) (his
 abbrev pub HasSessions : Record → History → Type 0
 HasSessions r history = AreSessions r.sessions r.fixed.started history
 
--- A session of the device has the policy, the nonceTPM, the key and the start that the history
--- determines for its handle.
+-- A session of the device has the policy, the nonceTPM and the key that the history determines for
+-- its handle, and was started as the history says.
 pub record IsLive (history : History) (handle : Handle) (s : Session) : Type 0 where
   pub policy : policy_of history handle ≡ Some s.policy
   pub nonce_tpm : nonce_of history handle ≡ Some s.nonce_tpm

@@ -1,4 +1,4 @@
--- What a success does to the sessions of its entries, and what it answers to each entry. TPM 2.0
+-- What a success does to the sessions of its entries, and the answer to each entry. TPM 2.0
 -- Library, Part 1, section 19.6 (session nonces and HMACs), and Part 2, section 10.13.3
 -- (TPMS_AUTH_RESPONSE).
 use Rattle.std.specs.Prelude.{ℕ, ◌+◌, ◌≤◌, ◌==◌, ◌||◌, not, List, [], ◌∷◌, ◌++◌, length, take, drop, if◌then◌else◌, Option, is_some}
@@ -21,7 +21,7 @@ use Rattle.tpm_auth.specs.declared.session_grant.Grant.{Grant}
 use Rattle.tpm_auth.specs.SessionGrant.{demands_password, used_auth_value}
 use Rattle.tpm_step.specs.Granted.{Granted}
 
--- the record after new nonces were drawn, and the random bytes that are left
+-- the record after new nonces were drawn, and the remaining random bytes
 pub record Drawn : Type 0 where
   pub after : Record
   pub left : List ℕ
@@ -31,24 +31,23 @@ pub record Drawn : Type 0 where
 unfoldable pub draw_of : Record → Entry → ℕ
 draw_of r e = option_map_or (λ (s : Session). length s.nonce_tpm) (session_of r e) 0
 
--- a new nonce for the session of an entry: the record after it, and the random bytes that are
--- left
+-- a new nonce for the session of an entry: the record after it, and the remaining random bytes
 unfoldable pub entry_rolled : Record → Entry → List ℕ → Drawn
 entry_rolled r e left = record {
   after = record r { sessions = rolled r.sessions e.session (take (draw_of r e) left) };
   left = drop (draw_of r e) left;
 }
 
--- a new nonce for the session of each entry, in order: the record after them, and the random
--- bytes that are left
+-- a new nonce for the session of each entry, in order: the record after them, and the remaining
+-- random bytes
 abbrev pub entries_rolled : Record → List Entry → List ℕ → Drawn
 entries_rolled r [] left = record { after = r; left = left }
 entries_rolled r (e ∷ es) left =
     let first = entry_rolled r e left in
     entries_rolled first.after es first.left
 
--- A row that draws some of 256 random bytes draws at most 192 of them together with the nonces of
--- the entries, which follow.
+-- A row and the new nonces of the entries, which are drawn after it, take at most 192 of these
+-- random bytes.
 abbrev pub DrawsFew : List ℕ → Record → List Entry → (drawn : ℕ) → Type 0
 DrawsFew random r entries drawn =
     length random ≤ length (entries_rolled r entries (drop drawn random)).left + 192
@@ -57,10 +56,10 @@ DrawsFew random r entries drawn =
 abbrev pub password_answer : List ℕ
 password_answer = 0 ∷ 0 ∷ 1 ∷ 0 ∷ 0 ∷ []
 
--- the HMAC of an answer. Its key is made after the command's effect, from the entity's value at
--- that time. If the command changed this value, a session that was bound to the entity is no
--- longer bound to it. The HMAC is empty if a policy demanded a password. It is also empty if the
--- command's HMAC was empty, even if the key no longer is (this device's own)
+-- the HMAC of an answer. Its key contains the entity's authorization value after the command's
+-- effect. If the command changed this value, a session that was bound to the entity is no longer
+-- bound to it. The HMAC is empty if the policy demanded a password, and also if the command's HMAC
+-- was empty, even if the key no longer is (this device's own choice)
 unfoldable pub answer_mac : Record → HashedParts → Option Grant → Entry → Session → List ℕ
 answer_mac r hashed grant e s =
     if length e.hmac == 0 || demands_password grant then []
@@ -68,7 +67,7 @@ answer_mac r hashed grant e s =
     e.attributes
 
 -- the answer to an entry with a session: the new nonceTPM, the attributes of the command's entry,
--- the HMAC
+-- and the HMAC
 unfoldable pub session_answer : Record → HashedParts → Option Grant → Entry → Session → List ℕ
 session_answer r hashed grant e s =
     sized_text s.nonce_tpm ++ e.attributes.octet ∷ []
@@ -78,11 +77,12 @@ unfoldable pub entry_answer : Record → HashedParts → Option Grant → Entry 
 entry_answer r hashed grant e =
     option_map_or (session_answer r hashed grant e) (session_of r e) password_answer
 
--- the answers to the entries of a command, each with the handle that it authorized, if any
+-- the answers to the entries of a command, each given with its grant
 abbrev pub entries_answer : Record → HashedParts → List Granted → List ℕ
 entries_answer r hashed granted = flat_map (λ g. entry_answer r hashed g.1 g.0) granted
 
--- the record after a policy session authorized, which sets the session's policy back to the start
+-- the record after a session authorized a handle: the policy of a policy session is back at its
+-- start
 abbrev pub restarted_by : SessionType → Record → Entry → HashAlg → Record
 restarted_by type.Hmac r e hash = r
 restarted_by type.Policy r e hash =
@@ -93,12 +93,13 @@ unfoldable pub entry_restarted : Record → Entry → Record
 entry_restarted r e =
     option_map_or (λ (s : Session). restarted_by s.kind r e s.hash) (session_of r e) r
 
--- the record after an entry; without continueSession (bit 0) the entry ends its session
+-- the record after an entry: without continueSession (bit 0) its session ends, and otherwise the
+-- policy of a session that authorized is back at its start
 unfoldable pub entry_ended : Record → Entry → Option Grant → Record
 entry_ended r e grant =
     if not (continues_session e.attributes) then record r { sessions = flushed r.sessions e.session }
     else (if is_some grant then entry_restarted r e else r)
 
--- the record after all entries, in order; sessions without continueSession end
+-- the record after all entries, in order
 abbrev pub entries_ended : Record → List Granted → Record
 entries_ended r granted = fold (λ after g. entry_ended after g.0 g.1) r granted

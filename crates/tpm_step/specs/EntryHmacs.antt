@@ -1,4 +1,4 @@
--- What an entry of a command shows, by the history before the command: a password, or an HMAC
+-- What an entry of a command shows, given the history before the command: a password, or an HMAC
 -- with its key and its text. TPM 2.0 Library, Part 1, sections 18.7 (cpHash), 19.4 (password
 -- authorizations) and 19.6.5 (HMAC computation).
 use Rattle.std.specs.Prelude.{◌≡◌, ◌⊎◌, ◌≤◌, ℕ, ◌+◌, ◌&&◌, Bool, false, List, [], ◌∷◌, ◌++◌, length, map, if◌then◌else◌, Option, Some, None, slice_get}
@@ -25,14 +25,15 @@ use Rattle.tpm_step.specs.History.{AcceptedCommand, Done, History, ObjectPlaced,
 use Rattle.tpm_step.specs.Sessions.{Bound, LiveSession, policy_in, rolled_by, sessions_of}
 use Rattle.tpm_step.specs.View.{name_in, view_name}
 
--- the handle that the entry at a place, counted from 0, has to authorize, if there is one
+-- the handle that the entry at this position has to authorize, if there is one; positions count
+-- from 0
 abbrev pub used_in : Whole → ℕ → Option Handle
 used_in c place = slice_get (authorized c) place
 
 -- ---- a password
 
--- The hmac field of an entry is the authValue of the handle that it has to authorize. Zeros at
--- the end do not count, and no value of a history ends in zeros.
+-- The hmac field of an entry contains the authValue of the handle that the entry has to authorize.
+-- Zeros at its end do not count, and no value of a history ends in zeros.
 abbrev pub HasPassword : History → AcceptedCommand → ℕ → Entry → Type 0
 HasPassword history c place e =
     trimmed e.hmac ≡ option_map_or (auth_of history) (used_in c.command place) []
@@ -45,8 +46,8 @@ is_bound_to s name auth_value =
     option_map_or (λ (b : Bound). bytes_eq b.name name && bytes_eq b.auth_value auth_value) s.bound
     false
 
--- the authorization value in the HMAC key of the entry at a place, by the handle that the entry
--- has to authorize
+-- the authorization value in the HMAC key of the entry at this position, given the handle that the
+-- entry has to authorize
 abbrev pub value_in_key : History → AcceptedCommand → ℕ → LiveSession → Option Handle → List ℕ
 value_in_key history c place s None = []
 value_in_key history c place s (Some handle) =
@@ -54,7 +55,7 @@ value_in_key history c place s (Some handle) =
     let is_bound : Bool = is_bound_to s (name_in c.views place) value in
     if has_value_in_key s.kind is_bound (policy_in s).demand then value else []
 
--- the HMAC key of the entry at a place: sessionKey || authValue
+-- the HMAC key of the entry at this position: sessionKey || authValue
 abbrev pub key_in : History → AcceptedCommand → ℕ → LiveSession → List ℕ
 key_in history c place s = s.key ++ value_in_key history c place s (used_in c.command place)
 
@@ -96,9 +97,9 @@ HasHmac history c place e s =
 
 -- ---- every command of a history
 
--- Each entry that names an HMAC session has its HMAC, whether it authorizes something or not. The
--- command has 256 random bytes and draws at most 192. So 64 are left after all new nonces, and no
--- nonce was cut short.
+-- Each entry that names an HMAC session has the right HMAC, whether or not it authorizes a handle.
+-- The command has 256 random bytes and draws at most 192. So at least 64 are left after all new
+-- nonces, and no nonce was cut short.
 pub record ShowsHmacs (history : History) (c : AcceptedCommand) : Type 0 where
   pub hmacs : (place : ℕ) (e : Entry) (s : LiveSession)
       → slice_get c.command.entries place ≡ Some e → session_kind e.session ≡ kind.Session

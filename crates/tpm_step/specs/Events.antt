@@ -1,4 +1,4 @@
--- Events as plain values, whatever memory holds their buffers.
+-- Events as plain values, which do not depend on the memory of their buffers.
 use Rattle.std.specs.Prelude.{◌≡◌, ℕ, ◌≤◌, ◌<◌, ◌^◌, List, length}
 use Rattle.tpm_object.specs.Object.{IsObject}
 use Rattle.tpm_object.specs.declared.object.Object.{Object}
@@ -15,8 +15,8 @@ pub data PlainEvent : Type 0 where
   Cycled : PlainEvent
   Placed : (object : Object) → PlainEvent
 
--- An event that can happen: the locality is 0 to 4, the elapsed time has 32 bits, and each
--- command has 256 random bytes. A placed object has what holds for every loaded object.
+-- The event can happen. Its locality is 0 to 4, its elapsed time has 32 bits, and each command has
+-- 256 random bytes. A placed object satisfies the invariant of every loaded object.
 abbrev pub IsEvent : PlainEvent → Type 0
 IsEvent (Given buffer locality elapsed random) =
     (locality ≤ 4) × (elapsed < 2 ^ 32) × (length random ≡ 256)

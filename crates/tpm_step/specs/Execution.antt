@@ -1,4 +1,4 @@
--- What holds of the execution of one event.
+-- The properties of the execution of one event.
 use Rattle.std.specs.Prelude.{◌≡◌, ◌≤◌, Bool, false, length}
 use Rattle.tpm_types.specs.Limits.{response_limit}
 use Rattle.tpm_record.specs.IsRecord.{IsRecord}
@@ -7,11 +7,12 @@ use Rattle.tpm_step.specs.Events.{PlainEvent, IsEvent}
 use Rattle.tpm_step.specs.Safe.{AcceptsModestly, IsHarmless}
 use Rattle.tpm_step.specs.Step.{Stepped, Steps, step}
 
--- The event was executed on the old record, and x is what was seen of it, with the record after
--- it. The event can happen. The outcome is that of the table's step; only if memory can be
--- refused, the success of a command that grows something may be MEMORY instead. The new record is
--- a record of a device. A refusal changes nothing except the time and what it counts. A success
--- is modest. No response is longer than the limit.
+-- The event was executed on the old record. Its outcome x contains the response, the row and the
+-- new record. The event can happen. The outcome is that of the table's step; but if memory can be
+-- refused, a command that grows something may return MEMORY instead of succeeding. The new record
+-- is a device's record. A refusal changes nothing except by the passing of time and by what it
+-- counts. A success draws few random bytes and has a short answer. No response is longer than the
+-- limit.
 pub record Executes (can : Bool) (old : Record) (event : PlainEvent) (x : Stepped) : Type 0 where
   pub happens : IsEvent event
   pub steps : Steps can old event x

@@ -7,13 +7,13 @@ use Rattle.tpm_step.specs.Execution.{Executes}
 use Rattle.tpm_step.specs.Step.{Stepped, step}
 use Rattle.tpm_step.specs.History.{History, recorded}
 
--- an event that was executed on this record, and what was seen of it
+-- an event that was executed on this record, and its outcome
 pub record Execution : Type 0 where
   pub before : Record
   pub event : PlainEvent
   pub seen : Stepped
 
--- These events were executed one after another, from the old record to the new one. `can` says
+-- Executing these events one after another led from the old record to the new one. `can` says
 -- whether memory can be refused.
 abbrev pub Leads : Bool → Record → List Execution → Record → Type 0
 Leads can old [] new = new ≡ old

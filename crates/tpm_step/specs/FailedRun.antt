@@ -1,5 +1,5 @@
--- An example of a run in which the largest possible number of tries fails. TPM 2.0 Library, Part
--- 1, section 19.8 (dictionary attacks).
+-- An example of a run with the largest possible number of failed tries. TPM 2.0 Library, Part 1,
+-- section 19.8 (dictionary attacks).
 use Rattle.std.specs.Prelude.{◌≡◌, ◌≢◌, ℕ, true, false, List, [], ◌∷◌, replicate}
 use Rattle.tpm_lockout.specs.Lockout.{LockoutState, new_lockout}
 use Rattle.tpm_mac.specs.declared.algorithm.HashAlg.TheVariants as alg
@@ -29,9 +29,9 @@ protected_index = record {
   bytes = [];
 }
 
--- a started device with this index, after this many failed tries. This many milliseconds have
--- passed towards forgiving the next one, and this is the device's time. Its maxTries is 3, its
--- recoveryTime 1,000 seconds.
+-- a started device with this index, at this time, after this many failed tries. `forgiving` is the
+-- number of milliseconds that already count towards the next decrement of failedTries. Its maxTries
+-- is 3, its recoveryTime 1,000 seconds.
 abbrev pub tried : (failed forgiving time : ℕ) → Record
 tried failed forgiving time =
     let r : Record = manufactured zeros in
@@ -63,8 +63,8 @@ wrong_after elapsed = Given wrong_read 0 elapsed zeros
 abbrev pub stepped_at : Record → PlainEvent → Execution
 stepped_at r event = record { before = r; event = event; seen = step r event }
 
--- three wrong tries at once; one more 999,999 milliseconds later, while the device is locked out;
--- and another one millisecond later, when a try is forgiven
+-- three wrong passwords at once; a fourth 999,999 milliseconds later, while the device is in
+-- lockout; and a fifth one millisecond later, when failedTries goes down by one
 abbrev pub failed_run : List Execution
 failed_run =
     stepped_at (tried 0 0 0) (wrong_after 0)
@@ -74,8 +74,8 @@ failed_run =
     ∷ stepped_at (tried 3 999999 999999) (wrong_after 1)
     ∷ []
 
--- The failed run is a stretch of events without a reset, in which tries are counted. Four tries
--- fail, which is as many as may fail in it.
+-- The failed run is a stretch of events without a reset of failedTries, and its recoveryTime is not
+-- 0. Four tries fail in it, which is the largest number that may fail.
 pub record IsFailedRun : Type 0 where
   pub leads : Leads false (tried 0 0 0) failed_run (tried 3 0 1000000)
   pub quiet : HasNoReset (history_after [] failed_run)

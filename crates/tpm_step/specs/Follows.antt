@@ -1,4 +1,4 @@
--- A device that follows a history, and what the history determines of it.
+-- Devices that follow a history, and what the history determines about them.
 use Rattle.std.specs.Prelude.{◌≡◌, Bool, List, [], ◌∷◌, Option, length, map}
 use Rattle.std.specs.Borrow.{Bor}
 use Rattle.std.specs.Fn.{Mut, CalledAt}
@@ -30,8 +30,8 @@ use Rattle.tpm_step.specs.History.{History, recorded}
 use Rattle.tpm_step.specs.Potential.{IsForgiving}
 use Rattle.tpm_step.specs.Tries.{FailsFew, FailsWithin}
 
--- The record has a place for each session and each transient object that there can be. Its
--- persistent objects and NV indices are in the order of their handles.
+-- The record has a slot for each possible session and each possible transient object. Its
+-- persistent objects and NV indices are sorted by handle.
 pub record Shape (sessions : List (Option Session)) (objects : List (Option Object))
     (persistent : Entries Object) (indices : Entries NvIndex) : Type 0 where
   pub sessions_many : length sessions ≡ session_limit
@@ -40,12 +40,12 @@ pub record Shape (sessions : List (Option Session)) (objects : List (Option Obje
   pub indices_ascend : Ascends indices
 
 -- A device follows a history: its counters, PCRs, authorization values and sessions are those of
--- the history. In the history, each entry of an HMAC session had its HMAC, and so every replay
+-- the history. In the history, each entry of an HMAC session had the right HMAC, and so each replay
 -- repeats a nonce or an HMAC. The update counters that policies recorded are right. Each use of a
--- handle had a ground. The assertions of policy sessions were accepted, and so each use by such a
--- session met every policy that has the authPolicy of the used entity, or the hash is broken. No
--- forgiving of a try is overdue. The record has the shape and the sizes of every record, and its
--- NV indices have their sizes.
+-- handle had a ground. The assertions of policy sessions met their conditions. So each use by a
+-- policy session met every policy with the authPolicy of the used entity, or the hash is broken. No
+-- decrement of failedTries is overdue. The record has the shape and the sizes of every record, and
+-- its NV indices have their sizes.
 pub record Follows (r : Record) (history : History) : Type 0 where
   pub counters : HasCounters r history
   pub forgiving : IsForgiving r.fixed.lockout
@@ -65,7 +65,7 @@ pub record Follows (r : Record) (history : History) : Type 0 where
 
 -- ---- one event, on a device that follows a history
 
--- If a device follows a history before this event, the property holds of the device and of the
+-- If a device follows a history before this event, the property holds for the device and the
 -- history after it.
 abbrev pub After : (Record → History → Type 0) → Record → PlainEvent → Stepped → Type 0
 After Holds old event x =
@@ -75,9 +75,9 @@ After Holds old event x =
 -- ---- a stretch of events, on a device that follows a history
 
 -- Executions led from a device that follows a history to one that follows the history after them.
--- No counter went down unless an index was defined again under its handle. A counter that had no
--- value, or was defined, begins above all earlier values. Few tries failed. Every replay repeats
--- a nonce or an HMAC.
+-- No counter went down unless an index was defined again under its handle. The first value of a
+-- counter exceeds all earlier values of any counter. The number of failed tries is within its
+-- bounds. Every replay repeats a nonce or an HMAC.
 pub record StretchFollows (can : Bool) (old : Record) (executions : List Execution) (new : Record)
     (history : History) : Type 0
   where
@@ -95,8 +95,8 @@ pub record StretchFollows (can : Bool) (old : Record) (executions : List Executi
 
 -- ---- a run, on a device that follows a history
 
--- A closure in state p was called with the outcome of each of these executions, in order, once
--- each, and ended in state q.
+-- A closure was called with the outcome of each of these executions, once each and in order. Its
+-- state was p before and q after.
 abbrev pub Tells : {F : Type 0} → Mut F (Bor Outcome × Unit {0}) (Unit {0}) → F → List Execution
     → F → Type 0
 Tells g p [] q = q ≡ p
@@ -104,8 +104,8 @@ Tells {F} g p (one ∷ executions) q =
     (outcome : Outcome) × (next : F) × (one.seen ≡ outcome_step one.seen.after outcome)
     × CalledAt g p outcome tt next × Tells g next executions q
 
--- The events ran from a device that follows a history to one that follows the history after them,
--- and a closure was called with each outcome.
+-- Running the events led from a device that follows a history to one that follows the history after
+-- them, and a closure was called with each outcome.
 pub record RunFollows {F : Type 0} (g : Mut F (Bor Outcome × Unit {0}) (Unit {0})) (can : Bool)
     (old : Record) (p : F) (events : List PlainEvent) (new : Record) (q : F) (history : History)
     : Type 0

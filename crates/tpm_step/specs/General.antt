@@ -1,7 +1,7 @@
 -- The order of refusals: the checks that every command passes before its own parameters are read.
--- The first check that fails is answered. The checks are those of TPM 2.0 Library, Part 3,
--- sections 5.2 (header), 5.3 (mode), 5.4 (handles) and 5.5 (sizes of the session area). Their
--- order and the codes are this device's own.
+-- The response reports the first check that fails. The checks are those of TPM 2.0 Library, Part 3,
+-- sections 5.2 (header), 5.3 (mode), 5.4 (handles) and 5.5 (sizes of the session area). Their order
+-- and the codes are this device's own.
 use Rattle.std.specs.Prelude.{◌≡◌, ℕ, ◌==◌, ◌&&◌, nat_lt, not, Bool, true, false, List, Result, Ok, Err}
 use Rattle.tpm_bytes.specs.Many.{each_at}
 use Rattle.tpm_bytes.specs.Reading.{◌>>=◌, refused_if}
@@ -36,7 +36,7 @@ abbrev pub in_command : {X : Type 0} → CommandCode → Result X Refused → Re
 in_command c (Ok x) = Ok x
 in_command c (Err e) = Err (record { code = code_number c; refused = e })
 
--- the check of a fault in the header, G1 to G4; the row that reports it names no command
+-- the check of a fault in the header, G1 to G4; the row of such a refusal has the code 0
 abbrev pub header_check : HeaderFault → Check
 header_check fault.Length = check.Length
 header_check fault.Tag = check.Tag
@@ -62,7 +62,7 @@ abbrev pub has_sessions : Tag → Bool
 has_sessions NoSessions = false
 has_sessions Sessions = true
 
--- G7: some commands may have no sessions, and a command with a handle that needs authorization
+-- G7: some commands may not have sessions, and a command with a handle that needs authorization
 -- must have one
 unfoldable pub sessions_pass : CommandCode → Tag → Result (Unit {0}) Refused
 sessions_pass c tag = do
@@ -71,8 +71,8 @@ sessions_pass c tag = do
   refused_if (not (has_sessions tag) && nat_lt 0 (authorized_handles c))
       (refusal check.Sessions (plain code.AuthMissing))
 
--- handle n in a command's text; its rule allows the handle, and the handle names something that
--- is there
+-- handle n in a command's text, if its rule allows the handle and the handle names an existing
+-- entity
 unfoldable pub present_handle_at : Record → ℕ → HandleRule → List ℕ → Result (Handle × List ℕ) Rc
 present_handle_at r n rule text = do
   handle ← allowed_handle_at n rule text
@@ -83,7 +83,7 @@ present_handle_at r n rule text = do
 abbrev pub present_handles_at : Record → CommandCode → List ℕ → Result (List Handle × List ℕ) Rc
 present_handles_at r code text = each_at (present_handle_at r) 1 (shape_of code).handles text
 
--- the checks of the text after the header, from G5 to the sizes of the session area in G8
+-- the checks of the bytes after the header, from G5 to the sizes of the session area in G8
 unfoldable pub body_of : Record → Header → List ℕ → Result Whole Refused
 body_of r header text = do
   g5 ← refused_if (both_or_neither r.fixed.started (is_startup header.code))

@@ -1,11 +1,12 @@
--- The entries of a command with what each authorizes.
+-- The entries of a command with their grants.
 use Rattle.std.specs.Prelude.{List, Option}
 use Rattle.std.specs.List.{zip}
 use Rattle.tpm_types_command.specs.AuthEntry.{Entry}
 use Rattle.tpm_types_command.specs.Command.{Whole}
 use Rattle.tpm_auth.specs.declared.session_grant.Grant.{Grant}
 
--- an entry, and its grant: the handle that it authorizes, if any, with the policy's demand
+-- an entry with its grant, if it authorizes a handle; the grant is this handle and the policy's
+-- demand
 abbrev pub Granted : Type 0
 Granted = Entry × Option Grant
 

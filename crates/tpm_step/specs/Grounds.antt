@@ -1,6 +1,5 @@
--- The grounds on which a command uses its handles, by the history before it. TPM 2.0 Library,
--- Part 1, section 19 (authorizations and policies), and Part 3, section 5.6 (authorization
--- checks).
+-- The grounds on which a command uses its handles, given the history before it. TPM 2.0 Library,
+-- Part 1, section 19 (authorizations and policies), and Part 3, section 5.6 (authorization checks).
 use Rattle.std.specs.Prelude.{◌≡◌, ◌≢◌, ℕ, ◌&&◌, Bool, true, false, IfSome, [], ◌∷◌, is_some, Option, Some, None, option_and_then, slice_get}
 use Rattle.std.specs.Int.{bit_at}
 use Rattle.std.specs.Option.{option_map_or}
@@ -24,45 +23,45 @@ use Rattle.tpm_step.specs.Sessions.{LiveSession, policy_in, sessions_of}
 use Rattle.tpm_step.specs.View.{View}
 use Rattle.tpm_step.specs.Views.{is_there, view_policy, view_takes, view_written}
 
--- whether the viewed entity exists, and this means may authorize it for a command that uses it in
--- this way
+-- whether the viewed entity exists, and accepts this means of authorization for a command with this
+-- use
 abbrev pub allows : Means → NvUse → View → Bool
 allows means nv_use view = is_there view && view_takes means nv_use view
 
--- whether the entity at a place of a command's handles exists, and this means may authorize it.
--- Places are counted from 0; no served command has a second handle that needs authorization
+-- whether the entity of the handle at this position exists, and accepts this means of
+-- authorization. Positions count from 0; no supported command has a second handle that needs
+-- authorization
 abbrev pub allows_in : Means → AcceptedCommand → ℕ → Bool
 allows_in means c place =
     option_map_or (allows means (nv_use_at c.command.code place)) (slice_get c.views place) false
 
 -- ---- the policy of an entity that a command uses
 
--- the nameAlg and the authPolicy of the entity at a place of a command's handles, if it has a
--- policy
+-- the nameAlg and the authPolicy of the entity whose handle is at this position, if it has a policy
 abbrev pub policy_at : AcceptedCommand → ℕ → Option EntityParts
 policy_at c place = option_and_then view_policy (slice_get c.views place)
 
--- A session has this entity's policy: the session's hash is the entity's nameAlg, and its policy
--- digest is the authPolicy, which is not empty.
+-- A session meets the authPolicy of this entity: the session's hash is the entity's nameAlg, and
+-- its policy digest is the authPolicy, which is not empty.
 abbrev pub IsPolicyOf : LiveSession → Option EntityParts → Type 0
 IsPolicyOf s None = ⊥
 IsPolicyOf s (Some entity) =
     (entity.hash ≡ s.hash) × ((policy_in s).digest ≡ entity.digest) × (entity.digest ≢ [])
 
--- whether the entity at a place of a command's handles is written, if it is an NV index
+-- whether the NV index whose handle is at this position is written; None for every other entity
 abbrev pub written_at : AcceptedCommand → ℕ → Option Bool
 written_at c place = option_and_then view_written (slice_get c.views place)
 
--- If a handle's role is ADMIN, a policy has to name a command.
+-- A policy for a handle with the role ADMIN names a command.
 abbrev pub NamesCommand : Role → Option ℕ → Type 0
 NamesCommand role.User number = Unit {0}
 NamesCommand role.Admin number = is_some number ≡ true
 
--- A policy session may authorize the entity at this place of a command's handles. The entity
--- allows a policy, and its policy is the session's. No PCR was written, and no TPM2_Clear
--- accepted, since the first TPM2_PolicyPCR, and so all that was asserted of PCRs holds. A
--- recorded command code is this command's, and the role ADMIN requires one. A recorded cpHash is
--- this command's. A recorded written value is that of this NV index. The command's locality is
+-- A policy session may authorize the entity at this position of a command's handles. The entity
+-- accepts a policy, and the session meets its authPolicy. Since the first TPM2_PolicyPCR no PCR was
+-- written and no TPM2_Clear was accepted, so every assertion about PCRs still holds. A recorded
+-- command code is that of this command, and the role ADMIN requires one. A recorded cpHash is that
+-- of this command. A recorded written state is that of this NV index. The command's locality is
 -- allowed.
 pub record MeetsPolicy (history : History) (c : AcceptedCommand) (place : ℕ) (e : Entry)
     (s : LiveSession) : Type 0 where
@@ -75,7 +74,7 @@ pub record MeetsPolicy (history : History) (c : AcceptedCommand) (place : ℕ) (
   pub written : IfSome (policy_in s).nv_written (λ is_written. written_at c place ≡ Some is_written)
   pub locality : bit_at (policy_in s).localities c.request.locality ≡ 1
 
--- The entry of a policy session has the password if the session's policy demands one, and
+-- The entry of a policy session contains the password if the session's policy demands one, and
 -- otherwise its HMAC.
 abbrev pub HasDemanded : Bool → History → AcceptedCommand → ℕ → Entry → LiveSession → Type 0
 HasDemanded true history c place e s = HasPassword history c place e
@@ -83,7 +82,7 @@ HasDemanded false history c place e s = HasHmac history c place e s
 
 -- ---- the three grounds
 
--- The entry authorizes the handle at the same place: by a password; by its HMAC in an HMAC
+-- The entry authorizes the handle at the same position: by a password; by its HMAC in an HMAC
 -- session; or by a policy session, which is not a trial session.
 pub data Ground (history : History) (c : AcceptedCommand) (place : ℕ) (e : Entry) : Type 0 where
   ByPassword : session_kind e.session ≡ kind.Password → allows_in means.AuthValue c place ≡ true
@@ -96,7 +95,7 @@ pub data Ground (history : History) (c : AcceptedCommand) (place : ℕ) (e : Ent
       → HasDemanded (is_password_demand (policy_in s).demand) history c place e s
       → Ground history c place e
 
--- Each handle that needs authorization has an entry at its place, which authorizes it on one of
+-- For each handle that needs authorization, the entry at the same position authorizes it on one of
 -- the three grounds.
 abbrev pub UsesHaveGrounds : History → AcceptedCommand → Type 0
 UsesHaveGrounds history c =

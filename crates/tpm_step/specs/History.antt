@@ -1,6 +1,6 @@
--- What a device has accepted. An entry of the history shows only these of the device's state:
--- what the command was answered, what everybody could read of its handles, the sensitive area
--- that a TPM2_Load loaded, and the object that a saved context contained.
+-- What a device has accepted. An event of the history shows only these parts of the device's state:
+-- the answer to the command, what everybody could read about its handles, the sensitive area that a
+-- TPM2_Load loaded, and the object that a saved context contained.
 use Rattle.std.specs.Prelude.{ℕ, zero, suc, List, ◌∷◌, map, Option, Some, None, Result, Ok, Err}
 use Rattle.tpm_bytes.specs.Reading.{◌>>=◌}
 use Rattle.tpm_types.specs.declared.handle.Handle.{Handle}
@@ -39,10 +39,10 @@ abbrev pub sensitive_in : CommandCode → Record → Request → Option Sensitiv
 sensitive_in command.Load r q = if_ok (loaded_sensitive r q)
 sensitive_in _ r q = None
 
--- an accepted command: as it was sent, with its handles and entries; what each entry authorizes;
--- its request, with decrypted parameters, locality and the event's random bytes; its answer, and
--- how many random bytes its row drew; what everybody could read of its handles before it; and for
--- a TPM2_Load the sensitive area
+-- an accepted command. The history records the command as it was sent, what each entry authorizes,
+-- and the request: the decrypted parameters, the locality and the event's random bytes. It also
+-- records the answer, the number of random bytes that the row drew, what everybody could read about
+-- the handles before the command, and the sensitive area of a TPM2_Load
 pub record AcceptedCommand : Type 0 where
   pub command : Whole
   pub grants : List (Option Grant)
@@ -51,8 +51,8 @@ pub record AcceptedCommand : Type 0 where
   pub views : List View
   pub sensitive : Option Sensitive
 
--- what the history records of a command to this record, with these grants, this request and this
--- answer
+-- the history's event for a command that this record accepted with these grants, this request and
+-- this answer
 abbrev pub command_on : Record → Whole → List (Option Grant) → Request → AnswerParts
     → AcceptedCommand
 command_on r command grants q answer = record {
@@ -64,7 +64,7 @@ command_on r command grants q answer = record {
   sensitive = sensitive_in command.code r q;
 }
 
--- what the history records of a command that this record accepted
+-- the history's event for a command that this record accepted
 abbrev pub command_of : Record → Accepted → AcceptedCommand
 command_of r a = command_on r a.command a.grants a.request a.success.answer
 
@@ -79,15 +79,15 @@ pub data PastEvent : Type 0 where
 abbrev pub History : Type 0
 History = List PastEvent
 
--- the history with one more command, if its row reports check 0; a refusal is not recorded, nor
--- is MEMORY instead of a success
+-- the history with one more command, if its row reports check 0. Neither a refusal nor MEMORY
+-- instead of a success is recorded
 abbrev pub with_command : Record → Result Accepted RefusedCommand → (check : ℕ)
     → History → History
 with_command r (Ok a) zero history = Done (command_of r a) ∷ history
 with_command r (Ok a) (suc check) history = history
 with_command r (Err e) check history = history
 
--- the history with one more object, which got this handle; without a handle, all slots were taken
+-- the history with one more object, which got this handle. Without a handle, all slots were taken,
 -- and nothing is recorded
 abbrev pub with_placed : Option Handle → Object → History → History
 with_placed (Some handle) object history = ObjectPlaced handle object ∷ history

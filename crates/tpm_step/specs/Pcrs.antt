@@ -45,8 +45,8 @@ abbrev pub measured_by : HashAlg → Result (List ℕ) Refused → List ℕ → 
 measured_by bank (Ok event) old = hash_of bank (old ++ hash_of bank event)
 measured_by bank (Err e) old = old
 
--- a PCR's value after a startup: with STATE, PCR 0 to 15 have their values at the last shutdown
--- again
+-- a PCR's value after TPM2_Startup: with STATE, PCR 0 to 15 get back their values at the last
+-- shutdown
 abbrev pub resumed : Result StartupType Refused → ℕ → (saved old : List ℕ) → List ℕ
 resumed (Ok type.Clear) pcr saved old = old
 resumed (Ok type.State) pcr saved old = if nat_lt pcr 16 then saved else old
@@ -88,7 +88,7 @@ pcrs_after (ObjectPlaced at object ∷ history) = pcrs_after history
 abbrev pub pcr_of : History → PcrValues
 pcr_of history bank pcr = (pcrs_after history).values bank pcr
 
--- the history before the last shutdown, when the saved values were those of the PCRs
+-- the history before the last shutdown, which saved the PCR values of that time
 abbrev pub shutdown_or : CommandCode → (here further : History) → History
 shutdown_or command.Shutdown here further = here
 shutdown_or _ here further = further
@@ -100,8 +100,7 @@ before_shutdown (Done c ∷ history) =
 before_shutdown (PowerCycled ∷ history) = before_shutdown history
 before_shutdown (ObjectPlaced at object ∷ history) = before_shutdown history
 
--- the values of the PCRs that a selection names, and the hash of all of them, which is their
--- digest
+-- the values of the PCRs that a selection names, and the digest of all these values
 abbrev pub values_in : History → BankSelection → List (List ℕ)
 values_in history bank = map (pcr_of history bank.hash) (selected_pcrs bank)
 
@@ -119,7 +118,7 @@ abbrev pub count_in : Result (List DigestValue) Refused → ℕ
 count_in (Ok digests) = length digests
 count_in (Err e) = 0
 
--- how many values of PCRs a command writes, over all banks; TPM2_Clear counts as one
+-- the number of PCR values that a command writes, over all banks; TPM2_Clear counts as one
 abbrev pub writes : CommandCode → Request → ℕ
 writes command.PcrReset q = if_pcr q.handles 2
 writes command.PcrExtend q = if_pcr q.handles (count_in (only (digest_values_at q.parameters)))
@@ -131,7 +130,7 @@ abbrev pub updates_by : CommandCode → Request → ℕ → ℕ
 updates_by command.Startup q old = 0
 updates_by code q old = old + writes code q
 
--- how many values were written since the last startup, with each accepted TPM2_Clear as one
+-- the number of values written since the last startup; each accepted TPM2_Clear counts as one
 abbrev pub updates_of : History → ℕ
 updates_of [] = 0
 updates_of (Done c ∷ history) = updates_by c.command.code c.request (updates_of history)

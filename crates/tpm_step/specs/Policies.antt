@@ -26,7 +26,7 @@ use Rattle.tpm_step.specs.View.{name_in}
 
 -- ---- what a command asserts
 
--- the assertion of TPM2_PolicyPCR, by the values of the selected PCRs before the command
+-- the assertion of TPM2_PolicyPCR, with the values that the selected PCRs had before the command
 abbrev pub pcr_parts_in : History → HashAlg → Parameters → PcrParts
 pcr_parts_in history hash p = record {
   given = p.given;
@@ -35,9 +35,10 @@ pcr_parts_in history hash p = record {
   update_count = updates_of history;
 }
 
--- the assertion of a command after a history, on a session with this hash and this nonceTPM. A
--- policy of TPM2_PolicyNV has the Name of the index, and not the bytes that were compared, which
--- no history has. So `compared` is empty, and the effect of the assertion does not depend on it
+-- the assertion of a command after a history, on a session with this hash and this nonceTPM. For
+-- TPM2_PolicyNV the policy contains the Name of the index, but not the compared bytes, which a
+-- history does not record. So `compared` is empty here; the effect of the assertion does not depend
+-- on it
 abbrev pub assertion_by : Code → AcceptedCommand → History → HashAlg → (nonce_tpm : List ℕ)
     → Result Assertion Refused
 assertion_by command.PolicyPcr c history hash nonce_tpm = do
@@ -81,7 +82,7 @@ assertion_by command.PolicyNv c history hash nonce_tpm = do
   }))
 assertion_by _ c history hash nonce_tpm = Err handle_refusal
 
--- the assertions with one more, before the earlier ones
+-- the assertions with this one before the earlier ones
 abbrev pub with_assertion : Result Assertion Refused → List Assertion → List Assertion
 with_assertion (Ok assertion) assertions = assertion ∷ assertions
 with_assertion (Err e) assertions = assertions

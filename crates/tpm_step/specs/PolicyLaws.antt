@@ -1,5 +1,5 @@
--- What a policy of one assertion says of each use of its entity. TPM 2.0 Library, Part 3,
--- sections 23.7 (TPM2_PolicyPCR), 23.11 (TPM2_PolicyCommandCode) and 23.20
+-- What a policy with a single assertion requires of each use of its entity. TPM 2.0 Library, Part
+-- 3, sections 23.7 (TPM2_PolicyPCR), 23.11 (TPM2_PolicyCommandCode) and 23.20
 -- (TPM2_PolicyNvWritten).
 use Rattle.std.specs.Prelude.{◌≡◌, ◌<◌, ℕ, Bool, false, List, [], ◌∷◌, Option, Some, None}
 use Rattle.tpm_mac.specs.declared.algorithm.HashAlg.{HashAlg}
@@ -23,8 +23,8 @@ abbrev pub HasPolicyOf : HashAlg → List Assertion → Option EntityParts → T
 HasPolicyOf hash assertions (Some entity) = entity.digest ≡ (evaluated hash false assertions).digest
 HasPolicyOf hash assertions None = ⊥
 
--- the assertion that the selected PCRs have their values after this history; neither the given
--- digest nor the update counter is part of a policy's digest
+-- the assertion that the selected PCRs have the values after this history. A policy's digest
+-- contains neither the given digest nor the update counter, so these are empty
 abbrev pub pcrs_as_in : History → HashAlg → List BankSelection → PcrParts
 pcrs_as_in history hash selection = record {
   given = [];
@@ -33,8 +33,8 @@ pcrs_as_in history hash selection = record {
   update_count = 0;
 }
 
--- If a session whose only assertion is a TPM2_PolicyPCR uses an entity, the entity's policy is
--- that the selected PCRs have their values at the use.
+-- If a session whose only assertion is a TPM2_PolicyPCR uses an entity, the entity's policy is that
+-- the selected PCRs have the values that they have at the use.
 abbrev pub UsesPcrsAsTheyAre : Type 0
 UsesPcrsAsTheyAre =
     (history : History) (c : AcceptedCommand) (place : ℕ) (e : Entry) (s : LiveSession)
@@ -43,8 +43,8 @@ UsesPcrsAsTheyAre =
     → (selection : List BankSelection) × (parts.selection ≡ selection_text selection)
     × HasPolicyOf s.hash (Pcr (pcrs_as_in history s.hash selection) ∷ []) (policy_at c place)
 
--- If a session whose only assertion is a TPM2_PolicyCommandCode uses an entity, the entity's
--- policy is the code of the command that uses it.
+-- If a session whose only assertion is a TPM2_PolicyCommandCode uses an entity, the entity's policy
+-- is the code of the command that uses it.
 abbrev pub UsesItsCommand : Type 0
 UsesItsCommand =
     (history : History) (c : AcceptedCommand) (place : ℕ) (e : Entry) (s : LiveSession) (number : ℕ)
@@ -52,9 +52,9 @@ UsesItsCommand =
     → s.assertions ≡ CommandCode number ∷ []
     → HasPolicyOf s.hash (CommandCode (code_number c.command.code) ∷ []) (policy_at c place)
 
--- If a session whose only assertion is a TPM2_PolicyNvWritten uses an entity, that is an NV
--- index, WRITTEN or not as its policy asks. So an index whose policy asks that it is not written
--- has no WRITTEN at the use.
+-- If a session whose only assertion is a TPM2_PolicyNvWritten uses an entity, the entity is an NV
+-- index, and it is WRITTEN or not as its policy requires. So an index whose policy requires that it
+-- is not written has no WRITTEN at the use.
 abbrev pub UsesAsWritten : Type 0
 UsesAsWritten =
     (history : History) (c : AcceptedCommand) (place : ℕ) (e : Entry) (s : LiveSession)

@@ -1,7 +1,7 @@
--- What an authPolicy says of each use of an entity that has it, for policies that are often
--- reviewed. TPM 2.0 Library, Part 1, section 19.7 (enhanced authorization), and Part 3, sections
--- 23.4 (TPM2_PolicySecret), 23.6 (TPM2_PolicyOR), 23.7 (TPM2_PolicyPCR), 23.9 (TPM2_PolicyNV),
--- 23.17 (TPM2_PolicyAuthValue) and 23.20 (TPM2_PolicyNvWritten).
+-- What an authPolicy requires of each use of its entity, for policies that are often reviewed. TPM
+-- 2.0 Library, Part 1, section 19.7 (enhanced authorization), and Part 3, sections 23.4
+-- (TPM2_PolicySecret), 23.6 (TPM2_PolicyOR), 23.7 (TPM2_PolicyPCR), 23.9 (TPM2_PolicyNV), 23.17
+-- (TPM2_PolicyAuthValue) and 23.20 (TPM2_PolicyNvWritten).
 use Rattle.std.specs.Prelude.{◌≡◌, ◌≢◌, ◌⊎◌, ℕ, Bool, false, List, [], ◌∷◌, ◌++◌, Some, slice_get}
 use Rattle.std.specs.List.{concat, flat_map}
 use Rattle.tpm_mac.specs.Digest.{hash_of}
@@ -36,7 +36,7 @@ use Rattle.tpm_step.specs.View.{OfIndex, OfObject}
 
 -- ---- what is reviewed
 
--- The property holds of each command that a device accepted since it was manufactured, given the
+-- The property holds for each command that a device accepted since it was manufactured, given the
 -- history before the command.
 abbrev pub OfEachAccepted : (History → AcceptedCommand → Type 0) → Type 0
 OfEachAccepted Holds =
@@ -45,8 +45,8 @@ OfEachAccepted Holds =
     → (after : History) (c : AcceptedCommand) (before : History)
     → history_after [] executions ≡ after ++ Done c ∷ before → Holds before c
 
--- A command uses an object at this place of its handles. The object has no userWithAuth, and its
--- authPolicy is the digest of this policy.
+-- A command uses the object at this position of its handles. The object has no userWithAuth, and
+-- its authPolicy is the digest of this policy.
 pub record UsesObject (c : AcceptedCommand) (place : ℕ) (public : Public)
     (policy : PolicyExpression) : Type 0
   where
@@ -56,8 +56,8 @@ pub record UsesObject (c : AcceptedCommand) (place : ℕ) (public : Public)
     pub no_user_with_auth : has public.attributes attribute.UserWithAuth ≡ false
     pub auth_policy : public.auth_policy ≡ policy_digest public.name_alg policy
 
--- A command writes an NV index at this place of its handles. The index has no AUTHWRITE, and its
--- authPolicy is the digest of this policy.
+-- A command writes the NV index at this position of its handles. The index has no AUTHWRITE, and
+-- its authPolicy is the digest of this policy.
 pub record WritesIndex (c : AcceptedCommand) (place : ℕ) (public : NvPublic)
     (policy : PolicyExpression) : Type 0
   where
@@ -68,8 +68,8 @@ pub record WritesIndex (c : AcceptedCommand) (place : ℕ) (public : NvPublic)
     pub no_auth_write : index_has public.attributes mark.AuthWrite ≡ false
     pub auth_policy : public.auth_policy ≡ policy_digest public.name_alg policy
 
--- The entry at this place of a command names a policy session with this hash, and the property
--- holds of the use. Or the hash is broken, by texts of the policy and of the session.
+-- The entry at this position of a command names a policy session with this hash, and the property
+-- holds for the use. Or the hash is broken, by texts of the policy and of the session.
 pub record IsUsedBySession (history : History) (c : AcceptedCommand) (place : ℕ) (hash : HashAlg)
     (policy : PolicyExpression) (Holds : PolicyUse → Type 0) : Type 0
   where
@@ -102,18 +102,19 @@ NeedsItsPolicy history c =
 
 -- ---- PCRs
 
--- the written policy that the selected PCRs have these values, joined
+-- the written policy that the selected PCRs have these values, which are concatenated
 abbrev pub by_pcrs : HashAlg → List BankSelection → (values : List ℕ) → PolicyExpression
 by_pcrs hash selection values = Then Nothing (PolicyPcr selection (hash_of hash values))
 
 -- The selected PCRs have these values after a history. Or these values and those of the PCRs are
--- two different texts with one hash.
+-- two different texts with the same hash.
 abbrev pub HavePcrValues : History → HashAlg → List BankSelection → (values : List ℕ) → Type 0
 HavePcrValues history hash selection values =
     let found : List ℕ = concat (flat_map (values_in history) selection) in
     (found ≡ values) ⊎ (found ≢ values) × (hash_of hash found ≡ hash_of hash values)
 
--- If an object's policy is that PCRs have these values, it is used only while they have them.
+-- If an object's policy is that PCRs have these values, the object is used only while they have
+-- them.
 abbrev pub NeedsPcrs : History → AcceptedCommand → Type 0
 NeedsPcrs history c =
     (place : ℕ) (public : Public) (selection : List BankSelection) (values : List ℕ)
@@ -122,8 +123,8 @@ NeedsPcrs history c =
     → IsUsedBySession history c place public.name_alg policy
     (λ u. HavePcrValues history public.name_alg selection values)
 
--- If an object's policy is that PCRs have these values, and that the authorization value (a PIN)
--- is given, it is used only while they have them, and only with the PIN.
+-- If an object's policy is that PCRs have these values and that the authorization value (a PIN) is
+-- given, the object is used only while they have them, and only with the PIN.
 abbrev pub NeedsPcrsAndPin : History → AcceptedCommand → Type 0
 NeedsPcrsAndPin history c =
     (place : ℕ) (public : Public) (selection : List BankSelection) (values : List ℕ)
@@ -135,15 +136,15 @@ NeedsPcrsAndPin history c =
 
 -- ---- a PIN, or a recovery secret
 
--- the written policy that asks for the entity's own authorization value, or for that of the
--- entity of this Name
+-- the written policy that requires the entity's own authorization value, or that of the entity with
+-- this Name
 abbrev pub by_pin_or_secret : (name reference : List ℕ) → PolicyExpression
 by_pin_or_secret name reference =
     PolicyOr (Branch (Then Nothing PolicyAuthValue)
     (Branch (Then Nothing (PolicySecret name reference)) NoBranch))
 
 -- An object with this policy is used only with its authorization value, or after an accepted
--- TPM2_PolicySecret for the entity of that Name, which was authorized.
+-- TPM2_PolicySecret for the entity with that Name, which was authorized.
 abbrev pub NeedsPinOrSecret : History → AcceptedCommand → Type 0
 NeedsPinOrSecret history c =
     (place : ℕ) (public : Public) (name reference : List ℕ)
@@ -166,8 +167,8 @@ IsWrittenOnce history c =
 
 -- ---- a counter that is not below a number
 
--- If an object's policy is that a counter, the NV index of this Name, is at least a number, it is
--- used only after an accepted TPM2_PolicyNV that compared the two.
+-- If an object's policy is that a counter, the NV index with this Name, is at least a number, the
+-- object is used only after an accepted TPM2_PolicyNV that compared the two.
 abbrev pub NeedsCount : History → AcceptedCommand → Type 0
 NeedsCount history c =
     (place : ℕ) (public : Public) (name number : List ℕ)

@@ -1,6 +1,6 @@
--- What an authPolicy says of each use that a policy session authorizes. TPM 2.0 Library, Part 1,
--- section 19.7 (enhanced authorization), and Part 3, section 23, where the section of each
--- assertion says what a use must meet.
+-- What an authPolicy requires of each use that a policy session authorizes. TPM 2.0 Library, Part
+-- 1, section 19.7 (enhanced authorization), and Part 3, section 23: the section of each assertion
+-- says what a use must meet.
 use Rattle.std.specs.Prelude.{◌≡◌, ◌⊎◌, ℕ, List, [], ◌∷◌, Some, slice_get}
 use Rattle.std.specs.Int.{bit_at}
 use Rattle.tpm_mac.specs.declared.algorithm.HashAlg.{HashAlg}
@@ -23,8 +23,8 @@ use Rattle.tpm_step.specs.Pcrs.{digest_in}
 use Rattle.tpm_step.specs.QuietPcrs.{AreQuietSince}
 use Rattle.tpm_step.specs.Sessions.{LiveSession}
 
--- a use by a policy session: the history before it; the command; the used handle, and its place
--- among the command's handles, counted from 0; the entry at the same place; and the entry's
+-- a use by a policy session: the history before it; the command; the used handle, and its position
+-- among the command's handles, counted from 0; the entry at the same position; and the entry's
 -- session
 pub record PolicyUse : Type 0 where
   pub history : History
@@ -43,8 +43,8 @@ pub record HasPcrsNow (u : PolicyUse) (selection : List BankSelection) (digest :
     pub quiet : AreQuietSince u.entry.session u.history
     pub now : digest_in u.history u.session.hash selection ≡ digest
 
--- The entry has the authorization value of the used entity, as its password or in the key of its
--- HMAC (Part 3, sections 23.17 and 23.18).
+-- The entry contains the authorization value of the used entity, as its password or in the key of
+-- its HMAC (Part 3, sections 23.17 and 23.18).
 abbrev pub ShowsAuthValue : PolicyUse → Type 0
 ShowsAuthValue u =
     HasPassword u.history u.command u.place u.entry
@@ -53,7 +53,7 @@ ShowsAuthValue u =
     ≡ auth_of u.history u.handle)
 
 -- A use meets an assertion of its policy. The command code, the cpHash, the locality and the
--- written value are those of the use itself (Part 3, sections 23.11, 23.13, 23.8 and 23.20).
+-- written state are those of the use itself (Part 3, sections 23.11, 23.13, 23.8 and 23.20).
 -- TPM2_PolicySecret and TPM2_PolicyNV were accepted on its session before it.
 abbrev pub IsMetBy : PolicyUse → PolicyAssertion → Type 0
 IsMetBy u (PolicyPcr selection digest) = HasPcrsNow u selection digest
@@ -70,8 +70,8 @@ IsMetBy u (PolicyNv name operand offset operation) =
 
 -- ---- every use
 
--- The entity at this place of a command's handles has this policy: its nameAlg is the hash, and
--- its authPolicy the policy's digest.
+-- The entity at this position of a command's handles has this policy: its nameAlg is the hash, and
+-- its authPolicy is the policy's digest.
 pub record HasAuthPolicy (c : AcceptedCommand) (place : ℕ) (hash : HashAlg)
     (policy : PolicyExpression) : Type 0
   where
@@ -80,8 +80,8 @@ pub record HasAuthPolicy (c : AcceptedCommand) (place : ℕ) (hash : HashAlg)
         ≡ Some (record { hash = hash; digest = policy_digest hash policy })
 
 -- If a policy session authorizes a use, the use meets every policy whose digest is the entity's
--- authPolicy, along one branch at each TPM2_PolicyOR. Or the hash is broken, by texts of the
--- policy and of the session.
+-- authPolicy, along one branch at each TPM2_PolicyOR. Or the hash is broken, by texts of the policy
+-- and of the session.
 abbrev pub MeetsPolicies : (history : History) (c : AcceptedCommand) (place : ℕ) → Handle
     → (e : Entry) → Ground history c place e → Type 0
 MeetsPolicies history c place handle e (ByPassword names takes has) = Unit {0}
@@ -98,15 +98,16 @@ MeetsPolicies history c place handle e (ByPolicy s lives kind meets has) =
     (hash : HashAlg) (policy : PolicyExpression) → HasAuthPolicy c place hash policy
     → IsMet (IsMetBy u) policy ⊎ BreaksHash hash policy s.assertions
 
--- Each handle that needs authorization has an entry at its place, which authorizes it on a
--- ground. The use meets every policy of the handle's entity.
+-- For each handle that needs authorization, the entry at the same position authorizes it on a
+-- ground, and the use meets every policy of the handle's entity.
 abbrev pub UsesMeetPolicies : History → AcceptedCommand → Type 0
 UsesMeetPolicies history c =
     (place : ℕ) (handle : Handle) → used_in c.command place ≡ Some handle
     → (e : Entry) × (slice_get c.command.entries place ≡ Some e)
     × (ground : Ground history c place e) × MeetsPolicies history c place handle e ground
 
--- Each command of a history met the policies of what it used, given the history before it.
+-- Each command of a history met the policies of the entities that it used, given the history before
+-- it.
 abbrev pub AllMeetPolicies : History → Type 0
 AllMeetPolicies [] = Unit {0}
 AllMeetPolicies (Done c ∷ history) = UsesMeetPolicies history c × AllMeetPolicies history

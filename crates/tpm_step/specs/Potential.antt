@@ -1,25 +1,25 @@
--- Failed tries, and the time that has passed towards forgiving the next one, as one sum. TPM 2.0
--- Library, Part 1, section 19.8 (failedTries, maxTries, recoveryTime).
+-- The failed tries, and the time that counts towards the next decrement of failedTries, as one sum.
+-- TPM 2.0 Library, Part 1, section 19.8 (failedTries, maxTries, recoveryTime).
 use Rattle.std.specs.Prelude.{◌≡◌, ◌≢◌, ◌⊎◌, ◌≤◌, ◌<◌, ◌+◌, ◌*◌, ◌==◌, ℕ, if◌then◌else◌}
 use Rattle.tpm_lockout.specs.Lockout.{LockoutState, milliseconds}
 
--- the milliseconds after which one try is forgiven
+-- recoveryTime in milliseconds, after which failedTries goes down by one
 abbrev pub period : LockoutState → ℕ
 period s = milliseconds s.fields.recovery_time
 
--- the milliseconds that have passed towards forgiving the next try, 0 if no try is counted
+-- the milliseconds that count towards the next decrement of failedTries, or 0 if failedTries is 0
 abbrev pub credit : LockoutState → ℕ
 credit s = if s.fields.failed_tries == 0 then 0 else s.forgiving_time
 
--- If tries are counted, no forgiving is overdue: the time since the last try was counted or
--- forgiven is less than one period.
+-- If recoveryTime is not 0, no decrement of failedTries is overdue: the time that counts towards
+-- the next one is less than one recoveryTime.
 abbrev pub IsForgiving : LockoutState → Type 0
 IsForgiving s = s.fields.recovery_time ≢ 0 → s.forgiving_time < period s
 
--- From the old state to the new one this many tries failed, this many milliseconds passed, and
--- the parameters stayed. Each try that was counted before, or failed since, is still counted or
--- was forgiven. Forgiving used up these milliseconds and the time that had passed before. If a
--- try failed, at most maxTries are counted now.
+-- From the old state to the new one this many tries failed, this many milliseconds passed, and the
+-- parameters did not change. Each try that was counted before, or failed since, is still counted or
+-- was forgiven. The forgiven tries used up milliseconds from these and from those that counted
+-- before. If a try failed, failedTries is at most maxTries now.
 pub record Pays (old new : LockoutState) (failed elapsed : ℕ) : Type 0 where
   pub recovery_time : new.fields.recovery_time ≡ old.fields.recovery_time
   pub max_tries : new.fields.max_tries ≡ old.fields.max_tries

@@ -35,14 +35,15 @@ IsQuiet (Done c) =
 IsQuiet PowerCycled = ⊥
 IsQuiet (ObjectPlaced at object) = Unit {0}
 
--- After each of these events, the latest first, the session of this handle asserts PCRs.
+-- After each of these events, the latest first, the session at this handle has an assertion by
+-- TPM2_PolicyPCR.
 abbrev pub KeepsPcrs : Handle → (events before : History) → Type 0
 KeepsPcrs handle [] before = Unit {0}
 KeepsPcrs handle (event ∷ events) before =
     (has_pcrs (event ∷ events ++ before) handle ≡ true) × KeepsPcrs handle events before
 
--- A history ends in a first TPM2_PolicyPCR on the session of this handle, with only quiet events
--- after it. Since then the session has asserted PCRs after every event.
+-- A history ends in the first TPM2_PolicyPCR of the session at this handle, with only quiet events
+-- after it. Since then the session has had an assertion by TPM2_PolicyPCR after every event.
 pub record AreQuietSince (handle : Handle) (history : History) : Type 0 where
   pub since : History
   pub first : AcceptedCommand
@@ -54,16 +55,16 @@ pub record AreQuietSince (handle : Handle) (history : History) : Type 0 where
   pub keeps : KeepsPcrs handle (since ++ Done first ∷ []) before
   pub quiet : AllByRecursion IsQuiet since
 
--- What this assertion says of PCRs holds after a history: the selected PCRs have the digest that
--- TPM2_PolicyPCR asserted, with the session's hash. Every other assertion says nothing of them.
+-- The claim of this assertion about PCRs holds after a history: the selected PCRs have the digest
+-- that TPM2_PolicyPCR asserted, with the session's hash. Other assertions claim nothing about PCRs.
 abbrev pub HoldsOf : History → HashAlg → Assertion → Type 0
 HoldsOf history hash (Pcr parts) =
     (selection : List BankSelection) × (parts.selection ≡ selection_text selection)
     × (parts.digest ≡ digest_in history hash selection)
 HoldsOf history hash _ = Unit {0}
 
--- No PCR was updated since the first TPM2_PolicyPCR on the session of this handle. So all that
--- the session asserts of PCRs holds.
+-- No PCR was updated since the first TPM2_PolicyPCR of the session at this handle. So all
+-- assertions of the session about PCRs hold.
 pub record HoldsPcrs (handle : Handle) (history : History) (s : LiveSession) : Type 0 where
   pub quiet : AreQuietSince handle history
   pub hold : AllByRecursion (HoldsOf history s.hash) s.assertions
@@ -71,14 +72,14 @@ pub record HoldsPcrs (handle : Handle) (history : History) (s : LiveSession) : T
 -- ---- the update counter that a policy records
 
 -- The update counter that the session recorded is not above that of the history. If the two are
--- equal, what the session asserts of PCRs holds.
+-- equal, the assertions of the session about PCRs hold.
 pub record RecordsUpdates (handle : Handle) (history : History) (s : LiveSession) : Type 0 where
   pub count : ℕ
   pub recorded : (policy_in s).update_count ≡ Some count
   pub within : count ≤ updates_of history
   pub hold : count ≡ updates_of history → HoldsPcrs handle history s
 
--- Each live policy session that asserts PCRs recorded such an update counter.
+-- Each live policy session with an assertion by TPM2_PolicyPCR recorded such an update counter.
 abbrev pub AllRecordUpdates : History → Type 0
 AllRecordUpdates history =
     (handle : Handle) (s : LiveSession) → sessions_of history handle ≡ Some s

@@ -1,4 +1,4 @@
--- One buffer that is accepted twice. TPM 2.0 Library, Part 1, section 19.6.3 (session nonces).
+-- Buffers that are accepted twice. TPM 2.0 Library, Part 1, section 19.6.3 (session nonces).
 use Rattle.std.specs.Prelude.{◌≡◌, ◌≢◌, ◌⊎◌, ◌==◌, ℕ, Bool, false, List, [], ◌∷◌, ◌++◌, Option, Some, None, Ok, slice_get}
 use Rattle.tpm_types.specs.Handle.{session_kind}
 use Rattle.tpm_types.specs.declared.handle.Handle.{Handle}
@@ -13,9 +13,10 @@ use Rattle.tpm_step.specs.EntryHmacs.{hmac_in, text_in}
 use Rattle.tpm_step.specs.History.{AcceptedCommand, Done, History, ObjectPlaced, PastEvent, PowerCycled}
 use Rattle.tpm_step.specs.Sessions.{LiveSession, sessions_of}
 
--- ---- a session that lives on
+-- ---- a session that survives
 
--- whether a command of this code, with this handle in its answer, starts a session under a handle
+-- whether a command with this code, whose answer has this handle, starts a session at the other
+-- handle
 abbrev pub starts_under : CommandCode → Option Handle → Handle → Bool
 starts_under command.StartAuthSession (Some made) handle = handle.number == made.number
 starts_under _ made handle = false
@@ -25,8 +26,8 @@ starts (Done c) handle = starts_under c.command.code c.answer.handle handle
 starts PowerCycled handle = false
 starts (ObjectPlaced at object) handle = false
 
--- The session at this handle lives through these events, the latest first, after this history. No
--- event starts a session under the handle, and a session lives there after each.
+-- The session at this handle survives these events, the latest first, after this history. No event
+-- starts a session with this handle, and the session exists after each event.
 abbrev pub LivesThrough : Handle → (events before : History) → Type 0
 LivesThrough handle [] before = Unit {0}
 LivesThrough handle (event ∷ events) before =
@@ -35,8 +36,8 @@ LivesThrough handle (event ∷ events) before =
 
 -- ---- a replay
 
--- One buffer encodes two accepted commands, the second after a longer history. Their entry at
--- this place, counted from 0, has an HMAC and names an HMAC session, which survives in between.
+-- One buffer encodes two accepted commands, the second after a longer history. Their entry at this
+-- position, counted from 0, has an HMAC and names an HMAC session, which survives in between.
 pub record IsReplay (buffer : List ℕ) (before : History) (first : AcceptedCommand)
     (between : History) (second : AcceptedCommand) (place : ℕ) (e : Entry) (s : LiveSession)
     : Type 0
@@ -50,22 +51,22 @@ pub record IsReplay (buffer : List ℕ) (before : History) (first : AcceptedComm
     pub is_hmac : s.kind ≡ type.Hmac
     pub lives_on : LivesThrough e.session (between ++ Done first ∷ []) before
 
--- The session's nonceTPM is the one that it had at an earlier time, and is among the nonces that
--- it had before.
+-- The session's nonceTPM is the same as at an earlier time, and is among the nonces that the
+-- session had before.
 abbrev pub HasNonceAgain : (earlier now : LiveSession) → Type 0
 HasNonceAgain earlier now =
     (now.nonce_tpm ≡ earlier.nonce_tpm) × IsAmong now.nonce_tpm now.earlier_nonces
 
--- The entry has different texts at the two events, and its HMAC is right for each of them, with
--- the key at that event.
+-- The entry has different texts at the two events, and its HMAC is right for both, each with the
+-- key at its event.
 abbrev pub HaveOneHmac : (before : History) (first : AcceptedCommand) (after : History)
     (second : AcceptedCommand) (place : ℕ) (e : Entry) (s t : LiveSession) → Type 0
 HaveOneHmac before first after second place e s t =
     (text_in before first place e s ≢ text_in after second place e t)
     × (e.hmac ≡ hmac_in before first place e s) × (e.hmac ≡ hmac_in after second place e t)
 
--- At the second event of a replay the session has the same hash, and again the nonce of the first
--- event; or two texts have one HMAC.
+-- At the second event of a replay, the session has the same hash and again the nonce of the first
+-- event; or two texts have the same HMAC.
 pub record Repeats (before : History) (first : AcceptedCommand) (between : History)
     (second : AcceptedCommand) (place : ℕ) (e : Entry) (s : LiveSession) : Type 0 where
   pub now : LiveSession

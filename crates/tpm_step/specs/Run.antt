@@ -8,8 +8,8 @@ use Rattle.tpm_step.specs.Execution.{Executes}
 use Rattle.tpm_step.specs.Step.{outcome_step, step}
 use Rattle.tpm_step.specs.declared.event.Outcome.{Outcome}
 
--- The events were executed one after another, from the old record to the new one. A closure in
--- state p was called with each outcome, in order, and ended in state q. `can` says whether memory
+-- Executing the events one after another led from the old record to the new one. A closure was
+-- called with each outcome, in order; its state was p before and q after. `can` says whether memory
 -- can be refused.
 abbrev pub Runs : {F : Type 0} → Mut F (Bor Outcome × Unit {0}) (Unit {0})
     → Bool → Record → F → List PlainEvent → Record → F → Type 0

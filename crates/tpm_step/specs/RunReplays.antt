@@ -1,4 +1,4 @@
--- One buffer that is accepted at two events of a run. TPM 2.0 Library, Part 1, section 19.6.3
+-- Buffers that are accepted at two events of a run. TPM 2.0 Library, Part 1, section 19.6.3
 -- (session nonces).
 use Rattle.std.specs.Prelude.{◌≡◌, ◌≢◌, ℕ, List, [], ◌∷◌, ◌++◌, Some, Ok, slice_get}
 use Rattle.tpm_types.specs.Handle.{session_kind}
@@ -21,15 +21,15 @@ pub record IsRecorded (old : Record) (event : PlainEvent) (x : Stepped) (buffer 
   pub spelled : command_at buffer ≡ Ok (command.command, [])
   pub recorded : (history : History) → recorded old event x.row.check history ≡ Done command ∷ history
 
--- The event is a command of this buffer.
+-- The event is a command with this buffer.
 abbrev pub Gives : List ℕ → PlainEvent → Type 0
 Gives buffer (Given given locality elapsed random) = given ≡ buffer
 Gives buffer Cycled = ⊥
 Gives buffer (Placed object) = ⊥
 
--- Two accepted events, after these earlier ones and with others in between, have one buffer. An
--- entry of the buffer's command has an HMAC, and names an HMAC session that lives from the first
--- event to the second.
+-- Two accepted events, after these earlier ones and with others in between, have the same buffer.
+-- An entry of the buffer's command has an HMAC, and names an HMAC session that survives from the
+-- first event to the second.
 pub record IsRunReplay (history : History) (earlier : List Execution) (one : Execution)
     (meanwhile : List Execution) (two : Execution) (place : ℕ) (e : Entry) (s : LiveSession) : Type 0
   where
@@ -49,7 +49,7 @@ pub record IsRunReplay (history : History) (earlier : List Execution) (one : Exe
         (history_after history earlier)
 
 -- The commands that were accepted at the two events of a replay repeat a nonce, or two texts have
--- one HMAC.
+-- the same HMAC.
 pub record RunRepeats (history : History) (earlier : List Execution) (one : Execution)
     (meanwhile : List Execution) (two : Execution) (place : ℕ) (e : Entry) (s : LiveSession) : Type 0
   where

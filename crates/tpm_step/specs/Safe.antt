@@ -1,5 +1,4 @@
--- What a refusal changes, how many random bytes a success may draw, and how long its answer may
--- be.
+-- What a refusal changes, how many random bytes a success may draw, and how long an answer may be.
 use Rattle.std.specs.Prelude.{◌≡◌, ◌≢◌, ℕ, ◌≤◌, List, length, Ok, IfOk}
 use Rattle.tpm_record.specs.Record.{Record}
 use Rattle.tpm_record.specs.Tick.{ticked}
@@ -19,8 +18,9 @@ only_ticked r (Given buffer locality elapsed random) = ticked r elapsed
 only_ticked r Cycled = r
 only_ticked r (Placed object) = r
 
--- A refusal has a response of ten bytes, its text, and reports its check. It changes only what
--- time changes and what it counts. Which command the row names is not said here.
+-- A refusal has a response of ten bytes with its code, and the row reports its check. The record
+-- changes only by the passing of time and by what the refusal counts. The command that the row
+-- names is unspecified here.
 abbrev pub IsHarmless : Record → PlainEvent → Stepped → Type 0
 IsHarmless r event x = x.row.check ≢ 0
     → (length x.response ≡ 10)
@@ -28,22 +28,22 @@ IsHarmless r event x = x.row.check ≢ 0
     × (x.row.check ≡ check_number refused.check)
     × (x.after ≡ counted_in refused.counted (only_ticked r event))
 
--- A success is modest. Its row draws at most 96 of the event's 256 random bytes (the limit), and
--- with three nonces of 32 bytes after them at most 192 are drawn. The parameters of its answer
--- are no longer than the limit.
+-- A success stays within the limits. Its row draws at most 96 of the event's 256 random bytes, and
+-- at most 192 together with three nonces of 32 bytes after them. The parameters of its answer are
+-- no longer than the limit.
 abbrev pub IsModest : List ℕ → Accepted → Type 0
 IsModest random a =
     (a.success.answer.drawn ≤ draw_limit) × (length (answer_body_text a.success.answer.body) ≤ answer_limit)
     × DrawsFew random a.success.after a.command.entries a.success.answer.drawn
 
--- If a command is accepted, its success is modest.
+-- If a command is accepted, its success stays within the limits.
 abbrev pub IsModestIfAccepted : Record → PlainEvent → Type 0
 IsModestIfAccepted r (Given buffer locality elapsed random) =
     IfOk (accepted (ticked r elapsed) buffer locality random) (IsModest random)
 IsModestIfAccepted r Cycled = Unit {0}
 IsModestIfAccepted r (Placed object) = Unit {0}
 
--- A command is accepted, and its success is modest.
+-- A command is accepted, and its success stays within the limits.
 abbrev pub AcceptsModestly : Record → PlainEvent → Type 0
 AcceptsModestly r (Given buffer locality elapsed random) =
     (a : Accepted) × (accepted (ticked r elapsed) buffer locality random ≡ Ok a) × IsModest random a

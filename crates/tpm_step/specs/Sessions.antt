@@ -37,16 +37,16 @@ use Rattle.tpm_step.specs.Policies.{assertion_by, with_assertion}
 use Rattle.tpm_step.specs.View.{View, view_name}
 use Rattle.tpm_step.specs.Views.{view_protection}
 
--- the entity to which a session is bound, as it was at the session's start: its Name, its
+-- the entity to which a session is bound, as it was when the session started: its Name, its
 -- authorization value, and its protection against dictionary attacks
 pub record Bound : Type 0 where
   pub name : List ℕ
   pub auth_value : List ℕ
   pub protection : Protection
 
--- a live session. Its type, hash, symmetric algorithm, binding and key are those of its start. It
--- has its latest nonceTPM, and the earlier ones, the latest first. It has the assertions, the
--- latest first, since its start, its latest TPM2_PolicyRestart or its latest use for
+-- a live session. Its type, hash, symmetric algorithm, binding and key do not change after its
+-- start. It has its latest nonceTPM, and the earlier ones, the latest first. Its assertions, the
+-- latest first, are those since its start, its latest TPM2_PolicyRestart, or its latest use for
 -- authorization, whichever came last
 pub record LiveSession : Type 0 where
   pub kind : SessionType
@@ -58,7 +58,8 @@ pub record LiveSession : Type 0 where
   pub earlier_nonces : List (List ℕ)
   pub assertions : List Assertion
 
--- the policy of a live session: the digest, and what is compared when the session authorizes
+-- the policy of a live session: its digest, and the values that are compared when the session
+-- authorizes a command
 abbrev pub policy_in : LiveSession → Policy
 policy_in s = evaluated s.hash (is_trial s.kind) s.assertions
 
@@ -66,14 +67,14 @@ policy_in s = evaluated s.hash (is_trial s.kind) s.assertions
 abbrev pub LiveSessions : Type 0
 LiveSessions = Handle → Option LiveSession
 
--- the live sessions, with the one at a handle changed, if there is one
+-- the live sessions, with the session at this handle changed, if there is one
 abbrev pub changed_session : (LiveSession → LiveSession) → Handle → LiveSessions → LiveSessions
 changed_session change handle live = changed_at handle (option_map change) live
 
 abbrev pub without_session : Handle → LiveSessions → LiveSessions
 without_session handle live = with_at handle None live
 
--- ---- a session starts
+-- ---- the start of a session
 
 -- the binding of a new session: the entity of the command's second handle, unless that is
 -- TPM_RH_NULL
@@ -111,7 +112,7 @@ pub record IsNewSession (s : LiveSession) : Type 0 where
   pub no_earlier : s.earlier_nonces ≡ []
   pub no_assertion : s.assertions ≡ []
 
--- the session that TPM2_StartAuthSession starts; its nonceTPM is the front of the random bytes,
+-- the session that TPM2_StartAuthSession starts; its nonceTPM consists of the first random bytes,
 -- and has the size of nonceCaller
 abbrev pub started_by : Result Parameters Refused → Option Bound → (random : List ℕ)
     → Option LiveSession
@@ -123,9 +124,10 @@ unfoldable pub started : AcceptedCommand → (auth_values : List (List ℕ)) →
 started c auth_values = started_by (parameters_in c.request.parameters)
     (bound_in c.request.handles c.views auth_values) c.request.random
 
--- ---- what a command does with sessions, apart from its entries
+-- ---- what a command does to sessions, apart from its entries
 
--- the live sessions after TPM2_StartAuthSession, with a new one at the handle that it answers
+-- the live sessions after TPM2_StartAuthSession, with a new one at the handle that the command
+-- returns
 abbrev pub with_started : AcceptedCommand → History → LiveSessions → LiveSessions
 with_started c history live =
     by_handle (ok_or c.answer.handle handle_refusal)
@@ -146,9 +148,9 @@ with_asserted code c history live =
 abbrev pub restarted : LiveSession → LiveSession
 restarted s = record s { assertions = [] }
 
--- the live sessions after a command of this code. TPM2_FlushContext ends a session, and
--- TPM2_PolicyRestart clears the assertions of one. Apart from these two, only
--- TPM2_StartAuthSession and the commands that assert change any
+-- the live sessions after a command with this code. TPM2_FlushContext ends a session, and
+-- TPM2_PolicyRestart clears the assertions of one. Apart from these two, only TPM2_StartAuthSession
+-- and the assertion commands change a session
 abbrev pub sessions_by : CommandCode → AcceptedCommand → History → LiveSessions → LiveSessions
 sessions_by command.StartAuthSession c history live = with_started c history live
 sessions_by command.FlushContext c history live =
@@ -174,7 +176,7 @@ sessions_by _ c history live = live
 
 -- ---- entries that name sessions
 
--- live sessions with new nonces, and the random bytes that are left
+-- live sessions with new nonces, and the remaining random bytes
 pub record Rolled : Type 0 where
   pub sessions : LiveSessions
   pub left : List ℕ
@@ -183,7 +185,7 @@ abbrev pub with_nonce : List ℕ → LiveSession → LiveSession
 with_nonce nonce s =
     record s { nonce_tpm = nonce; earlier_nonces = s.nonce_tpm ∷ s.earlier_nonces }
 
--- the size of a session's next nonceTPM, which is that of the latest one; 0 if there is no
+-- the size of a session's next nonceTPM, which is the size of its latest one; 0 if there is no
 -- session
 abbrev pub nonce_size : Option LiveSession → ℕ
 nonce_size session = option_map_or (λ (s : LiveSession). length s.nonce_tpm) session 0
@@ -201,8 +203,8 @@ entries_rolled live [] left = record { sessions = live; left = left }
 entries_rolled live (e ∷ es) left =
     let first = entry_rolled live e left in entries_rolled first.sessions es first.left
 
--- a session that authorized something: a policy session that is no trial session loses its
--- assertions
+-- a session that authorized a handle: a policy session loses its assertions, unless it is a trial
+-- session
 abbrev pub used_by : SessionType → LiveSession → LiveSession
 used_by type.Hmac s = s
 used_by type.Policy s = restarted s
@@ -223,15 +225,15 @@ entries_ended live granted = fold (λ live g. entry_ended live g.0 g.1) live gra
 
 -- ---- the sessions after a history
 
--- the live sessions with the new nonces of a command's entries, in the order of the entries. The
--- nonces follow the command's own draws in the event's random bytes
+-- the live sessions with the new nonces of a command's entries, in the order of the entries. In the
+-- event's random bytes, the nonces come after the bytes that the command itself draws
 abbrev pub rolled_by : AcceptedCommand → History → LiveSessions → Rolled
 rolled_by c history live =
     entries_rolled (sessions_by c.command.code c history live) c.command.entries
     (drop (draws_of c.command.code c.request) c.request.random)
 
--- the live sessions after a history. If a command asserts on a session and uses it too, it
--- asserts first
+-- the live sessions after a history. If a command both makes an assertion on a session and uses it,
+-- the assertion comes first
 abbrev pub sessions_of : History → LiveSessions
 sessions_of [] handle = None
 sessions_of (Done c ∷ history) handle =
@@ -250,7 +252,7 @@ key_of history handle = option_map (λ (s : LiveSession). s.key) (sessions_of hi
 abbrev pub policy_of : History → Handle → Option Policy
 policy_of history handle = option_map policy_in (sessions_of history handle)
 
--- the start of a session: its type, its hash, its symmetric algorithm, and its binding
+-- how a session was started: its type, its hash, its symmetric algorithm, and its binding
 pub record Start : Type 0 where
   pub kind : SessionType
   pub hash : HashAlg

@@ -1,4 +1,4 @@
--- The step of one event: time passes, then come the general checks, the authorization, the
+-- The step of one event. Time passes first. Then come the general checks, the authorization, the
 -- command's row and the answer. TPM 2.0 Library, Part 1, section 18 (command and response
 -- structures), and Part 3, sections 5 and 6.
 use Rattle.std.specs.Prelude.{◌≡◌, ℕ, Bool, true, false, List, [], Option, Result, Ok, Err, if◌then◌else◌}
@@ -36,7 +36,7 @@ use Rattle.tpm_step.specs.declared.event.Outcome.{Outcome}
 use Rattle.tpm_step.specs.declared.event.Row.{Row}
 use Rattle.tpm_step.specs.declared.refused_command.RefusedCommand.{RefusedCommand}
 
--- what an event does: the response, the reported row, and the record after it
+-- the outcome of an event: the response, the reported row, and the record after it
 pub record Stepped : Type 0 where
   pub response : List ℕ
   pub row : Row
@@ -50,7 +50,7 @@ pub record Accepted : Type 0 where
   pub request : Request
   pub success : Success
 
--- the request of a command, with the parameters as its sessions decrypt them
+-- the request of a command, with its parameters decrypted by its sessions
 abbrev pub request_in : Record → Whole → List (Option Grant) → ℕ → List ℕ → Request
 request_in r c grants locality random = record {
   handles = c.handles;
@@ -67,8 +67,8 @@ acceptance r c locality random = do
   success ← row_of r c.code q
   Ok (record { command = c; grants = grants; request = q; success = success })
 
--- The refusal is that of the command's acceptance. Or memory can be refused, and it is MEMORY
--- instead of the success of a command that grows something.
+-- The refusal is that of the command's acceptance. Or memory can be refused, and the refusal is
+-- MEMORY instead of the success of a command that grows something.
 abbrev pub RefusesOrWantsMemory : Bool → Whole → Result Accepted Refused → Refused → Type 0
 RefusesOrWantsMemory can c (Err refused) e = e ≡ refused
 RefusesOrWantsMemory can c (Ok a) e =
@@ -82,21 +82,22 @@ Succeeds (Ok a) c grants answer new =
     × (new ≡ a.success.after)
 Succeeds (Err refused) c grants answer new = ⊥
 
--- The code accepted or refused the command as the definition does, with these grants if it was
--- accepted. A refusal leaves the record unchanged.
+-- The code accepted or refused the command as the definition does, and with the same grants. A
+-- refusal leaves the record unchanged.
 abbrev pub Accepts : Bool → Result Accepted Refused → Whole → List (Option Grant)
     → Record → Result (Unit {0}) Refused → Answer → Record → Type 0
 Accepts can a c grants old (Ok done) answer new = Succeeds a c grants answer new
 Accepts can a c grants old (Err e) answer new = (new ≡ old) × RefusesOrWantsMemory can c a e
 
--- the command of a buffer, accepted by a record whose time has passed; or the first refusal
+-- the accepted command of a buffer, or the first refusal; the command's elapsed time has already
+-- passed
 unfoldable pub accepted : Record → List ℕ → ℕ → List ℕ → Result Accepted RefusedCommand
 accepted r buffer locality random = do
   command ← general r buffer
   in_command command.code (acceptance r command locality random)
 
--- what a refusal counts against dictionary attacks: nothing, a failed try on a protected entity,
--- or a failed try on lockoutAuth, which closes lockoutAuth
+-- what a refusal counts against dictionary attacks: nothing; a failed try on a protected entity; or
+-- a failed try on lockoutAuth, which disables lockoutAuth
 abbrev pub lockout_counted : Counted → LockoutState → LockoutState
 lockout_counted counted.None s = s
 lockout_counted counted.Try s = after_failure s
@@ -113,8 +114,8 @@ refusal_step r e = record {
   after = counted_in e.refused.counted r;
 }
 
--- the record after a success, which cancels what a TPM2_Shutdown saved unless the command keeps
--- it (Part 3, section 9.4)
+-- the record after a success, which discards the state that a TPM2_Shutdown saved unless the
+-- command keeps it (Part 3, section 9.4)
 abbrev pub settled : CommandCode → Record → Record
 settled code r = if (shape_of code).keeps_shutdown then r else with_saved r Nothing
 
@@ -132,23 +133,23 @@ abbrev pub stepped_of : Record → List ℕ → Result Accepted RefusedCommand �
 stepped_of r random (Ok a) = success_step a random
 stepped_of r random (Err e) = refusal_step r e
 
--- the step that has the response and the row of an outcome, and this record after it
+-- the step with the response and the row of an outcome, and with this record after it
 abbrev pub outcome_step : Record → Outcome → Stepped
 outcome_step r o = record { response = o.response.items; row = o.row; after = r }
 
--- the step of a command that is refused memory: MEMORY, check M, and the record unchanged
+-- the step of a command to which memory is refused: MEMORY, check M, and the record unchanged
 abbrev pub refusal_without_memory : Record → Whole → Stepped
 refusal_without_memory r c =
     refusal_step r (record { code = code_number c.code; refused = memory_refusal })
 
 -- the step of an accepted command when memory is refused: MEMORY if the command grows something,
--- its success if not
+-- and otherwise its success
 abbrev pub success_without_memory : Record → List ℕ → Accepted → Stepped
 success_without_memory r random a =
     if (shape_of a.command.code).grows then refusal_without_memory r a.command
     else success_step a random
 
--- the step of a command when memory is refused; a command that is refused anyway needs no memory
+-- the step of a command when memory is refused; a refused command needs no memory
 abbrev pub answer_without_memory : Record → List ℕ → Result Accepted RefusedCommand → Stepped
 answer_without_memory r random (Ok a) = success_without_memory r random a
 answer_without_memory r random (Err e) = refusal_step r e
@@ -158,8 +159,8 @@ abbrev pub answer_where : Bool → Record → List ℕ → Result Accepted Refus
 answer_where false r random a = stepped_of r random a
 answer_where true r random a = answer_without_memory r random a
 
--- the step of an event, when memory is refused (true) or not (false); the time of a command
--- passes first. A placed object has no response, and if all slots are taken, it changes nothing
+-- the step of an event, when memory is refused (true) or not (false); the elapsed time of a command
+-- passes first. A placed object has no response, and it changes nothing if all slots are taken
 abbrev pub step_where : Bool → Record → PlainEvent → Stepped
 step_where refused r (Given buffer locality elapsed random) =
     let t = ticked r elapsed in answer_where refused t random (accepted t buffer locality random)
@@ -172,13 +173,12 @@ step_where refused r (Placed object) =
 abbrev pub step : Record → PlainEvent → Stepped
 step r event = step_where false r event
 
--- This is the step of the command. Memory is refused only if the device's state can be refused
--- it.
+-- This is the step of the command, and memory is refused only if `can` is true.
 abbrev pub Answers : Bool → Record → List ℕ → Result Accepted RefusedCommand → Stepped → Type 0
 Answers can r random a x =
     (refused : Bool) × (refused ≡ true → can ≡ true) × (x ≡ answer_where refused r random a)
 
--- This is the step of the event. Memory is refused only if the device's state can be refused it.
+-- This is the step of the event, and memory is refused only if `can` is true.
 abbrev pub Steps : Bool → Record → PlainEvent → Stepped → Type 0
 Steps can r event x =
     (refused : Bool) × (refused ≡ true → can ≡ true) × (x ≡ step_where refused r event)

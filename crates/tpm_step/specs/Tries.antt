@@ -39,7 +39,7 @@ use Rattle.tpm_step.specs.Executions.{Execution, Leads, history_after}
 use Rattle.tpm_step.specs.History.{AcceptedCommand, Done, History, ObjectPlaced, PastEvent, PowerCycled}
 use Rattle.tpm_step.specs.Potential.{period}
 
--- ---- an event that fails a try
+-- ---- events that fail a try
 
 -- whether a refusal counts a failed try on a protected entity other than LOCKOUT
 abbrev pub is_try : Counted → Bool
@@ -59,19 +59,19 @@ fails_try r (Given buffer locality elapsed random) =
 fails_try r Cycled = false
 fails_try r (Placed object) = false
 
--- An entry touches the entity whose authorization value its comparison uses. If that value is
--- compared with the password, or is part of the HMAC's key, this is the entity that the entry has
--- to authorize. Otherwise it is the entity to which the session was bound at its start. If a
--- session may not authorize the entity, nothing is compared and nothing is touched.
+-- An entry touches the entity whose authorization value the device uses to check the entry. If this
+-- value is compared with the password, or is part of the HMAC's key, it is the entity that the
+-- entry has to authorize. Otherwise it is the entity to which the session was bound at its start.
+-- If a session may not authorize the entity, nothing is compared and nothing is touched.
 
 -- the protection of the entity that a session's entry touches, if the entry has to authorize this
--- handle; given what the session demands for that, or why it may not authorize it
+-- handle. The last argument is what the session demands for it, or why it may not authorize it
 abbrev pub touched_where : Record → Session → Handle → Result Demand Refused → Protection
 touched_where r s handle (Ok demand) =
     entry_protection r s (Some (record { handle = handle; demand = demand }))
 touched_where r s handle (Err e) = protection.None
 
--- the protection of the entity that entry n touches, for an entry of this session, which has to
+-- the protection of the entity that entry n touches, if the entry names this session, and has to
 -- authorize this handle or none
 abbrev pub touched_of_session : Record → Whole → (locality n : ℕ) → Option Handle → Session
     → Protection
@@ -79,7 +79,7 @@ touched_of_session r c locality n (Some handle) s =
     touched_where r s handle (demanded r c locality n handle s)
 touched_of_session r c locality n None s = entry_protection r s None
 
--- the protection of the entity that any entry touches; a password touches what it has to
+-- the protection of the entity that an entry touches; a password touches the entity that it has to
 -- authorize
 abbrev pub touched_by : SessionKind → Record → Whole → (locality n : ℕ) → Option Handle → Entry
     → Protection
@@ -91,8 +91,8 @@ touched_by kind.Other r c locality n used e = protection.None
 abbrev pub touched : Record → Whole → (locality n : ℕ) → Option Handle → Entry → Protection
 touched r c locality n used e = touched_by (session_kind e.session) r c locality n used e
 
--- The command's authorization is refused with AUTH_FAIL for the entry at this place, counted from
--- 0, and the entry touches a protected entity other than LOCKOUT.
+-- The command's authorization is refused with AUTH_FAIL for the entry at this position, counted
+-- from 0, and the entry touches a protected entity other than LOCKOUT.
 pub record FailsTry (r : Record) (locality : ℕ) (buffer : List ℕ) : Type 0 where
   pub command : Whole
   pub place : ℕ
@@ -114,22 +114,22 @@ IsRefusedTry r (Placed object) = ⊥
 
 -- ---- how a failed try is answered
 
--- the check that refuses an entry whose comparison fails: G9 if the entry has to authorize a
--- handle, G10 if not
+-- the check that refuses an entry with a wrong password or HMAC: G9 if the entry has to authorize a
+-- handle, and otherwise G10
 abbrev pub check_for : Option Handle → Check
 check_for (Some handle) = check.Authorization
 check_for None = check.Others
 
--- the refusal, AUTH_FAIL, of an entry that touches a protected entity other than LOCKOUT
+-- the refusal of an entry that touches a protected entity other than LOCKOUT, with AUTH_FAIL
 abbrev pub try_refusal : Whole → (place : ℕ) → Refused
 try_refusal c place = failure (check_for (used_in c place)) (place + 1) protection.Tries
 
--- The event has the response of this refusal, and its check.
+-- The response and the row report this refusal.
 pub record IsAnsweredFailure (e : Refused) (x : Stepped) : Type 0 where
   pub response : x.response ≡ refusal_text e
   pub check : x.row.check ≡ check_number e.check
 
--- The event is a command that fails a try, and it is answered with the refusal of that entry.
+-- The event is a command that fails a try, and its response is the refusal of that entry.
 abbrev pub IsAnsweredTry : Record → PlainEvent → Stepped → Type 0
 IsAnsweredTry r (Given buffer locality elapsed random) x =
     (fails : FailsTry (ticked r elapsed) locality buffer)
@@ -144,7 +144,7 @@ elapsed_of (Given buffer locality elapsed random) = elapsed
 elapsed_of Cycled = 0
 elapsed_of (Placed object) = 0
 
--- the milliseconds that pass in a stretch of events, and how many of the events fail a try
+-- the milliseconds that pass in a stretch of events, and the number of events that fail a try
 abbrev pub elapsed_in : List Execution → ℕ
 elapsed_in executions = sum_by (λ (one : Execution). elapsed_of one.event) executions
 
@@ -167,14 +167,14 @@ is_reset (ObjectPlaced at object) = false
 abbrev pub HasNoReset : History → Type 0
 HasNoReset history = AllByRecursion (λ (one : PastEvent). is_reset one ≡ false) history
 
--- how many tries may fail in a stretch of events: maxTries, and one more for each recoveryTime
--- that passes
+-- the number of tries that may fail in a stretch of events: maxTries, and one more for each
+-- recoveryTime that passes
 abbrev pub tries_within : Record → List Execution → ℕ
 tries_within old executions =
     old.fixed.lockout.fields.max_tries + elapsed_in executions / period old.fixed.lockout
 
--- In a stretch of events without a reset, at most `tries_within` tries fail, if tries are
--- counted.
+-- In a stretch of events without a reset, at most `tries_within` tries fail, if recoveryTime is not
+-- 0.
 abbrev pub FailsWithin : Bool → Record → List Execution → Record → Type 0
 FailsWithin can old executions new =
     Leads can old executions new
@@ -182,8 +182,8 @@ FailsWithin can old executions new =
     → old.fixed.lockout.fields.recovery_time ≢ 0
     → failures_in executions ≤ tries_within old executions
 
--- a bound on the tries that fail in a stretch of events: maxTries, one more, and one for each
--- recoveryTime that passes
+-- a bound on the number of tries that fail in a stretch of events: maxTries, one more, and one for
+-- each recoveryTime that passes
 abbrev pub tries_at_most : Record → List Execution → ℕ
 tries_at_most old executions =
     old.fixed.lockout.fields.max_tries + 1

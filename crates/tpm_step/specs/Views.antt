@@ -42,15 +42,15 @@ view_protection (OfHandle handle) = permanent_protection handle
 abbrev pub is_policy : List ℕ → Bool
 is_policy digest = not (length digest == 0)
 
--- whether this means may authorize an object: its authValue if it has userWithAuth, its policy if
--- its authPolicy is not empty
+-- whether an object accepts this means of authorization: its authValue if it has userWithAuth, its
+-- policy if its authPolicy is not empty
 abbrev pub object_takes : Means → Public → Bool
 object_takes means.AuthValue public = has public.attributes attribute.UserWithAuth
 object_takes means.Policy public = is_policy public.auth_policy
 
--- whether this means may authorize an NV index, for a command that uses the index in this way.
--- Its authValue may if it has AUTHREAD or AUTHWRITE, but never in the role ADMIN. Its policy, if
--- it has one, may if it has POLICYREAD or POLICYWRITE, and always in the role ADMIN
+-- whether an NV index accepts this means of authorization for a command with this use. It accepts
+-- its authValue if it has AUTHREAD or AUTHWRITE, but never in the role ADMIN. It accepts its
+-- policy, if it has one, if it has POLICYREAD or POLICYWRITE, and always in the role ADMIN
 abbrev pub index_takes : Means → NvUse → NvPublic → Bool
 index_takes means.AuthValue does.Read public = index_has public.attributes mark.AuthRead
 index_takes means.AuthValue does.Write public = index_has public.attributes mark.AuthWrite
@@ -61,24 +61,24 @@ index_takes means.Policy does.Write public =
     index_has public.attributes mark.PolicyWrite && is_policy public.auth_policy
 index_takes means.Policy does.Administer public = is_policy public.auth_policy
 
--- whether this means may authorize the viewed entity, for a command that uses it in this way
+-- whether the viewed entity accepts this means of authorization, for a command with this use
 abbrev pub view_takes : Means → NvUse → View → Bool
 view_takes means nv_use (OfObject public) = object_takes means public
 view_takes means nv_use (OfIndex public) = index_takes means nv_use public
 view_takes means nv_use (OfHandle handle) = permanent_is_available means
 
--- whether an entity is written, if it is an NV index
+-- whether an NV index is written; None for every other entity
 abbrev pub view_written : View → Option Bool
 view_written (OfIndex public) = Some (index_has public.attributes mark.Written)
 view_written other = None
 
--- whether the viewed entity exists: a handle of an object's or an index's type that names nothing
--- has no public area
+-- whether the viewed entity exists. A handle of the type of an object or an index that names no
+-- entity has no public area
 abbrev pub is_there : View → Bool
 is_there (OfHandle handle) = not (names_kept handle)
 is_there _ = true
 
--- The view shows what the record has of this handle.
+-- The view shows what the record contains about this handle.
 pub record TellsOf (view : View) (r : Record) (handle : Handle) : Type 0 where
   pub name : view_name view ≡ name_of r handle
   pub policy : view_policy view ≡ policy_of r handle

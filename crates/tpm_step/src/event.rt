@@ -9,11 +9,11 @@ use tpm_types::{BUFFER_LIMIT, Locality};
 /// All bytes of a response.
 pub type Response = ArrayVec<u8, BUFFER_LIMIT>;
 
-/// One event: the device changes by whole events only.
+/// One event. The device changes by whole events only.
 #[derive(Drop)]
 pub enum Event<'a> {
-    /// A command: its buffer, whatever the bytes are, its locality, the milliseconds since the
-    /// command before it (its elapsed time), and the random bytes that it may draw.
+    /// A command: its buffer, which may contain any bytes; its locality; the milliseconds since the
+    /// command before it (its elapsed time); and the random bytes that it may draw.
     Command {
         buffer: &'a [u8],
         locality: Locality,
@@ -37,8 +37,8 @@ impl<'a> Event<'a> {
     ) -> Event<'a>
         ensures value { result ≡ Command buffer.entry locality elapsed_ms random }
 
-        // The event of a command can happen: it has a locality of 0 to 4, an elapsed time of 32
-        // bits, and 256 random bytes.
+        // The event of a command can happen: its locality is 0 to 4, its elapsed time has 32 bits,
+        // and it has 256 random bytes.
         ensures event { IsEvent (plain_event result) }
     {
         Event::Command {
@@ -50,15 +50,15 @@ impl<'a> Event<'a> {
     }
 }
 
-/// What was decided about an event: the command's code, and the number of the check that refused
-/// it. The code is 0 if none was found, and for a power cycle; the check is 0 if none refused.
+/// The row of an event: the command's code, and the number of the check that refused it. The code
+/// is 0 for a power cycle, and if no code was found; the check is 0 if no check refused.
 #[derive(Clone, Copy, PartialEq, Eq)]
 pub struct Row {
     pub code: u32,
     pub check: u8,
 }
 
-/// What an event resulted in: the response, empty for a power cycle, and the row.
+/// The outcome of an event: the response, which is empty for a power cycle, and the row.
 #[derive(Drop)]
 pub struct Outcome {
     pub response: Response,
@@ -68,7 +68,7 @@ pub struct Outcome {
 impl Outcome {
     ghost use Rattle.std.specs.Prelude.{[]};
 
-    /// An outcome with an empty response, to be overwritten.
+    /// An outcome with an empty response, which the caller overwrites.
     pub fn empty() -> Outcome
         ensures response { result.response.items ≡ [] }
         ensures row { result.row ≡ record { code = 0; check = 0 } }

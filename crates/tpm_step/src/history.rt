@@ -1,11 +1,11 @@
-//! What a device has accepted decides what it is: its PCRs, its sessions and their policies, its
-//! authorization values and its counters. This module also says on what grounds the device was
-//! used, what a replay repeats, and how many tries may fail.
+//! The PCRs, sessions, policies, authorization values and counters of a device follow from what the
+//! device has accepted. This module also says on what grounds entities were used, what a replay
+//! repeats, and how many tries may fail.
 //!
 //! Each law is the contract of a function that does nothing. The laws follow from the definitions
-//! of the step and from the laws over all rows in [`crate::rows`]. Apart from these, only those
-//! rows are opened that change what a history determines. The contracts of tpm_machine's calls
-//! have these laws, and so do those of tpm_image and tpm_wire above it.
+//! of the step and from the laws about all rows in [`crate::rows`]. Apart from these, their proofs
+//! unfold only the rows that change what a history determines. The contracts of tpm_machine's calls
+//! contain these laws, and so do those of tpm_image and tpm_wire above it.
 
 ghost use Rattle.std.specs.Prelude.{◌≡◌, ◌↔◌, ◌+◌, ◌++◌, ℕ, Bool, true, false, List, [], ◌∷◌, None, Some, map};
 ghost use Rattle.tpm_mac.specs.declared.algorithm.HashAlg.{HashAlg};
@@ -60,7 +60,8 @@ ghost use Rattle.tpm_step.specs.Views.{TellsOf};
 use crate::event::Outcome;
 
 /// A manufactured device follows the empty history. Every execution of an event leads from a
-/// history to the one with this event, if the event was accepted; and so does a power cycle.
+/// history to the same history with this event, if the event was accepted. A power cycle does so
+/// too.
 #[inline(always)]
 pub fn following_laws()
     ensures manufactured { (random : List ℕ) → Follows (manufactured random) [] }
@@ -70,10 +71,10 @@ pub fn following_laws()
         → Follows r history → Follows (cycled r) (PowerCycled ∷ history) }
 {}
 
-/// A power cycle is one more execution of a stretch of events, and so is opening what was saved. So
-/// is an object that is placed in a record, with what holds for every loaded object.
-/// Two stretches are one if the second begins where the first ended. A stretch in which no memory
-/// can be refused is also one in which it can.
+/// A stretch of events is a list of executions, one after another. A power cycle is a stretch by
+/// itself, and so is placing an object that satisfies the invariant of loaded objects. Two
+/// stretches make one if the second begins where the first ended. A stretch in which no memory can
+/// be refused is also one in which it can.
 #[inline(always)]
 pub fn stretch_laws()
     ensures power_cycle { (can : Bool) (r : Record)
@@ -87,8 +88,8 @@ pub fn stretch_laws()
         → Leads false old executions new → Leads can old executions new }
 {}
 
-/// A stretch of events leads a device from a history to that with all accepted events of the
-/// stretch. The law also says what else holds of a stretch.
+/// A stretch of events leads a device from a history to the same history with all accepted events
+/// of the stretch. The other properties of `StretchFollows` hold too.
 #[inline(always)]
 pub fn stretch_history_laws()
     ensures { (can : Bool) (old : Record) (executions : List Execution) (new : Record)
@@ -97,7 +98,7 @@ pub fn stretch_history_laws()
 {}
 
 /// A run executes its events one after another, and leads to the history with all accepted ones.
-/// Such executions are a run if a closure is called with each outcome.
+/// Conversely, executions one after another are a run if a closure is called with each outcome.
 #[inline(always)]
 pub fn run_history_laws<F: FnMut(&Outcome)>()
     ensures follows { (can : Bool) (old : Record) (p : F) (events : List PlainEvent) (new : Record)
@@ -108,9 +109,9 @@ pub fn run_history_laws<F: FnMut(&Outcome)>()
         → Runs F.FnMut can old p (map (λ (one : Execution). one.event) executions) new q }
 {}
 
-/// The view of a handle shows what the record has: the Name, the policy, the protection, and what
-/// can authorize the entity. The views that a history has of a command are those before the
-/// command.
+/// The view of a handle shows what the record contains: the Name, the policy, the protection, and
+/// the means that can authorize the entity. The views that a history records for a command are
+/// those before the command.
 #[inline(always)]
 pub fn view_laws()
     ensures tell { (r : Record) (handle : Handle) → TellsOf (view_of r handle) r handle }
@@ -127,8 +128,8 @@ pub fn shutdown_laws()
         → (pcrs_after history).saved bank pcr ≡ pcr_of (before_shutdown history) bank pcr }
 {}
 
-/// A session of a device has the start, the key, the nonceTPM and the policy that the history
-/// determines for its handle.
+/// A session of a device has the key, the nonceTPM and the policy that the history determines for
+/// its handle, and was started as the history says.
 #[inline(always)]
 #[tactic(auto, using(crate::proofs::DeviceSessions::live_sessions))]
 pub fn live_session_laws()
@@ -138,8 +139,8 @@ pub fn live_session_laws()
 {}
 
 /// An entity that exists has the authorization value that the history determines for its handle.
-/// If a handle is neither a hierarchy, lockout, an NV index nor an object, its value is empty: a
-/// PCR and TPM_RH_NULL. No authorization value ends in a zero.
+/// The value is empty for a handle that is not of a hierarchy, lockout, an NV index or an object:
+/// for a PCR and for TPM_RH_NULL. No authorization value ends in a zero.
 #[inline(always)]
 #[tactic(auto, using(crate::proofs::DeviceAuthValues::present_auth_value, crate::proofs::TrimmedValues::told_values_are_trimmed))]
 pub fn auth_value_laws()
@@ -152,17 +153,18 @@ pub fn auth_value_laws()
         → trimmed (auth_of history handle) ≡ auth_of history handle }
 {}
 
-/// By the history alone, the first value of a counter exceeds every value that any counter had
-/// before, and a counter does not go down as long as no index is defined again under its handle.
+/// The history alone determines that the first value of a counter exceeds every value that any
+/// counter had before. It also determines that a counter does not go down as long as no index is
+/// defined again under its handle.
 #[inline(always)]
 #[tactic(auto, using(crate::proofs::CountLaws::count_laws))]
 pub fn count_laws()
     ensures { CountLaws }
 {}
 
-/// No counter of a device goes down as long as no index is defined again under its handle. A
-/// counter without a value begins above every value that any counter had, and so does one that is
-/// defined in between.
+/// No counter of a device goes down as long as no index is defined again under its handle. The
+/// first value of a counter exceeds every value that any counter had before, whether the counter
+/// was defined before the events in between or by one of them.
 #[inline(always)]
 pub fn counter_laws()
     ensures keeps { (old new : Record) (history meanwhile : History) (handle : Handle)
@@ -178,8 +180,8 @@ pub fn counter_laws()
         → ExceedsEarlier new history meanwhile handle after }
 {}
 
-/// If an execution with check 0 accepted a command, the history records it, and the event's
-/// buffer encodes it.
+/// If an execution with check 0 accepted a command, the history records the command, and the
+/// event's buffer encodes it.
 #[inline(always)]
 pub fn recorded_laws()
     ensures { (can : Bool) (old : Record) (buffer : List ℕ) (locality elapsed : ℕ)
@@ -188,9 +190,9 @@ pub fn recorded_laws()
         → IsRecorded old (Given buffer locality elapsed random) x buffer }
 {}
 
-/// In every history of a device each use of an entity was authorized on one of three grounds,
+/// In every history of a device, each use of an entity was authorized on one of three grounds,
 /// given the history before the use: a password, an HMAC session, or a policy session whose
-/// conditions are all true.
+/// conditions all hold.
 #[inline(always)]
 pub fn grounds_laws()
     ensures { (can : Bool) (random : List ℕ) (executions : List Execution) (new : Record)
@@ -199,8 +201,8 @@ pub fn grounds_laws()
 {}
 
 /// If a buffer with an HMAC is accepted twice, and its HMAC session survives in between, the
-/// session has the nonceTPM of the first event again; or two texts have one HMAC, each with the
-/// key at its event.
+/// session has the nonceTPM of the first event again; or two texts have the same HMAC, each with
+/// the key at its event.
 #[inline(always)]
 pub fn replay_laws()
     ensures { (can : Bool) (random : List ℕ) (executions : List Execution) (new : Record)
@@ -208,10 +210,10 @@ pub fn replay_laws()
 {}
 
 /// If TPM2_PolicyPCR is the only assertion of a policy session that uses an entity, the entity's
-/// policy is that the PCRs have their values at the use, which they had since the first
-/// TPM2_PolicyPCR. If TPM2_PolicyCommandCode is the only assertion, the policy is the code of the
-/// command that uses the entity. If TPM2_PolicyNvWritten is, the entity is an NV index, WRITTEN
-/// or not as the assertion says.
+/// policy is that the PCRs have the values that they have at the use. They have had these values
+/// since the first TPM2_PolicyPCR. If TPM2_PolicyCommandCode is the only assertion, the policy is
+/// the code of the command that uses the entity. If TPM2_PolicyNvWritten is the only assertion, the
+/// entity is an NV index, WRITTEN or not as the assertion says.
 #[inline(always)]
 pub fn policy_laws()
     ensures pcrs { UsesPcrsAsTheyAre }
@@ -221,7 +223,7 @@ pub fn policy_laws()
 {}
 
 /// An event fails a try exactly if its authorization is refused with AUTH_FAIL for an entry that
-/// touches a protected entity other than LOCKOUT. The answer is AUTH_FAIL for that entry.
+/// touches a protected entity other than LOCKOUT. The response is AUTH_FAIL for that entry.
 #[inline(always)]
 pub fn failed_try_laws()
     ensures exactly { (old : Record) (event : PlainEvent)
@@ -244,8 +246,8 @@ pub fn reset_laws()
     ensures { (one : PastEvent) → (is_reset one ≡ true ↔ IsReset one) }
 {}
 
-/// The sharper bound is reached: in an example run, which reads an NV index with a wrong
-/// password, as many tries fail as it says.
+/// The lower bound of `few_tries_laws` is tight: in an example run, which reads an NV index with a
+/// wrong password, as many tries fail as the bound allows.
 #[inline(always)]
 pub fn failed_run_laws()
     ensures { IsFailedRun }
@@ -253,8 +255,8 @@ pub fn failed_run_laws()
 
 /// In a stretch of events at most maxTries tries fail, and one more for each whole recoveryTime
 /// that passes. This holds if recoveryTime is not 0, and no TPM2_DictionaryAttackLockReset,
-/// TPM2_DictionaryAttackParameters or TPM2_Clear is accepted. The bound `tries_at_most` is one
-/// higher.
+/// TPM2_DictionaryAttackParameters or TPM2_Clear is accepted. The bound `tries_at_most` is higher
+/// by one.
 #[inline(always)]
 pub fn few_tries_laws()
     ensures sharply { (can : Bool) (old : Record) (executions : List Execution) (new : Record)
@@ -265,14 +267,15 @@ pub fn few_tries_laws()
         → tries_at_most old executions ≡ tries_within old executions + 1 }
 {}
 
-/// If two devices follow one history, show the same of each handle, and have the same failed
-/// tries, they authorize each command alike: with the same grants, or with the same refusal.
+/// If two devices follow the same history, show the same views of each handle, and have the same
+/// failed tries, they authorize each command with the same grants, or refuse it with the same
+/// refusal.
 #[inline(always)]
 pub fn alike_laws()
     ensures { AuthorizeAlike }
 {}
 
-/// In every history of a device each use has a ground. Each use by a policy session meets every
+/// In every history of a device, each use has a ground. Each use by a policy session meets every
 /// policy whose digest is the authPolicy of the used entity, along one branch at each
 /// TPM2_PolicyOR. Or the hash is broken, by texts of the policy and of the session.
 #[inline(always)]
@@ -283,12 +286,12 @@ pub fn auth_policy_laws()
 {}
 
 /// Since a device was manufactured, only policy sessions used an object without userWithAuth, and
-/// each use met its policy. With a policy of PCRs, the object was used only while they had the
-/// policy's values. If the policy asks for a PIN too, only someone who had the PIN used it. With
-/// a policy of a PIN or a recovery secret, only someone who had one of them used it. With a
-/// policy that compares a counter, it was used only after an accepted TPM2_PolicyNV. An NV index
-/// without AUTHWRITE whose policy is that it is not written was written only while it was not.
-/// All this holds, or the hash is broken.
+/// each use met the object's policy. With a policy of PCRs, the object was used only while the PCRs
+/// had the policy's values. If the policy also requires a PIN, only someone with the PIN used the
+/// object. With a policy of a PIN or a recovery secret, only someone with one of the two used it.
+/// With a policy that compares a counter, it was used only after an accepted TPM2_PolicyNV. An NV
+/// index without AUTHWRITE whose policy is that it is not written was written only while it was
+/// not. Each of these claims holds, or the hash is broken.
 #[inline(always)]
 pub fn policy_review_laws()
     ensures every { OfEachAccepted NeedsItsPolicy }

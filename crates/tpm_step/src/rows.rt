@@ -1,11 +1,11 @@
-//! Laws over the rows of all commands. Each is the contract of a function that does nothing. They
-//! say which part of the record a row's success touches, what its command's shape says of it,
-//! that sessions in use stay, and what is never refused. The step renews and ends sessions after
-//! a row; no row does. Through all of a step sessions keep their sizes.
+//! Laws about the rows of all commands. Each is the contract of a function that does nothing. They
+//! say which part of the record a success changes, what the command's shape determines, that
+//! sessions stay, and what no row refuses. A row neither renews nor ends a session; the step does
+//! so after the row. Sessions keep their sizes through the whole step.
 //!
-//! The laws are about the definitions of the step. All laws of a row are one record, proved once,
-//! so that theorems over histories open no row. Each law over all commands is a part of these
-//! records.
+//! The laws are about the definitions of the step. All laws of a row are one record, which is
+//! proved once, so that theorems about histories do not unfold the rows. Each law about all
+//! commands is a field of these records.
 
 ghost use Rattle.std.specs.Prelude.{◌≡◌, ◌≢◌, ℕ, ◌+◌, ◌*◌, ◌≤◌, Bool, IfOk, List, [], ◌∷◌, Ok, Option};
 ghost use Rattle.std.specs.Prelude.{IfErr, false, length, true};
@@ -49,7 +49,7 @@ ghost use Rattle.tpm_step.specs.rows.Sizes.{AreSized};
 
 use crate::event::Outcome;
 
-/// A success touches its command's part of the state, and nothing else.
+/// A success changes its command's part of the state, and nothing else.
 #[inline(always)]
 #[tactic(auto, using(crate::proofs::rows::Table::row_touches))]
 pub fn footprint_laws()
@@ -57,10 +57,10 @@ pub fn footprint_laws()
         → IfOk (row_of r c q) (λ s. Touches (part_of c) r s.after) }
 {}
 
-/// A success changes the NV indices only as the part that it touches says. An index is written or
-/// locked, a counter is incremented, an authorization value changes, or an index is defined or
-/// undefined. A startup and TPM2_Clear have their effects on all indices. Every other success
-/// leaves them as they were.
+/// A success changes the NV indices only as its command's part of the state allows. An index is
+/// written or locked, a counter is incremented, an authorization value changes, or an index is
+/// defined or undefined. A startup and TPM2_Clear have their effects on all indices. Every other
+/// success leaves the indices unchanged.
 #[inline(always)]
 #[tactic(auto, using(crate::proofs::rows::Table::row_changes))]
 pub fn index_change_laws()
@@ -68,8 +68,8 @@ pub fn index_change_laws()
         → IfOk (row_of r c q) (λ s. ChangesIndices (part_of c) q r.nv s.after.nv) }
 {}
 
-/// A success answers a handle, and a sized buffer as its first parameter, exactly if its
-/// command's shape says so.
+/// A success returns a handle exactly if its command's shape says so. The first parameter of its
+/// answer is a sized buffer exactly if the shape says so.
 #[inline(always)]
 #[tactic(auto, using(crate::proofs::rows::Table::row_answers))]
 pub fn answer_shape_laws()
@@ -77,9 +77,9 @@ pub fn answer_shape_laws()
         → IfOk (row_of r c q) (AnswersItsShape c) }
 {}
 
-/// A success of a command that grows takes one place more, and a success of any other command no
-/// more. The exception is TPM2_EvictControl, which may also remove an object: it takes one more
-/// or one less.
+/// The success of a command that grows takes one more slot. The success of any other command takes
+/// no more slots. The exception is TPM2_EvictControl, which may also remove an object: it takes or
+/// frees one slot.
 #[inline(always)]
 #[tactic(auto, using(crate::proofs::rows::Table::row_grows))]
 pub fn growth_laws()
@@ -87,8 +87,8 @@ pub fn growth_laws()
         → IfOk (row_of r c q) (λ s. GrowsAsShaped c r s.after) }
 {}
 
-/// If a row refuses no handle, it refuses parameters exactly if they are not of the kinds that
-/// its command's shape lists, and then with their first fault.
+/// If a row refuses no handle, it refuses parameters exactly if they are not of the kinds in its
+/// command's shape, and then with the first fault.
 #[inline(always)]
 #[tactic(auto, using(crate::proofs::rows::Table::row_reads))]
 pub fn parameter_laws()
@@ -96,7 +96,7 @@ pub fn parameter_laws()
         → ReadsParameters (spelled 1 (shape_of c).parameters q.parameters) (row_of r c q) }
 {}
 
-/// If a command may have sessions, every session is still there after its row.
+/// If a command may have sessions, every session still exists after its row.
 #[inline(always)]
 #[tactic(auto, using(crate::proofs::rows::Table::row_stays))]
 pub fn row_session_laws()
@@ -105,7 +105,7 @@ pub fn row_session_laws()
         → IfOk (row_of r c q) (λ s. SessionsStay r s.after) }
 {}
 
-/// If a command may have sessions, the session of each entry is still there after its row.
+/// If a command may have sessions, the session of each entry still exists after the command's row.
 #[inline(always)]
 #[tactic(auto, using(crate::proofs::rows::Accepted::accepted_has))]
 pub fn used_session_laws()
@@ -115,8 +115,8 @@ pub fn used_session_laws()
 {}
 
 /// A row reveals no secret unless its command reads one. On the device and on the device without
-/// its secrets the row refuses alike, or answers the same and leaves the same except for the
-/// secrets.
+/// its secrets, the row refuses with the same refusal, or returns the same answer and leaves the
+/// same record except for the secrets.
 #[inline(always)]
 #[tactic(auto, using(crate::proofs::rows::Table::row_tells))]
 pub fn row_secrecy_laws()
@@ -125,9 +125,9 @@ pub fn row_secrecy_laws()
         → Same s (row_of (without_secrets s r) c q) (row_of r c q) }
 {}
 
-/// A row refuses no handle if the handles fit the rules of its command's shape. The row is
-/// defined for any request, and so refuses a handle that is missing or names nothing; but no
-/// command leads to such a request.
+/// A row refuses no handle if the handles fit the rules of its command's shape. The row is defined
+/// for every request, and so it refuses a handle that is missing or names no entity; but no command
+/// leads to such a request.
 #[inline(always)]
 #[tactic(auto, using(crate::proofs::rows::Table::row_passes))]
 pub fn row_handle_laws()
@@ -135,8 +135,8 @@ pub fn row_handle_laws()
         → HandlesFit r (shape_of c).handles q.handles → Passes check.Handles (row_of r c q) }
 {}
 
-/// If handles fit rules, the first handle fits the first rule, and the second handle the second
-/// rule.
+/// If handles fit rules, the first handle fits the first rule, and the second handle fits the
+/// second rule.
 #[inline(always)]
 #[tactic(auto, using(crate::proofs::rows::HandleRules::first_fits, crate::proofs::rows::HandleRules::second_fits))]
 pub fn handle_place_laws()
@@ -156,8 +156,8 @@ pub fn handle_fit_laws()
         → IfOk (general r buffer) (λ c. HandlesFit r (shape_of c.code).handles c.handles) }
 {}
 
-/// If a command passes the general checks, neither the authorization nor the row refuses one of
-/// its handles.
+/// If a command passes the general checks, neither its authorization nor its row refuses one of its
+/// handles.
 #[inline(always)]
 #[tactic(auto, using(crate::proofs::rows::Handles::acceptance_passes))]
 pub fn later_handle_laws()
@@ -165,7 +165,7 @@ pub fn later_handle_laws()
         → general r buffer ≡ Ok c → Passes check.Handles (acceptance r c locality random) }
 {}
 
-/// If a command passes the general checks, the whole buffer encodes it. So one buffer decodes to
+/// If a command passes the general checks, the whole buffer encodes it. So a buffer decodes to only
 /// one command, whatever the record.
 #[inline(always)]
 #[tactic(auto, using(crate::proofs::Decoding::general_reads, crate::proofs::Decoding::one_command))]
@@ -183,8 +183,8 @@ pub fn row_memory_laws()
     ensures { (r : Record) (c : CommandCode) (q : Request) → Passes check.Memory (row_of r c q) }
 {}
 
-/// No step reports M if memory is not refused to it, and no execution if memory cannot be
-/// refused.
+/// No step reports check M if memory is not refused to it. No execution reports it if memory cannot
+/// be refused.
 #[inline(always)]
 #[tactic(auto, using(crate::proofs::rows::Memory::step_wants, crate::proofs::rows::Memory::execution_wants))]
 pub fn step_memory_laws()
@@ -194,8 +194,8 @@ pub fn step_memory_laws()
         → Executes false old event x → x.row.check ≢ check_number check.Memory }
 {}
 
-/// If the entries' own checks pass, the checks of the grants find the session of each entry that
-/// is not a password. They refuse entries that are not authorized, but none because its session
+/// If the entries' own checks pass, the checks of the grants find the session of each entry that is
+/// not a password. They may refuse an entry that is not authorized, but never because its session
 /// is missing.
 #[inline(always)]
 #[tactic(auto, using(crate::proofs::rows::Grants::grants_refuse))]
@@ -205,8 +205,8 @@ pub fn granted_session_laws()
         → RefusesAuthorization (grants_pass r c locality [] c.entries) }
 {}
 
-/// A successful authorization has a grant, or none, for each entry. The first entries are granted
-/// the handles that need authorization, in their order, and the others no handle.
+/// A successful authorization has one element for each entry, a grant or none. The first entries
+/// are granted the handles that need authorization, in order, and the other entries no handle.
 #[inline(always)]
 #[tactic(auto, using(crate::proofs::rows::Grants::grants_fit))]
 pub fn grant_laws()
@@ -214,8 +214,8 @@ pub fn grant_laws()
         → IfOk (authorize r c locality) (GrantsFit c) }
 {}
 
-/// An accepted command is due, its handles fit, its entries authorize what they are granted, and
-/// its row succeeds.
+/// The device is in the right mode for an accepted command. The command's handles fit, its entries
+/// have their grants, and its row succeeds.
 #[inline(always)]
 #[tactic(auto, using(crate::proofs::rows::Acceptance::accepted_is))]
 pub fn acceptance_laws()
@@ -223,7 +223,7 @@ pub fn acceptance_laws()
         → IfOk (accepted r buffer locality random) (IsAcceptance r locality random) }
 {}
 
-/// After a row the step changes only sessions, and what a shutdown saved.
+/// After a row, the step changes only sessions and the state that a shutdown saved.
 #[inline(always)]
 #[tactic(auto, using(crate::proofs::rows::Leaving::answered_only, crate::proofs::rows::Leaving::success_leaves))]
 pub fn effect_laws()
@@ -242,8 +242,8 @@ pub fn started_laws()
         → (success_step a random).after.fixed.started ≡ true }
 {}
 
-/// Only the authorization counts anything against dictionary attacks. Neither a general check nor
-/// a row does.
+/// Only the authorization counts anything against dictionary attacks. General checks and rows do
+/// not.
 #[inline(always)]
 #[tactic(auto, using(crate::proofs::rows::Table::row_plain, crate::proofs::rows::Uncounted::general_plain))]
 pub fn uncounted_laws()
@@ -253,8 +253,8 @@ pub fn uncounted_laws()
         → IfErr (general r buffer) (λ e. e.refused.counted ≡ counted.None) }
 {}
 
-/// All sessions of a manufactured device have their sizes, and so do those of a device after a
-/// power cycle. Neither has a session.
+/// All sessions of a manufactured device have their sizes, and so have those of a device after a
+/// power cycle. Neither device has a session.
 #[inline(always)]
 #[tactic(auto, using(crate::proofs::rows::SizedSteps::manufactured_sized, crate::proofs::rows::SizedSteps::cycled_sized))]
 pub fn new_device_size_laws()
@@ -262,9 +262,9 @@ pub fn new_device_size_laws()
     ensures cycled { (r : Record) → AreSized (cycled r) }
 {}
 
-/// A success draws no more of the event's 256 random bytes than a command may, and exactly as
-/// many as its command's code and parameters say. TPM2_Startup counts as 0 here: it has no
-/// entries, whose nonces would come after its draws.
+/// A success draws no more of the event's 256 random bytes than the limit, and exactly as many as
+/// the command's code and parameters say. TPM2_Startup counts as 0 here: it has no entries, and so
+/// no nonces are drawn after its own bytes.
 #[inline(always)]
 #[tactic(auto, using(crate::proofs::rows::Table::row_draws, crate::proofs::rows::Table::row_draws_so))]
 pub fn draw_laws()
@@ -285,7 +285,8 @@ pub fn row_size_laws()
 {}
 
 /// Sessions keep their sizes in the answer to a success, if there are enough random bytes for a
-/// nonce of each entry. The answer renews nonces, starts policies again and ends sessions.
+/// nonce of each entry. The answer renews nonces, returns policies to their start and ends
+/// sessions.
 #[inline(always)]
 pub fn answer_size_laws()
     ensures { (c : Whole) (grants : List (Option Grant)) (a : Written) (effect : Record)
@@ -293,8 +294,8 @@ pub fn answer_size_laws()
         → AreSized (answer_to c grants a effect random).after }
 {}
 
-/// Sessions keep their sizes in every event, whether memory is refused or not: 256 random bytes
-/// are enough for each command.
+/// Sessions keep their sizes in every event, whether memory is refused or not: 256 random bytes are
+/// enough for each command.
 #[inline(always)]
 pub fn step_size_laws()
     ensures { (refused : Bool) (r : Record) (event : PlainEvent)
@@ -315,7 +316,8 @@ pub fn run_size_laws<F: FnMut(&Outcome)>()
         → Runs F.FnMut can old p events new q → AreSized old → AreSized new }
 {}
 
-/// Whatever happens to a device since it was manufactured, its sessions have their sizes.
+/// The sessions of a device always have their sizes, whatever events happened since it was
+/// manufactured.
 #[inline(always)]
 pub fn history_size_laws()
     ensures { (random : List ℕ) (events : List PlainEvent)

@@ -1,6 +1,6 @@
--- How many of an event's random bytes a command draws for itself, by its code and its parameters.
--- The nonces of its entries are drawn after these. TPM 2.0 Library, Part 3, sections 11.1
--- (TPM2_StartAuthSession), 12.1 (TPM2_Create), 16.1 (TPM2_GetRandom) and 24.6 (TPM2_Clear).
+-- The number of an event's random bytes that a command itself draws, by its code and its
+-- parameters. The nonces of its entries are drawn after these. TPM 2.0 Library, Part 3, sections
+-- 11.1 (TPM2_StartAuthSession), 12.1 (TPM2_Create), 16.1 (TPM2_GetRandom) and 24.6 (TPM2_Clear).
 use Rattle.std.specs.Prelude.{ℕ, ◌≡◌, ◌≤◌, ◌+◌, ◌*◌, min, length, false, List, Result, Ok, Err}
 use Rattle.std.specs.Int.{w16}
 use Rattle.tpm_bytes.specs.Reading.{number_at, or_fault}
@@ -17,7 +17,7 @@ use Rattle.tpm_actions_device.specs.StartAuthSession.{parameters_in as session_p
 use Rattle.tpm_actions_object.specs.Creation.{parameters_in as creation_parameters}
 use Rattle.tpm_step.specs.General.{is_startup}
 
--- the count that parameters ask for, or 0 if they could not be read
+-- the count for these parameters, or 0 if they could not be read
 abbrev pub read_or_none : {P : Type 0} → (P → ℕ) → Result P Refused → ℕ
 read_or_none count (Ok p) = count p
 read_or_none count (Err e) = 0
@@ -27,11 +27,11 @@ abbrev pub bytes_requested : List ℕ → Result ℕ Refused
 bytes_requested parameters =
     only (or_fault (number_at w16 parameters) (plain code.Insufficient))
 
--- how many random bytes a command draws. TPM2_GetRandom draws the bytes that it answers, at most
--- 32; TPM2_StartAuthSession a nonceTPM of the size of nonceCaller; TPM2_Create a key and a
--- seedValue, and the 16 bytes of an initial vector; TPM2_Clear a seed and two proofs of 32 bytes.
--- TPM2_Startup may draw a seed and a proof. It counts as 0 here, since it has no entries, whose
--- nonces would come after these bytes
+-- the number of random bytes that a command draws. TPM2_GetRandom draws the bytes that it returns,
+-- at most 32. TPM2_StartAuthSession draws a nonceTPM of the size of nonceCaller. TPM2_Create draws
+-- a key and a seedValue, and the 16 bytes of an initial vector. TPM2_Clear draws a seed and two
+-- proofs of 32 bytes. TPM2_Startup may draw a seed and a proof. It counts as 0 here, since it has
+-- no entries, and so no nonces are drawn after these bytes
 abbrev pub draws_of : CommandCode → Request → ℕ
 draws_of command.GetRandom q =
     read_or_none (λ requested. min requested 32) (bytes_requested q.parameters)
@@ -43,7 +43,7 @@ draws_of command.Clear q = 3 * 32
 draws_of _ q = 0
 
 -- A success draws at most 96 of the event's 256 random bytes (the limit), and exactly `draws_of`
--- its command unless that is TPM2_Startup.
+-- unless the command is TPM2_Startup.
 abbrev pub DrawsAsSaid : CommandCode → Request → Success → Type 0
 DrawsAsSaid c q s =
     (s.answer.drawn ≤ draw_limit) × (is_startup c ≡ false → s.answer.drawn ≡ draws_of c q)

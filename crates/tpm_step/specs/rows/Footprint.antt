@@ -1,5 +1,5 @@
--- Which fields of a record a success may touch, if its command changes one part of the device's
--- state.
+-- The fields of a record that the success of a command may change, by the part of the device's
+-- state that the command touches.
 use Rattle.std.specs.Prelude.{◌≡◌, ◌⊎◌, ◌+◌, []}
 use Rattle.tpm_types.specs.declared.handle.HierarchyHandle.{HierarchyHandle}
 use Rattle.tpm_actions_device.specs.Clear.{cleared_lockout}
@@ -19,9 +19,9 @@ use Rattle.tpm_commands.specs.Part.{Beginning, Saved, DisableClear, Cleared}
 abbrev pub KeepsSecrets : Hierarchies → Hierarchies → Type 0
 KeepsSecrets old new = (h : HierarchyHandle) → secrets_of new h ≡ secrets_of old h
 
--- the fixed part f, with the fields that a startup sets as they are after it: whether the device
--- is started, the counts, platformAuth and the null hierarchy, whether lockoutAuth is closed, and
--- the PCRs, of which no update is counted yet
+-- the fixed part f after a startup. The fields that a startup sets are taken from the second
+-- argument: whether the device is started, the counts, platformAuth and the null hierarchy, whether
+-- lockoutAuth is disabled, and the PCRs. No PCR update is counted yet
 abbrev pub begun : Fixed → Fixed → Fixed
 begun f after = record f {
   started = after.started;
@@ -39,13 +39,14 @@ begun f after = record f {
   restart_count = after.restart_count;
 }
 
--- A startup has its effect on all NV indices, or on none.
+-- A startup has its effect on all NV indices, or changes none.
 abbrev pub StartsNv : NvContents → NvContents → Type 0
 StartsNv old new = (new ≡ old) ⊎ (new ≡ started old)
 
--- the fixed part f as TPM2_Clear leaves it. The owner's new seed and proof, and the endorsement
--- hierarchy's new proof, are as they are after it. No authorization value is set except
--- platformAuth. Lockout is cleared, the PCRs count an update, and Clock and the counts begin at 0
+-- the fixed part f after TPM2_Clear. The owner's new seed and proof, and the endorsement
+-- hierarchy's new proof, are taken from the second argument. All authorization values are empty
+-- except platformAuth. The failed tries are cleared, the PCRs count an update, and Clock and the
+-- counts begin at 0
 abbrev pub emptied : Fixed → Fixed → Fixed
 emptied f after = record f {
   hierarchies = record f.hierarchies {
@@ -65,7 +66,7 @@ emptied f after = record f {
   restart_count = 0;
 }
 
--- The new record differs from the old one in this part of the device's state alone.
+-- The new record differs from the old one only in this part of the device's state.
 abbrev pub Touches : Part → Record → Record → Type 0
 Touches Nothing old new = new ≡ old
 Touches Sessions old new = new ≡ record old { sessions = new.sessions }

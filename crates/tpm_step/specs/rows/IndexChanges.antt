@@ -22,13 +22,13 @@ use Rattle.tpm_commands.specs.Part.{Cleared}
 abbrev pub IsCounter : NvIndex → Type 0
 IsCounter index = index_type index.public.attributes ≡ Some type.Counter
 
--- the value of a counter, which it has from its first increment
+-- the value of a counter, if it was incremented since its definition
 abbrev pub stored_count : NvIndex → Option ℕ
 stored_count index =
     if index_has index attribute.Written then Some (from_be_bytes w64 index.bytes) else None
 
--- If the index is a counter after the change, it was one before, with the same value, and
--- TPMA_NV_CLEAR_STCLEAR is as it was.
+-- If the index is a counter after the change, it was one before, with the same value and the same
+-- TPMA_NV_CLEAR_STCLEAR.
 abbrev pub KeepsCount : NvIndex → NvIndex → Type 0
 KeepsCount old new =
     IsCounter new
@@ -36,8 +36,8 @@ KeepsCount old new =
     × (stored_count new ≡ stored_count old)
     × (index_has new attribute.ClearStClear ≡ index_has old attribute.ClearStClear)
 
--- An index is locked, or an index that is not a counter is written. The index keeps its value as
--- a counter, and its authorization value.
+-- One index changes, which is locked, or is no counter and is written. It keeps its value as a
+-- counter, and its authorization value.
 pub record Writes (old new : NvContents) : Type 0 where
   pub handle : Handle
   pub before : NvIndex
@@ -53,7 +53,7 @@ pub record Increments (q : Request) (old new : NvContents) : Type 0 where
   pub named : second_handle q.handles ≡ Ok handle
   pub is : incremented old handle ≡ Ok new
 
--- The authorization value of an index changes, and nothing else.
+-- The authorization value of one index changes, and nothing else.
 pub record ChangesAuth (old new : NvContents) : Type 0 where
   pub handle : Handle
   pub index : NvIndex
@@ -61,14 +61,14 @@ pub record ChangesAuth (old new : NvContents) : Type 0 where
   pub found : index_at old handle ≡ Some index
   pub is : new ≡ changed_index old handle (record index { auth_value = value })
 
--- None of the attributes of a new index is wrong, if the platform (true) or the owner (false)
--- defines it.
+-- A new index has no wrong attribute, given that the platform (true) or the owner (false) defines
+-- it.
 abbrev pub HasNoConflict : (by_platform : Bool) → NvPublic → Type 0
 HasNoConflict by_platform p =
     list_any (λ wrong. wrong) (index_attribute_conflicts by_platform p.attributes) ≡ false
 
--- The index that the parameters define is added at a handle that had none, and none of its
--- attributes is wrong.
+-- The index that the parameters define is added at a handle that had none, and it has no wrong
+-- attribute.
 pub record Defines (q : Request) (old new : NvContents) : Type 0 where
   pub by_platform : Bool
   pub parameters : Parameters
@@ -85,8 +85,7 @@ pub record Undefines (q : Request) (old new : NvContents) : Type 0 where
   pub named : second_handle q.handles ≡ Ok handle
   pub is : new ≡ without_index old handle
 
--- how a success changes the NV indices if it touches this part; other successes leave them as
--- they were
+-- how a success changes the NV indices if it touches this part; other successes do not change them
 abbrev pub ChangesIndices : Part → Request → NvContents → NvContents → Type 0
 ChangesIndices NvData q = Writes
 ChangesIndices NvCounter q = Increments q

@@ -1,4 +1,4 @@
--- The order of a row's refusals, and what they count.
+-- The order of a row's refusals, and what the refusals count.
 use Rattle.std.specs.Prelude.{◌≡◌, ◌⊎◌, ℕ, List, Result, Ok, Err, IfErr}
 use Rattle.tpm_types.specs.declared.check.Check.{Check}
 use Rattle.tpm_types.specs.declared.check.Check.TheVariants as check
@@ -11,19 +11,19 @@ use Rattle.tpm_record.specs.Record.{Record}
 use Rattle.tpm_step.specs.rows.Handles.{HandlesFit}
 use Rattle.tpm_step.specs.rows.Shapes.{spelled}
 
--- The check comes after the row's parameters: it is one of the command's own, or the check of
--- handles if the handles do not fit.
+-- The check comes after the row's parameters. It is one of the command's own checks, or the check
+-- of handles if the handles do not fit.
 abbrev pub IsLate : Type 0 → Check → Type 0
 IsLate Fit (check.Action own) = Unit {0}
 IsLate Fit check.Handles = Fit → ⊥
 IsLate Fit _ = ⊥
 
--- If the row refuses, a late check refuses.
+-- If the row refuses, a late check refused.
 abbrev pub Late : {X : Type 0} → Type 0 → Result X Refused → Type 0
 Late Fit row = IfErr row (λ e. IsLate Fit e.check)
 
--- The refusal is in its place. A handle is refused first, unless the handles fit. The first fault
--- of the parameters comes next, then a late check, if the parameters were read.
+-- The refusal comes in the right order. A handle is refused first, unless the handles fit. The
+-- first fault of the parameters comes next. A late check comes last, if the parameters were read.
 abbrev pub IsInPlace : Type 0 → Result (Unit {0}) Refused → Refused → Type 0
 IsInPlace Fit spelling e =
     ((e.check ≡ check.Handles) × (Fit → ⊥))
@@ -34,8 +34,8 @@ abbrev pub InOrder : {X : Type 0} → Type 0 → Result (Unit {0}) Refused → R
 InOrder Fit spelling (Ok x) = spelling ≡ Ok tt
 InOrder Fit spelling (Err e) = IsInPlace Fit spelling e
 
--- The row of a command with these rules and these kinds of parameters in its shape refuses in
--- order. So does the rest of the row after some of its steps.
+-- The row of a command with these handle rules and these kinds of parameters refuses in order. The
+-- rest of a row after some of its steps satisfies the same.
 pub record Orders {X : Type 0} (r : Record) (rules : List HandleRule) (handles : List Handle)
     (kinds : List ParameterKind) (text : List ℕ) (row : Result X Refused) : Type 0 where
   pub order : InOrder (HandlesFit r rules handles) (spelled 1 kinds text) row

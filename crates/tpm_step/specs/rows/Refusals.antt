@@ -1,4 +1,4 @@
--- Which checks refuse something, and which do not.
+-- Checks that refuse something, and checks that do not.
 use Rattle.std.specs.Prelude.{◌≡◌, ◌≢◌, ◌⊎◌, IfErr, Result}
 use Rattle.tpm_types.specs.declared.check.Check.{Check}
 use Rattle.tpm_types.specs.declared.check.Check.TheVariants as check
@@ -8,8 +8,8 @@ use Rattle.tpm_types.specs.declared.refused.Refused.{Refused}
 abbrev pub Passes : {X : Type 0} → Check → Result X Refused → Type 0
 Passes check result = IfErr result (λ e. e.check ≢ check)
 
--- If there is a refusal, it is by one of two checks: of the entries that authorize the handles
--- (G9), or of the other entries (G10).
+-- If there is a refusal, it is by the check of the entries that authorize the handles (G9), or by
+-- the check of the other entries (G10).
 abbrev pub RefusesAuthorization : {X : Type 0} → Result X Refused → Type 0
 RefusesAuthorization result =
     IfErr result (λ e. (e.check ≡ check.Authorization) ⊎ (e.check ≡ check.Others))

@@ -1,4 +1,4 @@
--- All laws on the row of a command, as one record.
+-- All laws about the row of a command, as one record.
 use Rattle.std.specs.Prelude.{◌≡◌, ◌≤◌, false, length, Result, IfOk}
 use Rattle.tpm_types.specs.declared.refused.Refused.{Refused}
 use Rattle.tpm_commands.specs.CommandCode.{part_of, shape_of}
@@ -17,10 +17,10 @@ use Rattle.tpm_step.specs.rows.Sessions.{SessionsStay}
 use Rattle.tpm_step.specs.rows.Shapes.{AnswersItsShape, GrowsAsShaped}
 use Rattle.tpm_step.specs.rows.Sizes.{AreSized}
 
--- A success touches only its command's part of the state, and changes the NV indices as that part
--- says. Its growth and its answer are those of the command's shape. It draws as many random bytes
--- as its command's definition says. If the command may have sessions, all of them stay and keep
--- their sizes.
+-- A success changes only its command's part of the state, and changes the NV indices as that part
+-- allows. It takes slots and returns values as the command's shape says. It draws as many random
+-- bytes as `draws_of` says. If the command may have sessions, all sessions still exist. Sessions
+-- keep their sizes.
 pub record SuccessLaws (c : CommandCode) (r : Record) (q : Request) (s : Success) : Type 0 where
   pub touches : Touches (part_of c) r s.after
   pub changes : ChangesIndices (part_of c) q r.nv s.after.nv
@@ -30,9 +30,9 @@ pub record SuccessLaws (c : CommandCode) (r : Record) (q : Request) (s : Success
   pub stays : (shape_of c).forbids_sessions ≡ false → SessionsStay r s.after
   pub sized : 32 ≤ length q.random → AreSized r → AreSized s.after
 
--- Each success of the row has these laws. Its refusals come in order, and count nothing against
--- dictionary attacks. Unless the command reads something secret, the row has the same result on
--- the device and on the device without its secrets.
+-- Each success of the row satisfies these laws. Its refusals come in order, and count nothing
+-- against dictionary attacks. Unless the command reads a secret, the row has the same result on the
+-- device and on the device without its secrets.
 pub record RowLaws (c : CommandCode) (row : Record → Request → Result Success Refused)
     : Type 0 where
   pub success : (r : Record) (q : Request) → IfOk (row r q) (SuccessLaws c r q)

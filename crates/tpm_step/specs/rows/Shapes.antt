@@ -1,4 +1,4 @@
--- What a command's shape says of its success, its growth and its parameters.
+-- How a command's shape determines the answer of its success, its growth and its parameters.
 use Rattle.std.specs.Prelude.{◌≡◌, ◌≤◌, ◌⊎◌, ℕ, ◌+◌, Bool, true, false, List, [], ◌∷◌, length, is_some, Result, Ok, Err}
 use Rattle.std.specs.Int.{w8, w16, w32, w64}
 use Rattle.tpm_bytes.specs.Reading.{◌>>=◌, number_at, or_fault}
@@ -33,36 +33,36 @@ use Rattle.tpm_record.specs.rows.Answer.{begins_sized}
 use Rattle.tpm_record.specs.rows.Rows.{Success, all_read, parameter}
 use Rattle.tpm_step.specs.rows.Refusals.{Passes}
 
--- A success has a handle, and a sized buffer as the first parameter of its answer, exactly if the
--- command's shape says so.
+-- A success returns a handle exactly if the command's shape says so. The first parameter of its
+-- answer is a sized buffer exactly if the shape says so.
 abbrev pub AnswersItsShape : CommandCode → Success → Type 0
 AnswersItsShape c s =
     (is_some s.answer.handle ≡ (shape_of c).answers_handle)
     × (begins_sized s.answer.body ≡ (shape_of c).sized_answer)
 
--- how many places of a record are taken: by sessions, by transient and persistent objects, and by
--- NV indices
+-- the number of slots and entries of a record that are taken, by sessions, by transient and
+-- persistent objects, and by NV indices
 abbrev pub taken_in : Record → ℕ
 taken_in r =
     taken_count r.sessions + taken_count r.objects + length r.persistent + length r.nv.indices
 
--- One more place is taken if the command grows something; otherwise no more places are taken.
+-- If the command grows something, one more slot is taken, and otherwise no more slots are taken.
 abbrev pub Grows : Bool → Record → Record → Type 0
 Grows true old new = taken_in new ≡ taken_in old + 1
 Grows false old new = taken_in new ≤ taken_in old
 
--- A success of TPM2_EvictControl takes or frees one place. A success of any other command takes
--- one more exactly if its shape says that it grows.
+-- A success of TPM2_EvictControl takes or frees one slot. A success of any other command takes one
+-- more slot exactly if its shape says that it grows.
 abbrev pub GrowsAsShaped : CommandCode → Record → Record → Type 0
 GrowsAsShaped command.EvictControl old new = Grows true old new ⊎ Grows true new old
 GrowsAsShaped c old new = Grows (shape_of c).grows old new
 
--- the rest of the text after a parameter that was read, or the parameter's fault
+-- the rest of the bytes after a parameter that was read, or the parameter's fault
 abbrev pub behind : {X : Type 0} → Result (X × List ℕ) Rc → Result (List ℕ) Rc
 behind (Ok p) = Ok p.1
 behind (Err rc) = Err rc
 
--- the rest of the text after a parameter of this kind, or the parameter's fault
+-- the rest of the bytes after a parameter of this kind, or the parameter's fault
 abbrev pub behind_kind : ParameterKind → List ℕ → Result (List ℕ) Rc
 behind_kind kind.StartupType text = behind (startup_type_at text)
 behind_kind kind.SessionType text = behind (session_type_at text)
@@ -84,8 +84,8 @@ behind_kind kind.Operation text = behind (operation_at text)
 behind_kind kind.YesNo text = behind (yes_no_at text)
 behind_kind kind.PersistentHandle text = behind (persistent_handle_at text)
 
--- whether the text has parameters of these kinds, the first with this number, and nothing after
--- them; or the first fault
+-- success if the bytes are parameters of these kinds, the first with this number, and nothing after
+-- them; otherwise the first fault
 abbrev pub spelled : ℕ → List ParameterKind → List ℕ → Result (Unit {0}) Refused
 spelled n [] text = all_read text
 spelled n (kind ∷ kinds) text = do
@@ -97,8 +97,8 @@ abbrev pub ParametersFail : {X : Type 0} → Refused → Result X Refused → Ty
 ParametersFail fault (Ok s) = ⊥
 ParametersFail fault (Err e) = (e ≡ fault) ⊎ (e.check ≡ check.Handles)
 
--- The row refuses the parameters exactly if they are not of their kinds, and then with the first
--- fault.
+-- The row refuses the parameters exactly if they are not of their kinds, and then it refuses with
+-- the first fault.
 abbrev pub ReadsParameters : {X : Type 0} → Result (Unit {0}) Refused → Result X Refused → Type 0
 ReadsParameters (Ok done) row = Passes check.Parameters row
 ReadsParameters (Err fault) row = ParametersFail fault row

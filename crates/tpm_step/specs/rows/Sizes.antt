@@ -1,4 +1,4 @@
--- The sizes of a session's parts, which follow from how sessions are made. In the code, the type
+-- The sizes of a session's fields, which follow from how sessions are made. In the code, the type
 -- of a session guarantees them (`IsSession`).
 use Rattle.std.specs.Prelude.{◌≡◌, ◌⊎◌, true, [], length}
 use Rattle.tpm_mac.specs.Digest.{digest_size}
