@@ -1,4 +1,5 @@
--- What an assertion of a policy session, as the history has it, found when it was accepted.
+-- An assertion that the history records met its condition on the policy session when it was
+-- accepted.
 use Rattle.std.proofs.Common.{◌≡◌, ◌<◌, ◌^◌, ◌+◌, ℕ, arith, Bool, true, false, cond, List, [], ◌∷◌, length, Option, Some, None, Result, Ok, Err, IfOk, IfSome, refl, ap, sym, subst, ◌∙◌}
 use Rattle.std.specs.Prelude.{not, nat_lt, is_some, ◌==◌, ◌&&◌}
 use Rattle.std.specs.Int.{w8, w32}
@@ -58,13 +59,13 @@ use Rattle.tpm_step.specs.View.{name_in}
 use Rattle.tpm_step.proofs.Asserted.{policy_passed}
 use Rattle.tpm_step.proofs.UseGrounds.{recorded_hash, recorded_is, recorded_written}
 
--- ---- what an assertion finds in a policy
+-- ---- the condition of an assertion on a policy
 
 both_hold : (b c : Bool) → (b && c) ≡ false → b ≡ true → c ≡ false
 both_hold true c none holds = none
 both_hold false c none holds = absurd cc
 
--- the number of a served command has 32 bits
+-- the number of a supported command has 32 bits
 served_small : (number : ℕ) → is_served number ≡ true → number < 2 ^ 32
 served_small number served = by (code_named number) (code_named-number number) served
   where
@@ -131,13 +132,13 @@ offset_small r target p are =
     ok_bind _ (reading_passes target) _ (λ u.
     faulted p.offset (plain_fault action.Fourth code.NvRange) (read_at r.nv target.handle p.offset (length p.operand)) (read_small r.nv target.handle p.offset (length p.operand) are))
 
--- ---- what a history says of an assertion
+-- ---- the history's version of an assertion
 
 module _ (r : Record) (c : AcceptedCommand) (history : History) (are : AreIndices r.nv.indices) where
   abbrev q : Request
   q = c.request
 
-  -- The assertion in the history found the same as the one that the device made.
+  -- If the device's assertion meets its condition, so does the history's version of it.
   abbrev Agrees : Code → (Session → Assertion) → Type 0
   Agrees code made =
       (s : Session) (told : Assertion) → assertion_by code c history s.hash s.nonce_tpm ≡ Ok told
@@ -149,7 +150,7 @@ module _ (r : Record) (c : AcceptedCommand) (history : History) (are : AreIndice
       let one : tell s x ≡ told = ok_is {E = Refused} (tell s x) told (sym (tells s ∙ ap (λ (y : Result X Refused). y >>= λ x. let it : Result Assertion Refused = Ok (tell s x) in it) found) ∙ is) in
       subst (λ (b : Assertion). Finds b p × HasWidths s.hash b) one (same s x p holds))
 
-  -- The assertion in the history does not depend on what the device found.
+  -- The history's version of this command's assertion meets its condition on every policy.
   abbrev TellsPlainly : Code → Type 0
   TellsPlainly code = (s : Session) → IfOk (assertion_by code c history s.hash s.nonce_tpm) (λ told. (p : Policy) → Finds told p × HasWidths s.hash told)
 
@@ -180,10 +181,10 @@ module _ (r : Record) (c : AcceptedCommand) (history : History) (are : AreIndice
       by_reading NvParameters command.PolicyNv (nv_parameters q.parameters) (λ s x. assertion.Nv (nv_parts_of r target x)) (λ s x. nv_told x) (λ s. refl) (λ s x p holds. nv_same target s x p holds))
   agrees _ = tt
 
-  -- ---- the assertion of a row
+  -- ---- the assertion of an accepted command
 
-  -- On a policy session that is no trial session, an accepted command found what its assertion in
-  -- the history needs.
+  -- If an accepted command makes an assertion on a policy session that is no trial session, the
+  -- history's version of the assertion meets its condition on the session's policy.
   abbrev pub FindsItsOwn : Code → Type 0
   FindsItsOwn code =
       (handle : Handle) (s : Session) (told : Assertion) → session_handle code q.handles ≡ Ok handle

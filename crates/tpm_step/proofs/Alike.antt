@@ -1,4 +1,5 @@
--- If two devices follow one history, and show the same of each handle, they authorize alike.
+-- If two devices follow one history and show the same views of each handle, they authorize the
+-- same.
 use Rattle.std.proofs.Common.{◌≡◌, Bool, true, false, [], Option, Some, None, option_map, refl, ap, sym, subst, ◌∙◌}
 use Rattle.std.specs.Option.{option_map_or}
 use Rattle.tpm_session.specs.Sessions.{session_at}
@@ -24,7 +25,7 @@ use Rattle.tpm_step.proofs.Views.{views_tell}
 use Rattle.tpm_step.specs.Alike.{AuthorizeAlike}
 use Rattle.tpm_step.proofs.AuthorizeAlike.{authorize_same}
 
--- the history determines every part of a device's session
+-- A step: the history determines every field of a device's session.
 unbound : Bound → Binding
 unbound b = record { name = b.name; auth_value = b.auth_value; protection = b.protection }
 
@@ -81,7 +82,7 @@ other_value : (r : Record) (handle : Handle) → is_kept (entity_at r handle) �
 unfolding auth_value_of
 other_value r handle none = permanent_value r handle (entity_at r handle) none
 
--- a hierarchy, or lockout, shows its authorization value
+-- the authorization value of a hierarchy or of lockout is the one at its handle
 hierarchy_seen : (r : Record) (a : HierarchyAuth) → auth_seen r (auth_handle a) ≡ Some (permanent_auth_value r (auth_handle a))
 hierarchy_seen r auth.Owner = refl
 hierarchy_seen r _ = refl
@@ -113,7 +114,7 @@ module _ (one other : Record) (history : History) (ones : HasAuthValues one hist
           ∙ sym (others h (auth_value_of other h) (kept_seen other h (sym kept ∙ is)))
       by false is = other_value one h is ∙ permanent_same h ∙ sym (other_value other h (sym kept ∙ is))
 
--- ---- two devices of one history
+-- ---- two devices with one history
 
 pub authorize_alike : AuthorizeAlike
 authorize_alike one other history alike c locality =

@@ -54,20 +54,20 @@ second_name r [] handle is = absurd cc
 second_name r (first ∷ []) handle is = absurd cc
 second_name r (first ∷ second ∷ handles) handle is = view_named r second ∙ ap (name_of r) (ok_is {E = Refused} second handle is)
 
--- ---- what a command asserts
+-- ---- the assertion of a command
 
 -- Two assertions change every policy in the same way.
 abbrev MakesAs : HashAlg → Assertion → Assertion → Type 0
 MakesAs hash one other = (trial : Bool) (policy : Policy) → policy_with hash trial one policy ≡ policy_with hash trial other policy
 
--- The history has an assertion for a command on this session, which changes every policy as the
+-- For a command on this session, the history has an assertion, which changes every policy as the
 -- device's assertion does.
 pub record Tells (c : AcceptedCommand) (history : History) (code : Code) (s : Session) (a : Assertion) : Type 0 where
   pub told : Assertion
   pub is : assertion_by code c history s.hash s.nonce_tpm ≡ Ok told
   pub makes : MakesAs s.hash a told
 
--- The history has an assertion for a command on every session, which changes every policy as the
+-- For a command on any session, the history has an assertion, which changes every policy as the
 -- device's assertion does.
 abbrev pub IsAsserted : AcceptedCommand → History → Code → (Session → Assertion) → Type 0
 IsAsserted c history code assertion = (s : Session) → Tells c history code s (assertion s)
@@ -89,7 +89,7 @@ module _ (r : Record) (c : AcceptedCommand) (history : History) (viewed : c.view
         makes = λ trial policy. ap (λ (parts : PcrParts). policy_with s.hash trial (Pcr parts) policy) (pcr_same p s);
       })
 
-  -- an assertion that depends on the command's parameters alone
+  -- an assertion that depends only on the command's parameters
   by_reading : (X : Type 0) (code : Code) (read : Result X Refused) (make : X → Assertion) → ((s : Session) → assertion_by code c history s.hash s.nonce_tpm ≡ (read >>= λ x. Ok (make x))) → IfOk (read >>= λ x. Ok (λ (s : Session). make x)) (IsAsserted c history code)
   by_reading X code read make told =
       ok_bind_is _ read _ (λ x found. λ s. record {

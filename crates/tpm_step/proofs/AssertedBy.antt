@@ -1,4 +1,5 @@
--- An accepted command made each assertion of a session, and the session has had it since then.
+-- Each assertion of a session was made by an accepted command, and the session has had it since
+-- then.
 use Rattle.std.proofs.Common.{◌≡◌, ◌⊎◌, ◌≤◌, ℕ, arith, List, [], ◌∷◌, append_assoc, length, take, Some, Result, Ok, Err, slice_get, refl, ap, sym, subst, ◌∙◌, inl, inr}
 use Rattle.tpm_policy.specs.Assertion.{Assertion}
 use Rattle.tpm_policy_meaning.specs.Asserted.{IsAmong}
@@ -44,7 +45,7 @@ first_authorized history c session either names asks grounds =
 
 -- ---- after one more event
 
--- An accepted command made this assertion, on known grounds.
+-- An accepted command made this assertion, and each of its uses has a ground.
 pub record HasOrigin (history : History) (handle : Handle) (one : Assertion) : Type 0 where
   pub asserted : IsAssertedBy history handle one
   pub grounds : UsesHaveGrounds asserted.before asserted.command
@@ -69,7 +70,7 @@ later_origin event history handle one stands origin =
       asks = origin.asks;
     }
 
--- Accepted commands made all assertions of this session, on known grounds.
+-- Accepted commands made all assertions of this session, and each of their uses has a ground.
 abbrev pub HaveOrigins : History → Handle → LiveSession → Type 0
 HaveOrigins history handle s = (one : Assertion) → IsAmong one s.assertions → HasOrigin history handle one
 
@@ -80,7 +81,7 @@ module _ (c : AcceptedCommand) (history : History) (handle : Handle) (new : Live
   later : (one : Assertion) → IsAmong one new.assertions → HasOrigin history handle one → Origin one
   later one among origin = later_origin (Done c) history handle one (new, lives, among) origin
 
-  -- the accepted command makes the assertion itself
+  -- A step: if the command itself makes the assertion, the assertion has an origin.
   itself : (old : LiveSession) (one : Assertion) → sessions_of history handle ≡ Some old → session_handle c.command.code c.request.handles ≡ Ok handle → assertion_by c.command.code c history old.hash old.nonce_tpm ≡ Ok one → IsAmong one new.assertions → Origin one
   itself old one lived names asserts among = record {
     asserted = record {

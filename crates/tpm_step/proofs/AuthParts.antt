@@ -1,4 +1,4 @@
--- Which authorization values a record shows after one of its parts changed.
+-- The authorization values of a record after one of its parts changed.
 use Rattle.std.proofs.Common.{arith, ◌≡◌, ◌≢◌, ◌⊎◌, ℕ, Bool, true, false, cond, List, [], Option, Some, None, option_map, ◌==◌, refl, sym, ap, ◌∙◌, inl, inr}
 use Rattle.std.specs.Option.{option_map_or}
 use Rattle.std.proofs.lemmas.Bool.{cases_eq, cond-false, cond-true, eq-eqb, eqb-true, ne_eqb}
@@ -23,16 +23,16 @@ use Rattle.tpm_step.specs.DeviceAuthValues.{HaveValues, auth_seen, index_auth, o
 use Rattle.tpm_step.specs.HandleMap.{with_at}
 use Rattle.tpm_step.proofs.HandleMap.{same_handle}
 
--- ---- values that stay
+-- ---- values that do not change
 
--- A value that is seen now was also seen before.
+-- If there is a value now, it is the value from before.
 abbrev pub Kept : (old new : Option (List ℕ)) → Type 0
 Kept old new = (value : List ℕ) → new ≡ Some value → old ≡ Some value
 
 pub same_kept : {old new : Option (List ℕ)} → new ≡ old → Kept old new
 same_kept same value is = sym same ∙ is
 
--- what is as before, or is gone, shows no other value
+-- an entity that is unchanged or was removed has no new value
 found_kept : {X : Type 0} (shown : X → List ℕ) (old new : Option X) → (new ≡ old) ⊎ (new ≡ None) → Kept (option_map shown old) (option_map shown new)
 found_kept shown old new (inl same) = same_kept (ap (option_map shown) same)
 found_kept shown old new (inr gone) = λ value is. absurd (none-some value (sym (ap (option_map shown) gone) ∙ is))
@@ -43,14 +43,14 @@ index_kept old new found = found_kept (λ (index : NvIndex). index.auth_value) o
 pub object_kept : (old new : Option Object) → (new ≡ old) ⊎ (new ≡ None) → Kept (object_auth old) (object_auth new)
 object_kept old new found = found_kept (λ (object : Object). object.auth_value) old new found
 
--- If a value of this handle is seen now, it was also seen before; and so for every handle.
+-- If this handle has a value now, it is the value from before.
 abbrev pub Keeps : (old new : Record) → Handle → Type 0
 Keeps old new handle = Kept (auth_seen old handle) (auth_seen new handle)
 
 abbrev pub KeepsAll : (old new : Record) → Type 0
 KeepsAll old new = (handle : Handle) → Keeps old new handle
 
--- only the part of the record that the handle's type names has to be compared
+-- only the part of the record that the handle's type selects has to be compared
 pub parts_keep : (old new : Record) (h : Handle) → Kept (index_auth (index_at old.nv h)) (index_auth (index_at new.nv h)) → Kept (object_auth (persistent_at old.persistent h)) (object_auth (persistent_at new.persistent h)) → Kept (object_auth (object_at old.objects h)) (object_auth (object_at new.objects h)) → permanent_auth_value new h ≡ permanent_auth_value old h → Keeps old new h
 parts_keep old new h index persistent transient permanent = by (is_nv_index h) (is_persistent h) (is_transient h)
   where
@@ -63,9 +63,9 @@ parts_keep old new h index persistent transient permanent = by (is_nv_index h) (
 pub kept_values : (old new : Record) (values : AuthValues) → KeepsAll old new → HaveValues old values → HaveValues new values
 kept_values old new values keeps have h value is = have h value (keeps h value is)
 
--- ---- values that are set
+-- ---- new values
 
--- This handle shows this value, and what others show was also seen before.
+-- This handle has this value, and each other handle with a value has its value from before.
 pub record Sets (handle : Handle) (value : List ℕ) (old new : Record) : Type 0 where
   pub here : auth_seen new handle ≡ Some value
   pub others : (h : Handle) → h.number ≢ handle.number → Keeps old new h
@@ -98,7 +98,7 @@ transient_seen r h is =
     ∙ cond-false (is_persistent h) _ _ (other_type 0x80 0x81 h is refl)
     ∙ cond-true (is_transient h) _ _ is
 
--- ---- another index or object under a handle
+-- ---- another index or object at a handle
 
 pub index_set : (r : Record) (nv : NvContents) (handle : Handle) (index : NvIndex) → is_nv_index handle ≡ true → index_at nv handle ≡ Some index → ((n : ℕ) → n ≢ handle.number → at_key nv.indices n ≡ at_key r.nv.indices n) → Sets handle index.auth_value r (record r { nv = nv })
 index_set r nv handle index named found others = record {
@@ -121,7 +121,7 @@ object_set r objects handle object named found others = record {
 
 -- ---- hierarchies
 
--- the handle of an authorization value, which no other handle names
+-- the handle of an authorization value; no two authorization values have the same handle
 abbrev pub auth_handle : HierarchyAuth → Handle
 auth_handle auth.Owner = owner_handle
 auth_handle auth.Lockout = lockout_handle
@@ -131,7 +131,7 @@ auth_handle auth.Platform = platform_handle
 pub named_is : (h : Handle) (a : HierarchyAuth) → hierarchy_auth_of h ≡ Some a → h ≡ auth_handle a
 named_is h a is = let same : h.number ≡ (auth_handle a).number = grind (arith, nat_tests) in same_handle h (auth_handle a) same
 
--- a record whose hierarchy, or lockout, has another authorization value
+-- the record with another authorization value of a hierarchy or of lockout
 abbrev pub with_auth : Record → HierarchyAuth → List ℕ → Record
 with_auth r a value = record r { fixed = record r.fixed { hierarchies = with_hierarchy_auth r.fixed.hierarchies a value } }
 

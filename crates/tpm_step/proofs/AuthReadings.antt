@@ -18,7 +18,7 @@ use Rattle.tpm_record.specs.rows.Rows.{all_read, only, parameter}
 use Rattle.tpm_nvactions.specs.NvDefineSpace as definition
 use Rattle.tpm_step.proofs.Binding.{asked, ok_bind, ok_bind_is, ok_then}
 
--- ---- steps that pass on what was read
+-- ---- steps that pass on a parameter that was read
 
 pub parameter_then : {X B : Type 0} (P : X → Type 0) (Q : B → Type 0) (n : ℕ) (x : Result X Rc) (f : X → Result B Refused) → IfOk x P → ((a : X) → P a → IfOk (f a) Q) → IfOk (parameter n x >>= f) Q
 parameter_then P Q n (Ok a) f holds next = next a holds
@@ -69,7 +69,8 @@ pub wanted_named : (text : List ℕ) → IfOk (only (persistent_handle_at text))
 unfolding persistent_handle_at
 wanted_named text = search (rules, only_holds, ok_bind, ok_bind_is, asked)
 
--- The parameters of a definition: the value does not end in a zero, and the handle is an index's.
+-- In the parameters of a definition, the value does not end in a zero, and the handle is that of an
+-- index.
 pub record IsDefinition (p : definition.Parameters) : Type 0 where
   pub value : IsTrimmed p.auth_value
   pub named : is_nv_index p.public.nv_index ≡ true

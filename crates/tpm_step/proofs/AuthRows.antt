@@ -1,4 +1,4 @@
--- Each row sets the authorization values that the history says of its command, and no other.
+-- Each row sets the authorization values that the history sets for its command, and no other.
 use Rattle.std.proofs.Common.{arith, rules, ◌≡◌, ◌≢◌, ◌⊎◌, ℕ, ◌/◌, ◌^◌, ◌<◌, Bool, true, false, List, [], length, is_some, not, Option, Some, None, option_map, Result, Ok, Err, IfOk, nat_le, nat_lt, ◌==◌, ◌||◌, refl, sym, ap, subst, ◌∙◌, inl, inr}
 use Rattle.std.specs.Option.{option_map_or}
 use Rattle.std.proofs.lemmas.Bool.{cases_Bool, cond_both, eq-eqb, eqb-true, false≢true, or_cases}
@@ -89,12 +89,12 @@ use Rattle.tpm_step.proofs.AuthParts.{KeepsAll, Sets, auth_handle, hierarchy_set
 use Rattle.tpm_step.proofs.AuthReadings.{IsDefinition, definition_read, wanted_named}
 use Rattle.tpm_step.proofs.rows.HandleRules.{first_fits, second_fits}
 
--- ---- parts that keep authorization values
+-- ---- parts whose change keeps the authorization values
 
 index_keys : IsSortedMap NvIndex
 index_keys = is_map
 
--- Each index shows the same authorization value as before.
+-- Each index has the same authorization value as before.
 abbrev ShowSame : (old new : NvContents) → Type 0
 ShowSame old new = (n : ℕ) → index_auth (at_key new.indices n) ≡ index_auth (at_key old.indices n)
 
@@ -156,7 +156,7 @@ others_keep : (r : Record) (code : CommandCode) (q : Request) → keeps_values (
 others_keep r code q keeps up =
     of_success _ r code q (λ s laws. part_keeps (part_of code) q r s.after keeps up laws.touches laws.changes)
 
--- ---- an object or a session is flushed
+-- ---- flushing an object or a session
 
 flushed_keeps : (r : Record) (handle : Handle) (of_session : Bool) → KeepsAll r (flushed_from r handle of_session)
 unfolding object_at without_object
@@ -169,12 +169,12 @@ flush_keeps r q = search (rules, ok_bind, flushed_keeps)
 
 -- ---- the value that a row sets
 
--- a command sets this value for this handle
+-- if a command sets this value for this handle, the values are those of the history
 set_is : (old new : Record) (values : AuthValues) (handle : Handle) (value : List ℕ) (set : Result (Handle × List ℕ) Refused) → set ≡ Ok (handle, value) → Sets handle value old new → HaveValues old values → HaveValues new (with_value set values)
 set_is old new values handle value set is sets have =
     subst (λ (x : Result (Handle × List ℕ) Refused). HaveValues new (with_value x values)) (sym is) (set_values old new values handle value sets have)
 
--- if a step refuses what exists, and did not refuse, nothing existed
+-- if a step that refuses an existing entity did not refuse, the entity does not exist
 absent : {X E : Type 0} (found : Option X) (fault : E) (u : Unit {0}) → refused_if (is_some found) fault ≡ Ok u → found ≡ None
 absent None fault u is = refl
 absent (Some x) fault u is = absurd (false≢true (sym (passed true fault u is)))
@@ -304,7 +304,7 @@ object_seen r handle object named =
           | inr is ↦ absurd (false≢true (sym other ∙ is))
         ]
 
--- setting a value to what it was changes nothing
+-- setting a value that is already set changes nothing
 set_again : (values : AuthValues) (to from : Handle) → to.number ≡ from.number → (h : Handle) → with_at to (values from) values h ≡ values h
 set_again values to from same h =
     cond_both (h.number == to.number) (values from) (values h) (λ v. v ≡ values h)
@@ -346,7 +346,7 @@ evict_sets r q values up fits have =
         (subst (λ (v : List ℕ). Sets wanted v r new) value (persistent_set r new.persistent wanted object named put (object_keys.put_others r.persistent wanted.number object)))
         have)))
 
--- ---- a startup
+-- ---- TPM2_Startup
 
 started_shows : (found : Option NvIndex) → index_auth (option_map started_index found) ≡ index_auth found
 started_shows None = refl
@@ -356,7 +356,7 @@ started_same : (nv : NvContents) → ShowSame nv (started nv)
 unfolding started
 started_same nv n = ap index_auth (all_changed_found started_index nv.indices n) ∙ started_shows (at_key nv.indices n)
 
--- a startup with CLEAR makes platformAuth empty
+-- A step: TPM2_Startup with CLEAR makes platformAuth empty.
 cleared_start : (r : Record) (fixed : Fixed) (values : AuthValues) → ((h : Handle) → permanent_auth_value (record r { fixed = fixed }) h ≡ permanent_auth_value (with_auth r auth.Platform []) h) → HaveValues r values → HaveValues (record r { fixed = fixed; nv = started r.nv }) (with_at platform_handle [] values)
 cleared_start r fixed values same have =
     let mid : Record = with_auth r auth.Platform [] in
@@ -389,7 +389,7 @@ cleared_or_same objects n = by (at_number transient_byte objects n) refl
           | inr stays ↦ inl (are_cleared.stays objects n object there stays)
         ]
 
--- after TPM2_Clear three values are empty, and the objects and indices that it removes have none
+-- after TPM2_Clear three values are empty, and the removed objects and indices have no value
 all_cleared : (r : Record) (after : Fixed) (values : AuthValues) → Ascends r.nv.indices → Ascends r.persistent → HaveValues r values → HaveValues (record r { fixed = emptied r.fixed after; objects = cleared_objects r.objects; persistent = cleared_persistent r.persistent; nv = cleared r.nv }) (cleared_values values)
 unfolding object_at with_hierarchy_auth cleared
 all_cleared r after values up also have =

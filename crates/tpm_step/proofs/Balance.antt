@@ -1,5 +1,5 @@
--- Whatever time, failures and power cycles do to failed tries is paid for (Potential), and the
--- time towards forgiving the next one is less than one period.
+-- Time, failed tries and power cycles keep the balance of `Pays`, and less than one recoveryTime
+-- counts towards the next decrement of failedTries.
 use Rattle.std.proofs.Common.{arith, ◌≡◌, ◌≢◌, ◌⊎◌, ℕ, ◌+◌, ◌*◌, ◌/◌, ◌%◌, ◌-◌, ◌<◌, ◌≤◌, Bool, true, false, cond, refl, sym, ap, ◌∙◌, inl, inr}
 use Rattle.std.specs.Prelude.{not, ◌&&◌, ◌==◌, nat_le}
 use Rattle.std.proofs.lemmas.Bool.{cases_eq, cases_lt, cond_both, leb-false, ne_eqb}
@@ -14,15 +14,15 @@ use Rattle.tpm_step.specs.Step.{lockout_counted}
 use Rattle.tpm_step.specs.Potential.{IsForgiving, Pays, credit, period}
 use Rattle.tpm_step.specs.Tries.{is_try}
 
--- ---- changes that keep failed tries
+-- ---- changes that keep the failed tries
 
--- Two states are equal except for lockoutAuth.
+-- Two states are equal except that lockoutAuth may be disabled in only one of them.
 abbrev pub SameTries : LockoutState → LockoutState → Type 0
 SameTries old new =
     (new.fields.recovery_time ≡ old.fields.recovery_time) × (new.fields.max_tries ≡ old.fields.max_tries)
     × (new.fields.failed_tries ≡ old.fields.failed_tries) × (new.forgiving_time ≡ old.forgiving_time)
 
--- closing or opening lockoutAuth changes nothing else
+-- disabling or enabling lockoutAuth changes nothing else
 pub closed_same : (old new : LockoutState) (closed : Bool) → new ≡ with_closed closed old → SameTries old new
 closed_same old new closed is = (
   ap (λ (s : LockoutState). s.fields.recovery_time) is,
@@ -41,7 +41,7 @@ opened_same elapsed s =
 closing_same : (s : LockoutState) → SameTries s (closed_by_failure s)
 closing_same s = cond_both s.fields.closed _ _ (SameTries s) (λ _. (refl, refl, refl, refl)) (λ _. (refl, refl, refl, refl))
 
--- ---- each step is paid for
+-- ---- each step keeps the balance
 
 pub same_pays : (old new : LockoutState) → SameTries old new → Pays old new 0 0
 same_pays old new same = record {
@@ -51,8 +51,8 @@ same_pays old new same = record {
   within = inl refl;
 }
 
--- how many of these tries a time forgives, if each needs n milliseconds and some had passed
--- before
+-- the number of tries that are forgiven in this time, if each takes n milliseconds and some
+-- milliseconds already counted
 forgiven : (n tries passed elapsed : ℕ) → n * tries + cond ((tries - (passed + elapsed) / n) == 0) 0 (cond ((tries - (passed + elapsed) / n) == 0) 0 ((passed + elapsed) % n)) ≤ n * (tries - (passed + elapsed) / n) + cond (tries == 0) 0 passed + elapsed
 forgiven n tries passed elapsed = by (cases_eq tries 0) (cases_lt (time / n) tries)
   where
@@ -89,7 +89,7 @@ forgiven_pays elapsed s counts =
       within = inl refl;
     })
 
--- a change that is paid for, followed by one that keeps the tries
+-- a change that keeps the balance, followed by one that keeps the tries, keeps the balance
 then_same : (a b c : LockoutState) (elapsed : ℕ) → Pays a b 0 elapsed → SameTries b c → Pays a c 0 elapsed
 then_same a b c elapsed pays same = record {
   recovery_time = same.0 ∙ pays.recovery_time;
@@ -111,7 +111,7 @@ cycle_pays s = record {
   within = inl refl;
 }
 
--- a counted failed try is paid for, if the tries do not yet lock out
+-- a counted failed try keeps the balance, if the device is not in lockout
 failure_pays : (s : LockoutState) → s.fields.recovery_time ≢ 0 → is_locked s.fields ≡ false → Pays s (after_failure s) 1 0
 unfolding after_failure
 failure_pays s counts unlocked =
@@ -127,7 +127,7 @@ failure_pays s counts unlocked =
       within = inr (omega (arith, few));
     })
 
--- what a refusal counts is paid for
+-- the effect of a refusal keeps the balance
 pub refusal_pays : (s : LockoutState) (c : Counted) → s.fields.recovery_time ≢ 0 → (is_try c ≡ true → is_locked s.fields ≡ false) → Pays s (lockout_counted c s) (cond (is_try c) 1 0) 0
 refusal_pays s counted.None counts unlocked = same_pays s s (refl, refl, refl, refl)
 refusal_pays s counted.Try counts unlocked = failure_pays s counts (unlocked refl)
@@ -135,14 +135,14 @@ refusal_pays s counted.Lockout counts unlocked = same_pays s (closed_by_failure 
 
 -- ---- all steps of a stretch
 
--- Either no try failed since this state, or no more tries than maxTries and the passed
+-- Either no try failed since this state, or no more tries failed than maxTries and the passed
 -- milliseconds allow.
 abbrev pub IsPaid : LockoutState → (failed elapsed : ℕ) → Type 0
 IsPaid s failed elapsed =
     (failed ≡ 0)
     ⊎ (period s * s.fields.failed_tries + period s * failed ≤ period s * s.fields.max_tries + credit s + elapsed)
 
--- if a step is paid for, and so are those after it, all of them together are paid for
+-- if a step and the steps after it keep their bounds, all of them together keep the bound
 pub pays_more : (a b : LockoutState) (one failed all first elapsed whole : ℕ) → one + failed ≡ all → first + elapsed ≡ whole → Pays a b one first → IsPaid b failed elapsed → IsPaid a all whole
 pays_more a b one failed all first elapsed whole counted passed pays rest = by pays.within (rw (pays.recovery_time, pays.max_tries) at rest)
   where
@@ -160,14 +160,14 @@ pays_more a b one failed all first elapsed whole counted passed pays rest = by p
         let zero : n * failed ≡ 0 = ap (λ k. n * k) nought ∙ mul-zero n in
         inr (omega (arith, pays.balance, most, sum, zero, passed))
 
--- the largest number of tries that failed, if they are paid for
+-- A step: the bound on failed tries follows from their balance.
 few_of : (n tries failed most passed elapsed : ℕ) → 0 < n → passed < n → n * tries + n * failed ≤ n * most + cond (tries == 0) 0 passed + elapsed → failed ≤ most + elapsed / n
 few_of n tries failed most passed elapsed some below paid = by (cases_lt (most + elapsed / n) failed)
   where
     q : ℕ
     q = elapsed / n
 
-    -- if tries were counted at the start, each of them is one of maxTries
+    -- A step: each try that was counted at the start is one of maxTries.
     under : (tries ≡ 0) ⊎ (tries ≡ 0 → ⊥) → n * failed ≤ n * most + elapsed
     under (inl none) =
         let at : n * 0 + n * failed ≤ n * most + 0 + elapsed = rw none at paid in
@@ -188,7 +188,7 @@ few_fail s failed elapsed counts is (inl none) = omega (arith, none)
 few_fail s failed elapsed counts is (inr paid) =
     few_of (period s) s.fields.failed_tries failed s.fields.max_tries s.forgiving_time elapsed (omega (arith, counts)) (is counts) paid
 
--- ---- the time towards forgiving the next try
+-- ---- the time towards the next decrement of failedTries
 
 pub same_forgives : (old new : LockoutState) → SameTries old new → IsForgiving old → IsForgiving new
 same_forgives old new same is counts = rw (same.3, same.0) (is (λ none. counts (same.0 ∙ none)))

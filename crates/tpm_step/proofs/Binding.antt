@@ -1,4 +1,4 @@
--- Facts about the steps of a row.
+-- Lemmas about the steps of a row.
 use Rattle.std.proofs.Common.{◌≡◌, Bool, true, false, Option, Some, None, Result, Ok, Err, IfOk, IfErr, ap, refl, subst}
 use Rattle.std.specs.Prelude.{not, ok_or}
 use Rattle.std.proofs.lemmas.Bool.{not-false}
@@ -11,24 +11,24 @@ use Rattle.tpm_types.specs.declared.check.Check.{Check}
 use Rattle.tpm_types.specs.declared.rc.Rc.{Rc}
 use Rattle.tpm_types.specs.declared.refused.Refused.{Refused}
 
--- a step with a check's refusal returns what it returned without the check
+-- if a checked step succeeds, the step itself has the same result
 pub checked_ok : {X : Type 0} (check : Check) (x : Result X Rc) (y : X) → checked check x ≡ Ok y → x ≡ Ok y
 checked_ok {X} check (Ok x) y e = ap (λ (z : X). let r : Result X Rc = Ok z in r) (ok_is {E = Refused} x y e)
 checked_ok check (Err rc) y e = absurd cc
 
--- if each success after a step has a property, each success of the whole has it
+-- if each success after a step has a property, each success of the whole computation has it
 pub ok_bind : {A B E : Type 0} (Q : B → Type 0) (x : Result A E) (f : A → Result B E) → ((a : A) → IfOk (f a) Q) → IfOk (x >>= f) Q
 ok_bind Q (Ok a) f h = h a
 ok_bind Q (Err e) f h = tt
 
--- if each success after a step has a property, given what the step returned, each success of the
--- whole has it
+-- if each success after a step has a property, given the step's result, each success of the whole
+-- computation has it
 pub ok_bind_is : {A B E : Type 0} (Q : B → Type 0) (x : Result A E) (f : A → Result B E) → ((a : A) → x ≡ Ok a → IfOk (f a) Q) → IfOk (x >>= f) Q
 ok_bind_is Q (Ok a) f h = h a refl
 ok_bind_is Q (Err e) f h = tt
 
 -- if each success after a step has a property, given another property of the step's success, each
--- success of the whole has it
+-- success of the whole computation has it
 pub ok_then : {A B E : Type 0} (P : A → Type 0) (Q : B → Type 0) (x : Result A E) (f : A → Result B E) → IfOk x P → ((a : A) → P a → IfOk (f a) Q) → IfOk (x >>= f) Q
 ok_then P Q (Ok a) f k h = h a k
 ok_then P Q (Err e) f k h = tt
@@ -43,18 +43,19 @@ pub ok_at : {A E : Type 0} (P : A → Type 0) (x : Result A E) (a : A) → IfOk 
 ok_at P (Ok b) a holds is = subst P (ok_is b a is) holds
 ok_at P (Err e) a holds is = absurd cc
 
--- if each refusal of a step, and each after it, has a property, each refusal of the whole has it
+-- if each refusal of a step and each refusal after it has a property, each refusal of the whole
+-- computation has it
 pub err_bind : {A B E : Type 0} (Q : E → Type 0) (x : Result A E) (f : A → Result B E) → IfErr x Q → ((a : A) → IfErr (f a) Q) → IfErr (x >>= f) Q
 err_bind Q (Ok a) f k h = h a
 err_bind Q (Err e) f k h = k
 
--- if each refusal of a step has a property, and each refusal after it, given what the step
--- returned, each refusal of the whole has it
+-- if each refusal of a step has a property, and each refusal after it has it given the step's
+-- result, each refusal of the whole computation has it
 pub err_bind_is : {A B E : Type 0} (Q : E → Type 0) (x : Result A E) (f : A → Result B E) → IfErr x Q → ((a : A) → x ≡ Ok a → IfErr (f a) Q) → IfErr (x >>= f) Q
 err_bind_is Q (Ok a) f k h = h a refl
 err_bind_is Q (Err e) f k h = k
 
--- if a step tests something, a property of its only refusal is one of each refusal
+-- a property of the only refusal of a test holds for each refusal of the test
 pub err_if : {E : Type 0} (Q : E → Type 0) (b : Bool) (e : E) → Q e → IfErr (refused_if b e) Q
 err_if Q true e h = h
 err_if Q false e h = tt
@@ -71,12 +72,12 @@ pub err_checked : {X : Type 0} (Q : Refused → Type 0) (check : Check) (x : Res
 err_checked Q check (Ok x) h = tt
 err_checked Q check (Err rc) h = h rc
 
--- if a step needed a value and succeeded, the value existed
+-- if a step that needs a value succeeds, the value exists
 pub some_is : {X E : Type 0} (o : Option X) (e : E) (x : X) → ok_or o e ≡ Ok x → o ≡ Some x
 some_is None e x is = absurd (let never : ⊥ = cc in never)
 some_is (Some y) e x is = cc
 
--- a fault that becomes a refusal changes no success
+-- replacing a fault by a refusal changes no success
 pub ok_checked : {X : Type 0} (P : X → Type 0) (check : Check) (x : Result X Rc) → IfOk x P → IfOk (checked check x) P
 ok_checked P check (Ok x) h = h
 ok_checked P check (Err rc) h = tt
@@ -89,7 +90,7 @@ ok_in_command P c (Err e) h = tt
 pub asked : {E : Type 0} (b : Bool) (fault : E) (u : Unit {0}) → refused_if (not b) fault ≡ Ok u → b ≡ true
 asked b fault u is = not-false b (passed (not b) fault u is)
 
--- the grouping of three steps does not matter
+-- three steps in a row have the same result however they are grouped
 pub bind_assoc : {A B C E : Type 0} (x : Result A E) (f : A → Result B E) (g : B → Result C E) → ((x >>= f) >>= g) ≡ (x >>= λ a. f a >>= g)
 bind_assoc (Ok a) f g = refl
 bind_assoc (Err e) f g = refl

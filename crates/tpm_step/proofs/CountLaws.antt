@@ -1,4 +1,4 @@
--- The laws of counters, by the history alone.
+-- The claims about counters that follow from the history alone.
 use Rattle.std.proofs.Common.{arith, ◌≡◌, ◌⊎◌, ℕ, ◌+◌, ◌<◌, ◌≤◌, Bool, true, false, List, [], ◌∷◌, ◌++◌, Option, Some, None, Result, Ok, Err, refl, sym, ap, subst, ◌∙◌, inl, inr}
 use Rattle.std.proofs.lemmas.Bool.{cases_eq, eq-eqb, eqb-true, false≢true}
 use Rattle.tpm_types.specs.declared.handle.Handle.{Handle}
@@ -12,9 +12,9 @@ use Rattle.tpm_step.specs.History.{Done, History, ObjectPlaced, PastEvent, Power
 use Rattle.tpm_step.proofs.HandleMap.{at_other, at_same, same_handle}
 use Rattle.tpm_step.proofs.Indices.{some_none, some_same}
 
--- ---- what one event does to the counter of a handle
+-- ---- the effect of one event on the counter of a handle
 
--- A counter stayed, or it was incremented, or an index was defined under its handle and the
+-- A counter did not change, or it was incremented, or an index was defined at its handle and the
 -- counter has no value.
 abbrev Moves : Counters → Counters → (defined : Bool) → Handle → Type 0
 Moves c d defined handle =
@@ -77,7 +77,7 @@ history_grows : (old new : History) → largest (counts_of old) ≤ largest (cou
 history_grows old [] = omega arith
 history_grows old (one ∷ new) = omega (arith, history_grows old new, event_grows (new ++ old) one)
 
--- ---- each value is within the largest
+-- ---- each value is at most the largest
 
 abbrev IsWithin : Counters → Type 0
 IsWithin c = (handle : Handle) (n : ℕ) → c.at handle ≡ Some n → n ≤ largest c.all
@@ -104,7 +104,7 @@ history_within (ObjectPlaced at object ∷ history) handle n some = history_with
 
 -- ---- while no index is defined again
 
--- The counter has a value, which is not less than this one.
+-- The counter has a value, which is at least this one.
 abbrev Since : (least : ℕ) → (now : Option ℕ) → Type 0
 Since least now = (n : ℕ) × (now ≡ Some n) × (least ≤ n)
 
@@ -125,7 +125,7 @@ never_down old (one ∷ new) handle n some none =
 
 -- ---- since a counter had no value
 
--- The counter has no value, or one above all these.
+-- The counter has no value, or a value above all of these.
 abbrev Above : (most : ℕ) → (now : Option ℕ) → Type 0
 Above most now = (now ≡ None) ⊎ ((n : ℕ) × (now ≡ Some n) × (most < n))
 
@@ -158,7 +158,7 @@ first_exceeds old new handle n none some = by (all_above old new handle none)
 
 -- ---- a definition
 
--- the handle that a command names is another handle or this one
+-- a command names this handle exactly if the numbers are equal
 named_is : (named : Result Handle Refused) (handle : Handle) → is_named named handle ≡ true → (h : Handle) × (named ≡ Ok h) × (h.number ≡ handle.number)
 named_is (Ok h) handle is = (h, refl, eqb-true h.number handle.number is)
 named_is (Err e) handle is = absurd (false≢true is)
@@ -171,7 +171,8 @@ code_begins : (code : CommandCode) (q : Request) (c : Counters) (handle : Handle
 code_begins command.NvDefineSpace q c handle is = begun_none (defined_handle q.parameters) c handle is
 code_begins _ q c handle is = absurd (false≢true is)
 
--- a newly defined index has no value as a counter, and no counter counts
+-- a newly defined index has no counter value, and its definition adds no counter value to the
+-- history
 definition_begins : (old : History) (one : PastEvent) (handle : Handle) → defines one handle ≡ true → (count_at (one ∷ old) handle ≡ None) × (counts_of (one ∷ old) ≡ counts_of old)
 definition_begins old (Done c) handle is = code_begins c.command.code c.request (counters_of old) handle is
 definition_begins old PowerCycled handle is = absurd (false≢true is)
@@ -200,7 +201,7 @@ defines_it one handle d =
     ∙ ap (λ (named : Result Handle Refused). is_named named handle) d.defined
     ∙ eq-eqb d.named.number handle.number d.same
 
--- ---- the laws of counters
+-- ---- all claims about counters
 
 pub count_laws : CountLaws
 count_laws = record {

@@ -1,4 +1,4 @@
--- A row changes the counters among the NV indices as the history says of its command.
+-- A row changes the counters among the NV indices as the history does for its command.
 use Rattle.std.proofs.Common.{arith, ◌≡◌, ℕ, zero, suc, ◌+◌, ◌<◌, ◌^◌, Bool, true, false, cond, List, [], ◌∷◌, get_or, Option, Some, None, IfOk, refl, sym, ap, subst, ◌∙◌, inl, inr}
 use Rattle.std.specs.Prelude.{◌&&◌, max, ◌==◌}
 use Rattle.std.specs.Int.{w64, from_be_bytes, to_be_bytes}
@@ -45,7 +45,7 @@ use Rattle.tpm_step.proofs.Indices.{OthersStay, changed_each, cleared_each, defi
 abbrev Counts : (Handle → Option ℕ) → Handle → NvIndex → Type 0
 Counts at handle index = IsCounter index → IsCounted index (at handle)
 
--- if the map has another value for one handle, all other counters still have theirs
+-- if the map has another value for one handle, all other counters still have their values
 others_count : (handle : Handle) (count : Option ℕ) (at : Handle → Option ℕ) → OthersStay (Counts at) (Counts (with_at handle count at)) handle
 others_count handle count at other index apart counts counter =
     let was = counts counter in
@@ -55,7 +55,7 @@ others_count handle count at other index apart counts counter =
 same_counted : (old new : NvContents) (c : Counters) → new ≡ old → AreCounted old c → AreCounted new c
 same_counted old new c same are = subst (λ (nv : NvContents). AreCounted nv c) (sym same) are
 
--- ---- an index is changed in place
+-- ---- changing an index
 
 changed_counted : (contents : NvContents) (handle : Handle) (old new : NvIndex) (c : Counters) → index_at contents handle ≡ Some old → KeepsCount old new → AreCounted contents c → AreCounted (changed_index contents handle new) c
 changed_counted contents handle old new c found keeps are = record {
@@ -79,9 +79,9 @@ auth_counted old new c made are =
     same_counted (changed_index old made.handle (record made.index { auth_value = made.value })) new c made.is
     (changed_counted old made.handle made.index (record made.index { auth_value = made.value }) c made.found (λ counter. (counter, refl, refl)) are)
 
--- ---- a counter is incremented
+-- ---- incrementing a counter
 
--- the next value of a counter, which may have a value already
+-- A step: the next value of a counter, whether or not it has a value already.
 next_by : (b : Bool) (most n : ℕ) → next_count most (cond b (Some n) None) ≡ cond b n most + 1
 next_by true most n = refl
 next_by false most n = refl
@@ -124,12 +124,12 @@ increment_counted q old new c made are =
     (same_counted (counted (changed_index old made.handle (with_data up.index (to_be_bytes w64 n))) n) new (counted_at made.handle c) up.is
     (counter_counted old made.handle up.index n c up.found up.counter refl up.small are))
 
--- ---- an index is defined or removed
+-- ---- defining or removing an index
 
 counter_number : (n : ℕ) → nv_type_named n ≡ Some type.Counter → (n == 1) ≡ true
 counter_number n is = grind (arith, nat_tests)
 
--- if no test of a list holds, none at any place holds
+-- if no test in a list holds, the test at each position fails
 none_in : (tests : List Bool) (n : ℕ) → list_any (λ wrong. wrong) tests ≡ false → get_or tests n false ≡ false
 none_in [] n none = refl
 none_in (test ∷ tests) zero none = (or_parts test (list_any (λ wrong. wrong) tests) none).0
@@ -172,7 +172,7 @@ clear_counted contents c up are = record { most = are.most; each = cleared_each 
 
 -- ---- a startup
 
--- Two sets of attributes agree in what a counter needs.
+-- Two sets of attributes agree about WRITTEN, CLEAR_STCLEAR and the type of the index.
 abbrev Alike : NvAttributes → NvAttributes → Type 0
 Alike a b = (index_type b ≡ index_type a) × (has b attribute.Written ≡ has a attribute.Written) × (has b attribute.ClearStClear ≡ has a attribute.ClearStClear)
 

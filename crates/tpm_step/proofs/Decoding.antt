@@ -24,7 +24,7 @@ use Rattle.tpm_record.specs.Record.{Record}
 use Rattle.tpm_step.specs.General.{both_or_neither, body_of, general, in_header, is_startup, present_handle_at, present_handles_at, sessions_pass}
 use Rattle.tpm_step.proofs.Binding.{checked_ok, ok_at, ok_bind, ok_bind_is, ok_checked, ok_in_command, ok_then}
 
--- The handle is the number in the text.
+-- The handle has the number that the bytes begin with.
 abbrev IsNumber : ℕ → List ℕ → Handle × List ℕ → Type 0
 IsNumber n text x = or_fault (number_at w32 text) (handle_fault n code.Insufficient) ≡ Ok (x.0.number, x.1)
 
@@ -40,7 +40,7 @@ present_reads r n rule text =
     ok_then _ _ (allowed_handle_at n rule text) _ (allowed_reads n rule text) (λ handle is.
     ok_bind _ (refused_if (not (is_present r handle.0)) _) _ (λ present. is))
 
--- there are as many handles as rules, and each is a number in the text
+-- there are as many handles as rules, and each has the number in the bytes
 each_reads : (r : Record) (n : ℕ) (rules : List HandleRule) (text : List ℕ) → IfOk (each_at (present_handle_at r) n rules text) (λ x. handles_at n (length rules) text ≡ Ok x)
 each_reads r n [] text = refl
 each_reads r n (rule ∷ rules) text =
@@ -52,7 +52,7 @@ header_reads : (x : Result (Header × List ℕ) HeaderFault) → IfOk (in_header
 header_reads (Ok header) = refl
 header_reads (Err fault) = tt
 
--- if a command passes the general checks, the buffer encodes it, to its end
+-- if a command passes the general checks, the whole buffer encodes it
 pub general_reads : (r : Record) (buffer : List ℕ) → IfOk (general r buffer) (λ c. command_at buffer ≡ Ok (c, []))
 unfolding general body_of command_at
 general_reads r buffer =

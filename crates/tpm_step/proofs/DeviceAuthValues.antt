@@ -59,7 +59,8 @@ unfolding object_at
 cycled_auth_values r history =
     kept_values r (cycled r) (auth_of history) (λ h. parts_keep r (cycled r) h (λ v is. is) (λ v is. is) (object_kept (object_at r.objects h) (object_at no_objects h) (inr (free_found transient_byte object_limit h.number))) refl)
 
--- an object from a saved context brings its own authorization value
+-- after an object from a saved context is placed, its handle has the object's own authorization
+-- value
 pub placed_auth_values : (r : Record) (place : ℕ) (object : Object) (history : History) → length r.objects ≡ object_limit → lowest_free r.objects ≡ Some place → trimmed object.auth_value ≡ object.auth_value → HasAuthValues r history → HasAuthValues (record r { objects = with_object r.objects place object }) (ObjectPlaced (object_handle place) object ∷ history)
 placed_auth_values r place object history all free is has =
     let new : Record = record r { objects = with_object r.objects place object } in
@@ -87,14 +88,14 @@ manufactured_auth_values random h v = by (is_nv_index h) (is_persistent h) (is_t
     by false false true is = absurd (none-some v (sym (ap object_auth (free_found transient_byte object_limit h.number)) ∙ is))
     by false false false is = sym (same_Some _ v is) ∙ no_value random h
 
--- ---- an entity that exists has its value
+-- ---- the value of an existing entity
 
--- a type of handles whose entities are kept by number is not that of a session
+-- a handle of the type of an index or an object is not of the type of a session
 no_session : (t : ℕ) → (t == 0x01 || t == 0x80 || t == 0x81) ≡ true → (t == 0x02 || t == 0x03) ≡ false
 no_session t kept = grind (arith, nat_tests)
 
 module _ (r : Record) (h : Handle) where
-  -- if a handle of an object's or an index's type passes the check that its entity exists, that
+  -- if a handle of an object's or an index's type passes the check that its entity exists, the
   -- object or index exists
   pub kept_there : is_present r h ≡ true → names_kept h ≡ true → is_kept (entity_at r h) ≡ true
   unfolding is_present
@@ -114,7 +115,7 @@ module _ (r : Record) (h : Handle) where
   object_there (Some object) kept = refl
   object_there None kept = absurd (false≢true kept)
 
-  -- a handle of another type finds no transient object
+  -- a handle of another type names no transient object
   none_transient : is_transient h ≡ false → object_at r.objects h ≡ None
   unfolding object_at at_number
   none_transient other = none (at_place r.objects (place_of h.number))
@@ -133,7 +134,7 @@ module _ (r : Record) (h : Handle) where
   seen_by false false true is kept = object_there (object_at r.objects h) (kept refl)
   seen_by false false false is kept = ap (λ (found : Option Object). Some (entity_auth_value r h (option_map_or AnObject found Permanent))) (sym (none_transient is))
 
-  -- an object or an index has the authorization value that is seen by its handle
+  -- an object or an index has the authorization value that its handle has
   pub kept_seen : is_kept (entity_at r h) ≡ true → auth_seen r h ≡ Some (auth_value_of r h)
   unfolding auth_value_of entity_at object_of
   kept_seen kept = seen_by (is_nv_index h) (is_persistent h) (is_transient h) refl (λ there. kept)
@@ -158,7 +159,7 @@ handles_present r [] (h ∷ handles) fits place handle at = absurd fits
 handles_present r (rule ∷ rules) (h ∷ handles) fits zero handle at = let same : h ≡ handle = cc in subst (λ (x : Handle). is_present r x ≡ true) same fits.0.1
 handles_present r (rule ∷ rules) (h ∷ handles) fits (suc place) handle at = handles_present r rules handles fits.1 place handle at
 
--- ---- entities that are neither a hierarchy nor lockout, nor an index or an object
+-- ---- entities that are neither a hierarchy, lockout, an index nor an object
 
 pub others_have_none : (r : Record) (history : History) (h : Handle) → HasAuthValues r history → names_kept h ≡ false → hierarchy_auth_of h ≡ None → auth_of history h ≡ []
 others_have_none r history h has other none =

@@ -34,7 +34,7 @@ use Rattle.tpm_step.specs.Pcrs.{Pcrs, before_shutdown, pcr_by, pcr_of, pcrs_afte
 use Rattle.tpm_pcr.proofs.OneValue.{new_all, new_values}
 use Rattle.tpm_step.proofs.PcrRows.{SoMeasures, row_measures}
 
--- ---- what a shutdown saves
+-- ---- the state that a shutdown saves
 
 abbrev leaves_saved : Part → Bool
 leaves_saved Saved = false
@@ -75,12 +75,12 @@ row_saves : (r : Record) (code : CommandCode) (q : Request) (history : History) 
 row_saves r command.Shutdown q history has = shutdown_saves r q history has
 row_saves r _ q history has = other_saves r _ q history refl has
 
--- a command that cancels what a shutdown saved leaves nothing saved
+-- after a command that discards the saved state, nothing is saved
 settled_saved : (keeps : Bool) (r : Record) (values : PcrValues) → IsSavedAs r.fixed.saved values → IsSavedAs (cond keeps r (with_saved r Nothing)).fixed.saved values
 settled_saved true r values is = is
 settled_saved false r values is = tt
 
--- ---- an accepted command
+-- ---- accepted commands
 
 module _ (r : Record) (a : Accepted) (locality : ℕ) (random : List ℕ) (history : History) (is : IsAcceptance r locality random a) (has : HasPcrs r history) where
   abbrev after : Record
@@ -125,7 +125,7 @@ manufactured_pcrs random = record { all = new_all; values = new_values; updates 
 pub cycled_pcrs : (r : Record) (history : History) → HasPcrs r history → HasPcrs (cycled r) (PowerCycled ∷ history)
 cycled_pcrs r history has = record { all = new_all; values = new_values; updates = refl; saved_values = has.saved_values }
 
--- ---- what a startup restores
+-- ---- the values that a startup restores
 
 shutdown_is : (code : CommandCode) (history : History) (bank : HashAlg) (pcr : ℕ) → (pcrs_after history).saved bank pcr ≡ pcr_of (before_shutdown history) bank pcr → saved_by code (pcrs_after history) bank pcr ≡ pcr_of (shutdown_or code history (before_shutdown history)) bank pcr
 shutdown_is command.Shutdown history bank pcr is = refl

@@ -34,7 +34,7 @@ use Rattle.tpm_step.proofs.SessionEntries.{answer_told, entries_roll}
 use Rattle.tpm_step.proofs.SessionRows.{IsTold, row_told}
 use Rattle.tpm_step.proofs.rows.Started.{is_started}
 
--- ---- without a session
+-- ---- devices without a session
 
 pub manufactured_sessions : (random : List ℕ) → HasSessions (manufactured random) []
 manufactured_sessions random = record { live = none_live; asleep = λ asleep handle. refl }
@@ -42,9 +42,9 @@ manufactured_sessions random = record { live = none_live; asleep = λ asleep han
 pub cycled_sessions : (r : Record) (history : History) → HasSessions (cycled r) (PowerCycled ∷ history)
 cycled_sessions r history = record { live = none_live; asleep = λ asleep handle. refl }
 
--- ---- a command is accepted
+-- ---- accepted commands
 
--- sessions are the same whether or not the saved state is kept
+-- the sessions are the same whether or not the saved state is kept
 settled_live : (keeps : Bool) (live : LiveSessions) (r : Record) → AreLive r.sessions live → AreLive (cond keeps r (with_saved r Nothing)).sessions live
 settled_live true live r are = are
 settled_live false live r are = are
@@ -71,8 +71,8 @@ module _ (r : Record) (a : Accepted) (locality : ℕ) (random : List ℕ) (histo
       many pcrs has.live a.command.code)
       is.row refl
 
-  -- the row drew what the command's code and parameters say; or the command has no entries, and
-  -- its definition says 0
+  -- The row drew as many bytes as the command's code and parameters say; or the command has no
+  -- entries, and `draws_of` is 0.
   drew : (a.success.answer.drawn ≡ draws_of a.command.code a.request) ⊎ ((a.command.entries ≡ []) × (draws_of a.command.code a.request ≡ 0))
   drew =
       elim (cases_Bool (is_startup a.command.code)) [
@@ -119,7 +119,7 @@ module _ (r : Record) (a : Accepted) (locality : ℕ) (random : List ℕ) (histo
           let all : 64 ≤ length (drop a.success.answer.drawn random) = rw none.0 at some in
           rw (none.0, none.1, sym same_random) (omega (arith, all, length-drop a.success.answer.drawn random))
 
--- ---- a session lives
+-- ---- live sessions
 
 fact : {X : Type 0} (part : SessionFacts → X) (told : Option LiveSession) (f : SessionFacts) → option_map facts_of told ≡ Some f → option_map (λ (l : LiveSession). part (facts_of l)) told ≡ Some (part f)
 fact part (Some l) f is = ap (λ (x : Option SessionFacts). option_map part x) is

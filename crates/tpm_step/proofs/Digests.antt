@@ -1,5 +1,5 @@
--- The digest of selected PCRs is the one that the history determines. Two such digests are equal
--- if the values are.
+-- The digest of selected PCRs is the one that the history determines. Two such digests are equal if
+-- the PCR values are equal.
 use Rattle.std.proofs.Common.{arith, ◌≡◌, ℕ, zero, suc, ◌<◌, ◌≤◌, ◌++◌, Bool, true, false, cond, List, [], ◌∷◌, filter, map, refl, ap, ◌∙◌}
 use Rattle.std.proofs.lemmas.List.{map-append}
 use Rattle.std.proofs.lemmas.List.Elements.{filter-append}
@@ -14,7 +14,7 @@ use Rattle.tpm_record.specs.Record.{Record}
 use Rattle.tpm_step.specs.History.{History}
 use Rattle.tpm_step.specs.Pcrs.{digest_in, pcr_of}
 
--- the values of the chosen numbers, with one more number if it is chosen
+-- A step: the values of the chosen numbers stay equal when one more number is considered.
 one_more : (f g : ℕ → List ℕ) (n : ℕ) (chosen : Bool) (a b : List (List ℕ)) → a ≡ b → f n ≡ g n → a ++ map f (cond chosen (n ∷ []) []) ≡ b ++ map g (cond chosen (n ∷ []) [])
 one_more f g n true a b before here = rw (before, here) refl
 one_more f g n false a b before here = rw before refl
@@ -25,11 +25,11 @@ same_below f g chosen (suc n) few same =
     rw (filter-append chosen (numbers_below n) (n ∷ []), map-append f (filter chosen (numbers_below n)) (filter chosen (n ∷ [])), map-append g (filter chosen (numbers_below n)) (filter chosen (n ∷ [])))
     (one_more f g n (chosen n) _ _ (same_below f g chosen n (omega arith) same) (same n (omega arith)))
 
--- Two assignments of values agree on all 24 PCRs.
+-- Two assignments of PCR values agree for all 24 PCRs.
 abbrev pub AgreeBelow : PcrValues → PcrValues → Type 0
 AgreeBelow f g = (bank : HashAlg) (pcr : ℕ) → pcr < 24 → f bank pcr ≡ g bank pcr
 
--- the values of the selected PCRs in an assignment of values
+-- the values that an assignment of PCR values has for the selected PCRs
 abbrev chosen_values : PcrValues → BankSelection → List (List ℕ)
 chosen_values f bank = map (f bank.hash) (selected_pcrs bank)
 

@@ -1,4 +1,4 @@
--- An accepted entry has a ground for what it authorizes.
+-- Each accepted entry has a ground for the handle that it authorizes.
 use Rattle.std.proofs.Common.{◌≡◌, ◌≢◌, ℕ, zero, suc, ◌+◌, ◌<◌, arith, Bool, true, false, cond, List, [], ◌∷◌, length, take, map, Option, Some, None, option_map, Ok, IfOk, slice_get, refl, ap, sym, subst, ◌∙◌}
 use Rattle.std.specs.Prelude.{◌&&◌, not, IfSome, option_and_then, ◌-◌}
 use Rattle.std.specs.Int.{bit_at}
@@ -54,7 +54,7 @@ use Rattle.tpm_step.proofs.EntryHmacs.{authentic_told, cp_hash_told, handle_ther
 use Rattle.tpm_step.proofs.UseGrounds.{Passes, is_its_policy, names_command, one_bit, recorded_hash, recorded_is, takes_some, use_passed, recorded_written}
 use Rattle.tpm_step.proofs.Views.{views_tell}
 
--- ---- the comparison of an entry
+-- ---- checking the password or the HMAC of an entry
 
 compared : (r : Record) (c : Whole) (n : ℕ) (g : Option Grant) (e : Entry) (s : Session) → IfOk (comparison r c n g e s) (λ granted. comparison_holds r c n g e s ≡ true)
 compared r c n g e s =
@@ -73,11 +73,11 @@ nothing_used : (r : Record) (s : Session) → used_auth_value r s None ≡ []
 unfolding used_auth_value
 nothing_used r s = refl
 
--- the place of an entry is its number less one
+-- the position of an entry is its number minus one
 less_one : (place : ℕ) → (place + 1) - 1 ≡ place
 less_one place = omega arith
 
--- two lists of equal length have the same places
+-- two lists of equal length have the same positions
 same_place : {X Y : Type 0} (xs : List X) (ys : List Y) (place : ℕ) (x : X) → length ys ≡ length xs → slice_get xs place ≡ Some x → (y : Y) × (slice_get ys place ≡ Some y)
 same_place [] ys place x many is = absurd cc
 same_place (first ∷ xs) [] place x many is = absurd (omega (arith, many))
@@ -99,7 +99,7 @@ not_kept : (kept : Bool) → (kept ≡ true → false ≡ true) → not kept ≡
 not_kept true kept = absurd (false≢true (kept refl))
 not_kept false kept = refl
 
--- the history's session with the facts of a device's session
+-- if a device has a session, the history has a session with the same facts
 told_of : (found : Session) (told : Option LiveSession) → option_map session_facts (Some found) ≡ option_map facts_of told → (l : LiveSession) × (told ≡ Some l) × (session_facts found ≡ facts_of l)
 told_of found (Some l) same = (l, refl, same_Some (session_facts found) (facts_of l) same)
 told_of found None same = absurd cc
@@ -133,7 +133,8 @@ module _ (r : Record) (c : AcceptedCommand) (history : History) (locality : ℕ)
     kind_same : s.kind ≡ l.kind
     kind_same = ap (λ (f : SessionFacts). f.start.kind) same
 
-    -- what a session asserts of PCRs holds if its recorded counter is the device's
+    -- the assertions of a session about PCRs hold if the session's recorded counter is that of the
+    -- device
     holds_pcrs : RecordsUpdates e.session history l → is_other s.policy.update_count r.fixed.banks.update_count ≡ false → HoldsPcrs e.session history l
     holds_pcrs records counter =
         let recorded : s.policy.update_count ≡ Some records.count = ap (λ (p : Policy). p.update_count) policy_same ∙ records.recorded in
@@ -254,7 +255,7 @@ module _ (r : Record) (c : AcceptedCommand) (history : History) (locality : ℕ)
       ByPassword is (taken means.AuthValue place handle at (asked available _ u may))
       (password_told r c history viewed valued live place handle e at (asked holds _ v same)))))
 
-  -- the session that an entry names, if it exists
+  -- A step: what holds for the session of an entry, if it exists, holds for the entry's grant.
   with_session : (P : Option Grant → Type 0) (place : ℕ) (used : Option Handle) (e : Entry) → ((s : Session) (l : LiveSession) → sessions_of history e.session ≡ Some l → session_facts s ≡ facts_of l → IfOk (session_grant r c.command locality (place + 1) used e s) P) → IfOk (session_grant_if r c.command locality (place + 1) used e (session_of r e)) P
   with_session P place used e each = by (session_of r e) (live e.session)
     where
@@ -271,7 +272,7 @@ module _ (r : Record) (c : AcceptedCommand) (history : History) (locality : ℕ)
       by kind.Session is = with_session (λ g. Ground history c place e) place (Some handle) e (λ s l lives same. session_ground place handle e at s l lives same)
       by kind.Other is = tt
 
-  -- an entry of a session has its HMAC, even if it authorizes nothing
+  -- an entry with an HMAC session has the right HMAC, even if it authorizes no handle
   other_hmac : (place : ℕ) (e : Entry) (l : LiveSession) → used_in c.command place ≡ None → session_kind e.session ≡ kind.Session → sessions_of history e.session ≡ Some l → IfOk (grant r c.command locality (place + 1) None e) (λ g. HasHmac history c place e l)
   unfolding grant session_grant
   other_hmac place e l none is lives =

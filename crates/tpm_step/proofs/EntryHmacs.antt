@@ -1,4 +1,5 @@
--- The history determines the key and the text of an entry's HMAC, and a password.
+-- The history determines the key and the text of an entry's HMAC, and the password that an entry
+-- needs.
 use Rattle.std.proofs.Common.{◌≡◌, ◌⊎◌, ℕ, zero, suc, ◌+◌, arith, Bool, true, false, cond, List, [], ◌∷◌, ◌++◌, length, take, map, Option, Some, None, option_map, slice_get, refl, ap, sym, ◌∙◌, inl, inr}
 use Rattle.std.specs.Prelude.{◌==◌, ◌&&◌, ◌||◌}
 use Rattle.std.specs.List.{find}
@@ -36,7 +37,7 @@ use Rattle.tpm_step.proofs.LiveSessions.{of_both}
 use Rattle.tpm_step.proofs.TrimmedValues.{told_values_are_trimmed}
 use Rattle.tpm_step.proofs.Views.{view_named}
 
--- ---- places
+-- ---- positions
 
 pub got_map : {X Y : Type 0} (f : X → Y) (xs : List X) (n : ℕ) (x : X) → slice_get xs n ≡ Some x → slice_get (map f xs) n ≡ Some (f x)
 got_map f [] n x is = absurd cc
@@ -72,7 +73,7 @@ by_test key hmac mac is = by (length key == 0) (length hmac == 0) refl refl is
 -- ---- a device and its history
 
 module _ (r : Record) (c : AcceptedCommand) (history : History) (viewed : c.views ≡ map (view_of r) c.command.handles) (valued : map (auth_value_of r) c.command.handles ≡ map (auth_of history) c.command.handles) (live : AreLive r.sessions (sessions_of history)) where
-  -- ---- the entity at a place
+  -- ---- the entity at a position
 
   pub handle_there : (place : ℕ) (handle : Handle) → used_in c.command place ≡ Some handle → slice_get c.command.handles place ≡ Some handle
   handle_there place handle at = got_of_first (authorized_handles c.command.code) c.command.handles place handle at
@@ -135,8 +136,8 @@ module _ (r : Record) (c : AcceptedCommand) (history : History) (viewed : c.view
         by (Some b) = refl
         by None = refl
 
-    -- the key has the same authorization value, by a demand that adds it to the key as the policy
-    -- does
+    -- the key contains the authorization value that the history says, if the demand adds it to the
+    -- key exactly when the session's policy does
     pub value_told : (handle : Handle) (demand : Demand) → used_in c.command place ≡ Some handle → ((is_bound : Bool) → has_value_in_key s.kind is_bound demand ≡ has_value_in_key s.kind is_bound s.policy.demand) → used_auth_value r s (Some (record { handle = handle; demand = demand })) ≡ value_in_key history c place l (used_in c.command place)
     unfolding used_auth_value takes_value
     value_told handle demand at alike =
@@ -151,7 +152,7 @@ module _ (r : Record) (c : AcceptedCommand) (history : History) (viewed : c.view
         ap (λ (v : List ℕ). s.key ++ v) is
         ∙ ap (λ (f : SessionFacts). f.key ++ value_in_key history c place l (used_in c.command place)) same
 
-    -- the HMAC of an entry, by the facts of its session
+    -- the HMAC of an entry, computed from the facts of its session
     abbrev hmac_by : SessionFacts → Entry → (cp_hash key decrypt encrypt : List ℕ) → List ℕ
     hmac_by f e cp_hash key decrypt encrypt = hmac_of f.start.hash key (entry_text cp_hash e.nonce f.nonce_tpm decrypt encrypt e.attributes)
 

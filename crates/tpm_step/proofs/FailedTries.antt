@@ -1,5 +1,5 @@
 -- An event fails a try exactly if its authorization is refused with AUTH_FAIL for an entry that
--- touches a protected entity. The answer is that refusal.
+-- touches a protected entity. The response is that refusal.
 use Rattle.std.proofs.Common.{arith, rules, ◌≡◌, ℕ, ◌+◌, Bool, true, false, List, [], ◌∷◌, ◌++◌, append_assoc, length, length-append, slice_get, Option, Some, None, option_map, Result, Ok, Err, IfErr, refl, sym, ap, subst, ◌∙◌}
 use Rattle.std.specs.Prelude.{not, nat_lt, ◌&&◌, ◌||◌, is_none}
 use Rattle.std.specs.List.{list_any}
@@ -82,24 +82,24 @@ use_other : (policy : Policy) (u : UseParts) → IfErr (use_passes policy u) IsO
 unfolding use_passes
 use_other policy u = search (rules, err_bind, err_if) depth 16
 
--- what holds of a check's refusals, if no code is AUTH_FAIL
+-- if no code of a check is AUTH_FAIL, a property of the other codes holds for each of its refusals
 err_other : {X : Type 0} (Q : Refused → Type 0) (check : Check) (x : Result X Rc) → IfErr x IsOther → ((rc : Rc) → IsOther rc → Q (refusal check rc)) → IfErr (checked check x) Q
 err_other Q check (Ok x) others h = tt
 err_other Q check (Err rc) other h = h rc other
 
--- ---- the comparison of an entry
+-- ---- checking the password or the HMAC of an entry
 
 -- whether a refusal counts a try or is AUTH_FAIL
 abbrev is_failure : Refused → Bool
 is_failure e = is_try e.counted || is_auth_fail e.rc.code
 
--- This is the refusal of entry n, which has to authorize this handle or none. The entity that the
--- entry touches is not locked out, and the comparison fails.
+-- This is the refusal of entry n, which has to authorize this handle or none. Lockout does not
+-- protect the touched entity at the moment, and the password or the HMAC is wrong.
 record FailsAt (r : Record) (c : Whole) (locality n : ℕ) (used : Option Handle) (entry : Entry) (e : Refused) : Type 0 where
   unlocked : is_locked_out r.fixed.lockout (touched r c locality n used entry) ≡ false
   is : e ≡ failure (check_for used) n (touched r c locality n used entry)
 
--- If the refusal counts a try, or is AUTH_FAIL, it is that of entry n.
+-- If the refusal counts a try or is AUTH_FAIL, it is the refusal of entry n.
 abbrev IfFailsAt : Record → Whole → (locality n : ℕ) → Option Handle → Entry → Refused → Type 0
 IfFailsAt r c locality n used entry e = is_failure e ≡ true → FailsAt r c locality n used entry e
 
@@ -119,7 +119,7 @@ module _ (r : Record) (c : Whole) (locality n : ℕ) (used : Option Handle) (ent
       err_bind_is Q (may_be_tried r.fixed.lockout granted p) _ (err_if Q _ _ (other_at _ _ refl)) (λ tried may.
       err_bind Q (refused_if (not holds) _) _ (err_if Q _ _ (λ fails. failure_at granted p same touches (passed _ _ tried may))) (λ compared. tt))
 
--- the check of a password's comparison
+-- A step: a wrong password is refused by the check for the used handle.
 same_check : (used : Option Handle) → check_of (option_map undemanding used) ≡ check_for used
 same_check None = refl
 same_check (Some handle) = refl
@@ -133,7 +133,7 @@ password_at r c locality n used e password =
     comparison_at r c locality n used e granted (used_protection r used) (is_password_of (granted_value r granted) e.hmac) (same_check used)
     (ap (λ k. touched_by k r c locality n used e) password))
 
--- what a session demands of an entry that fails a try
+-- A step: the computation of a session's demand refuses no entry with a failed try.
 demand_at : (k : SessionType) (r : Record) (c : Whole) (locality n : ℕ) (handle : Handle) (s : Session) (used : Option Handle) (e : Entry) → IfErr (demand_by k r c locality n handle s) (IfFailsAt r c locality n used e)
 demand_at type.Hmac r c locality n handle s used e = search (rules, err_bind, err_if, other_at)
 demand_at _ r c locality n handle s used e = search (rules, err_other, use_other, other_at)
@@ -165,7 +165,7 @@ entry_at r c locality n used e = kind_at (session_kind e.session) r c locality n
 
 -- ---- all entries of a command
 
--- This is the refusal of the entry at this place, whose comparison fails.
+-- This is the refusal of the entry at this position, whose password or HMAC is wrong.
 record FailsIn (r : Record) (c : Whole) (locality : ℕ) (e : Refused) : Type 0 where
   place : ℕ
   entry : Entry
@@ -204,18 +204,18 @@ authorization_in r c locality =
     err_bind (IfFailsIn r c locality) (grants_pass r c locality [] c.entries) _ (walk_in r c locality [] [] c.entries refl refl) (λ grants.
     err_bind (IfFailsIn r c locality) (refused_if (list_any decrypts c.entries && not (has_first_buffer c.parameters)) _) _ (err_if (IfFailsIn r c locality) _ _ (other_in r c locality _ _ refl)) (λ whole. tt))))
 
--- a failed comparison names its entry
+-- the refusal of a wrong password or HMAC names its entry
 failed_number : (check : Check) (n m : ℕ) (p : Protection) → (failure check n p).rc.place ≡ (entry_fault m code.AuthFail).place → n ≡ m
 failed_number check n m protection.None is = cc
 failed_number check n m protection.Tries is = cc
 failed_number check n m protection.Lockout is = cc
 
--- a failed comparison counts a try only on a protected entity other than LOCKOUT
+-- a wrong password or HMAC counts a try only on a protected entity other than LOCKOUT
 counts_at : (check : Check) (n : ℕ) (p : Protection) → is_try (failure check n p).counted ≡ true → p ≡ protection.Tries
 counts_at check n protection.Tries tries = refl
 counts_at check n _ tries = absurd (false≢true tries)
 
--- AUTH_FAIL for the entry at a place is the refusal of that entry
+-- AUTH_FAIL for the entry at a position is the refusal of that entry
 failed_in : (r : Record) (c : Whole) (locality place : ℕ) (entry : Entry) (e : Refused) → slice_get c.entries place ≡ Some entry → authorize r c locality ≡ Err e → e.rc ≡ entry_fault (place + 1) code.AuthFail → FailsAt r c locality (place + 1) (used_in c place) entry e
 failed_in r c locality place entry e there is fails =
     let found = IfErr-at_err (IfFailsIn r c locality) is (authorization_in r c locality) (or_right (is_try e.counted) _ (ap (λ (rc : Rc). is_auth_fail rc.code) fails)) in
@@ -224,7 +224,7 @@ failed_in r c locality place entry e there is fails =
     subst (λ x. FailsAt r c locality (place + 1) (used_in c place) x e) one
     (subst (λ p. FailsAt r c locality (p + 1) (used_in c p) found.entry e) same found.fails)
 
--- ---- a command
+-- ---- commands
 
 abbrev IfTryOf : Record → ℕ → List ℕ → Refused → Type 0
 IfTryOf r locality buffer e = is_try e.counted ≡ true → FailsTry r locality buffer
@@ -233,7 +233,7 @@ plain_of : (r : Record) (locality : ℕ) (buffer : List ℕ) (e : Refused) → I
 plain_of r locality buffer e plain tries = absurd (false≢true (sym (ap is_try plain) ∙ tries))
 
 -- if the refusal of a step has a property, and so has each refusal after it, each refusal of the
--- whole has it
+-- whole computation has it
 err_bind_at : {A B E : Type 0} (Q : E → Type 0) (x : Result A E) (f : A → Result B E) → ((e : E) → x ≡ Err e → Q e) → ((a : A) → IfErr (f a) Q) → IfErr (x >>= f) Q
 err_bind_at Q (Ok a) f here after = after a
 err_bind_at Q (Err e) f here after = here e refl
@@ -280,7 +280,7 @@ try_of r buffer locality random = by (accepted r buffer locality random) (accept
     by (Ok a) holds tries = absurd (false≢true tries)
     by (Err e) holds tries = holds tries
 
--- a command that fails a try is refused as the entry at that place is
+-- a command that fails a try gets the refusal of its failed entry
 module _ {r : Record} {locality : ℕ} {buffer : List ℕ} (f : FailsTry r locality buffer) where
   failure_of : FailsAt r f.command locality (f.place + 1) (used_in f.command f.place) f.entry f.refused
   failure_of = failed_in r f.command locality f.place f.entry f.refused f.there f.is f.fails
@@ -313,7 +313,7 @@ fails_where r (Placed object) f = absurd f
 pub try_tells : (old : Record) (event : PlainEvent) → (fails_try old event ≡ true → IsRefusedTry old event) × (IsRefusedTry old event → fails_try old event ≡ true)
 try_tells old event = (fails_if old event, fails_where old event)
 
--- a refusal has the same answer, whether memory is refused or not
+-- the response to a refusal is the same whether memory is refused or not
 answer_refused : (refused : Bool) (r : Record) (random : List ℕ) (x : Result Accepted RefusedCommand) (e : RefusedCommand) → x ≡ Err e → answer_where refused r random x ≡ refusal_step r e
 answer_refused false r random x e is = ap (λ y. stepped_of r random y) is
 answer_refused true r random x e is = ap (λ y. answer_without_memory r random y) is

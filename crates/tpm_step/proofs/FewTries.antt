@@ -1,4 +1,4 @@
--- In a stretch of events without a reset few tries fail.
+-- In a stretch of events without a reset, the number of failed tries is within its bound.
 use Rattle.std.proofs.Common.{arith, ◌≡◌, ◌≢◌, ◌⊎◌, ℕ, ◌+◌, Bool, true, false, cond, List, [], ◌∷◌, ◌++◌, Result, Ok, Err, IfOk, refl, sym, subst, ap, ◌∙◌, inl, inr}
 use Rattle.std.specs.List.{AllByRecursion}
 use Rattle.std.proofs.lemmas.Bool.{false≢true}
@@ -25,12 +25,12 @@ use Rattle.tpm_step.proofs.FailedTries.{try_of, unlocked_of}
 use Rattle.tpm_step.proofs.Forgiving.{same_done}
 use Rattle.tpm_step.proofs.Leading.{history_apart}
 
--- ---- one event
+-- ---- single events
 
 done_pays : (r : Record) (a : Accepted) (locality : ℕ) (random : List ℕ) → IsAcceptance r locality random a → HasNoReset (with_command r (Ok a) 0 []) → Pays r.fixed.lockout (success_step a random).after.fixed.lockout 0 0
 done_pays r a locality random is quiet = same_pays r.fixed.lockout (success_step a random).after.fixed.lockout (same_done r a locality random is quiet.0)
 
--- a command that is accepted, or answered MEMORY instead of its success, is paid for
+-- a command that is accepted, or that returns MEMORY instead, keeps the balance of `Pays`
 starved_pays : (grows : Bool) (r : Record) (a : Accepted) (locality : ℕ) (random : List ℕ) → IsAcceptance r locality random a → let x : Stepped = cond grows (refusal_without_memory r a.command) (success_step a random) in HasNoReset (with_command r (Ok a) x.row.check []) → Pays r.fixed.lockout x.after.fixed.lockout 0 0
 starved_pays true r a locality random is quiet = same_pays r.fixed.lockout r.fixed.lockout (refl, refl, refl, refl)
 starved_pays false r a locality random is quiet = done_pays r a locality random is quiet
@@ -41,7 +41,8 @@ answer_pays true r (Ok a) locality random counts unlocked is quiet = starved_pay
 answer_pays false r (Err e) locality random counts unlocked is quiet = refusal_pays r.fixed.lockout e.refused.counted counts unlocked
 answer_pays true r (Err e) locality random counts unlocked is quiet = refusal_pays r.fixed.lockout e.refused.counted counts unlocked
 
--- One event before others keeps recoveryTime. If the others are paid for, all are.
+-- An event keeps recoveryTime. If the events after it keep the bound on failed tries, so do all of
+-- them together.
 pub record PaysFor (old new : LockoutState) (fails : Bool) (elapsed : ℕ) : Type 0 where
   pub recovery_time : new.fields.recovery_time ≡ old.fields.recovery_time
   pub more : (failed rest : ℕ) → IsPaid new failed rest → IsPaid old (cond fails 1 0 + failed) (elapsed + rest)
@@ -88,13 +89,13 @@ execution_pays can old event x executes counts quiet =
     let stepped = step_pays refused old event counts (subst (λ (y : Stepped). HasNoReset (recorded old event y.row.check [])) is quiet) in
     subst (λ (y : Stepped). PaysFor old.fixed.lockout y.after.fixed.lockout (fails_try old event) (elapsed_of event)) (sym is) stepped
 
--- ---- a stretch of events
+-- ---- stretches of events
 
 all_parts : {X : Type 0} (P : X → Type 0) (xs ys : List X) → AllByRecursion P (xs ++ ys) → AllByRecursion P xs × AllByRecursion P ys
 all_parts P [] ys all = (tt, all)
 all_parts P (x ∷ xs) ys all = let rest = all_parts P xs ys all.1 in ((all.0, rest.0), rest.1)
 
--- neither the first event of a stretch nor those after it have a reset
+-- if a stretch has no reset, neither its first event nor the events after it have one
 quiet_parts : (one : Execution) (executions : List Execution) → HasNoReset (history_after [] (one ∷ executions)) → HasNoReset (history_after [] executions) × HasNoReset (with_execution one [])
 quiet_parts one executions quiet =
     all_parts (λ (p : PastEvent). is_reset p ≡ false) (history_after [] executions) (with_execution one [])
@@ -120,7 +121,7 @@ fails_few can old executions new is leads quiet counts = omega (arith, fails_wit
 pub one_more : (old : Record) (executions : List Execution) → tries_at_most old executions ≡ tries_within old executions + 1
 one_more old executions = omega arith
 
--- ---- commands that reset nothing
+-- ---- commands that are not a reset
 
 code_resets : (code : CommandCode) → resets_tries code ≡ true → (code ≡ command.DictionaryAttackLockReset) ⊎ (code ≡ command.DictionaryAttackParameters) ⊎ (code ≡ command.Clear)
 code_resets command.DictionaryAttackLockReset is = inl refl

@@ -1,4 +1,4 @@
--- Every event leads from a history to the one with that event.
+-- Every event leads from a history to the same history with that event.
 use Rattle.std.proofs.Common.{arith, ◌≡◌, ◌≤◌, ℕ, Bool, true, false, cond, List, [], ◌∷◌, length, drop, map, Option, Some, None, option_map, Result, Ok, Err, IfOk, Bor, refl, ap, sym, subst, ◌∙◌}
 use Rattle.std.specs.Fn.{Mut}
 use Rattle.tpm_lockout.specs.Lockout.{LockoutState}
@@ -64,7 +64,7 @@ use Rattle.tpm_step.proofs.RunReplays.{run_replays_repeat}
 abbrev HasShape : Record → Type 0
 HasShape r = Shape r.sessions r.objects r.persistent r.nv.indices
 
--- what is known of every record after an event
+-- The record satisfies the invariants that hold after every event.
 record IsSound (r : Record) : Type 0 where
   shape : HasShape r
   sized : AreSized r
@@ -78,7 +78,7 @@ all_values banks is alg.Sha256 = is.sha256.0
 record_shape : (r : Record) → IsRecord r → HasShape r
 record_shape r is = record { sessions_many = is.sessions; objects_many = is.objects; persistent_ascend = is.persistent.ascends; indices_ascend = is.nv.ascends }
 
--- ---- an accepted command
+-- ---- accepted commands
 
 -- Some random bytes are left after the new nonces.
 abbrev LeavesSome : List ℕ → Accepted → Type 0
@@ -113,7 +113,7 @@ command_follows r a locality random history is some sound follows =
       indices = sound.indices;
     }
 
--- ---- time, and what a refusal counts
+-- ---- time, and the effects of a refusal
 
 timed_follows : (r : Record) (lockout : LockoutState) (time clock : ℕ) (history : History) → IsForgiving lockout → Follows r history → Follows (record r { fixed = record r.fixed { lockout = lockout; time = time; clock = clock } }) history
 timed_follows r lockout time clock history forgives follows = record {
@@ -163,7 +163,7 @@ cycled_follows r history follows = record {
   indices = follows.indices;
 }
 
--- ---- an object from a saved context
+-- ---- objects from saved contexts
 
 placed_follows : (r : Record) (object : Object) (history : History) → IsObject object → IsSound (placed r object) → Follows r history → Follows (placed r object) (with_placed (next_handle r.objects) object history)
 placed_follows r object history is sound follows = by (lowest_free r.objects) refl sound
@@ -190,7 +190,7 @@ placed_follows r object history is sound follows = by (lowest_free r.objects) re
           indices = sound.indices;
         }
 
--- ---- a manufactured device
+-- ---- manufactured devices
 
 pub manufactured_follows : (random : List ℕ) → Follows (manufactured random) []
 manufactured_follows random = record {
@@ -211,9 +211,9 @@ manufactured_follows random = record {
   indices = tt;
 }
 
--- ---- an event
+-- ---- events
 
--- An accepted command leaves some random bytes.
+-- If the command is accepted, some random bytes are left.
 abbrev LeavesIfAccepted : List ℕ → Result Accepted RefusedCommand → (check : ℕ) → Type 0
 LeavesIfAccepted random x check = check ≡ 0 → IfOk x (LeavesSome random)
 
@@ -227,7 +227,7 @@ answer_follows true r locality random (Ok a) history is leaves sound follows = b
     by true leaves sound = refusal_follows r memory_refusal.counted history follows
     by false leaves sound = command_follows r a locality random history is (leaves refl) sound follows
 
--- If the event is an accepted command, it leaves some random bytes.
+-- If the event is an accepted command, some random bytes are left after it.
 abbrev LeavesAfter : Record → PlainEvent → (check : ℕ) → Type 0
 LeavesAfter r (Given buffer locality elapsed random) check = LeavesIfAccepted random (accepted (ticked r elapsed) buffer locality random) check
 LeavesAfter r Cycled check = Unit {0}
@@ -264,7 +264,7 @@ execution_follows can old event x history executes follows =
         subst (λ (y : Stepped). Follows y.after (recorded old event y.row.check history)) (sym same)
         (step_follows refused old event history executes.happens (leaves_after old event (step_where refused old event).row.check executes.happens (λ passes. executes.modest (ap (λ (y : Stepped). y.row.check) same ∙ passes))) (subst (λ (y : Stepped). IsSound y.after) same sound) follows)
 
--- ---- a stretch of events, with its history
+-- ---- stretches of events, with their history
 
 pub stretch_follows : (can : Bool) (old : Record) (executions : List Execution) (new : Record) (history : History) → Leads can old executions new → Follows old history → StretchFollows can old executions new history
 stretch_follows can old executions new history leads follows =
@@ -282,7 +282,7 @@ stretch_follows can old executions new history leads follows =
       replays = run_replays_repeat can old executions new history leads now.hmacs;
     }
 
--- ---- a run, with its history
+-- ---- runs, with their history
 
 -- The events of a run are executions one after another, and a closure was called with their
 -- outcomes.

@@ -1,5 +1,5 @@
--- The time towards forgiving the next try is less than one period, whatever a device accepts and
--- refuses.
+-- Less than one recoveryTime counts towards the next decrement of failedTries, whatever a device
+-- accepts and refuses.
 use Rattle.std.proofs.Common.{arith, ◌≡◌, ◌≢◌, ℕ, Bool, true, false, List, IfOk, refl, sym, ap, subst}
 use Rattle.std.proofs.lemmas.Bool.{false≢true}
 use Rattle.tpm_lockout.specs.Lockout.{LockoutState}
@@ -26,7 +26,7 @@ use Rattle.tpm_step.specs.Potential.{IsForgiving}
 use Rattle.tpm_step.specs.Tries.{resets_tries}
 use Rattle.tpm_step.proofs.Balance.{SameTries, closed_same, refusal_forgives, same_forgives, tick_forgives}
 
--- ---- rows that keep failed tries
+-- ---- rows that keep the failed tries
 
 abbrev leaves_tries : Part → Bool
 leaves_tries Lockout = false
@@ -54,13 +54,13 @@ leaving_row r code q quiet =
     ok_weaker (λ s. Touches (part_of code) r s.after) (λ s. SameTries r.fixed.lockout s.after.fixed.lockout) (row_of r code q) (row_touches r code q)
     (λ s touches. same_part (part_of code) r s.after (leaves_if code quiet) touches)
 
--- an accepted command that is not a reset keeps failed tries
+-- an accepted command that is not a reset keeps the failed tries
 pub same_done : (r : Record) (a : Accepted) (locality : ℕ) (random : List ℕ) → IsAcceptance r locality random a → resets_tries a.command.code ≡ false → SameTries r.fixed.lockout (success_step a random).after.fixed.lockout
 same_done r a locality random is quiet =
     subst (λ (s : LockoutState). SameTries r.fixed.lockout s) (sym (ap (λ (x : Record). x.fixed.lockout) (success_leaves a random)))
     (ok_at (λ s. SameTries r.fixed.lockout s.after.fixed.lockout) (row_of r a.command.code a.request) a.success (leaving_row r a.command.code a.request quiet) is.row)
 
--- ---- rows that reset failed tries
+-- ---- rows that reset the failed tries
 
 clear_forgives : (r : Record) (q : Request) → IsForgiving r.fixed.lockout → IfOk (row_of r command.Clear q) (λ s. IsForgiving s.after.fixed.lockout)
 clear_forgives r q is =
@@ -85,7 +85,7 @@ row_forgives r command.DictionaryAttackLockReset q is = reset_forgives r q is
 row_forgives r command.DictionaryAttackParameters q is = parameters_forgive r q
 row_forgives r _ q is = other_forgives r _ q refl is
 
--- ---- what happens to a device
+-- ---- all events
 
 pub forgives_done : (r : Record) (a : Accepted) (locality : ℕ) (random : List ℕ) → IsAcceptance r locality random a → IsForgiving r.fixed.lockout → IsForgiving (success_step a random).after.fixed.lockout
 forgives_done r a locality random is forgives =

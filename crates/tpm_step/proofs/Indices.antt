@@ -1,5 +1,5 @@
--- What holds of each NV index after one is changed, defined or removed, and after TPM2_Clear and
--- a startup.
+-- Properties of all NV indices still hold after one index is changed, defined or removed, after
+-- TPM2_Clear, and after a startup.
 use Rattle.std.proofs.Common.{◌≡◌, ◌≢◌, ℕ, Bool, true, false, cond, [], ◌∷◌, Option, Some, None, refl, sym, ap, subst, ◌∙◌, inl, inr}
 use Rattle.std.specs.Prelude.{◌==◌, map}
 use Rattle.std.proofs.lemmas.Bool.{cases_Bool, cases_eq}
@@ -21,16 +21,16 @@ some_same x y is = cc
 pub some_none : {X : Type 0} (x : X) → (let none : Option X = None in none ≡ Some x) → ⊥
 some_none x is = cc
 
--- The property holds of each index and its handle.
+-- The property holds for each index and its handle.
 abbrev pub EachIndex : (Handle → NvIndex → Type 0) → NvContents → Type 0
 EachIndex Is contents = (handle : Handle) (index : NvIndex) → index_at contents handle ≡ Some index → Is handle index
 
 module _ (Was Is : Handle → NvIndex → Type 0) where
-  -- What held of an index at another handle than this one holds now.
+  -- The old property of an index at another handle than this one implies the new property.
   abbrev pub OthersStay : Handle → Type 0
   OthersStay handle = (other : Handle) (index : NvIndex) → other.number ≢ handle.number → Was other index → Is other index
 
-  -- if this index is there now, and all others are as they were, the property holds of each
+  -- if this index exists now, and all others are unchanged, each index has the property
   but_one : (old new : NvContents) (handle : Handle) (index : NvIndex) → index_at new handle ≡ Some index → ((other : Handle) → other.number ≢ handle.number → index_at new other ≡ index_at old other) → Is handle index → OthersStay handle → EachIndex Was old → EachIndex Is new
   but_one old new handle index here apart is stay was other found there =
       elim (cases_eq other.number handle.number) [
@@ -41,21 +41,21 @@ module _ (Was Is : Handle → NvIndex → Type 0) where
         | inr away ↦ stay other found away (was other found (sym (apart other away) ∙ there))
       ]
 
-  -- a property of all indices stays if one index is changed
+  -- a property of all indices still holds after one index is changed
   pub changed_each : (contents : NvContents) (handle : Handle) (old new : NvIndex) → index_at contents handle ≡ Some old → Is handle new → OthersStay handle → EachIndex Was contents → EachIndex Is (changed_index contents handle new)
   changed_each contents handle old new found =
       but_one contents (changed_index contents handle new) handle new
       (index_map.changed_found contents.indices handle.number old new found)
       (λ other away. index_map.changed_others contents.indices handle.number new other.number away)
 
-  -- a property of all indices stays if one index is defined
+  -- a property of all indices still holds after one index is defined
   pub defined_each : (contents : NvContents) (handle : Handle) (new : NvIndex) → index_at contents handle ≡ None → Is handle new → OthersStay handle → EachIndex Was contents → EachIndex Is (with_index contents handle new)
   defined_each contents handle new free =
       but_one contents (with_index contents handle new) handle new
       (index_map.put_found contents.indices handle.number new free)
       (λ other away. index_map.put_others contents.indices handle.number new other.number away)
 
-  -- a property of all indices stays if all of them start
+  -- a property of all indices still holds after a startup of all of them
   pub started_each : ((handle : Handle) (index : NvIndex) → Was handle index → Is handle (started_index index)) → (contents : NvContents) → EachIndex Was contents → EachIndex Is (started contents)
   unfolding started
   started_each starts contents was handle index there =
@@ -71,7 +71,7 @@ module _ (Was Is : Handle → NvIndex → Type 0) where
           by false more there = more there
 
 module _ (Is : Handle → NvIndex → Type 0) where
-  -- a property of all indices stays if one index is removed
+  -- a property of all indices still holds after one index is removed
   pub removed_each : (contents : NvContents) (handle : Handle) → Ascends contents.indices → EachIndex Is contents → EachIndex Is (without_index contents handle)
   removed_each contents handle up is other index there =
       elim (cases_eq other.number handle.number) [
@@ -83,7 +83,7 @@ module _ (Is : Handle → NvIndex → Type 0) where
             is other index (sym (index_map.removed_others contents.indices handle.number other.number away) ∙ there)
       ]
 
-  -- a property of all indices stays if all but the platform's are removed
+  -- a property of all indices still holds after all indices except the platform's are removed
   pub cleared_each : (contents : NvContents) → Ascends contents.indices → EachIndex Is contents → EachIndex Is (cleared contents)
   unfolding cleared
   cleared_each contents up is handle index there = is handle index (kept_was handle.number index there)

@@ -1,4 +1,4 @@
--- Facts about executions that lead from one history to another.
+-- Lemmas about executions that lead from one history to another.
 use Rattle.std.proofs.Common.{◌≡◌, ℕ, zero, suc, Bool, List, [], ◌∷◌, ◌++◌, append_assoc, Option, Some, None, Result, Ok, Err, refl, sym, ap, subst, ◌∙◌}
 use Rattle.tpm_object.specs.declared.object.Object.{Object}
 use Rattle.tpm_types.specs.declared.handle.Handle.{Handle}
@@ -42,7 +42,7 @@ all_apart (one ∷ executions) new old =
 pub history_apart : (executions : List Execution) (history : History) → history_after history executions ≡ history_after [] executions ++ history
 history_apart executions history = all_apart executions [] history
 
--- ---- facts that each execution keeps
+-- ---- properties that each execution keeps
 
 pub leads_keep : (Follows : Record → History → Type 0) → ((can : Bool) (old : Record) (event : PlainEvent) (x : Stepped) (history : History) → Executes can old event x → Follows old history → Follows x.after (recorded old event x.row.check history)) → (can : Bool) (old : Record) (executions : List Execution) (new : Record) (history : History) → Leads can old executions new → Follows old history → Follows new (history_after history executions)
 leads_keep Follows kept can old [] new history leads follows = subst (λ r. Follows r history) (sym leads) follows

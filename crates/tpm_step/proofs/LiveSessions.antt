@@ -1,4 +1,4 @@
--- The sessions of a device and those of a history stay equal when both change.
+-- If a device and its history have the same sessions, they still have the same after both change.
 use Rattle.std.proofs.Common.{◌≡◌, ◌≢◌, ℕ, ◌^◌, ◌<◌, ◌==◌, arith, false, List, [], length, Option, Some, None, option_map, slice_set, refl, ap, sym, subst, ◌∙◌, inl, inr}
 use Rattle.std.specs.Prelude.{option_and_then}
 use Rattle.std.proofs.lemmas.Bool.{cases_eq, or_parts}
@@ -30,21 +30,21 @@ use Rattle.tpm_step.proofs.HandleMap.{at_other, at_same}
 abbrev Matches : Option Session → Option LiveSession → Type 0
 Matches found told = option_map session_facts found ≡ option_map facts_of told
 
--- what holds of two sessions with the same facts, and of none, holds of both
+-- a relation that holds for any two sessions with the same facts, and for none, holds for these two
 pub of_both : (P : Option Session → Option LiveSession → Type 0) → ((s : Session) (l : LiveSession) → session_facts s ≡ facts_of l → P (Some s) (Some l)) → P None None → (found : Option Session) (told : Option LiveSession) → option_map session_facts found ≡ option_map facts_of told → P found told
 of_both P some none (Some s) (Some l) same = some s l (same_Some (session_facts s) (facts_of l) same)
 of_both P some none None None same = none
 of_both P some none (Some s) None same = absurd cc
 of_both P some none None (Some l) same = absurd cc
 
--- what holds of the found session holds of each that is found there
+-- a property of the found session holds for every session found at the same handle
 pub of_one : (P : Session → Type 0) (found : Option Session) (one : Session) → found ≡ Some one → P one → (s : Session) → found ≡ Some s → P s
 of_one P found one is holds s also = subst P (same_Some one s (sym is ∙ also)) holds
 
 -- ---- another session at one handle
 
--- the device and the history match, if they have the same facts at one handle and nothing changed
--- at any other
+-- the device and the history still agree, if they have the same facts at one handle and the
+-- device's sessions at other handles are unchanged
 replaced : (new old : List (Option Session)) (handle : Handle) (told : Option LiveSession) (live : LiveSessions) → Matches (session_at new handle) told → ((other : Handle) → other.number ≢ handle.number → session_at new other ≡ session_at old other) → AreLive old live → AreLive new (with_at handle told live)
 replaced new old handle told live here elsewhere are other =
     elim (cases_eq other.number handle.number) [
@@ -56,7 +56,7 @@ replaced new old handle told live here elsewhere are other =
           ∙ sym (ap (option_map facts_of) (at_other handle other told live apart))
     ]
 
--- ---- a session starts
+-- ---- starting a session
 
 pub started_live : (places : List (Option Session)) (place : ℕ) (s : Session) (told : Option LiveSession) (live : LiveSessions) → length places ≡ session_limit → lowest_free places ≡ Some place → Some (session_facts s) ≡ option_map facts_of told → AreLive places live → AreLive (slice_set places place (Some s)) (with_at (handle_of s.kind place) told live)
 unfolding session_at
@@ -67,7 +67,7 @@ started_live places place s told live many free same are =
     (ap (option_map session_facts) (put_found session_byte places place s below free) ∙ same)
     (λ other apart. put_others session_byte places place s other.number below free apart) are
 
--- ---- a session ends
+-- ---- ending a session
 
 pub ended_live : (places : List (Option Session)) (handle : Handle) (live : LiveSessions) → AreLive places live → AreLive (flushed places handle) (without_session handle live)
 unfolding session_at flushed
@@ -81,7 +81,7 @@ of_kind type.Hmac handle not = (or_parts _ _ not).0
 of_kind type.Policy handle not = (or_parts _ _ not).1
 of_kind type.Trial handle not = (or_parts _ _ not).1
 
--- a handle of another kind finds no session
+-- a handle of another kind names no session
 absent : (places : List (Option Session)) (handle : Handle) → is_session handle ≡ false → session_at places handle ≡ None
 unfolding session_at at_number
 absent places handle not = by (at_place places (place_of handle.number))
@@ -95,7 +95,7 @@ pub none_ended_live : (places : List (Option Session)) (handle : Handle) (live :
 none_ended_live places handle live not are =
     replaced places places handle None live (ap (option_map session_facts) (absent places handle not)) (λ other apart. refl) are
 
--- ---- a session changes
+-- ---- changing a session
 
 -- The device's session changes as the history's session with the same facts does.
 abbrev pub ChangesAs : (Session → Session) → (LiveSession → LiveSession) → Session → Type 0
@@ -120,13 +120,13 @@ changed_live change retell keeps places handle live alike are =
     (ap (option_map session_facts) (found_changed change keeps places handle.number) ∙ changed_matches change retell (session_at places handle) (live handle) alike (are handle))
     (λ other apart. changed_others session_byte change keeps places handle.number other.number apart) are
 
--- the policy of an existing session changes as the history says
+-- A step: the policy of an existing session changes as the history says.
 pub policy_live : (places : List (Option Session)) (handle : Handle) (s : Session) (policy : Policy) (retell : LiveSession → LiveSession) (live : LiveSessions) → session_at places handle ≡ Some s → ChangesAs (λ s. with_policy s policy) retell s → AreLive places live → AreLive (with_session_policy places handle policy) (changed_session retell handle live)
 unfolding with_session_policy
 policy_live places handle s policy retell live is alike are =
     changed_live (λ s. with_policy s policy) retell (λ s. refl) places handle live (of_one (ChangesAs (λ s. with_policy s policy) retell) (session_at places handle) s is alike) are
 
--- the facts of a session stay the same after a change that the device does not make
+-- A step: the facts of a session are the same after a change that does nothing.
 unchanged : (found : Option Session) → option_map session_facts found ≡ option_map session_facts (option_map (λ (s : Session). s) found)
 unchanged (Some s) = refl
 unchanged None = refl
@@ -137,7 +137,7 @@ unchanged_live retell places handle live alike are =
     (unchanged (session_at places handle) ∙ changed_matches (λ s. s) retell (session_at places handle) (live handle) alike (are handle))
     (λ other apart. refl) are
 
--- ---- without a session
+-- ---- devices without a session
 
 pub none_live : AreLive no_sessions (λ handle. None)
 unfolding session_at at_number

@@ -1,4 +1,4 @@
--- A session that lives after an event also lived before it, or the event started it.
+-- A session that exists after an event also existed before it, or the event started it.
 use Rattle.std.proofs.Common.{◌≡◌, ◌⊎◌, ◌≤◌, ℕ, zero, suc, arith, Bool, true, false, cond, List, [], ◌∷◌, length, take, drop, map, Option, Some, None, option_map, Result, Ok, Err, slice_get, refl, ap, sym, subst, ◌∙◌, inl, inr}
 use Rattle.std.specs.Prelude.{is_some, ok_or}
 use Rattle.std.specs.List.{zip}
@@ -33,8 +33,8 @@ use Rattle.tpm_step.proofs.HandleMap.{at_other, at_same, same_handle}
 abbrev pub all_nonces : LiveSession → List (List ℕ)
 all_nonces s = s.nonce_tpm ∷ s.earlier_nonces
 
--- A session goes on: its type, its hash and the size of its nonces stay, and it keeps every nonce
--- that it had.
+-- This is the same session at two times: it has the same type, hash and size of nonces, and every
+-- nonce that it had before.
 pub record Continues (old new : LiveSession) : Type 0 where
   pub kind : new.kind ≡ old.kind
   pub hash : new.hash ≡ old.hash
@@ -58,7 +58,7 @@ continues_then a b c first then = record {
     by (inl same) = subst (λ (nonce : List ℕ). IsAmong nonce (all_nonces c)) (sym same) then.latest
     by (inr among) = inr (then.earlier a.nonce_tpm among)
 
--- A session goes on with the same assertions, or without any.
+-- This is the same session at two times, with the same assertions or without any.
 pub record Keeps (old new : LiveSession) : Type 0 where
   pub continues : Continues old new
   pub asserted : (new.assertions ≡ old.assertions) ⊎ (new.assertions ≡ [])
@@ -90,7 +90,8 @@ was_then found later new back (mid, is, keeps) =
 
 -- ---- another session at one handle
 
--- the session at a handle, after another one was set at this or another handle
+-- A step: after a session is set at a handle, the session at this or another handle is the new one
+-- or the old one.
 put_came : (P : Type 0) (handle other : Handle) (x : Option LiveSession) (live : LiveSessions) (new : LiveSession) → (other.number ≡ handle.number → x ≡ Some new → P) → (live other ≡ Some new → P) → with_at handle x live other ≡ Some new → P
 put_came P handle other x live new here elsewhere is =
     elim (cases_eq other.number handle.number) [
@@ -116,7 +117,7 @@ ended_kept handle other live new is = put_came (Kept (live other) new) handle ot
 restarts : (s : LiveSession) → Keeps s (restarted s)
 restarts s = record { continues = record { kind = refl; hash = refl; size = refl; latest = inl refl; earlier = λ nonce among. among }; asserted = inr refl }
 
--- ---- a session and one entry
+-- ---- a session after one entry
 
 uses : (kind : SessionType) (s : LiveSession) → Keeps s (used_by kind s)
 uses type.Hmac s = keeps_self s
@@ -137,7 +138,7 @@ ends_kept live (g ∷ granted) handle new is =
     let first = entry_ended live g.0 g.1 in
     was_then (live handle) (first handle) new (entry_end_kept live g.0 g.1 handle) (ends_kept first granted handle new is)
 
--- a session goes on with a new nonce, if no byte of the nonce is missing
+-- a session with a new nonce is the same session, if no byte of the nonce is missing
 renews : (s : LiveSession) (size : ℕ) (left : List ℕ) → size ≡ length s.nonce_tpm → size ≤ length left → Keeps s (with_nonce (take size left) s)
 renews s size left is enough = record {
   continues = record {
@@ -165,7 +166,7 @@ rolled_less live (e ∷ es) left =
     let first = entry_rolled live e left in
     omega (arith, rolled_less first.sessions es first.left, length-drop (nonce_size (live e.session)) left)
 
--- If some bytes are left, there were enough for the first nonce.
+-- if some bytes are left after all nonces, there were enough for the first nonce
 enough_first : (live : LiveSessions) (e : Entry) (es : List Entry) (left : List ℕ) → 1 ≤ length (entries_rolled live (e ∷ es) left).left → nonce_size (live e.session) ≤ length left
 enough_first live e es left some =
     let first = entry_rolled live e left in
@@ -179,9 +180,9 @@ rolls_kept live (e ∷ es) left handle new some is =
     (λ mid was. roll_kept live e left handle mid (enough_first live e es left some) was)
     (rolls_kept first.sessions es first.left handle new some is)
 
--- ---- an entry that names the session
+-- ---- entries that name the session
 
--- The nonce that a session had before a command is among its earlier ones after it.
+-- The nonce that a session had before a command is among its earlier nonces after it.
 abbrev Renewed : Option LiveSession → LiveSession → Type 0
 Renewed found new = (old : LiveSession) × (found ≡ Some old) × Keeps old new × IsAmong old.nonce_tpm new.earlier_nonces
 
@@ -210,7 +211,7 @@ rolls_renewed live (x ∷ es) left (suc place) e new at some is =
     by old mid (inl same) later among = subst (λ (nonce : List ℕ). IsAmong nonce new.earlier_nonces) (sym same) among
     by old mid (inr had) later among = later.continues.earlier old.nonce_tpm had
 
--- ---- what the entries of a command do
+-- ---- the effects of a command's entries
 
 module _ (c : AcceptedCommand) (history : History) (some : 1 ≤ length (rolled_by c history (sessions_of history)).left) (handle : Handle) (new : LiveSession) (is : sessions_of (Done c ∷ history) handle ≡ Some new) where
   abbrev effect : LiveSessions
@@ -234,10 +235,10 @@ module _ (c : AcceptedCommand) (history : History) (some : 1 ≤ length (rolled_
       let (old, found, keeps, among) = rolls_renewed effect c.command.entries left place e mid at some (ap rolled names ∙ was) in
       (old, ap effect (sym names) ∙ found, keeps_then old mid new keeps later, later.continues.earlier old.nonce_tpm among)
 
--- ---- what a row does
+-- ---- the effects of a row
 
--- The origin of the session at a handle after a row: it started there, without assertions; or it
--- was there before; or the command asserted something on it.
+-- The origin of the session at a handle after a row: the command started it, without assertions; or
+-- it was there before; or the command made an assertion on it.
 pub data Came (code : CommandCode) (c : AcceptedCommand) (history : History) (found : Option LiveSession) (handle : Handle) (new : LiveSession) : Type 0 where
   Begun : starts_under code c.answer.handle handle ≡ true → new.assertions ≡ [] → Came code c history found handle new
   Stayed : Was Keeps found new → Came code c history found handle new

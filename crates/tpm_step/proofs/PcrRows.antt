@@ -1,4 +1,4 @@
--- The rows change PCRs as a history says of their commands.
+-- The rows change PCRs as the history does for their commands.
 use Rattle.std.proofs.Common.{arith, ◌≡◌, ℕ, ◌+◌, ◌-◌, ◌<◌, ◌≤◌, ◌++◌, Bool, true, false, cond, List, [], ◌∷◌, length, drop, get_or, fold, Some, None, Result, Ok, Err, IfOk, refl, ap, sym, ◌∙◌, inl, inr, ◌⊎◌}
 use Rattle.std.specs.Prelude.{◌==◌, nat_lt, replicate, slice_index_or}
 use Rattle.std.proofs.lemmas.Bool.{cases_lt, le-ltb, lt-ltb}
@@ -46,7 +46,7 @@ use Rattle.tpm_step.specs.DevicePcrs.{AreSaved, IsSavedAs}
 use Rattle.tpm_step.specs.Pcrs.{count_in, extended_by_all, if_pcr, measured_by, names_pcr, pcr_by, resumed, updates_by}
 use Rattle.tpm_pcr.proofs.OneValue.{event_digest, extensions_at, extensions_count, zeros_at}
 
--- A success changes the values of PCRs, and the count of updates, as a history says, given these
+-- A success changes the values of PCRs, and the number of updates, as the history does with these
 -- saved values.
 pub record Measures (code : CommandCode) (q : Request) (saved : PcrValues) (old new : BankValues) : Type 0 where
   pub values : (bank : HashAlg) (n : ℕ) → n < 24 → pcr_value new bank n ≡ pcr_by code q bank n (saved bank n) (pcr_value old bank n)
@@ -57,12 +57,14 @@ SoMeasures code q saved r s = Measures code q saved r.fixed.banks s.after.fixed.
 
 -- ---- the PCR that a handle names
 
--- If the handle names a PCR, a change of that PCR has these values and this count.
+-- The new banks have these values in the PCR that the handle names, if it names one, and this many
+-- more updates. Other PCRs have their old values.
 record IsChanged (handle : Handle) (new : HashAlg → ℕ → List ℕ) (count : ℕ) (old banks : BankValues) : Type 0 where
   values : (bank : HashAlg) (n : ℕ) → n < 24 → pcr_value banks bank n ≡ cond (handle.number == n) (new bank n) (pcr_value old bank n)
   updates : banks.update_count ≡ old.update_count + cond (nat_lt handle.number 24) count 0
 
--- A change of the PCR with this number has these values and this count.
+-- The new banks have these values in the PCR with this number, and this many more updates. Other
+-- PCRs have their old values.
 record IsMade (pcr : ℕ) (new : HashAlg → ℕ → List ℕ) (count : ℕ) (old banks : BankValues) : Type 0 where
   values : (bank : HashAlg) (n : ℕ) → n < 24 → pcr_value banks bank n ≡ cond (pcr == n) (new bank n) (pcr_value old bank n)
   updates : banks.update_count ≡ old.update_count + count
@@ -70,7 +72,7 @@ record IsMade (pcr : ℕ) (new : HashAlg → ℕ → List ℕ) (count : ℕ) (ol
 plus_none : (n : ℕ) → n ≡ n + 0
 plus_none n = omega arith
 
--- a value stays if no PCR is named
+-- if the number is not that of a PCR, each value is unchanged
 other_pcr : (number n : ℕ) (x old : List ℕ) → n < 24 → nat_lt number 24 ≡ false → old ≡ cond (number == n) x old
 other_pcr number n x old below e = grind (arith, nat_tests)
 
@@ -115,7 +117,8 @@ counts_first (h ∷ handles) handle count e = sym (ap (λ (x : Handle). cond (na
 
 -- ---- rows that change a PCR
 
--- The change of a request's PCR is what a history says of its command.
+-- These values and this number of updates of the request's PCR are those that the history has for
+-- the command.
 abbrev Tells : CommandCode → Request → PcrValues → BankValues → (HashAlg → ℕ → List ℕ) → ℕ → Type 0
 Tells code q saved old new count =
     ((bank : HashAlg) (n : ℕ) → cond (names_pcr q.handles n) (new bank n) (pcr_value old bank n) ≡ pcr_by code q bank n (saved bank n) (pcr_value old bank n))
@@ -174,7 +177,7 @@ reset_measures r q saved all =
     (changed_pcr handle old (λ pcr. reset_of pcr q.locality) zeros 2 (reset_makes handle.number q.locality old all))
     (λ banks changed. changed_measures command.PcrReset q saved handle zeros 2 old banks handle_is (λ bank n. refl, refl) changed)))
 
--- ---- a startup
+-- ---- TPM2_Startup
 
 same_values : (old new : BankValues) → new.sha1 ≡ old.sha1 → new.sha256 ≡ old.sha256 → (bank : HashAlg) (n : ℕ) → pcr_value new bank n ≡ pcr_value old bank n
 same_values old new e f alg.Sha1 n = ap (λ (l : List (List ℕ)). slice_index_or l n []) e
@@ -196,7 +199,7 @@ restored_at : (s : SavedValues) (values : PcrValues) (banks : BankValues) → Ar
 restored_at s values banks is alg.Sha1 n = front_or s.sha1 banks.sha1 n (values alg.Sha1 n) (is.sixteen alg.Sha1) (is.each alg.Sha1 n)
 restored_at s values banks is alg.Sha256 n = front_or s.sha256 banks.sha256 n (values alg.Sha256 n) (is.sixteen alg.Sha256) (is.each alg.Sha256 n)
 
--- A startup of this type leaves these values, and counts updates from 0.
+-- After a startup of this type, PCRs have these values, and updates are counted from 0.
 abbrev Begins : StartupType → PcrValues → BankValues → BankValues → Type 0
 Begins t saved old new =
     ((bank : HashAlg) (n : ℕ) → pcr_value new bank n ≡ resumed (Ok t) n (saved bank n) (pcr_value old bank n))
@@ -249,7 +252,7 @@ touched_banks Cleared old new leaves touches = absurd cc
 touched_banks AuthValues old new leaves touches = ap (λ (r : Record). r.fixed.banks) touches.0
 touched_banks _ old new leaves touches = ap (λ (r : Record). r.fixed.banks) touches
 
--- A history has no change of PCRs for this command.
+-- In a history, this command changes no PCR.
 abbrev TellsNothing : CommandCode → Request → Type 0
 TellsNothing code q =
     ((bank : HashAlg) (n : ℕ) (saved old : List ℕ) → old ≡ pcr_by code q bank n saved old)

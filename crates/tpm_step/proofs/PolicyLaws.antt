@@ -1,4 +1,4 @@
--- The laws of policies of one assertion.
+-- What policies with a single assertion require of each use.
 use Rattle.std.proofs.Common.{◌≡◌, ℕ, Bool, false, List, [], ◌∷◌, Option, Some, None, ap, sym, subst, ◌∙◌}
 use Rattle.std.specs.Prelude.{IfSome}
 use Rattle.std.specs.List.{AllByRecursion, list_any}
@@ -16,7 +16,7 @@ use Rattle.tpm_step.specs.QuietPcrs.{HoldsOf, is_pcr}
 use Rattle.tpm_step.specs.Sessions.{LiveSession, policy_in}
 use Rattle.tpm_step.proofs.QuietValues.{quiet_since}
 
--- the policy of a session is the one that its assertions determine
+-- the policy digest of a session is that of its assertions, and so it is the entity's authPolicy
 its_assertions : (s : LiveSession) (found : Option EntityParts) (assertions : List Assertion) → s.kind ≡ type.Policy → s.assertions ≡ assertions → IsPolicyOf s found → HasPolicyOf s.hash assertions found
 its_assertions s None assertions kind are is = is
 its_assertions s (Some entity) assertions kind are is =

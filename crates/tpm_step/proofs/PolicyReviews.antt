@@ -1,4 +1,4 @@
--- The laws of policies that are often reviewed.
+-- What policies that are often reviewed require of each use.
 use Rattle.std.proofs.Common.{◌≡◌, ◌≢◌, ◌⊎◌, ℕ, arith, false, List, [], ◌∷◌, ◌++◌, Option, Some, None, option_and_then, slice_get, refl, ap, sym, subst, ◌∙◌, inl, inr}
 use Rattle.std.specs.List.{concat, flat_map}
 use Rattle.std.specs.Option.{option_map_or}
@@ -43,12 +43,12 @@ at_past (Done other ∷ after) c before meet = at_past after c before meet.1
 at_past (PowerCycled ∷ after) c before meet = at_past after c before meet
 at_past (ObjectPlaced at object ∷ after) c before meet = at_past after c before meet
 
--- what follows from meeting its policies holds of each command
+-- A property that follows from `UsesMeetPolicies` holds for each accepted command.
 pub of_each : (Holds : History → AcceptedCommand → Type 0) → ((history : History) (c : AcceptedCommand) → UsesMeetPolicies history c → Holds history c) → OfEachAccepted Holds
 of_each Holds so can random executions new leads after c before is =
     so before c (at_past after c before (subst AllMeetPolicies is (policies_manufactured can random executions new leads)))
 
--- ---- an entity that only policy sessions authorize
+-- ---- entities that only policy sessions authorize
 
 its_hash : (s : LiveSession) (found : Option EntityParts) (hash : HashAlg) (digest : List ℕ) → IsPolicyOf s found → found ≡ Some (record { hash = hash; digest = digest }) → s.hash ≡ hash
 its_hash s None hash digest its is = absurd cc
@@ -75,7 +75,7 @@ module _ (history : History) (c : AcceptedCommand) (place : ℕ) (handle : Handl
       let (e, given, ground, meets) = meet place handle used in
       by_ground e given ground meets
 
--- what follows from the policy that a use meets
+-- A step: a property of a use by a policy session may be replaced by one that follows from it.
 follows_so : (history : History) (c : AcceptedCommand) (place : ℕ) (hash : HashAlg) (policy : PolicyExpression) (P Q : PolicyUse → Type 0) → ((u : PolicyUse) → u.history ≡ history → u.command ≡ c → u.place ≡ place → u.session.hash ≡ hash → P u → Q u) → IsUsedBySession history c place hash policy P → IsUsedBySession history c place hash policy Q
 follows_so history c place hash policy P Q so by = record {
   handle = by.handle;
@@ -150,7 +150,7 @@ module _ (history : History) (c : AcceptedCommand) (meet : UsesMeetPolicies hist
       (λ u now same at hash met. subst (λ (h : History). ComparesIndex h u.entry.session name number 0 operation.UnsignedGreaterOrEqual) now met.1)
       (object_needs place public policy uses (tt, omega arith))
 
-  -- ---- an index
+  -- ---- NV indices
 
   index_needs : (place : ℕ) (public : NvPublic) (policy : PolicyExpression) → WritesIndex c place public policy → IsPolicyExpression public.name_alg policy → IsUsedBySession history c place public.name_alg policy (λ u. IsMet (IsMetBy u) policy)
   index_needs place public policy uses is =

@@ -1,5 +1,5 @@
--- Each use by a policy session meets every policy that has the entity's authPolicy, or the hash
--- is broken.
+-- Each use by a policy session meets every policy with the entity's authPolicy, or the hash is
+-- broken.
 use Rattle.std.proofs.Common.{◌≡◌, ◌⊎◌, ℕ, Bool, true, false, cond, List, [], ◌∷◌, Option, Some, None, IfSome, IfOk, refl, ap, sym, subst, ◌∙◌, inl, inr}
 use Rattle.std.proofs.lemmas.Option.{same_Some}
 use Rattle.std.specs.Int.{bit_at, w8, w32}
@@ -54,7 +54,7 @@ use Rattle.tpm_step.proofs.AssertedBy.{HasOrigin, first_authorized, have_origins
 use Rattle.tpm_step.proofs.RecordedAssertions.{command_recorded, cp_hash_recorded, locality_allowed, written_recorded}
 use Rattle.tpm_step.proofs.Selections.{digest_by_text}
 
--- ---- the assertions along a policy
+-- ---- the assertions of a policy along its branches
 
 mutual
   met_so : (P Q : PolicyAssertion → Type 0) → ((one : PolicyAssertion) → P one → Q one) → (policy : PolicyExpression) → IsMet P policy → IsMet Q policy
@@ -67,7 +67,7 @@ mutual
   one_met_so P Q so (Branch policy branches) (inl met) = inl (met_so P Q so policy met)
   one_met_so P Q so (Branch policy branches) (inr met) = inr (one_met_so P Q so branches met)
 
--- ---- what the assertions of a session found
+-- ---- the conditions of a session's assertions
 
 are_accepted : (hash : HashAlg) (assertions : List Assertion) → AllFind hash assertions → AreAccepted hash assertions
 are_accepted hash [] find = tt
@@ -90,9 +90,9 @@ all_at P one [] all among = absurd among
 all_at P one (other ∷ assertions) all (inl same) = subst P (sym same) all.0
 all_at P one (other ∷ assertions) all (inr among) = all_at P one assertions all.1 among
 
--- ---- which command makes which assertion
+-- ---- the command of each assertion
 
--- The command is TPM2_PolicySecret or TPM2_PolicyNV, and the assertion has the Name of its
+-- The command is TPM2_PolicySecret or TPM2_PolicyNV, and the assertion contains the Name of its
 -- handle's entity.
 abbrev IsOf : Code → AcceptedCommand → Assertion → Type 0
 IsOf code c (assertion.Secret parts) = (code ≡ command.PolicySecret) × (name_in c.views 0 ≡ parts.name)
@@ -117,7 +117,7 @@ of_command history handle one by =
     ok_at (IsOf by.command.command.code by.command) (assertion_by by.command.command.code by.command by.before by.session.hash by.session.nonce_tpm) one
     (asserted_of by.command.command.code by.command by.before by.session.hash by.session.nonce_tpm) by.asserts
 
--- ---- one use of a policy session
+-- ---- one use by a policy session
 
 module _ (u : PolicyUse) (used : used_in u.command.command u.place ≡ Some u.handle) (kind : u.session.kind ≡ type.Policy) (meets : MeetsPolicy u.history u.command u.place u.entry u.session) (demanded : HasDemanded (is_password_demand (policy_in u.session).demand) u.history u.command u.place u.entry u.session) (find : AllFind u.session.hash u.session.assertions) (origins : (one : Assertion) → IsAmong one u.session.assertions → HasOrigin u.history u.entry.session one) where
   abbrev hash : HashAlg
@@ -129,7 +129,7 @@ module _ (u : PolicyUse) (used : used_in u.command.command u.place ≡ Some u.ha
   policy_is : policy_in u.session ≡ evaluated hash false assertions
   policy_is = ap (λ (k : SessionType). evaluated hash (is_trial k) assertions) kind
 
-  -- the authorization value in the HMAC key, by the policy's demand
+  -- the authorization value in the HMAC key, given the policy's demand
   abbrev value_by : SessionType → Demand → List ℕ
   value_by k d = cond (has_value_in_key k (is_bound_to u.session (name_in u.command.views u.place) (auth_of u.history u.handle)) d) (auth_of u.history u.handle) []
 
@@ -160,7 +160,7 @@ module _ (u : PolicyUse) (used : used_in u.command.command u.place ≡ Some u.ha
       }
   secret_shown name reference one says origin = absurd says
 
-  -- if a session asserted a policy's assertion, that assertion is met
+  -- if a session made an assertion of a written policy, the use meets that assertion
   met_by : (written : PolicyAssertion) (one : Assertion) → IsAmong one assertions → Says one written → IsMetBy u written
   met_by (PolicyPcr selection digest) (assertion.Pcr parts) among says =
       let holds = meets.pcrs (any_pcr parts assertions among) in
@@ -197,7 +197,7 @@ module _ (u : PolicyUse) (used : used_in u.command.command u.place ≡ Some u.ha
       }
   met_by written one among says = absurd says
 
-  -- the entity's nameAlg is the session's hash, and its authPolicy the session's digest
+  -- the entity's nameAlg is the session's hash, and its authPolicy is the session's digest
   its_policy : (found : Option EntityParts) (entity : EntityParts) → IsPolicyOf u.session found → found ≡ Some entity → (hash ≡ entity.hash) × (session_digest hash assertions ≡ entity.digest)
   its_policy None entity its is = absurd cc
   its_policy (Some other) entity its is =

@@ -1,4 +1,4 @@
--- A power cycle is an execution of its event, and executions come one after another.
+-- A power cycle is an execution of its event, and two stretches of executions make one.
 use Rattle.std.proofs.Common.{arith, ◌≡◌, ◌≢◌, ℕ, zero, suc, Bool, false, List, [], ◌∷◌, ◌++◌, length, refl, subst}
 use Rattle.std.proofs.lemmas.Bool.{false≢true}
 use Rattle.std.proofs.lemmas.List.{length-map, length-replicate}

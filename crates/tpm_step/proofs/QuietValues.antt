@@ -1,4 +1,4 @@
--- Quiet events change no PCR, and so what was asserted of PCRs still holds after them.
+-- Quiet events change no PCR, and so assertions about PCRs still hold after them.
 use Rattle.std.proofs.Common.{◌≡◌, ◌⊎◌, ℕ, ◌<◌, arith, Bool, true, false, cond, List, [], ◌∷◌, ◌++◌, Result, Ok, Err, refl, ap, sym, ◌∙◌, inl, inr}
 use Rattle.std.specs.Prelude.{◌==◌, nat_lt}
 use Rattle.std.specs.List.{AllByRecursion}
@@ -19,9 +19,9 @@ use Rattle.tpm_step.specs.Pcrs.{count_in, extended_by_all, if_pcr, names_pcr, pc
 use Rattle.tpm_step.specs.QuietPcrs.{AreQuietSince, HoldsOf, IsQuiet}
 use Rattle.tpm_step.proofs.Digests.{AgreeBelow, digests_agree}
 
--- ---- a command that writes nothing
+-- ---- commands that write no PCR
 
--- if a command writes no value, it names no PCR or writes nothing to it
+-- if a command writes no value, it names no PCR, or it would write no value
 unwritten : (handles : List Handle) (count pcr : ℕ) → pcr < 24 → if_pcr handles count ≡ 0 → (names_pcr handles pcr ≡ false) ⊎ (count ≡ 0)
 unwritten [] count pcr below is = inl refl
 unwritten (handle ∷ handles) count pcr below is = by (nat_lt handle.number 24) refl is
@@ -42,7 +42,7 @@ extended_none bank (Ok []) old is = refl
 extended_none bank (Ok (digest ∷ digests)) old is = absurd (omega (arith, is))
 extended_none bank (Err e) old is = refl
 
--- if a command would write two values, and counts none, each value stays
+-- if a command that writes two values of its PCR counts none, each value is unchanged
 never_two : (handles : List Handle) (pcr : ℕ) (new old : List ℕ) → pcr < 24 → if_pcr handles 2 ≡ 0 → cond (names_pcr handles pcr) new old ≡ old
 never_two handles pcr new old below is =
     elim (unwritten handles 2 pcr below is) [
@@ -83,7 +83,7 @@ quiet_since handle history q bank pcr below =
     ∙ quiet_events q.since (Done q.first ∷ q.before) q.quiet bank pcr below
     ∙ ap (λ (h : History). pcr_of h bank pcr) (sym q.is)
 
--- ---- what was asserted of PCRs
+-- ---- the assertions about PCRs
 
 holds_on : (event : PastEvent) (history : History) (hash : HashAlg) (assertion : Assertion) → IsQuiet event → HoldsOf history hash assertion → HoldsOf (event ∷ history) hash assertion
 holds_on event history hash (Pcr parts) quiet (selection, is, digest) = (selection, is, digest ∙ digests_agree history (event ∷ history) hash selection (quiet_event event history quiet))

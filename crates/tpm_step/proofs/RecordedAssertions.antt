@@ -1,4 +1,4 @@
--- The policy that a session's assertions determine records each of them.
+-- A session's policy records each of the session's assertions.
 use Rattle.std.proofs.Common.{◌≡◌, ◌≤◌, ℕ, zero, suc, min, arith, Bool, true, false, List, [], ◌∷◌, Option, Some, None, IfSome, refl, ap, sym, ◌∙◌, inl, inr}
 use Rattle.std.specs.Prelude.{bit_and, if◌then◌else◌}
 use Rattle.std.specs.Int.{bit_at}
@@ -12,7 +12,7 @@ use Rattle.tpm_policy_meaning.specs.Asserted.{IsAmong, evaluated}
 use Rattle.tpm_types.specs.Buffer.{is_given}
 use Rattle.tpm_step.specs.AcceptedAssertions.{AllFind, Finds}
 
--- a recorded value is asserted again only if it is the same
+-- a value that was recorded before is asserted again only if it is the same
 same_again : {X : Type 0} (recorded : Option X) (x y : X) → recorded ≡ Some x → IfSome recorded (λ z. z ≡ y) → Some y ≡ Some x
 same_again (Some z) x y is same = ap (λ w. Some w) (sym same) ∙ is
 same_again None x y is same = absurd cc
@@ -63,7 +63,7 @@ module _ (hash : HashAlg) where
       by (assertion.Pcr parts) found is = is
       by _ found is = is
 
-  -- an allowed locality is allowed by each TPM2_PolicyLocality of the session
+  -- a locality that two assertions allow together is allowed by each of them
   both_bits : (a b i : ℕ) → bit_at (bit_and a b) i ≡ 1 → (bit_at a i ≡ 1) × (bit_at b i ≡ 1)
   both_bits a b i is = by (bit_at a i) (bit_at b i) (bit_at-lt a i) (bit_at-lt b i) (sym (bit_at_and a b i) ∙ is)
     where

@@ -1,5 +1,5 @@
--- The update counter that a policy session recorded is right by the history. It is not above that
--- of the history, and if the two are equal, what is asserted of PCRs holds.
+-- The update counter that a policy session recorded is right, given the history. It is not above
+-- that of the history, and if the two are equal, the session's assertions about PCRs hold.
 use Rattle.tpm_types.specs.YesNo.{yes_no_at}
 use Rattle.std.proofs.Common.{◌≡◌, ◌≢◌, ◌⊎◌, ℕ, ◌+◌, ◌≤◌, arith, Bool, true, false, List, [], ◌∷◌, ◌++◌, append_assoc, length, Option, Some, None, option_map, Result, Ok, Err, IfOk, refl, ap, sym, subst, ◌∙◌, inl, inr}
 use Rattle.std.specs.Prelude.{not, ◌&&◌, ◌||◌}
@@ -54,9 +54,9 @@ use Rattle.tpm_step.proofs.QuietValues.{all_hold_on}
 use Rattle.tpm_step.proofs.UseGrounds.{recorded_is}
 use Rattle.tpm_step.proofs.LivingOn.{Asserted, Begun, Came, Keeps, Stayed, entries_kept, row_came}
 
--- ---- a TPM2_PolicyPCR after PCRs were asserted
+-- ---- a TPM2_PolicyPCR after an earlier one
 
--- If a session is not a trial session and recorded a counter, that is the device's.
+-- If a session is not a trial session and recorded an update counter, this is the device's counter.
 abbrev Agrees : Record → Request → Type 0
 Agrees r q =
     (handle : Handle) (s : Session) → first_handle q.handles ≡ Ok handle → session_at r.sessions handle ≡ Some s
@@ -88,7 +88,7 @@ row_agrees r q =
     ok_bind_is _ (policy_after assertion s) _ (λ policy made. agree s policy found made)))
     (λ sessions agree. agree)))
 
--- ---- what an assertion does to the recorded counter
+-- ---- the effect of an assertion on the recorded counter
 
 -- The assertion that was read is not a TPM2_PolicyPCR.
 abbrev IsOther : Result Assertion Refused → Type 0
@@ -128,8 +128,8 @@ count_stays hash trial (Locality localities) p is = refl
 count_stays hash trial (Secret secret) p is = refl
 count_stays hash trial (Nv nv) p is = refl
 
--- Two sessions recorded the same counter, both or neither assert PCRs, and they assert the same
--- of them.
+-- Two sessions recorded the same counter, both or neither have assertions about PCRs, and their
+-- assertions about PCRs hold after the same histories.
 record SameUpdates (old new : LiveSession) : Type 0 where
   count : (policy_in new).update_count ≡ (policy_in old).update_count
   asserts : asserts_pcrs new ≡ asserts_pcrs old
@@ -142,7 +142,7 @@ other_holds : (history : History) (hash : HashAlg) (assertion : Assertion) → i
 other_holds history hash (Pcr parts) is = absurd cc
 other_holds history hash _ is = tt
 
--- if no PCRs are asserted, what is asserted of them holds
+-- if a session has no assertion about PCRs, all of them hold
 none_hold : (history : History) (hash : HashAlg) (assertions : List Assertion) → list_any is_pcr assertions ≡ false → AllByRecursion (HoldsOf history hash) assertions
 none_hold history hash [] none = tt
 none_hold history hash (assertion ∷ assertions) none = let parts = or_parts _ _ none in (other_holds history hash assertion parts.0, none_hold history hash assertions parts.1)
@@ -193,9 +193,10 @@ one_more handle event history has quiet since = record {
   quiet = (quiet, since.quiet);
 }
 
--- ---- an accepted command
+-- ---- accepted commands
 
--- what holds of PCRs for a session holds for another that asserts the same of them
+-- if the assertions about PCRs of one session hold, so do those of a session with the same
+-- assertions about PCRs
 holds_as : {history : History} (handle : Handle) (old new : LiveSession) → SameUpdates old new → HoldsPcrs handle history old → HoldsPcrs handle history new
 holds_as {history} handle old new same holds = record { quiet = holds.quiet; hold = same.holds history holds.hold }
 
@@ -206,7 +207,7 @@ module _ (r : Record) (a : Accepted) (locality : ℕ) (random : List ℕ) (histo
   abbrev c : AcceptedCommand
   c = command_of r a
 
-  -- a device has no session at a startup
+  -- while there is a session, no accepted command is a TPM2_Startup
   no_startup : (handle : Handle) (s : LiveSession) → sessions_of history handle ≡ Some s → is_startup c.command.code ≡ false
   no_startup handle s lives = by c.command.code is.due
     where
@@ -218,14 +219,14 @@ module _ (r : Record) (a : Accepted) (locality : ℕ) (random : List ℕ) (histo
   updates_add command.Startup is = absurd cc
   updates_add _ is = refl
 
-  -- what held of PCRs before a quiet command holds after it
+  -- the assertions about PCRs that hold before a quiet command hold after it
   holds_more : (handle : Handle) (s : LiveSession) → has_pcrs (Done c ∷ history) handle ≡ true → IsQuiet (Done c) → HoldsPcrs handle history s → HoldsPcrs handle (Done c ∷ history) s
   holds_more handle s now quiet holds = record {
     quiet = one_more handle (Done c) history now quiet holds.quiet;
     hold = all_hold_on (Done c) history s.hash s.assertions quiet holds.hold;
   }
 
-  -- a counter that a session recorded before is still right after a command
+  -- a counter that a session recorded before a command is still right after it
   stays_recorded : (handle : Handle) (old new : LiveSession) → sessions_of history handle ≡ Some old → has_pcrs (Done c ∷ history) handle ≡ true → SameUpdates old new → RecordsUpdates handle history old → RecordsUpdates handle (Done c ∷ history) new
   stays_recorded handle old new lived now same records =
       let plain : is_startup c.command.code ≡ false = no_startup handle old lived in
@@ -239,7 +240,7 @@ module _ (r : Record) (a : Accepted) (locality : ℕ) (random : List ℕ) (histo
             holds_more handle new now (plain, nothing) (holds_as handle old new same (records.hold (omega (arith, equal, sum, nothing))));
       }
 
-  -- ---- the command TPM2_PolicyPCR
+  -- ---- TPM2_PolicyPCR
 
   same_request : a.command.handles ≡ a.request.handles
   same_request = sym (ap (λ (q : Request). q.handles) is.requested)
@@ -269,7 +270,8 @@ module _ (r : Record) (a : Accepted) (locality : ℕ) (random : List ℕ) (histo
     quiet_pcr : IsQuiet (Done c)
     quiet_pcr = (ap is_startup code, ap (λ (x : Code). writes x c.request) code)
 
-    -- a first TPM2_PolicyPCR begins a quiet time; at a later one, what is asserted of PCRs holds
+    -- a first TPM2_PolicyPCR begins a quiet period; at a later one, the earlier assertions about
+    -- PCRs hold
     holds_first : (asserts : Bool) → asserts_pcrs old ≡ asserts → AreQuietSince handle (Done c ∷ history) × AllByRecursion (HoldsOf history old.hash) old.assertions
     holds_first false asserts = (
       record {
@@ -306,7 +308,7 @@ module _ (r : Record) (a : Accepted) (locality : ℕ) (random : List ℕ) (histo
 
   -- ---- every command
 
-  -- a session that asserts PCRs after the row records a counter that is right
+  -- if a session has assertions about PCRs after the row, the counter that it recorded is right
   module _ (handle : Handle) (mid : LiveSession) (kind : mid.kind ≡ type.Policy) (asserts_some : asserts_pcrs mid ≡ true) (now : has_pcrs (Done c ∷ history) handle ≡ true) where
     nothing_asserted : mid.assertions ≡ [] → ⊥
     nothing_asserted none = false≢true (sym (ap (λ (l : List Assertion). list_any is_pcr l) none) ∙ asserts_some)
@@ -316,7 +318,8 @@ module _ (r : Record) (a : Accepted) (locality : ℕ) (random : List ℕ) (histo
         stays_recorded handle old mid lived now same
         (before handle old lived (sym same_kind ∙ kind) (sym same.asserts ∙ asserts_some))
 
-    -- a session that goes on, with its assertions or without, records a counter that is right
+    -- if a session existed before the row, and has its assertions or none, the counter that it
+    -- recorded is right
     kept_recorded : (old : LiveSession) → sessions_of history handle ≡ Some old → Keeps old mid → RecordsUpdates handle (Done c ∷ history) mid
     kept_recorded old lived keeps = by keeps.asserted
       where
@@ -368,7 +371,7 @@ module _ (r : Record) (a : Accepted) (locality : ℕ) (random : List ℕ) (histo
           (row_came c history (sessions_of history) handle mid c.command.code was) in
           record { count = records.count; recorded = updates.count ∙ records.recorded; within = records.within; hold = λ equal. holds_as handle mid new updates (records.hold equal) }
 
--- ---- an object from a saved context
+-- ---- objects from saved contexts
 
 pub placed_updates : (at : Handle) (object : Object) (history : History) → AllRecordUpdates history → AllRecordUpdates (ObjectPlaced at object ∷ history)
 placed_updates at object history all handle s lives kind asserts =
@@ -384,7 +387,7 @@ placed_updates at object history all handle s lives kind asserts =
       };
     }
 
--- ---- without a session
+-- ---- devices without a session
 
 pub no_updates : (history : History) → ((handle : Handle) → sessions_of history handle ≡ None) → AllRecordUpdates history
 no_updates history none handle s lives kind asserts = absurd (let gone = none handle in let never : ⊥ = cc in never)

@@ -1,4 +1,4 @@
--- A replay repeats a nonce, or two texts have one HMAC.
+-- A replay repeats a nonce, or two texts have the same HMAC.
 use Rattle.std.proofs.Common.{◌≡◌, ◌≢◌, ◌⊎◌, ℕ, ◌+◌, ◌≤◌, arith, Bool, true, false, List, [], ◌∷◌, ◌++◌, append_assoc, length, length-append, take, drop, Option, Some, None, slice_get, refl, ap, sym, subst, ◌∙◌, inl, inr}
 use Rattle.std.specs.Str.{bytes_eq}
 use Rattle.std.proofs.lemmas.Bool.{false≢true}
@@ -23,9 +23,10 @@ use Rattle.tpm_step.specs.Replays.{HasNonceAgain, HaveOneHmac, IsReplay, LivesTh
 use Rattle.tpm_step.specs.Sessions.{LiveSession, rolled_by, sessions_of}
 use Rattle.tpm_step.proofs.LivingOn.{Asserted, Begun, Came, Continues, Stayed, Was, continues_self, continues_then, entries_kept, entries_renewed, row_came}
 
--- ---- one event
+-- ---- single events
 
--- a session goes on through a row that does not start it
+-- a session that existed before a row, and that the row does not start, is the same session after
+-- it
 came_continues : (c : AcceptedCommand) (history : History) (handle : Handle) (new : LiveSession) → starts (Done c) handle ≡ false → Came c.command.code c history (sessions_of history handle) handle new → Was Continues (sessions_of history handle) new
 came_continues c history handle new unstarted (Begun begun none) = absurd (false≢true (sym unstarted ∙ begun))
 came_continues c history handle new unstarted (Stayed was) = (was.0, was.1, was.2.continues)
@@ -55,7 +56,7 @@ done_renews c history place e old new shows unstarted entry before after =
     by mid (inl same) earlier among = subst (λ (nonce : List ℕ). IsAmong nonce new.earlier_nonces) (sym same) among
     by mid (inr had) earlier among = earlier old.nonce_tpm had
 
--- ---- events
+-- ---- stretches of events
 
 lived_on : (handle : Handle) (events before : History) (new : LiveSession) → AllShowHmacs (events ++ before) → LivesThrough handle events before → sessions_of (events ++ before) handle ≡ Some new → Was Continues (sessions_of before handle) new
 lived_on handle [] before new shows through lives = (new, lives, continues_self new)
@@ -70,7 +71,7 @@ there_is : (found : Option LiveSession) → found ≢ None → (s : LiveSession)
 there_is (Some s) some = (s, refl)
 there_is None some = absurd (some refl)
 
--- the first event of a stretch, and those after it
+-- A step: the session survives the first event of a stretch, and the events after it.
 first_apart : (handle : Handle) (between : History) (first : PastEvent) (before : History) → LivesThrough handle (between ++ first ∷ []) before → (starts first handle ≡ false) × (sessions_of (first ∷ before) handle ≢ None) × LivesThrough handle between (first ∷ before)
 first_apart handle [] first before through = (through.0, through.1, tt)
 first_apart handle (event ∷ between) first before through =
@@ -92,8 +93,8 @@ both_parts a b c d same is = (
 spread : (front decrypt encrypt attributes : List ℕ) → front ++ decrypt ++ encrypt ++ attributes ≡ front ++ (decrypt ++ (encrypt ++ attributes))
 spread front decrypt encrypt attributes = append_assoc (front ++ decrypt) encrypt attributes ∙ append_assoc front decrypt (encrypt ++ attributes)
 
--- if two texts have one hash size, one nonceCaller and one nonce size, they are equal only if
--- their nonceTPMs are
+-- if two texts have the same sizes of hash and nonce, and the same nonceCaller, they are equal only
+-- if their nonceTPMs are equal
 nonce_alone : (hash other caller nonce again : List ℕ) (d e a d2 e2 a2 : List ℕ) → length hash ≡ length other → length nonce ≡ length again → hash ++ caller ++ nonce ++ d ++ e ++ a ≡ other ++ caller ++ again ++ d2 ++ e2 ++ a2 → nonce ≡ again
 nonce_alone hash other caller nonce again d e a d2 e2 a2 hashes nonces is =
     let heads : length (hash ++ caller) ≡ length (other ++ caller) = omega (arith, length-append hash caller, length-append other caller, hashes) in
@@ -116,7 +117,7 @@ text_nonce before after first second place e s t hash size is =
     (nonce_where after only_encrypts (other_entries second.command (place + 1))) (e.attributes.octet ∷ [])
     (hash_size first s.hash ∙ ap digest_size (sym hash) ∙ sym (hash_size second t.hash)) (sym size) is
 
--- ---- a replay
+-- ---- replays
 
 shows_before : (events history : History) → AllShowHmacs (events ++ history) → AllShowHmacs history
 shows_before [] history shows = shows
@@ -141,8 +142,8 @@ module _ (buffer : List ℕ) (before : History) (first : AcceptedCommand) (betwe
       let same : second.command ≡ first.command = ap (λ (x : Whole × List ℕ). x.0) (ok_is {E = Rc} (second.command, []) (first.command, []) (sym replay.spelled_second ∙ replay.spelled_first)) in
       ap (λ (c : Whole). slice_get c.entries place) same ∙ replay.entry
 
-  -- At the second event the session has the same type, hash and size of nonces as at the first,
-  -- and the nonce of the first event is among its earlier ones.
+  -- At the second event the session has the same type, hash and size of nonces as at the first, and
+  -- the nonce of the first event is among its earlier nonces.
   abbrev IsLater : LiveSession → Type 0
   IsLater t = (sessions_of after e.session ≡ Some t) × Continues s t × IsAmong s.nonce_tpm t.earlier_nonces
 

@@ -1,4 +1,4 @@
--- Two accepted events of a run with one buffer are a replay in its history.
+-- Two accepted events of a run with the same buffer are a replay in the history of the run.
 use Rattle.std.proofs.Common.{◌≡◌, ℕ, Bool, List, [], ◌∷◌, ◌++◌, Some, Result, Ok, Err, IfOk, slice_get, refl, ap, sym, subst, ◌∙◌}
 use Rattle.tpm_bytes.proofs.Fields.{ok_is}
 use Rattle.tpm_types.specs.declared.rc.Rc.{Rc}
@@ -26,7 +26,7 @@ use Rattle.tpm_step.specs.Sessions.{LiveSession}
 use Rattle.tpm_step.proofs.Leading.{history_apart}
 use Rattle.tpm_step.proofs.Replays.{replays_repeat}
 
--- ---- what an accepted buffer encodes
+-- ---- the command that an accepted buffer encodes
 
 acceptance_of : (r : Record) (c : Whole) (locality : ℕ) (random : List ℕ) → IfOk (acceptance r c locality random) (λ a. a.command ≡ c)
 unfolding acceptance
@@ -48,10 +48,9 @@ accepted_spells r buffer locality random =
     by (Ok a) c same is = is ∙ ap (λ (d : Whole). let it : Result (Whole × List ℕ) Rc = Ok (d, []) in it) (sym same)
     by (Err e) c same is = tt
 
--- ---- an accepted event
+-- ---- accepted events
 
--- A command was accepted at this event: the buffer encodes it, and it is recorded after any
--- history.
+-- This event accepted the command: the buffer encodes the command, and each history records it.
 record IsAcceptedAt (buffer : List ℕ) (one : Execution) (c : AcceptedCommand) : Type 0 where
   spelled : command_at buffer ≡ Ok (c.command, [])
   is : (before : History) → with_execution one before ≡ Done c ∷ before
@@ -71,7 +70,7 @@ modestly_accepted r (Placed object) x buffer modest gives passes = absurd gives
 accepted_at : (can : Bool) (buffer : List ℕ) (one : Execution) → Executes can one.before one.event one.seen → Gives buffer one.event → one.seen.row.check ≡ 0 → (c : AcceptedCommand) × IsAcceptedAt buffer one c
 accepted_at can buffer one executes gives passes = modestly_accepted one.before one.event one.seen buffer (executes.modest passes) gives passes
 
--- an accepted event is recorded as its command
+-- an accepted event is recorded as the command that its buffer encodes
 pub accepted_recorded : (can : Bool) (old : Record) (buffer : List ℕ) (locality elapsed : ℕ) (random : List ℕ) (x : Stepped) → Executes can old (Given buffer locality elapsed random) x → x.row.check ≡ 0 → IsRecorded old (Given buffer locality elapsed random) x buffer
 accepted_recorded can old buffer locality elapsed random x executes passes =
     let (c, at) = modestly_accepted old (Given buffer locality elapsed random) x buffer (executes.modest passes) refl passes in
@@ -79,7 +78,7 @@ accepted_recorded can old buffer locality elapsed random x executes passes =
 
 -- ---- executions one after another
 
--- an execution among others is on the record that those before it left
+-- an execution among others starts from the record that the executions before it left
 executed : (can : Bool) (old : Record) (earlier : List Execution) (one : Execution) (later : List Execution) (new : Record) → Leads can old (earlier ++ one ∷ later) new → Executes can one.before one.event one.seen × Leads can one.seen.after later new
 executed can old [] one later new leads = (subst (λ (r : Record). Executes can r one.event one.seen) (sym leads.0) leads.1, leads.2)
 executed can old (first ∷ earlier) one later new leads = executed can first.seen.after earlier one later new leads.2

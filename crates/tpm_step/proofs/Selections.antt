@@ -1,4 +1,4 @@
--- The digest of selected PCRs depends on the selection's text alone.
+-- The digest of selected PCRs depends only on the encoded selection.
 use Rattle.std.proofs.Common.{◌≡◌, ℕ, zero, suc, ◌+◌, ◌*◌, ◌/◌, ◌%◌, ◌^◌, ◌<◌, ◌≤◌, arith, Bool, cond, List, [], ◌∷◌, ◌++◌, filter, map, length, refl, ap, sym, ◌∙◌}
 use Rattle.std.specs.Prelude.{◌==◌}
 use Rattle.std.specs.Int.{bit_at, w8, w16, w32, from_be_bytes, to_be_bytes}
@@ -49,7 +49,7 @@ filter_below f g (suc n) few same =
     rw (filter-append f (numbers_below n) (n ∷ []), filter-append g (numbers_below n) (n ∷ []))
     (one_more n (f n) (g n) _ _ (filter_below f g n (omega arith) same) (same n (omega arith)))
 
--- the PCRs that a text selects
+-- the PCRs that an encoded selection selects
 abbrev pcrs_in : List ℕ → List ℕ
 pcrs_in octets = filter (is_selected (select_of octets)) (numbers_below 24)
 
@@ -59,7 +59,7 @@ selected_by_text bank =
     filter_below (is_selected bank.select) (is_selected (select_of (select_text bank.select))) 24 (omega arith)
     (λ pcr below. ap (λ (b : ℕ). b == 1) (low_bit bank.select pcr below))
 
--- ---- a bank
+-- ---- banks
 
 hash_same : (a b : HashAlg) → to_be_bytes w16 (hash_number a) ≡ to_be_bytes w16 (hash_number b) → a ≡ b
 hash_same alg.Sha1 alg.Sha1 is = refl

@@ -1,5 +1,5 @@
--- After a row, the step changes sessions as a history says: it draws new nonces, starts policies
--- again, and ends sessions.
+-- After a row, the step changes sessions as the history does: it draws new nonces, returns policies
+-- to their start, and ends sessions.
 use Rattle.std.proofs.Common.{◌≡◌, ℕ, Bool, true, false, cond, List, [], ◌∷◌, length, take, drop, Option, Some, None, refl, ap, sym, subst, ◌∙◌}
 use Rattle.std.specs.Prelude.{not, is_some}
 use Rattle.std.specs.List.{zip}
@@ -32,7 +32,7 @@ size_same r e live are =
     of_both (λ found told. option_map_or (λ (s : Session). length s.nonce_tpm) found 0 ≡ nonce_size told)
     (λ s l same. ap (λ (f : SessionFacts). length f.nonce_tpm) same) refl (session_of r e) (live e.session) (are e.session)
 
--- The sessions after new nonces, and the random bytes that are left, are those of a history.
+-- The sessions after new nonces, and the remaining random bytes, are those of the history.
 abbrev RollAs : Record → List Entry → List ℕ → LiveSessions → List ℕ → Type 0
 RollAs r es left live told =
     AreLive (device.entries_rolled r es left).after.sessions (entries_rolled live es told).sessions
@@ -57,7 +57,7 @@ entries_roll r (e ∷ es) left live are =
     subst (RollAs first.after es first.left told.sessions) (entry_leaves r e left live are)
     (entries_roll first.after es first.left told.sessions (entry_rolls r e left live are))
 
--- ---- policies start again, and sessions end
+-- ---- policies that return to their start, and sessions that end
 
 used_told : (kind : SessionType) (s : Session) (l : LiveSession) → s.kind ≡ kind → session_facts s ≡ facts_of l → facts_of (used_by kind l) ≡ facts_of (used l)
 used_told kind s l is same = ap (λ (k : SessionType). facts_of (used_by k l)) (sym is ∙ ap (λ (f : SessionFacts). f.start.kind) same)
@@ -91,7 +91,7 @@ entries_end : (r : Record) (granted : List Granted) (live : LiveSessions) → Ar
 entries_end r [] live are = are
 entries_end r (g ∷ granted) live are = entries_end (device.entry_ended r g.0 g.1) granted (entry_ended live g.0 g.1) (entry_ends r g.0 live are g.1)
 
--- ---- an answer
+-- ---- answers
 
 pub answer_told : (c : Whole) (grants : List (Option Grant)) (a : Written) (effect : Record) (random : List ℕ) (live : LiveSessions) → AreLive effect.sessions live → AreLive (answer_to c grants a effect random).after.sessions (entries_ended (entries_rolled live c.entries (drop a.drawn random)).sessions (zip c.entries grants))
 unfolding answer_to

@@ -1,4 +1,4 @@
--- A row changes sessions as a history says.
+-- A row changes sessions as the history does.
 use Rattle.std.proofs.Common.{◌≡◌, ℕ, Bool, true, false, cond, List, [], ◌∷◌, length, take, map, Option, Some, None, option_map, Result, Ok, IfOk, slice_set, refl, ap, sym, subst, ◌∙◌}
 use Rattle.std.specs.Prelude.{◌==◌, not, ok_or}
 use Rattle.tpm_bytes.specs.Reading.{refused_if}
@@ -41,7 +41,7 @@ use Rattle.tpm_step.proofs.Asserted.{IsAsserted, asserted_as, is_asserted}
 use Rattle.tpm_step.proofs.LiveSessions.{ended_live, none_ended_live, policy_live, started_live}
 use Rattle.tpm_step.proofs.Views.{views_tell}
 
--- ---- the parameters with which a session starts
+-- ---- the parameters of a new session
 
 bound_is : (r : Record) (handles : List Handle) (bind : Handle) → second_handle handles ≡ Ok bind → bound_in handles (map (view_of r) handles) (map (auth_value_of r) handles) ≡ option_map bound_of (binding_of r bind)
 unfolding binding_of
@@ -63,7 +63,8 @@ unfolding start_key session_key
 start_told p None nonce = refl
 start_told p (Some binding) nonce = refl
 
--- If the command has this answer, the sessions after its success are those of its history.
+-- If the command has the answer of this success, the sessions after the success are those of the
+-- history.
 abbrev pub IsTold : AcceptedCommand → History → LiveSessions → CommandCode → Success → Type 0
 IsTold c history live code s = c.answer ≡ s.answer → AreLive s.after.sessions (sessions_by code c history live)
 
@@ -71,7 +72,7 @@ module _ (r : Record) (c : AcceptedCommand) (history : History) (live : LiveSess
   abbrev q : Request
   q = c.request
 
-  -- ---- a session starts
+  -- ---- starting a session
 
   abbrev bound : Option Bound
   bound = bound_in q.handles c.views (map (auth_of history) q.handles)
@@ -104,7 +105,7 @@ module _ (r : Record) (c : AcceptedCommand) (history : History) (live : LiveSess
       (sym (ap (λ (a : AnswerParts). ok_or a.handle handle_refusal) answer))
       (started_live r.sessions place s told live many (some_is _ _ place free) (started_told bind p second read) are)))))
 
-  -- ---- a session ends
+  -- ---- ending a session
 
   flushed_live : (handle : Handle) (of_session : Bool) → is_session handle ≡ of_session → AreLive (flushed_from r handle of_session).sessions (without_session handle live)
   flushed_live handle true is = ended_live r.sessions handle live are
@@ -119,7 +120,7 @@ module _ (r : Record) (c : AcceptedCommand) (history : History) (live : LiveSess
       subst (λ (named : Result Handle Refused). AreLive (flushed_from r handle (is_session handle)).sessions (by_handle named without_session live)) (sym is)
       (flushed_live handle (is_session handle) refl))))
 
-  -- ---- a policy changes
+  -- ---- changing a policy
 
   restart_row : IfOk (row_of r command.PolicyRestart q) (IsTold c history live command.PolicyRestart)
   unfolding row_of policy_restart_row

@@ -1,4 +1,4 @@
--- A started session is a new one.
+-- A session that was just started has no earlier nonceTPM and no assertion.
 use Rattle.std.proofs.Common.{◌≡◌, ℕ, List, Option, Some, Result, Ok, Err, refl, subst}
 use Rattle.tpm_types.specs.declared.refused.Refused.{Refused}
 use Rattle.tpm_actions_device.specs.StartAuthSession.{Parameters, parameters_in}

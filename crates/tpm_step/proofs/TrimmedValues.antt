@@ -1,4 +1,4 @@
--- By the history alone, no authorization value ends in a zero.
+-- No authorization value of a history ends in a zero.
 use Rattle.std.proofs.Common.{rules, ◌≡◌, ℕ, List, [], ◌∷◌, Option, Result, Ok, Err, IfOk, ◌==◌, refl}
 use Rattle.std.proofs.lemmas.Bool.{cond_both}
 use Rattle.tpm_types.proofs.Trimming.{trimmed_twice}

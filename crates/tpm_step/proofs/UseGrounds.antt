@@ -1,4 +1,4 @@
--- What an accepted use by a policy session says of its policy.
+-- What an accepted use by a policy session implies about the session's policy.
 use Rattle.std.proofs.Common.{◌≡◌, ◌≢◌, ℕ, zero, suc, ◌<◌, arith, Bool, true, false, List, [], Option, Some, None, IfOk, refl, ap, subst}
 use Rattle.std.specs.Prelude.{◌==◌, ◌&&◌, ◌||◌, not, IfSome}
 use Rattle.std.specs.Int.{bit_at}
@@ -65,7 +65,7 @@ use_passed policy u =
       demanded = refl;
     }))))))))
 
--- ---- what these checks say
+-- ---- what follows from these checks
 
 pub recorded_is : (recorded : Option ℕ) (number : ℕ) → is_other recorded number ≡ false → IfSome recorded (λ n. n ≡ number)
 recorded_is None number is = tt
@@ -113,7 +113,7 @@ both false b is = absurd cc
 some_policy : (digest : List ℕ) → is_policy digest ≡ true → digest ≢ []
 some_policy digest is none = absurd (let no : is_policy digest ≡ false = ap is_policy none in let never : ⊥ = cc in never)
 
--- an entity that a policy may authorize has a policy that is not empty
+-- the policy of an entity that accepts a policy is not empty
 pub takes_some : (nv_use : NvUse) (view : View) (entity : EntityParts) → view_takes means.Policy nv_use view ≡ true → view_policy view ≡ Some entity → entity.digest ≢ []
 takes_some nv_use (OfObject public) entity takes is =
     let same : public.auth_policy ≡ entity.digest = cc in

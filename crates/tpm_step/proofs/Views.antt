@@ -1,4 +1,4 @@
--- A view shows what the record has, and the views of an accepted command are those before the
+-- A view shows what the record contains, and the views of an accepted command are those before the
 -- command.
 use Rattle.std.proofs.Common.{◌≡◌, ℕ, List, ◌∷◌, map, refl}
 use Rattle.tpm_types.specs.declared.handle.Handle.{Handle}
@@ -50,7 +50,7 @@ views_tell r handle = record {
 pub view_named : (r : Record) (handle : Handle) → view_name (view_of r handle) ≡ name_of r handle
 view_named r handle = (views_tell r handle).name
 
--- time changes no view
+-- the passing of time changes no view
 later_views : (r : Record) (elapsed : ℕ) (handles : List Handle) → map (view_of (ticked r elapsed)) handles ≡ map (view_of r) handles
 unfolding view_of entity_at object_of
 later_views r elapsed handles = refl

@@ -1,4 +1,4 @@
--- The laws over the rows of all commands.
+-- The laws about the rows of all commands.
 pub mod Readings
 pub mod AllPlaces
 pub mod SizedParts

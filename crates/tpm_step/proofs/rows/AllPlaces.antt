@@ -1,4 +1,4 @@
--- A property of the value in each place still holds after places change.
+-- A property of the values in all slots still holds after slots change.
 use Rattle.std.proofs.Common.{ℕ, zero, suc, Bool, true, false, cond, eqb, List, [], ◌∷◌, Option, Some, None, slice_set, is_some}
 use Rattle.std.specs.Prelude.{IfSome, option_and_then}
 use Rattle.std.specs.Option.{option_map_or}
@@ -6,13 +6,13 @@ use Rattle.tpm_containers.specs.Numbered.{at_number, changed_at, if_of_kind, kin
 use Rattle.tpm_containers.specs.Slots.{AreAll, at_place, free}
 
 module _ {X : Type 0} (Is : X → Type 0) where
-  -- a property of all values holds if all places are free
+  -- a property of all values holds if all slots are free
   pub all_free : (n : ℕ) → AreAll Is (free n)
   all_free zero place = tt
   all_free (suc n) zero = tt
   all_free (suc n) (suc place) = all_free n place
 
-  -- a property of all values stays if a place gets a value with the property, or none
+  -- a property of all values still holds after a slot gets a value with the property, or none
   pub all_set : (places : List (Option X)) (place : ℕ) (cell : Option X) → IfSome cell Is → AreAll Is places → AreAll Is (slice_set places place cell)
   all_set [] place cell is are other = are other
   all_set (first ∷ places) zero cell is are zero = is
@@ -20,7 +20,7 @@ module _ {X : Type 0} (Is : X → Type 0) where
   all_set (first ∷ places) (suc place) cell is are zero = are zero
   all_set (first ∷ places) (suc place) cell is are (suc other) = all_set places place cell is (λ n. are (suc n)) other
 
-  -- a property of a value holds of it when it is found by its kind
+  -- a value that is found by its kind has the property, if the value has it
   of_kind : (b : Bool) (x : X) → Is x → IfSome (cond b (Some x) None) Is
   of_kind true x is = is
   of_kind false x is = tt
@@ -33,7 +33,7 @@ module _ {X : Type 0} (Is : X → Type 0) where
   unfolding at_number
   all_found kind places number are = seen kind number (at_place places (place_of number)) (are (place_of number))
 
-  -- a property of all values stays if one is removed
+  -- a property of all values still holds after one value is removed
   pub all_without : (kind : X → ℕ) (places : List (Option X)) (number : ℕ) → AreAll Is places → AreAll Is (without_number kind places number)
   unfolding without_number
   all_without kind places number are = by (is_some (at_number kind places number))
@@ -42,7 +42,7 @@ module _ {X : Type 0} (Is : X → Type 0) where
       by true = all_set places (place_of number) None tt are
       by false = are
 
-  -- a property of all values stays if one is changed to a value with the property
+  -- a property of all values still holds after one value is changed to a value with the property
   pub all_changed : (kind : X → ℕ) (change : X → X) (places : List (Option X)) (number : ℕ) → IfSome (at_number kind places number) (λ x. Is (change x)) → AreAll Is places → AreAll Is (changed_at kind change places number)
   all_changed kind change places number is are = by (at_number kind places number) is
     where

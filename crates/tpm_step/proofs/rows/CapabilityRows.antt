@@ -1,4 +1,4 @@
--- The laws of the row of TPM2_GetCapability.
+-- The row of TPM2_GetCapability satisfies the laws of rows.
 use Rattle.std.specs.Prelude.{◌/◌}
 use Rattle.std.proofs.Common.{◌^◌, arith, ℕ}
 use Rattle.tpm_commands.specs.CommandCode.{shape_of}

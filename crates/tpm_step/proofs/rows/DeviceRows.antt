@@ -1,4 +1,4 @@
--- The laws of the rows of the device itself, of PCRs, of hierarchies and of sessions.
+-- The rows of the device itself, of PCRs, of hierarchies and of sessions satisfy the laws of rows.
 use Rattle.std.specs.Option.{option_map_or}
 use Rattle.std.specs.Prelude.{min, not}
 use Rattle.std.proofs.Common.{◌+◌, ◌≡◌, ◌≤◌, Bool, List, None, Ok, Option, Some, arith, false, inl}
@@ -85,9 +85,9 @@ use Rattle.tpm_actions_device.specs.Clear.{clear_row, cleared_fixed}
 use Rattle.tpm_row_secrecy.proofs.DeviceRows as device_secrets
 use Rattle.tpm_row_secrecy.proofs.SessionRows as session_secrets
 
--- ---- a startup and a shutdown
+-- ---- TPM2_Startup and TPM2_Shutdown
 
--- a startup touches only what it sets
+-- a startup changes only the fields that it sets
 start_touches : (r : Record) (start : Start) (random : List ℕ)
     → Touches Beginning r (started_record start r random)
 unfolding with_hierarchy_auth
@@ -251,7 +251,7 @@ dictionary_attack_parameters_laws = record {
   tells = λ s covers r q free. device_secrets.dictionary_attack_parameters_tells s r q;
 }
 
--- ---- a session starts
+-- ---- starting a session
 
 more_sessions : (r : Record) (place : ℕ) (s : Session) → session_place r.sessions ≡ Ok place
     → taken_in (record r { sessions = slice_set r.sessions place (Some s) }) ≡ taken_in r + 1
@@ -300,7 +300,7 @@ start_auth_session_laws = record {
   tells = λ s covers r q free. session_secrets.start_auth_session_tells s covers r q;
 }
 
--- ---- a session or an object is flushed
+-- ---- flushing a session or an object
 
 flushed_touches : (r : Record) (handle : Handle) (is_session : Bool)
     → Touches SessionsAndObjects r (flushed_from r handle is_session)

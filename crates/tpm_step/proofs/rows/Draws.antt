@@ -59,7 +59,7 @@ general_few r buffer =
     ok_bind _ (in_header (header_at buffer)) _ (λ header.
     ok_in_command _ header.0.code (body_of r header.0 header.1) (body_few r header.0 header.1))
 
--- TPM2_Startup forbids sessions, and its definition says that it draws 0
+-- TPM2_Startup forbids sessions, and `draws_of` is 0 for it
 pub startup_alone : (c : CommandCode) (q : Request) → is_startup c ≡ true → ((shape_of c).forbids_sessions ≡ true) × (draws_of c q ≡ 0)
 unfolding shape_of
 startup_alone command.Startup q is = (refl, refl)

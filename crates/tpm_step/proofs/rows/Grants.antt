@@ -1,4 +1,4 @@
--- Which handles the entries of a command authorize.
+-- The handles that the entries of a command authorize.
 use Rattle.std.proofs.Common.{rules, ◌≡◌, ◌⊎◌, ℕ, ◌+◌, arith, true, List, [], ◌∷◌, ◌++◌, length, get_or, slice_get, Option, Some, None, option_and_then, option_map, Result, Ok, IfOk, is_some, refl, ap, ◌∙◌, inl, inr}
 use Rattle.std.proofs.lemmas.Bool.{false≢true}
 use Rattle.std.proofs.lemmas.List.{length-take}
@@ -110,8 +110,8 @@ grant_grants r c locality n used e = kind_grants (session_kind e.session) r c lo
 
 -- ---- the grants of all entries
 
--- There are at most as many handles that need authorization as entries. So after the entries
--- there is neither a grant nor such a handle.
+-- There are at most as many handles that need authorization as entries. So the positions after the
+-- last entry have neither a grant nor such a handle.
 all_fit : (r : Record) (c : Whole) (locality : ℕ) (grants : List (Option Grant)) → IsGranting r c locality grants → GrantsFit c grants
 all_fit r c locality grants all = record { entries = all.as_many; handles = fit_at }
   where

@@ -1,5 +1,5 @@
--- After the general checks the handles of a command fit its shape, and no handle of it is refused
--- any more.
+-- After the general checks, the handles of a command fit its shape, and no later check refuses a
+-- handle.
 use Rattle.std.proofs.Common.{arith, rules, ◌≡◌, ◌⊎◌, ◌+◌, ℕ, true, List, [], ◌∷◌, Ok, IfOk}
 use Rattle.std.proofs.lemmas.Result.{IfErr-weaker, IfOk-at_ok}
 use Rattle.std.specs.Prelude.{not}
@@ -31,7 +31,8 @@ use Rattle.tpm_step.proofs.rows.Table.{row_passes}
 
 -- ---- handles that pass the general checks
 
--- a handle that its rule allows has the rule's kind; if it is also present, it fits the rule
+-- A step: a handle that its rule allows has the rule's kind. If its entity exists too, the handle
+-- fits the rule.
 allowed_fits : (n : ℕ) (rule : HandleRule) (text : List ℕ) → IfOk (allowed_handle_at n rule text) (λ x. is_of_kind rule.kind x.0 ≡ true)
 unfolding allowed_handle_at
 allowed_fits n rule text =
@@ -44,7 +45,7 @@ present_fits r n rule text =
     ok_then (λ x. is_of_kind rule.kind x.0 ≡ true) _ (allowed_handle_at n rule text) _ (allowed_fits n rule text) (λ handle kind.
     ok_bind_is _ (refused_if (not (is_present r handle.0)) _) _ (λ u is. (kind, asked _ _ u is)))
 
--- the handles of a command fit its rules
+-- the handles that are read for a command fit the command's rules
 each_fits : (r : Record) (n : ℕ) (rules : List HandleRule) (text : List ℕ) → IfOk (each_at (present_handle_at r) n rules text) (λ x. HandlesFit r rules x.0)
 each_fits r n [] text = tt
 each_fits r n (rule ∷ rules) text =
@@ -68,7 +69,7 @@ general_fits r buffer =
 
 -- ---- refusals after the general checks
 
--- no authorization refuses by the check of handles
+-- the authorization never refuses by the check of handles
 authorize_passes : (r : Record) (c : Whole) (locality : ℕ) → Passes check.Handles (authorize r c locality)
 unfolding authorize
 authorize_passes r c locality =

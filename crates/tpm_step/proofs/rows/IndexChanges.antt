@@ -1,4 +1,4 @@
--- The effects of each change on the NV indices.
+-- The effect of each change on the NV indices.
 use Rattle.std.specs.Int.{from_be_bytes, to_be_bytes, w64}
 use Rattle.std.specs.List.{list_any}
 use Rattle.std.specs.Prelude.{◌&&◌, ◌==◌, ◌||◌, bit_or, is_some, nat_lt, not}
@@ -44,7 +44,7 @@ use Rattle.tpm_step.specs.rows.IndexChanges.{Increments, Writes}
 use Rattle.tpm_step.proofs.Binding.{ok_at, ok_bind, ok_bind_is, some_is}
 use Rattle.tpm_step.proofs.rows.Parts.{SameCount}
 
--- ---- an index is written or locked
+-- ---- writing or locking an index
 
 -- an index that a command may write has the type of the command
 pub writable_type : (t : NvType) (index : NvIndex) → writable t index ≡ Ok tt
@@ -54,7 +54,7 @@ writable_type type.Counter index may = rw (eqb-true _ 1 (type_of_writable type.C
 writable_type type.Bits index may = rw (eqb-true _ 2 (type_of_writable type.Bits index may)) refl
 writable_type type.Extend index may = rw (eqb-true _ 4 (type_of_writable type.Extend index may)) refl
 
--- a write of data to an index that is not a counter
+-- writing data to an index that is not a counter is one of the changes of `Writes`
 writes_data : (contents : NvContents) (handle : Handle) (index : NvIndex) (t : NvType)
     (bytes : List ℕ) → index_or_fault contents handle write_fault.Undefined ≡ Ok index
     → writable t index ≡ Ok tt
@@ -70,7 +70,7 @@ writes_data contents handle index t bytes is may other = record {
   is = refl;
 }
 
--- setting an attribute that does not concern the count
+-- setting an attribute other than WRITTEN and CLEAR_STCLEAR is one of the changes of `Writes`
 marks : (contents : NvContents) (handle : Handle) (index : NvIndex) (one : NvAttribute)
     → index_or_fault contents handle lock_fault.Undefined ≡ Ok index
     → attribute_bit attribute.Written ≢ attribute_bit one
@@ -135,7 +135,7 @@ read_locked_writes contents handle =
     ok_bind _ (refused_if (not (index_has index attribute.ReadStClear)) lock_fault.Attributes) _ (λ lockable.
     marks contents handle index attribute.ReadLocked is (λ same. omega arith) (λ same. omega arith)))
 
--- ---- a counter is incremented, and the authorization value of an index changes
+-- ---- incrementing a counter, and changing the authorization value of an index
 
 pub counts_so : (q : Request) (contents : NvContents) (handle : Handle)
     → second_handle q.handles ≡ Ok handle → IfOk (incremented contents handle) (Increments q contents)
@@ -181,9 +181,9 @@ same_count NvAuthValue q old new keeps changes =
     changed_count old new changes.handle (record changes.index { auth_value = changes.value }) changes.is
 same_count _ q old new keeps changes = absurd (false≢true keeps)
 
--- ---- an index is defined or removed
+-- ---- defining or removing an index
 
--- the index that a row names
+-- the index that a row uses is the one that the second handle names
 pub target_names : (r : Record) (q : Request)
     → IfOk (target_of r q) (λ t. second_handle q.handles ≡ Ok t.handle)
 target_names r q =
@@ -191,7 +191,7 @@ target_names r q =
     ok_bind_is _ (second_handle q.handles) _ (λ handle is.
     ok_bind _ (attributes_of r handle) _ (λ attributes. is)))
 
--- a refusal instead of a part's fault changes no success
+-- if a part's fault is replaced by a refusal, successes are unchanged
 ok_or_refusal : {X F : Type 0} (P : X → Type 0) (refusal : F → Refused) (x : Result X F) → IfOk x P
     → IfOk (or_refusal refusal x) P
 ok_or_refusal P refusal (Ok x) holds = holds

@@ -1,4 +1,4 @@
--- The laws of the rows of NV indices.
+-- The rows of NV indices satisfy the laws of rows.
 use Rattle.std.specs.Prelude.{◌==◌, is_some, nat_lt, not, ok_or}
 use Rattle.std.proofs.Common.{◌∙◌, ◌∷◌, ◌≡◌, Bool, Err, IfOk, List, None, Ok, Option, Result, Some}
 use Rattle.std.proofs.Common.{[], ap, arith, false, length, refl, rules, subst, sym, true, ℕ}
@@ -75,7 +75,7 @@ use Rattle.tpm_row_secrecy.proofs.IndexRows as index_secrets
 
 -- ---- how the rows of NV indices refuse
 
--- a step of a change whose faults are all late refusals
+-- a step of a change refuses late, if all faults of the step and of what follows are late refusals
 late_step : {A B F : Type 0} (Fit : Type 0) (refusal : F → Refused) (x : Result A F)
     (f : A → Result B F) → Late Fit (or_refusal refusal x)
     → ((a : A) → Late Fit (or_refusal refusal (f a))) → Late Fit (or_refusal refusal (x >>= f))
@@ -87,7 +87,7 @@ late_if : {F : Type 0} (Fit : Type 0) (refusal : F → Refused) (b : Bool) (faul
 late_if Fit refusal true fault late = late
 late_if Fit refusal false fault late = tt
 
--- the index that is changed exists if the handles fit
+-- looking up the index to change refuses late: the index exists if the handles fit
 late_index : {X F : Type 0} (Fit : Type 0) (refusal : F → Refused) (nv : NvContents) (h : Handle)
     (absence : F) (f : NvIndex → Result X F) → refusal absence ≡ handle_refusal
     → (Fit → is_some (index_at nv h) ≡ true) → ((i : NvIndex) → Late Fit (or_refusal refusal (f i)))
@@ -136,7 +136,7 @@ late_read_locked : (Fit : Type 0) (nv : NvContents) (h : Handle)
 unfolding read_locked
 late_read_locked Fit nv h there = search changes
 
--- a new authorization value for the index that is a command's only handle
+-- setting a new authorization value of the index that is the command's only handle refuses late
 late_auth_value : (Fit : Type 0) (r : Record) (role : Option Role) (h : Handle) (value : List ℕ)
     → (Fit → FitsRule r (record { kind = handle_kind.NvIndex; role = role }) h)
     → Late Fit (or_refusal (λ absence. handle_refusal) (with_auth_value r.nv h value))
@@ -167,14 +167,14 @@ plain_definition x = grind arith
 
 ruleset index_plain = (plain_steps, plain_writing, plain_lock, plain_absence, plain_definition)
 
--- ---- an index is defined, or undefined
+-- ---- defining and removing an index
 
 defined_grows : (r : Record) (h : Handle) (i : NvIndex)
     → Grows true r (record r { nv = with_index r.nv h i })
 defined_grows r h i = let more = put_length r.nv.indices h.number i in omega (arith, more)
 
--- TPM2_NV_DefineSpace reads parameters of these kinds: its authorization value is a buffer, of
--- which trailing zeros are then removed
+-- TPM2_NV_DefineSpace reads parameters of these kinds: its authorization value is read as a buffer,
+-- and zeros at its end are removed afterwards
 define_reads : (text : List ℕ)
     → outcome (parameters_in text) ≡ spelled 1 (kind.Buffer 32 ∷ kind.NvPublic ∷ []) text
 unfolding parameters_in
@@ -227,9 +227,9 @@ nv_undefine_space_laws = record {
   tells = λ s covers r q free. index_secrets.nv_undefine_space_tells s r q;
 }
 
--- ---- an index is changed
+-- ---- changing an index
 
--- a change that keeps the number of indices, or is refused
+-- A step: the success of a change that keeps the number of indices satisfies the laws of rows.
 changed_success : {F : Type 0} (c : CommandCode) (r : Record) (q : Request)
     (refusal : F → Refused) (x : Result NvContents F) → leaves_sessions (part_of c) ≡ true
     → keeps_count (part_of c) ≡ true
@@ -327,7 +327,7 @@ nv_change_auth_laws = record {
   tells = λ s covers r q free. index_secrets.nv_change_auth_tells s r q;
 }
 
--- ---- an index is read
+-- ---- reading an index
 
 pub nv_read_laws : RowLaws command.NvRead nv_read_row
 unfolding nv_read_row shape_of read_parameters

@@ -1,4 +1,4 @@
--- After a row, the step changes only sessions and what a shutdown saved.
+-- After a row, the step changes only sessions and the state that a shutdown saved.
 use Rattle.std.proofs.Common.{ℕ, Bool, true, false, cond, List, [], ◌∷◌, Option, Some, None, drop, refl, ap, sym, subst, ◌∙◌}
 use Rattle.std.specs.Option.{option_map_or}
 use Rattle.tpm_mac.specs.declared.algorithm.HashAlg.{HashAlg}
@@ -18,7 +18,7 @@ use Rattle.tpm_step.specs.Granted.{Granted, granted_entries}
 use Rattle.tpm_step.specs.Step.{Accepted, success_step}
 use Rattle.tpm_step.specs.rows.Acceptance.{LeavesEffect, OnlySessions}
 
--- two changes of sessions alone are together a change of sessions alone
+-- two changes of only sessions are together a change of only sessions
 then_only : (a b c : Record) → OnlySessions a b → OnlySessions b c → OnlySessions a c
 then_only a b c first second = second ∙ ap (λ (r : Record). record r { sessions = c.sessions }) first
 
@@ -61,7 +61,8 @@ answered_only c grants a effect random =
     let drawn = entries_rolled effect c.entries (drop a.drawn random) in
     then_only effect drawn.after (entries_ended drawn.after (granted_entries c grants)) (all_rolled effect c.entries (drop a.drawn random)) (all_ended drawn.after (granted_entries c grants))
 
--- a record with other sessions, whose saved state is kept or cancelled
+-- A step: a record with other sessions, whose saved state is kept or discarded, differs only in
+-- these.
 settled : (keeps : Bool) (r s : Record) → let x : Record = record r { sessions = s.sessions } in LeavesEffect r (cond keeps x (with_saved x Nothing))
 settled true r s = refl
 settled false r s = refl

@@ -1,4 +1,4 @@
--- The laws of the rows of objects.
+-- The rows of objects satisfy the laws of rows.
 use Rattle.std.specs.Option.{option_map_or}
 use Rattle.std.specs.Prelude.{◌==◌, ◌||◌, if◌then◌else◌, is_some}
 use Rattle.std.proofs.Common.{◌+◌, ◌≡◌, ◌≤◌, Bool, IfOk, List, None, Ok, Option, Result, Some}
@@ -77,7 +77,7 @@ use Rattle.tpm_row_secrecy.proofs.ObjectRows as object_secrets
 
 -- ---- how the rows of objects refuse
 
--- an object's handle that is present names an object
+-- a handle of an object's type that passes the check that its entity exists names an object
 object_there : (type : ℕ) (session : Bool) (index : Entity) (o : Option Object)
     → (type == 0x80 || type == 0x81) ≡ true
     → IsThere type session (if type == 0x01 then index else option_map_or AnObject o Permanent)
@@ -118,7 +118,7 @@ late_creation Fit before x = grind arith
 late_scheme : (Fit : Type 0) (p : PublicParameters) → Late Fit (scheme_of p)
 late_scheme Fit p = grind arith
 
--- removing a persistent object, or copying a transient one
+-- removing a persistent object, or copying a transient one, refuses late
 late_evicted : (Fit : Type 0) (objects : Entries Object) (h : Handle) (o : Object) (wanted : Handle)
     → Late Fit (evicted objects h o wanted)
 late_evicted Fit objects h o wanted = by (is_persistent h)
@@ -150,7 +150,7 @@ plain_evicted objects h o wanted = by (is_persistent h)
 
 ruleset object_plain = (plain_steps, plain_template, plain_creation, plain_scheme, plain_evicted)
 
--- ---- an object is created
+-- ---- creating an object
 
 key_few : (hash : HashAlg) (p : PublicParameters) → parameters_key_size hash p ≤ 32
 key_few hash parameters_of.SymCipher = omega arith
@@ -186,7 +186,7 @@ create_laws = record {
   tells = λ s covers r q free. object_secrets.create_tells s r q;
 }
 
--- ---- an object takes a place
+-- ---- storing an object in a slot
 
 more_objects : (r : Record) (check : ActionCheck) (place : ℕ) (o : Object)
     → place_for check r ≡ Ok place
@@ -273,7 +273,7 @@ evict_control_laws = record {
   tells = λ s covers r q free. object_secrets.evict_control_tells s r q;
 }
 
--- ---- an object is used
+-- ---- using an object
 
 pub hmac_laws : RowLaws command.Hmac hmac_row
 unfolding hmac_row shape_of hmac_parameters

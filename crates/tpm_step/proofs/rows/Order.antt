@@ -1,4 +1,4 @@
--- The steps of a row that refuses in order, and what follows from the order.
+-- The steps of a row that refuses in order, and consequences of the order.
 use Rattle.std.specs.Option.{option_map_or}
 use Rattle.std.specs.Prelude.{◌==◌, ◌||◌, if◌then◌else◌, is_some, not, ok_or}
 use Rattle.std.proofs.Common.{◌+◌, ◌∙◌, ◌∷◌, ◌≡◌, ◌⊎◌, Bool, Err, IfErr, List, None, Ok, Option}
@@ -38,9 +38,9 @@ use Rattle.tpm_step.proofs.Binding.{bind_assoc, err_bind, err_fault, err_if, err
 use Rattle.tpm_step.proofs.rows.Readings.{all_read_outcome, only_read, outcome, read_all}
 use Rattle.tpm_step.proofs.rows.Readings.{read_one, trimmed_read}
 
--- ---- what follows from the order
+-- ---- consequences of the order
 
--- a row that refuses in order reads its parameters as their kinds say
+-- a row that refuses in order refuses parameters exactly if they are not of their kinds
 pub in_order_reads : {X : Type 0} (Fit : Type 0) (s : Result (Unit {0}) Refused)
     (row : Result X Refused) → InOrder Fit s row → ReadsParameters s row
 in_order_reads Fit (Ok u) (Ok x) order = tt
@@ -87,9 +87,9 @@ pub spelled_faults : (n : ℕ) (kinds : List ParameterKind) (text : List ℕ)
 spelled_faults n [] text = err_if (λ e. e.check ≡ check.Parameters) _ _ refl
 spelled_faults n (kind ∷ kinds) text = err_bind _ (parameter n (behind_kind kind text)) _ (parameter_fault n (behind_kind kind text)) (λ rest. spelled_faults (n + 1) kinds rest)
 
--- ---- steps that take a handle
+-- ---- steps that read a handle
 
--- authHandle and nvIndex, as a row reads them
+-- the handles authHandle and nvIndex, as a row reads them
 abbrev target_at : Record → List Handle → Result Target Refused
 target_at r handles = do
   auth_handle ← first_handle handles
@@ -97,7 +97,7 @@ target_at r handles = do
   attributes ← attributes_of r handle
   Ok (record { auth_handle = auth_handle; handle = handle; attributes = attributes })
 
--- the step that takes the first handle, before a row in order
+-- a row refuses in order, if it reads the first handle and the rest refuses in order
 pub behind_first : {X : Type 0} (r : Record) (rule : HandleRule) (rules : List HandleRule)
     (handles : List Handle) (kinds : List ParameterKind) (text : List ℕ)
     (f : Handle → Result X Refused)
@@ -107,7 +107,7 @@ pub behind_first : {X : Type 0} (r : Record) (rule : HandleRule) (rules : List H
 behind_first r rule rules [] kinds text f more = record { order = inl (refl, λ fit. fit) }
 behind_first r rule rules (h ∷ hs) kinds text f more = more h (λ fit. fit.0)
 
--- the step that takes the second handle, before a row in order
+-- a row refuses in order, if it reads the second handle and the rest refuses in order
 pub behind_second : {X : Type 0} (r : Record) (first rule : HandleRule) (rules : List HandleRule)
     (handles : List Handle) (kinds : List ParameterKind) (text : List ℕ)
     (f : Handle → Result X Refused)
@@ -118,7 +118,7 @@ behind_second r first rule rules [] kinds text f more = record { order = inl (re
 behind_second r first rule rules (h ∷ []) kinds text f more = record { order = inl (refl, λ fit. fit.1) }
 behind_second r first rule rules (h ∷ k ∷ hs) kinds text f more = more k (λ fit. fit.1.0)
 
--- the step that takes the third handle, before a row in order
+-- a row refuses in order, if it reads the third handle and the rest refuses in order
 pub behind_third : {X : Type 0} (r : Record) (first second rule : HandleRule)
     (rules : List HandleRule) (handles : List Handle) (kinds : List ParameterKind) (text : List ℕ)
     (f : Handle → Result X Refused)
@@ -130,7 +130,8 @@ behind_third r first second rule rules (h ∷ []) kinds text f more = record { o
 behind_third r first second rule rules (h ∷ k ∷ []) kinds text f more = record { order = inl (refl, λ fit. fit.1.1) }
 behind_third r first second rule rules (h ∷ k ∷ l ∷ hs) kinds text f more = more l (λ fit. fit.1.1.0)
 
--- the step that takes the first handle of TPM2_PolicySecret, when its assertion is read
+-- a row refuses in order, if it reads the first handle of TPM2_PolicySecret for its assertion and
+-- the rest refuses in order
 pub behind_entity : {A X : Type 0} (r : Record) (rule : HandleRule) (rules : List HandleRule)
     (handles : List Handle) (kinds : List ParameterKind) (text : List ℕ)
     (g : Handle → Result A Refused) (f : A → Result X Refused)
@@ -139,7 +140,8 @@ pub behind_entity : {A X : Type 0} (r : Record) (rule : HandleRule) (rules : Lis
 behind_entity r rule rules [] kinds text g f more = record { order = inl (refl, λ fit. fit) }
 behind_entity r rule rules (h ∷ hs) kinds text g f more = more h
 
--- the step that takes the entity of a handle, which exists if the handles fit
+-- a row refuses in order, if it looks up the entity of a handle, which exists if the handles fit,
+-- and the rest refuses in order
 pub behind_found : {A X : Type 0} (r : Record) (rules : List HandleRule) (handles : List Handle)
     (o : Option A) (kinds : List ParameterKind) (text : List ℕ) (f : A → Result X Refused)
     → (HandlesFit r rules handles → is_some o ≡ true)
@@ -153,18 +155,18 @@ pub late_found : {A : Type 0} (Fit : Type 0) (o : Option A) → (Fit → is_some
 late_found Fit (Some a) there = tt
 late_found Fit None there = λ fit. false≢true (there fit)
 
--- if one of two tests has to pass, the first or the second does
+-- if the disjunction of two tests holds, the first or the second test holds
 pub either : (a b : Bool) → (a || b) ≡ true → (a ≡ true) ⊎ (b ≡ true)
 either true b is = inl refl
 either false b is = inr is
 
--- A session or another entity exists, by the type of its handle.
+-- The session or the other entity that a handle of this type names exists.
 abbrev pub IsThere : ℕ → Bool → Entity → Type 0
 IsThere type session entity =
     (if (type == 0x02 || type == 0x03) then session
     else (is_kept entity || not (type == 0x01 || type == 0x80 || type == 0x81))) ≡ true
 
--- an index's handle that is present names an index
+-- a handle of an index's type that passes the check that its entity exists names an index
 index_present : (type : ℕ) (session : Bool) (o : Option NvIndex) (object : Entity)
     → (type == 0x01) ≡ true
     → IsThere type session (if type == 0x01 then option_map_or AnIndex (option_map head_of o) Permanent else object)
@@ -189,7 +191,8 @@ pub behind_index : {X : Type 0} (r : Record) (rules : List HandleRule) (handles 
     → Orders r rules handles kinds text (index_or_refusal r h >>= f)
 behind_index r rules handles role h kinds text f fits more = behind_found r rules handles (index_at r.nv h) kinds text f (λ fit. index_there r role h (fits fit)) more
 
--- the step that takes authHandle, nvIndex and the index's attributes, before a row in order
+-- a row refuses in order, if it reads authHandle, nvIndex and the index's attributes, and the rest
+-- refuses in order
 pub behind_target : {X : Type 0} (r : Record) (first : HandleRule) (others : List HandleRule)
     (handles : List Handle) (kinds : List ParameterKind) (text : List ℕ)
     (f : Target → Result X Refused)
@@ -216,7 +219,8 @@ behind_target r first others (h ∷ k ∷ hs) kinds text f more =
     found (Some i) there next = next i.public.attributes there
     found None there next = record { order = inl (refl, λ fit. false≢true (there fit)) }
 
--- the step that takes authHandle, nvIndex and the index's attributes, when an assertion is read
+-- a row refuses in order, if it reads authHandle, nvIndex and the index's attributes for an
+-- assertion, and the rest refuses in order
 pub behind_target_asserted : {A X : Type 0} (r : Record) (first : HandleRule)
     (others : List HandleRule) (handles : List Handle) (kinds : List ParameterKind) (text : List ℕ)
     (g : Target → Result A Refused) (f : A → Result X Refused)
@@ -230,13 +234,13 @@ behind_target_asserted {X = X} r first others handles kinds text g f more =
 
 -- ---- steps that read parameters
 
--- a row that read its parameters and then refuses only by late checks
+-- a row refuses in order, if it has read its parameters and then refuses only by late checks
 late_after : {X : Type 0} (Fit : Type 0) (s : Result (Unit {0}) Refused)
     (row : Result X Refused) → s ≡ Ok tt → Late Fit row → InOrder Fit s row
 late_after Fit s (Ok x) is late = is
 late_after Fit s (Err e) is late = inr (inr (is, late))
 
--- the step that reads all parameters, before late checks
+-- a row refuses in order, if it reads all parameters and then refuses only by late checks
 pub behind_reading : {P X : Type 0} (r : Record) (rules : List HandleRule) (handles : List Handle)
     (kinds : List ParameterKind) (text : List ℕ) (read : Result P Refused)
     (f : P → Result X Refused) → outcome read ≡ spelled 1 kinds text
@@ -245,7 +249,8 @@ pub behind_reading : {P X : Type 0} (r : Record) (rules : List HandleRule) (hand
 behind_reading r rules handles kinds text (Ok p) f is late = record { order = late_after _ _ (f p) (sym is) (late p) }
 behind_reading r rules handles kinds text (Err e) f is late = record { order = inr (inl (sym is)) }
 
--- the step that reads all parameters and passes them on as something else, such as an assertion
+-- a row refuses in order, if it reads all parameters, makes another value of them, such as an
+-- assertion, and then refuses only by late checks
 pub behind_handed : {P A X : Type 0} (r : Record) (rules : List HandleRule) (handles : List Handle)
     (kinds : List ParameterKind) (text : List ℕ) (read : Result P Refused) (g : P → A)
     (f : A → Result X Refused) → outcome read ≡ spelled 1 kinds text
@@ -256,13 +261,13 @@ behind_handed r rules handles kinds text (Err e) g f is late = behind_reading r 
 
 -- ---- late steps
 
--- the step of a check of the command's own
+-- one of the command's own checks is a late check
 pub late_own_fault : {X : Type 0} (Fit : Type 0) (x : Result X ActionFault)
     → Late Fit (or_refusal fault_refusal x)
 late_own_fault Fit (Ok u) = tt
 late_own_fault Fit (Err fault) = tt
 
--- the steps that take handles, that read parameters, and those after them
+-- the steps that read handles or parameters, and the late steps
 pub ruleset handle_steps = (behind_first, behind_second, behind_third, behind_entity, behind_index, behind_target, behind_target_asserted)
 
 pub ruleset reading_steps = (behind_reading, behind_handed, all_read_outcome, only_read, read_one, read_all, trimmed_read)

@@ -1,4 +1,4 @@
--- The part of the state that a success touches determines which places the success takes, and
+-- The part of the state that a success changes determines how many slots the success takes, and
 -- what it does to sessions.
 use Rattle.std.specs.Prelude.{is_some}
 use Rattle.std.proofs.Common.{◌∙◌, ◌≡◌, ◌≤◌, Bool, List, Option, ap, arith, false, inl, inr, length}
@@ -21,7 +21,7 @@ use Rattle.tpm_commands.specs.Part.{Saved, Sessions, SessionsAndObjects}
 use Rattle.tpm_step.specs.rows.Sessions.{SessionsStay}
 use Rattle.tpm_step.specs.rows.Shapes.{Grows, taken_in}
 
--- ---- taken places
+-- ---- taken slots
 
 -- There are as many indices as before.
 abbrev pub SameCount : NvContents → NvContents → Type 0
@@ -48,8 +48,8 @@ pub same_sessions : (r : Record) (sessions : List (Option Session))
     → Grows false r (record r { sessions = sessions })
 same_sessions r sessions same = omega (arith, same)
 
--- whether a success that touches this part takes no more places of the sessions, the objects
--- (transient or persistent) and the NV indices, however it changes the part
+-- whether a success that changes this part takes no more slots of sessions, objects (transient or
+-- persistent) and NV indices, however it changes the part
 abbrev pub keeps_places : Part → Bool
 keeps_places Nothing = true
 keeps_places AuthValues = true
@@ -61,7 +61,7 @@ keeps_places DisableClear = true
 keeps_places Cleared = true
 keeps_places _ = false
 
--- if as many places are taken as before, no more are taken
+-- if as many slots are taken as before, no more are taken
 same_places : (old new : Record) → taken_in new ≡ taken_in old → Grows false old new
 same_places old new same = omega (arith, same)
 

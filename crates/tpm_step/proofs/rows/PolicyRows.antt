@@ -1,4 +1,4 @@
--- The laws of the rows of policies.
+-- The rows of policies satisfy the laws of rows.
 use Rattle.std.specs.Prelude.{◌==◌, ◌||◌, if◌then◌else◌, is_some}
 use Rattle.std.proofs.Common.{◌≡◌, Bool, Err, IfOk, List, Ok, Option, Result, Some, arith, length}
 use Rattle.std.proofs.Common.{refl, rules, subst, sym, true, ℕ}
@@ -53,7 +53,7 @@ use Rattle.tpm_row_secrecy.proofs.PolicyRows as policy_secrets
 
 -- ---- how the rows of policies refuse
 
--- a policy session's handle that is present names a session
+-- a handle of a policy session's type that passes the check that its entity exists names a session
 session_there : (type : ℕ) (session other : Bool) → (type == 0x03) ≡ true
     → (if (type == 0x02 || type == 0x03) then session else other) ≡ true → session ≡ true
 session_there type session other kind present = grind (arith, nat_tests)
@@ -66,7 +66,7 @@ late_session Fit r h fits = late_found Fit (session_at r.sessions h) (λ fit. se
 
 ruleset policy_orders = (ordered_steps, late_session)
 
--- ---- the policy of a session changes
+-- ---- changing the policy of a session
 
 checked_assertion : (hash : HashAlg) (trial : Bool) (assertion : Assertion) (policy : Policy)
     → IfOk (or_refusal fault_refusal (asserted hash trial assertion policy))
@@ -79,8 +79,8 @@ checked_assertion hash trial assertion policy = by (asserted hash trial assertio
     by (Ok new) is = is
     by (Err fault) is = tt
 
--- There are as many sessions as before, each session that existed still exists, and all have
--- their sizes.
+-- There are as many sessions as before, each session that existed still exists, and all of them
+-- have their sizes.
 record KeepsSessions (r : Record) (sessions : List (Option Session)) : Type 0 where
   count : taken_count sessions ≡ taken_count r.sessions
   stay : SessionsStay r (record r { sessions = sessions })
@@ -114,7 +114,7 @@ keeping_success c r q answer sessions part nothing answers draws keeps =
 
 -- ---- the row of all assertions
 
--- the success of a command that asserts, before it changes its session
+-- the success of a command that makes an assertion, before the session changes
 abbrev made : CommandCode → Record → Success
 made c r = record { answer = answer_of (body_of c); after = r }
 

@@ -9,9 +9,9 @@ use Rattle.tpm_types.specs.declared.refused.Refused.{Refused}
 use Rattle.tpm_record.specs.rows.Rows.{all_read, only, parameter}
 use Rattle.tpm_step.specs.rows.Shapes.{behind, behind_kind, spelled}
 
--- ---- readings
+-- ---- the outcome of reading parameters
 
--- whether a reading succeeded, or its fault
+-- success if the parameters were read, and otherwise their fault
 abbrev pub outcome : {P : Type 0} → Result P Refused → Result (Unit {0}) Refused
 outcome (Ok p) = Ok tt
 outcome (Err e) = Err e

@@ -45,7 +45,7 @@ use Rattle.tpm_step.proofs.rows.SizedParts.{nonce_few, nonce_taken}
 use Rattle.tpm_step.proofs.rows.SessionPlaces.{flushed_all, policy_all}
 use Rattle.tpm_step.proofs.rows.Table.{row_draws, row_sized}
 
--- ---- without a session
+-- ---- devices without a session
 
 pub manufactured_sized : (random : List ℕ) → AreSized (manufactured random)
 manufactured_sized random = all_free IsSized 16
@@ -92,7 +92,7 @@ entries_rolled_sized r (e ∷ es) left enough sized =
     entries_rolled_sized (entry_rolled r e left).after es (entry_rolled r e left).left
     (omega (arith, enough, entry_left r e left sized)) (entry_rolled_sized r e left (omega (arith, enough)) sized)
 
--- ---- policies start again, and sessions end
+-- ---- policies that return to their start, and sessions that end
 
 restarted_sized : (kind : SessionType) (r : Record) (e : Entry) (s : Session) → session_of r e ≡ Some s → AreSized r → AreSized (restarted_by kind r e s.hash)
 restarted_sized type.Hmac r e s is sized = sized
@@ -128,8 +128,8 @@ answer_sized c grants a effect random enough sized =
 
 -- ---- steps
 
--- An accepted command leaves a record whose sessions have their sizes, and enough of 256 random
--- bytes for new nonces.
+-- An accepted command leaves a record whose sessions have their sizes, and of 256 random bytes
+-- enough for new nonces.
 abbrev Fits : Accepted → Type 0
 Fits a = AreSized a.success.after × (a.success.answer.drawn + 32 * length a.command.entries ≤ 256)
 
@@ -154,7 +154,7 @@ accepted_fits r buffer locality random enough sized =
     ok_then _ _ (general r buffer) _ (general_few r buffer) (λ c few.
     ok_in_command Fits c.code (acceptance r c locality random) (acceptance_fits r c locality random few enough sized))
 
--- sessions keep their sizes when a success cancels what was saved
+-- sessions keep their sizes when a success discards the saved state
 settled_sized : (keeps : Bool) (r : Record) → AreSized r → AreSized (cond keeps r (with_saved r Nothing))
 settled_sized true r sized = sized
 settled_sized false r sized = sized

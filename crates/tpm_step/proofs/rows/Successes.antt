@@ -1,4 +1,4 @@
--- The laws of a success, from the part of the state that it touches.
+-- A success satisfies the laws of rows, given the part of the state that it changes.
 use Rattle.std.proofs.Common.{◌≡◌, ◌≤◌, Ok, Result, ap, arith, false, rules, subst, sym, true, ℕ}
 use Rattle.tpm_types.specs.declared.refused.Refused.{Refused}
 use Rattle.tpm_commands.specs.declared.command_code.CommandCode.{CommandCode}
@@ -17,14 +17,14 @@ use Rattle.tpm_step.proofs.Binding.{ok_bind}
 use Rattle.tpm_step.proofs.rows.Parts.{keeps_places, leaves_sessions, sessions_same}
 use Rattle.tpm_step.proofs.rows.Parts.{touched_grows, touched_same}
 
--- The command grows as its shape says, if its successes take no more places, or one more.
+-- A success that takes no more slots has the growth that the command's shape says.
 abbrev pub GrowsNothing : CommandCode → Type 0
 GrowsNothing c = (old new : Record) → Grows false old new → GrowsAsShaped c old new
 
 abbrev pub GrowsByOne : CommandCode → Type 0
 GrowsByOne c = (old new : Record) → Grows true old new → GrowsAsShaped c old new
 
--- the laws of a success that keeps the sessions as they are
+-- a success that keeps the sessions as they are satisfies the laws of rows
 pub beside_sessions : (c : CommandCode) (r : Record) (q : Request) (s : Success)
     → leaves_sessions (part_of c) ≡ true → Touches (part_of c) r s.after → GrowsAsShaped c r s.after
     → ChangesIndices (part_of c) q r.nv s.after.nv → AnswersItsShape c s → DrawsAsSaid c q s → SuccessLaws c r q s
@@ -41,7 +41,7 @@ beside_sessions c r q s leaves touches grows changes answers draws = record {
     same : s.after.sessions ≡ r.sessions
     same = touched_same (part_of c) r s.after leaves touches
 
--- the laws of a success whose part takes no more places
+-- a success whose part takes no more slots satisfies the laws of rows
 pub in_place : (c : CommandCode) (r : Record) (q : Request) (s : Success)
     → leaves_sessions (part_of c) ≡ true → keeps_places (part_of c) ≡ true → GrowsNothing c
     → Touches (part_of c) r s.after → ChangesIndices (part_of c) q r.nv s.after.nv
@@ -53,10 +53,10 @@ in_place c r q s leaves keeps nothing touches changes answers draws =
 pub none_drawn : 0 ≤ 96
 none_drawn = omega arith
 
--- if a command draws what its parameters say, it draws what its definition says
+-- if a command draws as many bytes as its parameters say, it draws `draws_of`
 pub drawn_as_read : {P : Type 0} (count : P → ℕ) (x : Result P Refused) (p : P)
     → x ≡ Ok p → count p ≡ read_or_none count x
 drawn_as_read count x p is = sym (ap (read_or_none count) is)
 
--- the steps of a row whose part takes no more places
+-- the steps of a row whose part takes no more slots
 pub ruleset in_place_steps = (rules, ok_bind, in_place, none_drawn)

@@ -1,4 +1,4 @@
--- Every command has the laws of its row. So each law holds of all commands.
+-- The row of every command satisfies the laws of rows. So each law holds for all commands.
 use Rattle.std.proofs.Common.{◌≡◌, ◌≤◌, IfOk, false, length, true}
 use Rattle.tpm_types.specs.declared.check.Check.TheVariants as check
 use Rattle.tpm_commands.specs.CommandCode.{part_of, shape_of}
@@ -32,7 +32,7 @@ use Rattle.tpm_step.proofs.rows.Order.{spelled_faults}
 use Rattle.tpm_step.proofs.rows.Parts.{leaves_sessions, touched_same}
 use Rattle.tpm_step.proofs.rows.PolicyRows as policy
 
--- the laws of the row of each command
+-- the row of each command satisfies the laws of rows
 pub laws_of : (c : CommandCode) → RowLaws c (λ r q. row_of r c q)
 unfolding row_of
 laws_of command.EvictControl = object.evict_control_laws
@@ -93,7 +93,7 @@ pub row_touches : (r : Record) (c : CommandCode) (q : Request)
     → IfOk (row_of r c q) (λ s. Touches (part_of c) r s.after)
 row_touches r c q = of_success _ r c q (λ s laws. laws.touches)
 
--- a success changes the NV indices as its command's part says
+-- a success changes the NV indices as its command's part of the state allows
 pub row_changes : (r : Record) (c : CommandCode) (q : Request)
     → IfOk (row_of r c q) (λ s. ChangesIndices (part_of c) q r.nv s.after.nv)
 row_changes r c q = of_success _ r c q (λ s laws. laws.changes)
@@ -122,7 +122,7 @@ pub row_sized : (r : Record) (c : CommandCode) (q : Request) → 32 ≤ length q
     → IfOk (row_of r c q) (λ s. AreSized s.after)
 row_sized r c q enough sized = of_success _ r c q (λ s laws. laws.sized enough sized)
 
--- a success that touches a part without sessions keeps the sessions as they were
+-- a success that changes a part without sessions keeps the sessions as they were
 pub row_same : (r : Record) (c : CommandCode) (q : Request) → leaves_sessions (part_of c) ≡ true
     → IfOk (row_of r c q) (λ s. s.after.sessions ≡ r.sessions)
 row_same r c q leaves =
