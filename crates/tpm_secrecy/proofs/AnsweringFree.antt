@@ -1,4 +1,5 @@
--- The answer to an accepted command uses no secret, if its entries used none before.
+-- The answer to an accepted command uses no secret, if the command's entries used no secret before
+-- its effect.
 use Rattle.std.proofs.Common.{ap, inl, inr, refl, subst, sym, ◌∙◌}
 use Rattle.std.proofs.lemmas.Bool.{cases_Bool, false≢true}
 use Rattle.std.proofs.lemmas.Option.{same_Some}
@@ -78,7 +79,7 @@ granted_used : (r : Record) (c : Whole) (locality place : ℕ) (e : Entry) (g : 
 unfolding grant
 granted_used r c locality place e g is = ok_at (IsUsed (slice_get (authorized c) place)) (grant_by (session_kind e.session) r c locality (place + 1) (slice_get (authorized c) place) e) g (used_by (session_kind e.session) r c locality (place + 1) (slice_get (authorized c) place) e) is
 
--- a command authorizes at most its first handle
+-- whether this number of authorized handles is at most one, as it is for every command
 at_most_one : ℕ → Bool
 at_most_one zero = true
 at_most_one (suc zero) = true
@@ -187,7 +188,7 @@ module _ (s : Secrecy) (r : Record) (locality : ℕ) (random : List ℕ) (a : Ac
       (first_stays s a.command.code r a.request (subst (HandlesFit r (shape_of a.command.code).handles) (sym handles_same) accepts.fits)) accepts.row
       h (ap first_handle handles_same ∙ first)
 
-  -- the effect, and the new nonces
+  -- A step: new nonces do not change whether a handle has a secret value.
   rolled_open : (h : Handle) (es : List Entry) (left : List ℕ) (t : Record) → has_secret_value s (entries_rolled t es left).after h ≡ has_secret_value s t h
   unfolding entity_at object_of entry_rolled
   rolled_open h [] left t = refl

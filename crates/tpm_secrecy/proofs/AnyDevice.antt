@@ -54,9 +54,9 @@ use Rattle.tpm_types.specs.declared.rc.ResponseCode.TheVariants as code
 use Rattle.tpm_types.specs.declared.session_type.SessionType.TheVariants as type
 use Rattle.tpm_types_object.specs.declared.object_attributes.ObjectAttribute.TheVariants as attribute
 
--- ---- an entry that authorizes an object without userWithAuth
+-- ---- entries that authorize an object without userWithAuth
 
--- a policy session with the hash and the digest of an object's policy
+-- The entry names a policy session with the hash and the digest of this object's policy.
 record IsOfPolicy (r : Record) (o : Object) (e : Entry) : Type 0 where
   session : Session
   there : session_of r e ≡ Some session
@@ -164,7 +164,7 @@ module _ (r : Record) (c : Whole) (locality : ℕ) (handle : Handle) (o : Object
         policy = so.digest;
       }
 
--- ---- a command that reads
+-- ---- commands that read sealed data
 
 first_sent : (handles : List Handle) (handle : Handle) → first_handle handles ≡ Ok handle → slice_get handles 0 ≡ Some handle
 first_sent [] handle first = absurd cc

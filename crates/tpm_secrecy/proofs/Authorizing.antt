@@ -1,6 +1,6 @@
--- If every guess is assumed wrong, a device authorizes the same commands with its secrets and
+-- If every guess is assumed to be wrong, a device authorizes the same commands with its secrets and
 -- with its secrets erased. Therefore devices that differ in their secrets authorize the same
--- commands while all guesses are wrong.
+-- commands as long as all guesses are wrong.
 use Rattle.std.proofs.Common.{ap, inl, inr, refl, sym, ◌∙◌}
 use Rattle.std.proofs.lemmas.Bool.{false≢true, true≢false}
 use Rattle.std.proofs.lemmas.Slice.Eq.{bytes_eq-Decides}
@@ -49,7 +49,7 @@ use Rattle.tpm_types.specs.declared.handle.SessionKind.TheVariants as kind
 use Rattle.tpm_types.specs.declared.session_type.SessionType.TheVariants as type
 use Rattle.tpm_record.specs.declared.entity.Means.TheVariants as means
 
--- equal steps, followed by equal steps
+-- two computations are equal if their first steps are equal, and so are their later steps
 pub then_same : {A B E : Type 0} (x y : Result A E) (f g : A → Result B E) → x ≡ y → ((a : A) → f a ≡ g a) → (x >>= f) ≡ (y >>= g)
 then_same {A} {B} {E} x y f g first same = ap (λ (z : Result A E). z >>= f) first ∙ by y
   where
@@ -104,7 +104,7 @@ other_name one other apart = by (bytes_eq one other) refl
     by true is = absurd (apart ((bytes_eq-Decides one other).0 is))
     by false is = refl
 
--- a comparison that is assumed to fail
+-- the refusal of an entry whose comparison is assumed to fail
 abbrev pub wrong_comparison : Record → ℕ → Option Grant → Session → Result (Option Grant) Refused
 wrong_comparison t n g x =
     may_be_tried t.fixed.lockout g (entry_protection t x g) >>= λ tried.
@@ -114,7 +114,7 @@ module _ (s : Secrecy) (covers : CoversKeys s) (r : Record) where
   abbrev bare : Record
   bare = without_secrets s r
 
-  -- ---- what both devices have in common
+  -- ---- what the device with secrets and the one without have in common
 
   pub seen_session : {X : Type 0} (see : Option Session → X) → ((found : Option Session) → see (option_map (bare_session s) found) ≡ see found) → (h : Handle) → see (session_at bare.sessions h) ≡ see (session_at r.sessions h)
   seen_session see same h = ap see (session_at_bare s r.sessions h) ∙ same (session_at r.sessions h)
@@ -137,8 +137,7 @@ module _ (s : Secrecy) (covers : CoversKeys s) (r : Record) where
   nonce_seen None = refl
   nonce_seen (Some x) = refl
 
-  -- the authorization value of an entity if it is not secret; and whether a session without a
-  -- secret key is bound to an entity
+  -- whether a session with this binding is bound to the entity of this handle
   bound_by : Record → Binding → Handle → Bool
   bound_by t b h = bytes_eq b.name (name_of t h) && bytes_eq b.auth_value (auth_value_of t h)
 
@@ -170,7 +169,7 @@ module _ (s : Secrecy) (covers : CoversKeys s) (r : Record) where
   unfolding takes_value
   takes_same x g shown = ap (λ (b : Bool). has_value_in_key x.kind b g.demand) (bound_same x g.handle shown)
 
-  -- ---- an entry that uses no secret uses the same on both devices
+  -- ---- entries that use no secret
 
   pub used_same : (x : Session) (e : Entry) (g : Option Grant) → session_uses s r x e g ≡ false → used_auth_value bare x g ≡ used_auth_value r x g
   unfolding used_auth_value takes_value
@@ -246,7 +245,7 @@ module _ (s : Secrecy) (covers : CoversKeys s) (r : Record) where
     unfolding entry_parts
     text_same n e x = rw (hash_same x.hash, nonce_same _ _, nonce_same _ _) refl
 
-    -- ---- what a session demands
+    -- ---- the demand of a session
 
     use_same : (n : ℕ) (h : Handle) (x : Session) → use_of bare c locality n h x ≡ use_of r c locality n h x
     unfolding use_of
@@ -267,7 +266,7 @@ module _ (s : Secrecy) (covers : CoversKeys s) (r : Record) where
     unfolding demanded
     demanded_same n h x = bare_demand x.kind n h x ∙ demand_same x.kind n h x
 
-    -- ---- a comparison that uses no secret
+    -- ---- comparisons that use no secret
 
     authentic_same : (n : ℕ) (g : Option Grant) (e : Entry) (x : Session) → session_uses s r x e g ≡ false → is_authentic bare c n g e x ≡ is_authentic r c n g e x
     unfolding is_authentic
@@ -299,7 +298,7 @@ module _ (s : Secrecy) (covers : CoversKeys s) (r : Record) where
         ∙ ap (λ (p : Protection). compared_with n g p (comparison_holds bare c n g e x)) (shown_protection x g shown)
         ∙ ap (compared_with n g (entry_protection r x g)) (holds_same n g e x free)
 
-    -- ---- a guess that is assumed wrong
+    -- ---- guesses that are assumed wrong
 
     fails_so : (x : Result (Unit {0}) Refused) (e : Refused) (g : Option Grant) (holds : Bool) → is_ok (x >>= λ tried. refused_if (not holds) e >>= λ compared. let y : Result (Option Grant) Refused = Ok g in y) ≡ false → (x >>= λ tried. refused_if (not holds) e >>= λ compared. let y : Result (Option Grant) Refused = Ok g in y) ≡ (x >>= λ tried. Err e)
     fails_so (Err f) e g holds fails = refl

@@ -61,7 +61,7 @@ other_kind h apart = by (h.number == password_handle.number) (is_session h) refl
     by false true is session = absurd (apart (ap (λ (x : Bool). kind_by x (is_session h)) is ∙ ap (kind_by false) session))
     by false false is session = session
 
--- the session of an entry that uses no secret
+-- if an entry uses no secret, the session that it names uses no secret
 pub session_unused : (s : Secrecy) (r : Record) (e : Entry) (g : Option Grant) (x : Session) → uses_secret s r e g ≡ false → session_of r e ≡ Some x → session_uses s r x e g ≡ false
 session_unused s r e g x free found = by (session_kind e.session) refl free
   where
@@ -73,7 +73,7 @@ session_unused s r e g x free found = by (session_kind e.session) refl free
     by kind.Password is free = none (λ same. let never : kind.Session ≡ kind.Password = sym same ∙ is in absurd cc)
     by kind.Other is free = none (λ same. let never : kind.Session ≡ kind.Other = sym same ∙ is in absurd cc)
 
--- ---- a granted entry was compared
+-- ---- entries whose password or HMAC was compared
 
 pub comparison_gives : (r : Record) (c : Whole) (n : ℕ) (g : Option Grant) (e : Entry) (x : Session) → IfOk (comparison r c n g e x) (λ granted. granted ≡ g)
 comparison_gives r c n g e x = search (rules, ok_bind)

@@ -1,5 +1,5 @@
--- The authorization of a command with every guess assumed wrong; it equals the real authorization
--- if every guess is wrong.
+-- The authorization of a command in which every guess is assumed to be wrong equals the real
+-- authorization if every guess is wrong.
 use Rattle.std.proofs.Common.{ap, arith, length-append, refl, subst, sym, ◌∙◌}
 use Rattle.std.proofs.lemmas.Bool.{true≢false}
 use Rattle.std.specs.List.{list_any}
@@ -37,7 +37,7 @@ use Rattle.tpm_types.specs.declared.rc.Place.TheVariants as place
 use Rattle.tpm_types.specs.declared.rc.ResponseCode.TheVariants as code
 use Rattle.tpm_record.specs.declared.entity.Means.TheVariants as means
 
--- ---- guesses are assumed wrong
+-- ---- guesses that are assumed wrong
 
 module _ (s : Secrecy) (c : Whole) (locality : ℕ) (t : Record) where
   abbrev doubted : ℕ → Option Grant → Entry → Session → Result (Option Grant) Refused
@@ -51,7 +51,7 @@ module _ (s : Secrecy) (c : Whole) (locality : ℕ) (t : Record) where
   doubted_if n used e None = Err (refusal check.Entries (reference_of n))
   doubted_if n used e (Some x) = doubted_session n used e x
 
-  -- whether a password is right
+  -- the result of comparing a password with this value
   abbrev passes_as : (value : List ℕ) → ℕ → Option Handle → Entry → Result (Option Grant) Refused
   passes_as value n used e =
       refused_if (not (is_password_of value e.hmac)) (failure (check_of (option_map undemanding used)) n (used_protection t used)) >>= λ compared.
@@ -82,7 +82,7 @@ module _ (s : Secrecy) (c : Whole) (locality : ℕ) (t : Record) where
       refused_if (list_any decrypts c.entries && not (has_first_buffer c.parameters)) (refusal check.Others (at (place.Parameter 1) (plain code.Insufficient))) >>= λ whole.
       Ok grants
 
--- ---- the guesses are wrong
+-- ---- guesses that are wrong
 
 module _ (s : Secrecy) (covers : CoversKeys s) (r : Record) (c : Whole) (locality : ℕ) where
   abbrev bare : Record
@@ -177,7 +177,7 @@ module _ (s : Secrecy) (covers : CoversKeys s) (r : Record) (c : Whole) (localit
       by false free = ap (λ (value : List ℕ). password_with n used e (is_unavailable r c.code n used) (used_protection r used) (last_of n used e false value)) (shown_value used free)
       by true secret = wrong_last (refused_if (is_unavailable r c.code n used) (refusal check.Authorization (plain code.AuthUnavailable))) (may_be_tried r.fixed.lockout (option_map undemanding used) (used_protection r used)) (failure (check_of (option_map undemanding used)) n (used_protection r used)) (option_map undemanding used) (is_password_of (granted_value r (option_map undemanding used)) e.hmac) (fails secret)
 
-  -- ---- any entry, and all entries
+  -- ---- single entries, and all entries
 
   module _ (bindings : BindingsHold s r) where
     by_same : (k : SessionKind) (n : ℕ) (used : Option Handle) (e : Entry) → (guesses_by k s r c locality n used e ≡ true → is_ok (grant_by k r c locality n used e) ≡ false) → doubted_by s c locality bare k n used e ≡ grant_by k r c locality n used e

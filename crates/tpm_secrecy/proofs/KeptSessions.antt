@@ -1,4 +1,4 @@
--- A command's effect does not change what its sessions had at their start.
+-- A command's effect does not change what its sessions got when they started.
 use Rattle.std.proofs.Common.{ap, inl, inr, refl, sym, ◌∙◌}
 use Rattle.std.proofs.lemmas.Bool.{cases_eq, false≢true}
 use Rattle.std.proofs.lemmas.Option.{same_Some}
@@ -37,7 +37,7 @@ use Rattle.tpm_row_secrecy.proofs.Each.{at_number_each, places, set_each}
 use Rattle.tpm_commands.specs.declared.command_code.CommandCode.TheVariants as command
 use Rattle.tpm_commands.specs.Part as part
 
--- a session at its start, without its latest nonce
+-- what a session got when it started, which does not include its nonce and its policy
 abbrev pub start_of_session : Session → Session
 start_of_session x = record x { nonce_tpm = []; policy = starting x.hash }
 
@@ -47,7 +47,7 @@ SessionsKeep old new =
     (h : Handle) → is_some (session_at old h) ≡ true
     → option_map start_of_session (session_at new h) ≡ option_map start_of_session (session_at old h)
 
--- ---- a session is changed in its slot
+-- ---- changing a session in its slot
 
 set_itself : (xs : List (Option Session)) (n : ℕ) (x : Session) → at_place xs n ≡ Some x → slice_set xs n (Some x) ≡ xs
 set_itself [] n x is = refl
@@ -97,7 +97,7 @@ rolled_starts r (e ∷ es) left =
     rolled_starts (entry_rolled r e left).after es (entry_rolled r e left).left
     ∙ nonce_starts r.sessions e.session (take (draw_of r e) left)
 
--- ---- a session is started
+-- ---- starting a session
 
 put_keeps : (xs : List (Option Session)) (n : ℕ) (new : Session) → lowest_free xs ≡ Some n → SessionsKeep xs (slice_set xs n (Some new))
 unfolding session_at at_number
@@ -110,7 +110,7 @@ put_keeps xs n new free h there =
     seen : Option Session → Option Session
     seen place = option_and_then (if_of_kind session_byte h.number) place
 
--- ---- each command
+-- ---- all commands
 
 abbrev pub RowKeeps : Record → Success → Type 0
 RowKeeps r x = SessionsKeep r.sessions x.after.sessions
@@ -149,7 +149,7 @@ restart_keeps r q =
     ok_bind _ (policy_session r.sessions handle) _ (λ x.
     starts_keep r.sessions (with_session_policy r.sessions handle (starting x.hash)) (policy_starts r.sessions handle (starting x.hash)))))
 
--- a successful command that changes no session
+-- whether the success of a command that changes this part changes no session
 abbrev has_no_session : Part → Bool
 has_no_session part.Sessions = false
 has_no_session part.SessionsAndObjects = false
@@ -203,7 +203,8 @@ flush_forbids : (shape_of command.FlushContext).forbids_sessions ≡ true
 unfolding shape_of
 flush_forbids = refl
 
--- TPM2_FlushContext takes no sessions
+-- If a command may have sessions, its success keeps all sessions as `SessionsKeep` says.
+-- TPM2_FlushContext may have none.
 pub sessions_keep : (c : CommandCode) (r : Record) (q : Request) → (shape_of c).forbids_sessions ≡ false → IfOk (row_of r c q) (RowKeeps r)
 sessions_keep command.FlushContext r q allows = absurd (false≢true (sym allows ∙ flush_forbids))
 sessions_keep command.StartAuthSession r q allows = started_row_keeps r q

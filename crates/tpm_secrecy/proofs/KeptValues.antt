@@ -1,5 +1,5 @@
--- If the entity that a command authorizes has a secret value after the command's effect, it had
--- one before.
+-- If the entity that a command authorizes has a secret value after the command's effect, it had a
+-- secret value before.
 use Rattle.std.proofs.Common.{ap, inl, inr, refl, subst, sym, ◌∙◌}
 use Rattle.std.proofs.lemmas.Bool.{cases_eq, eqb-true, false≢true, or_cases}
 use Rattle.std.proofs.lemmas.Option.{same_Some}
@@ -73,7 +73,7 @@ use Rattle.tpm_types.specs.declared.handle.HierarchyHandle.TheVariants as hierar
 abbrev number_in : NvIndex → ℕ
 number_in i = i.public.nv_index.number
 
--- the index of each handle keeps its number
+-- Each handle has an index exactly if it had one before, with the same number in its public area.
 abbrev KeepsNumbers : NvContents → NvContents → Type 0
 KeepsNumbers old new = (h : Handle) → option_map number_in (index_at new h) ≡ option_map number_in (index_at old h)
 
@@ -165,7 +165,7 @@ module _ (r : Record) (q : Request) where
       ok_bind _ (refused_if (nat_lt (digest_size i.public.name_alg) (length value)) (parameter_refusal action.First 1 code.Size)) _ (λ a1.
       changed_nv_numbers (λ absence. handle_refusal) (with_auth_value r.nv handle value) (auth_numbers r.nv handle value)))))
 
--- ---- handles of hierarchies and of lockout
+-- ---- the handles of hierarchies and of lockout
 
 no_object : (xs : List (Option Object)) (h : Handle) → is_transient h ≡ false → object_at xs h ≡ None
 unfolding object_at at_number
@@ -215,7 +215,7 @@ is_apart part.DisableClear = true
 is_apart _ = false
 
 module _ (s : Secrecy) where
-  -- An entity has no secret value if it had none before.
+  -- An entity that had no secret value before has none now.
   abbrev pub StaysOpen : Record → Record → Handle → Type 0
   StaysOpen old new h = has_secret_value s old h ≡ false → has_secret_value s new h ≡ false
 
@@ -256,7 +256,7 @@ module _ (s : Secrecy) where
   permanent_stays : (old new : Record) (h : Handle) → names_kept h ≡ false → StaysOpen old new h
   permanent_stays old new h kept shown = permanent_value new h kept ∙ sym (permanent_value old h kept) ∙ shown
 
-  -- an existing object is not in the slot that was free
+  -- an existing object is not in a free slot, and so a new object there does not replace it
   placed_same : (r : Record) (n : ℕ) (new o : Object) (h : Handle) → object_of r h ≡ Some o → lowest_free r.objects ≡ Some n → object_of (record r { objects = with_object r.objects n new }) h ≡ object_of r h
   unfolding object_of object_at at_number
   placed_same r n new o h found free = by (is_persistent h) found
@@ -280,7 +280,7 @@ module _ (s : Secrecy) where
   placed_stays r n new o h found free shown =
       ap (λ (x : Option Object). entity_has_secret_value s h (cond (is_nv_index h) (option_map_or AnIndex (index_of r h) Permanent) (option_map_or AnObject x Permanent))) (placed_same r n new o h found free) ∙ shown
 
-  -- ---- each command
+  -- ---- all commands
 
   -- The entity of a command's first handle still has no secret value after the command succeeds.
   abbrev pub FirstStays : Record → Request → Success → Type 0

@@ -145,7 +145,7 @@ module _ (objects : Public → Bool) (r : Record) (q : Request) where
   reads_object command.NvIncrement is = absurd (no_counter (second_handle q.handles) is)
   reads_object _ is = absurd (false≢true is)
 
--- ---- what is public about the object
+-- ---- the public area of the object
 
 not_of_index : (t : ℕ) → (t == 0x80 || t == 0x81) ≡ true → (t == 0x01) ≡ false
 not_of_index t kind =
@@ -164,7 +164,7 @@ pub object_viewed : (r : Record) (handle : Handle) (o : Object) → is_of_kind h
 unfolding view_of
 object_viewed r handle o kind found = ap (entity_view handle) (object_entity r handle o kind found)
 
--- ---- its handle names an object, and is authorized
+-- ---- the handle of the object, which is authorized
 
 pub object_handle_fits : (r : Record) (b : Bool) (handles : List Handle) (handle : Handle) → HandlesFit r (shape_of (if b then command.Hmac else command.Unseal)).handles handles → first_handle handles ≡ Ok handle → is_of_kind handle_kind.Object handle ≡ true
 unfolding shape_of

@@ -55,7 +55,7 @@ unread_tells_nothing objects can old event x steps free other also differ alike 
 
 -- ---- commands that read sealed data
 
--- a command in a buffer, which is authorized and reads sealed data
+-- The command in a buffer is authorized and reads sealed data.
 pub record IsRead (objects : Public → Bool) (r : Record) (buffer : List ℕ) (locality : ℕ) (random : List ℕ) : Type 0 where
   pub c : Whole
   pub decoded : general r buffer ≡ Ok c
@@ -81,7 +81,7 @@ answered : (refused : Bool) (r : Record) (random : List ℕ) (a : Accepted) → 
 answered false r random a none = refl
 answered true r random a none = rw none refl
 
--- ---- on a device that follows a history
+-- ---- devices that follow a history
 
 module _ (objects : Public → Bool) (can : Bool) (old : Record) (history : History) (follows : Follows old history) where
   abbrev IsRecordedReading : PlainEvent → Stepped → Type 0
@@ -203,7 +203,7 @@ pub followed_data_stay_until_read : FollowedDataStayUntilRead
 followed_data_stay_until_read objects can old history follows executions new led none =
     all_stay objects can (ReadsSealed objects) (λ past c reads. reads) old history follows executions new led none
 
--- ---- since a device was manufactured
+-- ---- devices since their manufacture
 
 pub history_followed : (can : Bool) (random : List ℕ) (executions : List Execution) (old : Record) → Leads can (manufactured random) executions old → Follows old (history_after [] executions)
 history_followed can random executions old leads = (stretch_follows can (manufactured random) executions old [] leads (manufactured_follows random)).follows

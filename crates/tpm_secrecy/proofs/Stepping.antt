@@ -54,7 +54,8 @@ use Rattle.tpm_secrecy.proofs.Guessing.{doubted_authorization, doubted_is}
 use Rattle.tpm_secrecy.specs.Guesses.{BindingsHold, GuessesFail, NoneUses}
 use Rattle.tpm_secrecy.specs.Tells.{Attempts, EventKeepsSecrets, EventsAlike, KeepsSecrets, RunOfWrongGuessesTellsNothing, RunsAlike, TellsNothing, WrongGuessesTellNothing, answers_to, granted_reads}
 
--- if each text of a command is decoded in the same way, so are all of them
+-- if two functions read each handle of a command in the same way, they read all handles in the same
+-- way
 each_read_same : {X A E : Type 0} (f g : ℕ → X → List ℕ → Result (A × List ℕ) E) → ((n : ℕ) (x : X) (text : List ℕ) → f n x text ≡ g n x text) → (n : ℕ) (xs : List X) (text : List ℕ) → each_at f n xs text ≡ each_at g n xs text
 each_read_same f g same n [] text = refl
 each_read_same {A = A} {E = E} f g same n (x ∷ xs) text =
@@ -83,7 +84,7 @@ module _ (s : Secrecy) where
   pub general_same : (r t : Record) → DifferInSecrets s r t → (buffer : List ℕ) → general r buffer ≡ general t buffer
   general_same r t differ buffer = sym (general_bare r buffer) ∙ ap (λ (x : Record). general x buffer) differ ∙ general_bare t buffer
 
--- ---- an accepted command
+-- ---- accepted commands
 
 abbrev bare_accepted : Secrecy → Accepted → Accepted
 bare_accepted s a = record a { success = bare_success s a.success }
@@ -175,7 +176,7 @@ module _ (s : Secrecy) (covers : CoversKeys s) where
       ok_bind _ (authorize r c locality) _ (λ grants.
       ok_bind _ (row_of r c.code (request_in r c grants locality random)) _ (λ success. refl))
 
-  -- the command in a buffer reveals no secrets, if it is accepted
+  -- The command in a buffer reveals no secrets if it is accepted.
   abbrev KeepsIts : Record → (locality : ℕ) → (random : List ℕ) → Accepted → Type 0
   KeepsIts r locality random a = KeepsSecrets s r a.command locality random
 
@@ -244,9 +245,10 @@ module _ (s : Secrecy) (covers : CoversKeys s) where
       ∙ ap (λ (z : Result Accepted RefusedCommand). bare_step (answer_where refused (without_secrets s t) random z)) alike.is
       ∙ answered_bare refused t random y other
 
-  -- ---- the step
+  -- ---- steps
 
-  -- two objects that differ only in secrets, on two devices that differ only in secrets
+  -- placing two objects that differ only in secrets, on two devices that differ only in secrets,
+  -- leaves two devices that differ only in secrets
   placed_bare : (a b : Object) → bare_object s a ≡ bare_object s b → (r : Record) → without_secrets s (placed (without_secrets s r) a) ≡ without_secrets s (placed r b)
   placed_bare a b same r =
       with_objects s r _ _ (ap (λ (found : Option ℕ). places (bare_object s) (placed_at found a (places (bare_object s) r.objects))) (lowest_free_each (bare_object s) r.objects) ∙ by (lowest_free r.objects))
@@ -259,7 +261,7 @@ module _ (s : Secrecy) (covers : CoversKeys s) where
   placed_same one other a b differ same =
       sym (placed_bare a a refl one) ∙ ap (λ (x : Record). without_secrets s (placed x a)) differ ∙ placed_bare a b same other
 
-  -- one event on two devices
+  -- an event that keeps the secrets of two devices has the same outcome on both, except for secrets
   event_same : (refused : Bool) (one other : Record) (event : PlainEvent) → DifferInSecrets s one other → EventKeepsSecrets s one event → EventKeepsSecrets s other event → bare_step (step_where refused one event) ≡ bare_step (step_where refused other event)
   event_same refused one other (Given buffer locality elapsed random) differ keeps also =
       let differs : DifferInSecrets s (ticked one elapsed) (ticked other elapsed) = ap (λ (x : Record). ticked x elapsed) differ in
@@ -273,7 +275,8 @@ module _ (s : Secrecy) (covers : CoversKeys s) where
   event_same refused one other (Placed object) differ keeps also =
       ap (λ (after : Record). record (bare_step (step_where refused other Cycled)) { after = after }) (placed_same one other object object differ refl)
 
-  -- two events that are alike are one event, or place two objects
+  -- two events that are the same except for secrets are equal, or place two objects that differ
+  -- only in secrets
   pub same_event : (event also : PlainEvent) → EventsAlike s event also → (event ≡ also) ⊎ (a : Object) × (b : Object) × (event ≡ Placed a) × (also ≡ Placed b) × (bare_object s a ≡ bare_object s b)
   same_event (Given buffer locality elapsed random) (Given others from later bytes) alike = inl alike
   same_event (Given buffer locality elapsed random) Cycled alike = absurd cc
@@ -309,7 +312,7 @@ module _ (s : Secrecy) (covers : CoversKeys s) where
 pub wrong_guesses_tell_nothing : WrongGuessesTellNothing
 wrong_guesses_tell_nothing s covers one other refused event also differ alike keeps keeps_also = told_nothing s covers refused one other event also differ alike keeps keeps_also
 
--- one event that reveals nothing, followed by other events that reveal nothing
+-- A step: if one event and the events after it reveal nothing, all of them together reveal nothing.
 pub runs_on : (s : Secrecy) (one other : Record) (e f : Bool × PlainEvent) (es fs : Attempts) → TellsNothing s (step_where e.0 one e.1) (step_where f.0 other f.1) → RunsAlike s (step_where e.0 one e.1).after (step_where f.0 other f.1).after es fs → RunsAlike s one other (e ∷ es) (f ∷ fs)
 runs_on s one other e f es fs this rest =
     let x : Stepped = step_where e.0 one e.1 in

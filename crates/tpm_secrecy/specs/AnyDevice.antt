@@ -59,9 +59,9 @@ IsAcceptedReading objects r (Given buffer locality elapsed random) =
 IsAcceptedReading objects r Cycled = ⊥
 IsAcceptedReading objects r (Placed object) = ⊥
 
--- On any device, even one with an unknown history: an execution reveals nothing about sealed
--- data, unless it is an accepted command that reads it. The law does not state what the command's
--- policy session asserted.
+-- On any device, even one with an unknown history, an execution reveals nothing about sealed data,
+-- unless it is an accepted command that reads the data. What the command's policy session asserted
+-- is unspecified here.
 abbrev pub SealedDataNeedDigest : Type 0
 SealedDataNeedDigest =
     (objects : Public → Bool) (can : Bool) (old : Record) (event : PlainEvent) (x : Stepped)

@@ -1,6 +1,6 @@
--- Which entries of a command use a secret authorization value, and when all guesses of such
--- values fail. TPM 2.0 Library, Part 1, sections 19.4 (passwords), 19.6 (HMAC sessions, bound
--- sessions), 19.7 (policies) and 21 (session-based encryption).
+-- Entries that use a secret authorization value, and commands in which all guesses of such values
+-- fail. TPM 2.0 Library, Part 1, sections 19.4 (passwords), 19.6 (HMAC sessions, bound sessions),
+-- 19.7 (policies) and 21 (session-based encryption).
 use Rattle.std.specs.Option.{option_map_or}
 use Rattle.std.specs.Prelude.{Bool, Err, IfSome, List, None, Ok, Option, Result, Some, [], false, is_ok, option_map, slice_get, true, ℕ, ◌&&◌, ◌+◌, ◌||◌, ◌∷◌, ◌≡◌}
 use Rattle.tpm_auth.specs.Entries.{decrypts, encrypts, session_of}
@@ -26,7 +26,7 @@ use Rattle.tpm_policy.specs.declared.state.Demand.TheVariants as demand
 use Rattle.tpm_types.specs.declared.handle.SessionKind.TheVariants as kind
 use Rattle.tpm_types.specs.declared.session_type.SessionType.TheVariants as type
 
--- ---- what an entry uses
+-- ---- the secrets that an entry uses
 
 -- whether an entry authorizes an entity whose authorization value is secret
 abbrev pub authorizes_secret : Secrecy → Record → Option Grant → Bool
@@ -52,17 +52,17 @@ abbrev pub uses_encryption : Entry → Bool
 uses_encryption e = decrypts e || encrypts e
 
 -- Whether an entry of this session uses a secret. It does if the session's key is secret, because
--- of the entity to which the session was bound. It also does if the entry authorizes an entity
--- with a secret value, and this value is part of the entry's HMAC key, is demanded by its policy,
--- or is part of the key that encrypts a parameter. Encryption uses the value even if the policy
--- does not demand it, and without any comparison.
+-- of the entity to which the session was bound. It also does if the entry authorizes an entity with
+-- a secret value, and this value is part of the entry's HMAC key, is demanded by its policy, or is
+-- part of the key that encrypts a parameter. Encryption uses the value even if the policy does not
+-- demand it, and the value is not compared with anything.
 abbrev pub session_uses : Secrecy → Record → Session → Entry → Option Grant → Bool
 session_uses s r x e granted =
     has_secret_key s x.binding
     || authorizes_secret s r granted
     && (is_hmac_session x.kind || demands_value granted || uses_encryption e)
 
--- whether an entry with this grant uses a secret: a password uses the authorization value of the
+-- whether an entry with this grant uses a secret; a password uses the authorization value of the
 -- entity that it authorizes
 abbrev pub uses_by : SessionKind → Secrecy → Record → Entry → Option Grant → Bool
 uses_by kind.Password s r e granted = authorizes_secret s r granted
@@ -80,15 +80,14 @@ NoneUses s r (g ∷ granted) = (uses_secret s r g.0 g.1 ≡ false) × NoneUses s
 
 -- ---- guesses
 
--- whether the session of an entry uses a secret, if its grant is this handle with the policy's
--- demand; if the policy refuses the handle, nothing is compared
+-- whether the session of an entry uses a secret, if the entry's grant is this handle with the
+-- policy's demand; if the policy refuses the handle, nothing is compared
 abbrev pub demand_uses : Secrecy → Record → Handle → Session → Entry → Result Demand Refused → Bool
 demand_uses s r handle x e (Ok d) =
     session_uses s r x e (Some (record { handle = handle; demand = d }))
 demand_uses s r handle x e (Err refused) = false
 
--- whether entry n of a command, which names this session and has to authorize this handle or
--- none, is compared with a secret
+-- whether the session of entry n, which has to authorize this handle or none, uses a secret
 abbrev pub session_guesses : Secrecy → Record → Whole → (locality n : ℕ) → Option Handle → Entry
     → Session → Bool
 session_guesses s r c locality n None e x = session_uses s r x e None
@@ -103,9 +102,9 @@ guesses_by kind.Session s r c locality n used e =
     option_map_or (session_guesses s r c locality n used e) (session_of r e) false
 guesses_by kind.Other s r c locality n used e = false
 
--- whether the entry at a position of a command, counted from 0, is a guess: its password or its
--- HMAC is compared with something computed from a secret; or it encrypts or decrypts a parameter
--- with a key computed from a secret, and nothing is compared
+-- whether the entry at this position of a command, counted from 0, is a guess: its password or its
+-- HMAC is compared with a value computed from a secret; or it encrypts or decrypts a parameter with
+-- a key computed from a secret, and nothing is compared
 abbrev pub is_guess : Secrecy → Record → Whole → (locality place : ℕ) → Entry → Bool
 is_guess s r c locality place e =
     guesses_by (session_kind e.session) s r c locality (place + 1)
@@ -120,9 +119,9 @@ GuessesFail s r c locality =
     → is_ok (grant r c locality (place + 1) (slice_get (authorized c) place) e) ≡ false
 
 -- If an entity has the Name to which a session with a secret key is bound, it has the protection
--- that the bound entity had. This can fail only if two entities share a Name: an object or an
--- index with the same Name has the same noDA, and two entities named by equal handles are the
--- same entity.
+-- that the bound entity had. This can fail only if two entities have the same Name: an object or an
+-- index with the same Name has the same noDA, and two entities named by equal handles are the same
+-- entity.
 abbrev pub BindingHolds : Secrecy → Record → Session → Type 0
 BindingHolds s r x =
     IfSome x.binding (λ b.

@@ -53,7 +53,8 @@ pub record ReadsSealed (objects : Public → Bool) (history : History) (c : Acce
 
 -- An execution reveals nothing about sealed data: any device that differs only in this data can
 -- execute the event with the same response and row, and afterwards differs only in this data. If
--- the event places an object, so can any other object that differs only in this data.
+-- the event places an object, the other device can also place any object that differs only in this
+-- data.
 abbrev pub TellsNothingSealed : (Public → Bool) → Bool → Record → PlainEvent → Stepped → Type 0
 TellsNothingSealed objects can old event x =
     (other : Record) (also : PlainEvent) → DifferInSecrets (sealed objects) old other
@@ -93,8 +94,8 @@ NoneIs Holds history (one ∷ executions) =
     × NoneIs Holds (with_execution one history) executions
 
 -- From another device the same events lead, with the same responses and rows, to a device that
--- differs from this one only in sealed data. Objects that the events place there may differ only
--- in this data.
+-- differs from this one only in sealed data. Objects that the events place on the other device may
+-- differ in this data.
 abbrev pub LeadsAlike : (Public → Bool) → Bool → Record → List Execution → Record → Type 0
 LeadsAlike objects can other [] new = DifferInSecrets (sealed objects) new other
 LeadsAlike objects can other (one ∷ executions) new =
@@ -131,8 +132,8 @@ SealedDataStayUntilRead =
 
 -- ---- a disk's key
 
--- the policy of a disk's key. The PCRs must have these values, and the PIN, which is the key's
--- authorization value, must be presented; or else an entity, the recovery secret, must be
+-- the policy of a disk's key. Either the PCRs must have these values, and the PIN, which is the
+-- key's authorization value, must be presented; or an entity, the recovery secret, must be
 -- authorized
 abbrev pub disk_policy : HashAlg → List BankSelection → (values name reference : List ℕ)
     → PolicyExpression
@@ -140,9 +141,9 @@ disk_policy hash selection values name reference =
     PolicyOr (Branch (Then (by_pcrs hash selection values) PolicyAuthValue)
     (Branch (Then Nothing (PolicySecret name reference)) NoBranch))
 
--- An accepted TPM2_Unseal of the disk's key. A session proved that the PCRs had the values and
--- that the PIN, which is the key's authorization value, was presented; or that the recovery
--- secret was presented; or the hash is broken.
+-- The command is an accepted TPM2_Unseal of the disk's key. Its session proves that the PCRs had
+-- these values and that the PIN, which is the key's authorization value, was presented; or that the
+-- recovery secret was presented; or the hash is broken.
 pub record OpensDiskKey (public : Public) (selection : List BankSelection)
     (values name reference : List ℕ) (history : History) (c : AcceptedCommand) : Type 0
   where
@@ -153,8 +154,8 @@ pub record OpensDiskKey (public : Public) (selection : List BankSelection)
         (λ u. HavePcrValues history public.name_alg selection values × ShowsAuthValue u
         ⊎ ShowsSecret history u.entry.session name reference)
 
--- An object seals data and has no userWithAuth, and its authPolicy is the policy of a disk's key;
--- and `objects` contains only objects with its public area.
+-- The object seals data and has no userWithAuth, and its authPolicy is the policy of a disk's key.
+-- Only its public area is in `objects`.
 pub record IsDiskKey (public : Public) (objects : Public → Bool) (selection : List BankSelection)
     (values name reference : List ℕ) : Type 0
   where

@@ -19,9 +19,9 @@ use Rattle.tpm_row_secrecy.specs.Reads.{reads_secret}
 use Rattle.tpm_row_secrecy.specs.Secrecy.{CoversKeys, DifferInSecrets, Secrecy, bare_object, of_data}
 use Rattle.tpm_secrecy.specs.Guesses.{BindingsHold, GuessesFail}
 
--- ---- an event
+-- ---- single events
 
--- whether a command with these grants reads secret data; if its authorization is refused, it
+-- whether a command with these grants reads secret data; a command whose authorization is refused
 -- reads none
 abbrev pub granted_reads : Secrecy → Record → Whole → (locality : ℕ) → (random : List ℕ)
     → Result (List (Option Grant)) Refused → Bool
@@ -29,7 +29,7 @@ granted_reads s r c locality random (Ok grants) =
     reads_secret s r c.code (request_in r c grants locality random)
 granted_reads s r c locality random (Err e) = false
 
--- whether a command reads secret data, if it is authorized
+-- whether a command is authorized and reads secret data
 abbrev pub command_reads : Secrecy → Record → (locality : ℕ) → (random : List ℕ) → Whole → Bool
 command_reads s r locality random c =
     granted_reads s r c locality random (authorize r c locality)
@@ -54,7 +54,7 @@ bare_event s (Given buffer locality elapsed random) = Given buffer locality elap
 bare_event s Cycled = Cycled
 bare_event s (Placed object) = Placed (bare_object s object)
 
--- Two events are the same, but objects that they place may differ in secrets.
+-- Two events are the same, except that objects that they place may differ in secrets.
 abbrev pub EventsAlike : Secrecy → PlainEvent → PlainEvent → Type 0
 EventsAlike s event also = bare_event s event ≡ bare_event s also
 
@@ -84,13 +84,13 @@ ReadOnBoth =
     → let s : Secrecy = of_data indices objects in
     DifferInSecrets s one other → is_reading s one event ≡ is_reading s other event
 
--- ---- a list of events
+-- ---- lists of events
 
--- events in order, each with a flag that says whether an allocation fails
+-- events in order, each with a flag that says whether an allocation fails for it
 abbrev pub Attempts : Type 0
 Attempts = List (Bool × PlainEvent)
 
--- a device's answers to these events, together with the rows that it reports
+-- a device's responses to these events, and the rows that it reports
 abbrev pub answers_to : Record → Attempts → List (List ℕ × Row)
 answers_to r [] = []
 answers_to r (e ∷ es) =
@@ -108,8 +108,8 @@ NoneReads s r [] = Unit {0}
 NoneReads s r (e ∷ es) =
     (is_reading s r e.1 ≡ false) × NoneReads s (step_where e.0 r e.1).after es
 
--- These events are the same, with the same failed allocations, but objects that they place may
--- differ in secrets.
+-- Two lists contain the same events, with the same failed allocations, except that placed objects
+-- may differ in secrets.
 abbrev pub AttemptsAlike : Secrecy → Attempts → Attempts → Type 0
 AttemptsAlike s [] [] = Unit {0}
 AttemptsAlike s (e ∷ es) (f ∷ fs) =
@@ -117,14 +117,14 @@ AttemptsAlike s (e ∷ es) (f ∷ fs) =
 AttemptsAlike s [] (f ∷ fs) = ⊥
 AttemptsAlike s (e ∷ es) [] = ⊥
 
--- Two devices return the same answers and rows, one for these events and the other for the others,
--- and afterwards differ only in secrets.
+-- Two devices return the same responses and report the same rows, the first for `events` and the
+-- second for `others`, and afterwards differ only in secrets.
 pub record RunsAlike (s : Secrecy) (one other : Record) (events others : Attempts) : Type 0 where
   pub answers : answers_to one events ≡ answers_to other others
   pub after : DifferInSecrets s (after_all one events) (after_all other others)
 
--- Two devices that differ only in secret data return the same answers and rows for all events
--- before the first one that reads the data.
+-- Two devices that differ only in secret data return the same responses and report the same rows
+-- for all events before the first one that reads the data.
 abbrev pub RunTellsNothing : Type 0
 RunTellsNothing =
     (indices : ℕ → Bool) (objects : Public → Bool) (one other : Record) (events others : Attempts)
@@ -134,7 +134,8 @@ RunTellsNothing =
 
 -- ---- wrong guesses
 
--- In a command that passed the general checks, all guesses fail, and it reads no secret data.
+-- In a command that passed the general checks, all guesses fail, and the command reads no secret
+-- data.
 pub record KeepsSecrets (s : Secrecy) (r : Record) (c : Whole) (locality : ℕ) (random : List ℕ)
     : Type 0
   where
@@ -149,10 +150,10 @@ EventKeepsSecrets s r (Given buffer locality elapsed random) =
 EventKeepsSecrets s r Cycled = Unit {0}
 EventKeepsSecrets s r (Placed object) = Unit {0}
 
--- If two devices differ only in secrets, an event reveals nothing about them if, on both, all
--- guesses of an authorization value fail and no secret data is read. Both devices are mentioned
--- because a guess that is wrong on one may be right on the other. Objects that the two place may
--- differ in secrets.
+-- Suppose that two devices differ only in secrets. An event reveals nothing about these if all
+-- guesses of an authorization value fail on both devices, and neither reads secret data. The
+-- condition names both devices because a guess that is wrong on one may be right on the other.
+-- Objects that the two devices place may differ in secrets.
 abbrev pub WrongGuessesTellNothing : Type 0
 WrongGuessesTellNothing =
     (s : Secrecy) → CoversKeys s → (one other : Record) (refused : Bool) (event also : PlainEvent)
@@ -167,15 +168,15 @@ AllKeepSecrets s r [] = Unit {0}
 AllKeepSecrets s r (e ∷ es) =
     EventKeepsSecrets s r e.1 × AllKeepSecrets s (step_where e.0 r e.1).after es
 
--- Two devices that differ only in secrets return the same answers and rows for all events, as
--- long as every guess fails on both and no event reads secret data.
+-- Two devices that differ only in secrets return the same responses and report the same rows for
+-- all events, as long as every guess fails on both devices and no event reads secret data.
 abbrev pub RunOfWrongGuessesTellsNothing : Type 0
 RunOfWrongGuessesTellsNothing =
     (s : Secrecy) → CoversKeys s → (one other : Record) (events others : Attempts)
     → DifferInSecrets s one other → AttemptsAlike s events others → AllKeepSecrets s one events
     → AllKeepSecrets s other others → RunsAlike s one other events others
 
--- ---- guesses, and failed tries
+-- ---- guesses and failed tries
 
 -- the executions of these events on a device
 abbrev pub executions_of : Record → Attempts → List Execution
@@ -184,10 +185,10 @@ executions_of r (e ∷ es) =
     let x : Stepped = step_where e.0 r e.1 in
     record { before = r; event = e.1; seen = x } ∷ executions_of x.after es
 
--- Two devices that differ only in secrets, such as a PIN, return the same for events as long as
+-- Two devices that differ only in secrets, such as a PIN, return the same responses as long as
 -- every guess fails on both. In events that are executed without a reset, at most maxTries tries
--- fail, plus one for each recoveryTime that passes. Guesses that are not tries, such as an entry
--- that encrypts, are not limited.
+-- fail, plus one for each recoveryTime that passes. The number of guesses that are not tries, such
+-- as an entry that encrypts, is not limited.
 abbrev pub WrongTriesAreFew : Type 0
 WrongTriesAreFew =
     (s : Secrecy) → CoversKeys s → (one other : Record) (events others : Attempts)

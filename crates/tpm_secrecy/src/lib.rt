@@ -19,8 +19,8 @@ ghost use Rattle.tpm_secrecy.specs.Tells.{WrongGuessesTellNothing};
 
 /// Suppose that two devices differ only in secret data. An event that does not read this data on
 /// one device reveals nothing about it: both devices return and report the same, and afterwards
-/// differ only in this data. The same holds for a list of events up to the first one that reads
-/// it. An event reads the data on both devices, or on neither. A failed allocation makes no
+/// differ only in this data. The same holds for a list of events up to the first one that reads the
+/// data. An event reads the data on both devices, or on neither. A failed allocation makes no
 /// difference.
 #[inline(always)]
 pub fn secrecy_laws()
@@ -42,9 +42,9 @@ pub fn sealed_data_laws()
     ensures disk_key { DiskKeyStaysSecret }
 {}
 
-/// The same laws for every device that follows a history: a manufactured device; one that is
-/// opened from an image, a state text or a journal of a device with a history; and one that is
-/// served over connections. The policy was met in that history.
+/// The laws of `sealed_data_laws` hold for every device that follows a history: a manufactured
+/// device; one that is opened from an image, a state text or a journal of a device with a history;
+/// and one that is served over connections. The policy was met in that history.
 #[inline(always)]
 pub fn followed_data_laws()
     ensures each { FollowedDataNeedPolicy }
@@ -52,7 +52,7 @@ pub fn followed_data_laws()
     ensures disk_key { FollowedDiskKeyStaysSecret }
 {}
 
-/// On any device, even one opened from an image with an unknown history: an execution reveals
+/// On any device, even one opened from an image with an unknown history, an execution reveals
 /// nothing about the sealed data or the keys of objects, unless it is an accepted TPM2_Unseal or
 /// TPM2_HMAC with such an object. An object without userWithAuth was then used through a policy
 /// session whose policyDigest is the object's authPolicy.
@@ -61,11 +61,11 @@ pub fn any_device_laws()
     ensures { SealedDataNeedDigest }
 {}
 
-/// Suppose that two devices differ only in authorization values and other secrets. An event
-/// reveals nothing about them if it reads no secret data and if, on both devices, every guess of
-/// such a value fails. The same holds for a list of events. In such a list at most maxTries tries
-/// fail, plus one for each recoveryTime that passes. An entry that encrypts with such a value
-/// counts as a guess, although nothing is compared; guesses that are not tries are not limited.
+/// Suppose that two devices differ only in authorization values and other secrets. An event reveals
+/// nothing about them if it reads no secret data and if, on both devices, every guess of such a
+/// value fails. The same holds for a list of events. In such a list at most maxTries tries fail,
+/// plus one for each recoveryTime that passes. An entry that encrypts with such a value counts as a
+/// guess, although nothing is compared. The number of guesses that are not tries is not limited.
 #[inline(always)]
 pub fn guess_laws()
     ensures event { WrongGuessesTellNothing }

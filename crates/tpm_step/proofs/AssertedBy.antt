@@ -45,7 +45,7 @@ first_authorized history c session either names asks grounds =
 
 -- ---- after one more event
 
--- An accepted command made this assertion, and each of its uses has a ground.
+-- An accepted command made this assertion, and each use of a handle by this command has a ground.
 pub record HasOrigin (history : History) (handle : Handle) (one : Assertion) : Type 0 where
   pub asserted : IsAssertedBy history handle one
   pub grounds : UsesHaveGrounds asserted.before asserted.command
@@ -70,7 +70,8 @@ later_origin event history handle one stands origin =
       asks = origin.asks;
     }
 
--- Accepted commands made all assertions of this session, and each of their uses has a ground.
+-- Accepted commands made all assertions of this session, and each use of a handle by these commands
+-- has a ground.
 abbrev pub HaveOrigins : History → Handle → LiveSession → Type 0
 HaveOrigins history handle s = (one : Assertion) → IsAmong one s.assertions → HasOrigin history handle one
 
