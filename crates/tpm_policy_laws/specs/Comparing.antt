@@ -1,4 +1,4 @@
--- What TPM2_PolicyNV compared. TPM 2.0 Library, Part 3, section 23.9.
+-- The comparison of an accepted TPM2_PolicyNV. TPM 2.0 Library, Part 3, section 23.9.
 use Rattle.std.specs.Prelude.{◌≡◌, ◌⊎◌, ℕ, true, List, Ok}
 use Rattle.tpm_commands.specs.declared.command_code.CommandCode.TheVariants as command
 use Rattle.tpm_policy.specs.Comparison.{compares}
@@ -13,9 +13,8 @@ use Rattle.tpm_types.specs.declared.handle.Handle.{Handle}
 use Rattle.tpm_actions_policy.specs.Assertions.{assertion_row, policy_session}
 use Rattle.tpm_actions_policy.specs.PolicyNv.{Parameters, compared, nv_parameters}
 
--- A request compares an index with its operand on a session. The index contains the compared
--- data, from the offset on, and the comparison of this data with the operand holds; or the
--- session is a trial session.
+-- The comparison of this TPM2_PolicyNV holds: its session is a trial session; or the index contains
+-- data from the offset on, and the comparison of this data with the operand holds.
 pub record Compares (r : Record) (q : Request) : Type 0 where
   pub handle : Handle
   pub third : third_handle q.handles ≡ Ok handle
@@ -29,7 +28,7 @@ pub record Compares (r : Record) (q : Request) : Type 0 where
       ⊎ ((bytes : List ℕ) × (compared r target parameters ≡ Ok bytes)
       × (compares parameters.operation bytes parameters.operand ≡ true))
 
--- TPM2_PolicyNV is accepted only if the request satisfies Compares.
+-- If TPM2_PolicyNV is accepted, its comparison holds.
 abbrev pub ComparisonHolds : Type 0
 ComparisonHolds = (r : Record) (q : Request) (s : Success)
     → assertion_row command.PolicyNv r q ≡ Ok s → Compares r q

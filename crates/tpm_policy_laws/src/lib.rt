@@ -1,14 +1,14 @@
 #![tactic(auto)]
 
-//! Laws of the policy commands: what an accepted comparison of an index implies about its data.
+//! Laws of the policy commands: what an accepted TPM2_PolicyNV implies about the data of its index.
 //!
-//! These are laws of tpm_actions_policy's definitions; each is the contract of a function that
-//! has no effect at run time. No crate depends on this one.
+//! These are laws of tpm_actions_policy's definitions; each is the contract of a function that has
+//! no effect at run time. No crate depends on this one.
 
 ghost use Rattle.tpm_policy_laws.specs.Comparing.{ComparisonHolds};
 
-/// If TPM2_PolicyNV is accepted on a policy session, its comparison holds between the index's
-/// data at that time and the operand. A trial session compares nothing.
+/// If TPM2_PolicyNV is accepted on a policy session, its comparison holds between the index's data
+/// at that time and the operand. On a trial session nothing is compared.
 #[inline(always)]
 #[tactic(auto, using(crate::proofs::Comparing::comparison_holds))]
 pub fn comparison_laws()

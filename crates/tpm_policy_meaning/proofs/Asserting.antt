@@ -1,5 +1,5 @@
--- If an assertion of a policy and one of a session have the same encoding, the session made the
--- assertion that the policy requires.
+-- If an assertion of a policy and an assertion of a session have the same encoding, the session
+-- asserted what the policy requires.
 use Rattle.std.proofs.Common.{◌≡◌, ◌⊎◌, ◌<◌, ◌^◌, ℕ, Bool, true, false, List, [], ◌∷◌, ◌++◌, take, drop, ◌==◌, Some, refl, ap, sym, ◌∙◌, inl}
 use Rattle.std.proofs.lemmas.Bool.{false≢true}
 use Rattle.std.proofs.lemmas.Nat.{from_be_bytes-to_be_bytes_2, from_be_bytes-to_be_bytes_4}
@@ -75,8 +75,8 @@ module _ (hash : HashAlg) (Broken : Type 0) (One Other : List ℕ → Type 0) (b
       by : name ≡ parts.name → ArgumentsAre parts operand offset operation → Says (assertion.Nv parts) (PolicyNv name operand offset operation) ⊎ Broken
       by named are = inl (sym named, are.0, are.1, are.2)
 
-  -- If an assertion of a policy and one of a session have the same encodings and policyRefs, they
-  -- assert the same.
+  -- If an assertion of a policy and an assertion of a session have the same encoding and policyRef,
+  -- they assert the same.
   text_asserts : (written : PolicyAssertion) (one : Assertion) → IsPolicyAssertion hash written → HasWidths hash one → ((t : List ℕ) → IsAmong t (update_of hash written).apart → One t) → ((t : List ℕ) → IsAmong t (update_by hash one).apart → Other t) → update_text (update_of hash written) ≡ update_text (update_by hash one) → (update_of hash written).reference ≡ (update_by hash one).reference → Says one written ⊎ Broken
   text_asserts (PolicyPcr selection digest) (assertion.Pcr parts) fits widths ours theirs is refs =
       let halves = same_backs (selection_text selection) digest parts.selection parts.digest (fits ∙ sym widths) (ap (drop 4) is) in
@@ -105,8 +105,7 @@ module _ (hash : HashAlg) (Broken : Type 0) (One Other : List ℕ → Type 0) (b
 
 -- ---- TPM2_PolicyOR
 
--- An assertion with the text of a TPM2_PolicyOR is itself a TPM2_PolicyOR, with the same
--- concatenation of digests.
+-- The assertion is a TPM2_PolicyOR with the same concatenation of digests as this list.
 abbrev pub IsOrOf : (digests : List (List ℕ)) → Assertion → Type 0
 IsOrOf digests one =
     (given : List (List ℕ)) × (one ≡ assertion.Or given)

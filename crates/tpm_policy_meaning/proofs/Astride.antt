@@ -1,5 +1,5 @@
--- If a digest occurs in the concatenation of digests of its size, it is one of them, or lies
--- across two of them.
+-- If a digest occurs in the concatenation of digests of its size, it is one of them, or spans two
+-- neighbours.
 use Rattle.std.proofs.Common.{◌≡◌, ◌≢◌, ◌⊎◌, ℕ, arith, List, [], ◌∷◌, ◌++◌, append_assoc, length, length-append, refl, ap, sym, ◌∙◌, inl, inr}
 use Rattle.std.proofs.lemmas.List.{append-nil}
 use Rattle.std.specs.List.{flat_map}
@@ -19,7 +19,8 @@ same_first x y xs ys is = (cc, cc)
 has_first : (x : ℕ) (xs : List ℕ) → x ∷ xs ≡ [] → ⊥
 has_first x xs is = absurd cc
 
--- If one text is split twice, the longer front continues the shorter one.
+-- The front is the short text and more, and the rest is this remainder and the back. So both pairs
+-- are the same text, split at two offsets.
 abbrev GoesOn : (front back short rest : List ℕ) → Type 0
 GoesOn front back short rest = (more : List ℕ) × (front ≡ short ++ more) × (more ++ back ≡ rest)
 
@@ -34,7 +35,7 @@ two_ways (x ∷ a) b (y ∷ c) d is =
     let halves = same_first x y (a ++ b) (c ++ d) is in
     one_more x y a b c d halves.0 (two_ways a b c d halves.1)
 
--- If a text occurs within another of the same size, the two are equal.
+-- If a text occurs within another text of the same size, the two are equal.
 is_whole : (whole front text rest : List ℕ) → whole ≡ front ++ (text ++ rest) → length whole ≡ length text → text ≡ whole
 is_whole whole [] text [] is size = sym (is ∙ append-nil text)
 is_whole whole [] text (x ∷ rest) is size = absurd (omega (arith, ap length is, length-append text (x ∷ rest), size))
@@ -56,7 +57,7 @@ behind_first text first digests none astride = record {
 }
 
 -- If a text is not in a list of digests of its size, starts within the first digest and ends after
--- it, then it lies across two digests of the list.
+-- it, then it spans two neighbours of the list.
 next_begins : (text first front : List ℕ) (x y : ℕ) (end beginning : List ℕ) (digests : List (List ℕ)) (back : List ℕ) → (IsAmong text (first ∷ digests) → ⊥) → HaveSize (length text) digests → first ≡ front ++ x ∷ end → text ≡ (x ∷ end) ++ y ∷ beginning → joined digests ≡ (y ∷ beginning) ++ back → IsAstride text (first ∷ digests)
 next_begins text first front x y end beginning [] back none sizes is spelled stands = absurd (has_first y (beginning ++ back) (sym stands))
 next_begins text first front x y end beginning (next ∷ digests) back none sizes is spelled stands = by (two_ways next (joined digests) (y ∷ beginning) back stands)

@@ -13,7 +13,8 @@ use Rattle.tpm_policy_meaning.specs.PolicyDigest.{digest_after, with_reference, 
 
 -- ---- lists of texts
 
--- If two equal texts are split at the same offset, their parts are equal.
+-- If two equal texts are split at the same offset, their first parts are equal, and their second
+-- parts too.
 pub same_fronts : (a b c d : List ℕ) → length a ≡ length c → a ++ b ≡ c ++ d → (a ≡ c) × (b ≡ d)
 same_fronts a b c d size is = (
   sym (take_at a b (length a) refl) ∙ ap (take (length a)) is ∙ take_at c d (length a) (sym size),
@@ -80,7 +81,7 @@ length-chain hash [] = length-replicate (digest_size hash) 0
 length-chain hash (step ∷ earlier) = length-hash_of hash _
 
 -- The hash is broken if a text of one kind and a different text of the other kind have the same
--- hash.
+-- hash, or if the hash of a text is all zeros.
 pub record Breaking (hash : HashAlg) (Broken : Type 0) (One Other : List ℕ → Type 0) : Type 0 where
   pub collision : (t u : List ℕ) → One t → Other u → t ≢ u → hash_of hash t ≡ hash_of hash u → Broken
   pub of_zeros : (t : List ℕ) → One t ⊎ Other t → hash_of hash t ≡ zeros hash → Broken
@@ -110,7 +111,7 @@ module _ (hash : HashAlg) (Broken : Type 0) (One Other : List ℕ → Type 0) (b
 
 -- ---- steps of assertions
 
--- an assertion as the digest covers it: its policyRef, if it has one, and its encoding
+-- an assertion as it contributes to the digest: its policyRef, if it has one, and its encoding
 abbrev pub Said : Type 0
 Said = Option (List ℕ) × List ℕ
 
@@ -133,7 +134,7 @@ abbrev pub AllFit : List Said → Type 0
 AllFit [] = Unit {0}
 AllFit (said ∷ earlier) = Fits said × AllFit earlier
 
--- whether a policyRef must follow these steps; none must follow if the assertions are complete
+-- whether a policyRef must follow these steps; after complete assertions none must follow
 abbrev awaits : List (List ℕ) → Bool
 awaits [] = false
 awaits (step ∷ earlier) = cond (awaits earlier) false (is_secret step)
@@ -171,7 +172,7 @@ aligned (x ∷ xs) (y ∷ ys) fx fy is =
     ∙ ap (λ (t : List ℕ). (y.0, t) ∷ xs) latest.1
     ∙ ap (λ (said : List Said). y ∷ said) (aligned xs ys fx.1 fy.1 latest.2)
 
--- ---- the texts of an assertion are those of its steps
+-- ---- the texts of an assertion are the texts of its steps
 
 module _ (hash : HashAlg) where
   pub digest_of_steps : (r : Option (List ℕ)) (t digest : List ℕ) (steps apart more : List (List ℕ)) → digest ≡ chain hash steps → digest_after hash (with_reference hash r (digest ++ t) ++ apart ++ more) ≡ chain hash (steps_of r t ++ steps)

@@ -15,7 +15,7 @@ use Rattle.tpm_policy_meaning.proofs.Astride.{HaveSize, joined, stands_astride}
 use Rattle.tpm_policy_meaning.proofs.Chains.{Breaking, Said, aligned, all_steps, among_back, among_front, is_among_or_not, length-chain, same_chain, unless_broken}
 use Rattle.tpm_policy_meaning.proofs.Spelled.{policy_chain, policy_chain_texts, policy_fits, policy_said, said_before, said_of, session_chain, session_chain_texts, session_fits, session_said}
 
--- A digest in a list occurs in the concatenation of that list.
+-- The digest occurs in the concatenation of digests.
 abbrev StandsIn : (digest whole : List ℕ) → Type 0
 StandsIn digest whole = (front : List ℕ) × (back : List ℕ) × (whole ≡ front ++ digest ++ back)
 
@@ -40,7 +40,7 @@ none_said : (x : Said) (xs : List Said) → x ∷ xs ≡ [] → ⊥
 none_said x xs is = absurd cc
 
 -- If a session's assertion asserts the same as one of a written policy, it is not a TPM2_PolicyOR,
--- and discards no earlier assertion.
+-- and so it discards no earlier assertion.
 earlier_said : (one : Assertion) (written : PolicyAssertion) (said : List Said) → Says one written → said_before one said ≡ said
 earlier_said (assertion.Or digests) written said asserts = absurd asserts
 earlier_said _ written said asserts = refl
@@ -62,7 +62,7 @@ module _ (hash : HashAlg) (whole : PolicyExpression) (all : List Assertion) wher
   breaking : Breaking hash Broken One Other
   breaking = record { collision = Collision; of_zeros = HashOfZeros }
 
-  -- ---- parts of the policy, and what the session had asserted at some time
+  -- ---- parts of the policy, and the assertions of the session at an earlier time
 
   record Within (policy : PolicyExpression) : Type 0 where
     pub written : IsPolicyExpression hash policy

@@ -1,5 +1,5 @@
--- Laws of accepted assertions: the list of a TPM2_PolicyOR contains the digest, and the demand
--- follows from the assertions.
+-- The list of an accepted TPM2_PolicyOR contains the session's digest, and the demand of a session
+-- follows from its assertions.
 use Rattle.std.proofs.Common.{◌≡◌, ◌⊎◌, ℕ, Bool, true, false, not, List, [], ◌∷◌, Ok, refl, sym, subst, inl, inr}
 use Rattle.std.proofs.lemmas.Bool.{false≢true}
 use Rattle.std.proofs.lemmas.Slice.Eq.{bytes_eq-Decides}
@@ -40,7 +40,7 @@ accepted_find hash (assertion.Or digests) earlier made is =
     (passes (parameter_fault action.First 1 code.Value) (record policy { digest = or_digest hash digests }) made (list_any (λ (one : List ℕ). bytes_eq one policy.digest) digests) is)
 accepted_find hash _ earlier made is = tt
 
--- ---- what a session demands
+-- ---- the demand of a session
 
 abbrev Demanded : HashAlg → Bool → List Assertion → Type 0
 Demanded hash trial assertions =

@@ -1,5 +1,5 @@
--- A policy and a session, each as a list of what its assertions assert: the digests and the hashed
--- texts are those of the steps.
+-- The digests and the hashed texts of a policy, and of a session, are those of the chain of their
+-- assertions' steps.
 use Rattle.std.proofs.Common.{◌≡◌, ℕ, List, [], ◌∷◌, ◌++◌, append_assoc, Option, Some, None, refl, ap, ◌∙◌, inl, inr}
 use Rattle.std.specs.Int.{w32, to_be_bytes}
 use Rattle.std.specs.List.{flat_map}
@@ -53,7 +53,7 @@ policy_chain_texts hash (PolicyOr branches) text (inr among) = absurd among
 
 -- ---- the steps of a session
 
--- the assertions before an assertion; TPM2_PolicyOR discards everything before it
+-- the earlier assertions that still count after this assertion; TPM2_PolicyOR discards all of them
 abbrev pub said_before : Assertion → List Said → List Said
 said_before (assertion.Or digests) said = []
 said_before _ said = said
@@ -76,7 +76,7 @@ session_fits hash [] = tt
 session_fits hash (latest ∷ earlier) =
     (asserted_fits hash latest, before_fits latest (session_said hash earlier) (session_fits hash earlier))
 
--- The digest after an assertion is the digest of its hashed texts.
+-- The digest after an assertion is the digest of the texts that are hashed for it.
 module _ (hash : HashAlg) where
   grouped : (digest : List ℕ) (code : CommandCode) (about : List ℕ) → hash_of hash (digest ++ to_be_bytes w32 (code_number code) ++ about) ≡ hash_of hash (digest ++ (to_be_bytes w32 (code_number code) ++ about))
   grouped digest code about = ap (hash_of hash) (append_assoc digest (to_be_bytes w32 (code_number code)) about)

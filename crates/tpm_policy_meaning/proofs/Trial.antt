@@ -18,7 +18,7 @@ use Rattle.tpm_policy_meaning.specs.Expression.{Nothing, Then, PolicyOr}
 use Rattle.tpm_policy_meaning.specs.PolicyDigest.{branch_digests, nv_arguments_text}
 use Rattle.tpm_policy_meaning.specs.Trial.{TrialComputes, assertions_of}
 
--- A digest as long as the hash is not empty, and therefore counts as present.
+-- A digest with the size of the hash is not empty, and therefore counts as given.
 sized_given : (hash : HashAlg) (digest : List ℕ) → length digest ≡ digest_size hash → is_given digest ≡ true
 sized_given alg.Sha1 digest size = rw size refl
 sized_given alg.Sha256 digest size = rw size refl
@@ -28,7 +28,7 @@ given_taken true digest other is = refl
 given_taken false digest other is = absurd cc
 
 module _ (hash : HashAlg) where
-  -- The digest after an assertion is the hash of the digest before, the command code and the
+  -- The digest after an assertion is the hash of the digest before it, the command code and the
   -- assertion's data.
   extends : (digest made : List ℕ) (code : CommandCode) (about : List ℕ) → digest ≡ made → hash_of hash (digest ++ to_be_bytes w32 (code_number code) ++ about) ≡ hash_of hash (made ++ (to_be_bytes w32 (code_number code) ++ about))
   extends digest made code about is =

@@ -20,7 +20,7 @@ use Rattle.tpm_policy_meaning.specs.PolicyDigest.{or_update}
 use Rattle.tpm_policy_meaning.specs.PolicyDigest.{secret_update, nv_update, nv_arguments_text}
 use Rattle.tpm_policy_meaning.specs.PolicyDigest.{texts_after, zeros}
 
--- x is a member of this list.
+-- x is an element of this list.
 abbrev pub IsAmong : {X : Type 0} → X → List X → Type 0
 IsAmong x [] = ⊥
 IsAmong x (y ∷ ys) = (x ≡ y) ⊎ IsAmong x ys
@@ -38,9 +38,9 @@ session_digest hash assertions = (evaluated hash false assertions).digest
 -- ---- assertions of a session and of a written policy
 
 -- An assertion of a session asserts the same as one of a written policy. TPM2_PolicyAuthValue and
--- TPM2_PolicyPassword extend the digest in the same way, so each counts as the other. The
--- session's demand decides how a use must prove the authorization value; either way the use must
--- prove it (`DemandsValue`).
+-- TPM2_PolicyPassword extend the digest in the same way, so each counts as the other. The session's
+-- demand decides how a use must prove the authorization value; the use must always prove it
+-- (`DemandsValue`).
 abbrev pub Says : Assertion → PolicyAssertion → Type 0
 Says (assertion.Pcr parts) (PolicyPcr selection digest) =
     (parts.selection ≡ selection_text selection) × (parts.digest ≡ digest)
@@ -64,7 +64,7 @@ abbrev pub IsAsserted : List Assertion → PolicyAssertion → Type 0
 IsAsserted assertions written =
     (one : Assertion) × IsAmong one assertions × Says one written
 
--- ---- facts about assertions that a session accepted
+-- ---- properties of assertions that a session accepted
 
 -- The values of an assertion have the right sizes: a PCR digest is as long as a digest of the
 -- session's hash, a command code fits in 32 bits, and an offset in 16.
@@ -87,7 +87,7 @@ AreAccepted hash [] = Unit {0}
 AreAccepted hash (latest ∷ earlier) =
     HasWidths hash latest × FindsDigest hash latest earlier × AreAccepted hash earlier
 
--- ---- what a session hashes
+-- ---- the texts that a session hashes
 
 -- the contribution of an assertion to the digest
 abbrev pub update_by : HashAlg → Assertion → PolicyUpdate
@@ -112,8 +112,7 @@ abbrev pub digest_before : HashAlg → Assertion → (earlier : List Assertion) 
 digest_before hash (assertion.Or digests) earlier = zeros hash
 digest_before hash _ earlier = session_digest hash earlier
 
--- the texts that a session hashed, the latest first; and the session's digests, also the latest
--- first
+-- the texts that a session hashed, and the session's digests, both with the latest first
 abbrev pub session_texts : HashAlg → List Assertion → List (List ℕ)
 session_texts hash [] = []
 session_texts hash (latest ∷ earlier) =

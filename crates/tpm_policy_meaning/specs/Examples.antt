@@ -1,8 +1,8 @@
 -- Examples of policies with their digests. TPM 2.0 Library, Part 1, section 19.7. The TCG EK
--- Credential Profile for TPM Family 2.0 prints the digest of TPM2_PolicySecret with the
--- endorsement hierarchy, as the authPolicy of its templates (PolicyA_SHA256). Many programs use
--- the digest of TPM2_PolicyAuthValue on its own. Python's hashlib also computes all of these
--- digests from the hashed bytes.
+-- Credential Profile for TPM Family 2.0 prints the digest of TPM2_PolicySecret with the endorsement
+-- hierarchy, as the authPolicy of its templates (PolicyA_SHA256). Many programs use the digest of
+-- TPM2_PolicyAuthValue on its own. Python's hashlib computes the same digests from the hashed
+-- bytes.
 use Rattle.std.specs.Prelude.{◌≡◌, ℕ, List, [], ◌∷◌}
 use Rattle.tpm_mac.specs.declared.algorithm.HashAlg.TheVariants as alg
 use Rattle.tpm_types.specs.declared.operation.Operation.TheVariants as operation
@@ -96,7 +96,7 @@ by_count_digest =
     ∷ 0xc8 ∷ 0xa4 ∷ 0x19 ∷ 0x7b ∷ 0x79 ∷ 0xc1 ∷ 0x64 ∷ 0x9e
     ∷ 0x75 ∷ 0x73 ∷ 0x9e ∷ 0xe2 ∷ 0x8c ∷ 0x3d ∷ 0x12 ∷ 0x15 ∷ []
 
--- These policies have these digests.
+-- Each of these policies has the digest given for it.
 pub record ComputesDigests : Type 0 where
   pub by_value : policy_digest alg.Sha256 by_value ≡ by_value_digest
   pub by_endorsement : policy_digest alg.Sha256 by_endorsement ≡ by_endorsement_digest

@@ -1,7 +1,7 @@
 -- The meaning of a policy session's digest. TPM 2.0 Library, Part 1, section 19.7. If a session's
 -- digest is that of a policy, the session made the assertions that the policy requires, taking one
--- branch at each TPM2_PolicyOR. Otherwise, texts that can be computed from the policy and the
--- session break the hash.
+-- branch at each TPM2_PolicyOR. Otherwise, the policy and the session determine texts that break
+-- the hash.
 use Rattle.std.specs.Prelude.{◌≡◌, ◌≢◌, ◌⊎◌, ◌<◌, ◌^◌, ℕ, List, [], ◌∷◌, ◌++◌, length}
 use Rattle.tpm_mac.specs.Digest.{digest_size, hash_of}
 use Rattle.tpm_mac.specs.declared.algorithm.HashAlg.{HashAlg}
@@ -60,8 +60,8 @@ abbrev mutual
   lists_within hash (Branch policy branches) =
       branch_lists hash policy ++ lists_within hash branches
 
--- A text is not in this list, but lies across two neighbours: it consists of the end of one and
--- the start of the next.
+-- A text is not in this list, but spans two neighbours in it: the text consists of the end of one
+-- and the start of the next.
 pub record IsAstride (text : List ℕ) (texts : List (List ℕ)) : Type 0 where
   pub before : List (List ℕ)
   pub front : List ℕ
@@ -75,13 +75,12 @@ pub record IsAstride (text : List ℕ) (texts : List (List ℕ)) : Type 0 where
   pub has_beginning : beginning ≢ []
   pub is_none : IsAmong text texts → ⊥
 
--- The hash is broken, by texts that a policy and a session's assertions determine.
--- Collision: two different texts have the same hash; one was hashed for the policy, the other by
--- the session.
--- HashOfZeros: the hash of a text is all zeros, the initial digest of a session.
--- AstrideBranches: a digest of the session lies across the digests of two neighbouring branches
--- of a TPM2_PolicyOR in the policy. TPM2_PolicyOR hashes the concatenation of its digests without
--- their sizes, so a session may pass the same bytes split at other offsets.
+-- The hash is broken, by texts that a policy and a session's assertions determine. Collision: two
+-- different texts have the same hash; one was hashed for the policy, the other by the session.
+-- HashOfZeros: the hash of a text is all zeros, the initial digest of a session. AstrideBranches: a
+-- digest of the session spans the digests of two neighbouring branches of a TPM2_PolicyOR in the
+-- policy. TPM2_PolicyOR hashes the concatenation of its digests without their sizes, so a session
+-- may pass the same bytes split at other offsets.
 pub data BreaksHash (hash : HashAlg) (policy : PolicyExpression) (assertions : List Assertion)
     : Type 0
   where

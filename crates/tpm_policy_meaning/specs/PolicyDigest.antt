@@ -1,6 +1,6 @@
--- The digest of a policy, as used in an authPolicy. TPM 2.0 Library, Part 3, section 23.2.3
+-- The digest of a policy, as it is used for an authPolicy. TPM 2.0 Library, Part 3, section 23.2.3
 -- (policy digest update function), and the section of each assertion. The digest is the end of a
--- chain of texts, each of which starts with the hash of the one before.
+-- chain of texts, each of which starts with the hash of the text before it.
 use Rattle.std.specs.Prelude.{ℕ, List, [], ◌∷◌, ◌++◌, replicate, Option, Some, None}
 use Rattle.std.specs.Int.{w16, w32, to_be_bytes}
 use Rattle.std.specs.List.{flat_map}
@@ -21,7 +21,7 @@ use Rattle.tpm_policy_meaning.specs.Expression.{PolicyExpression, Nothing, Then,
 use Rattle.tpm_policy_meaning.specs.Expression.{PolicyBranches, NoBranch, Branch}
 
 -- the contribution of an assertion to the digest: its command code, its data, and policyRef, if it
--- has one; and if the data is the hash of a text, that text
+-- has one; if the data contains the hash of a text, also that text
 pub record PolicyUpdate : Type 0 where
   pub code : CommandCode
   pub about : List ℕ
@@ -35,7 +35,7 @@ plain_update code about = record { code = code; about = about; reference = None;
 abbrev pub or_update : (digests : List (List ℕ)) → PolicyUpdate
 or_update digests = plain_update command.PolicyOr (flat_map (λ digest. digest) digests)
 
--- the update of TPM2_PolicySecret, which always has a policyRef, though it may be empty
+-- the update of TPM2_PolicySecret, which always has a policyRef, although this may be empty
 abbrev pub secret_update : (name reference : List ℕ) → PolicyUpdate
 secret_update name reference =
     record (plain_update command.PolicySecret name) { reference = Some reference }
@@ -75,8 +75,8 @@ update_of hash (PolicyNv name operand offset operation) =
 abbrev pub update_text : PolicyUpdate → List ℕ
 update_text update = to_be_bytes w32 (code_number update.code) ++ update.about
 
--- an assertion's text and, if the assertion has a policyRef, a second one: the hash of the first,
--- then policyRef
+-- the text of an assertion; if the assertion has a policyRef, also a second text: the hash of the
+-- first, then policyRef
 abbrev pub with_reference : HashAlg → Option (List ℕ) → (text : List ℕ) → List (List ℕ)
 with_reference hash None text = text ∷ []
 with_reference hash (Some reference) text = (hash_of hash text ++ reference) ∷ text ∷ []
@@ -90,7 +90,7 @@ texts_after hash digest update =
 abbrev pub zeros : HashAlg → List ℕ
 zeros hash = replicate (digest_size hash) 0
 
--- the digest after these texts, the latest first: the hash of the latest
+-- the digest after these texts, the latest first: the hash of the latest text
 abbrev pub digest_after : HashAlg → (texts : List (List ℕ)) → List ℕ
 digest_after hash [] = zeros hash
 digest_after hash (text ∷ earlier) = hash_of hash text

@@ -13,8 +13,8 @@ ghost use Rattle.tpm_policy_meaning.specs.Meaning.{DigestMeans};
 ghost use Rattle.tpm_policy_meaning.specs.Trial.{TrialComputes};
 
 /// If the digest of a policy session is that of a policy, the session made the assertions that the
-/// policy requires, taking one branch at each TPM2_PolicyOR. Otherwise the hash is broken in one
-/// of three ways; the texts that break it are computed from the policy and the session's
+/// policy requires, taking one branch at each TPM2_PolicyOR. Otherwise the hash is broken in one of
+/// three ways; the texts that break it can be computed from the policy and the session's
 /// assertions.
 #[inline(always)]
 pub fn meaning_laws()

@@ -1,4 +1,4 @@
--- Clears objects slot by slot. The laws say which objects are found afterwards.
+-- Clearing the slots one after another removes the right objects, and no others.
 use Rattle.std.proofs.Common.{◌≡◌, ℕ, zero, suc, ◌≤◌, Bool, true, false, cond, eqb, List, [], ◌∷◌, ◌++◌, length, take, drop, Option, Some, None, refl, sym, ap, ◌∙◌, arith}
 use Rattle.std.specs.Prelude.{IfSome, map, option_and_then, slice_set}
 use Rattle.std.proofs.lemmas.List.Sums.{sum_by-cons}
@@ -9,7 +9,7 @@ use Rattle.tpm_containers.specs.Slots.{at_place, taken_count}
 use Rattle.tpm_containers.proofs.SlotLaws.{counted}
 use Rattle.tpm_record.specs.Clear.{ClearingLaws, cleared_objects, cleared_place, is_cleared, is_place_cleared}
 
--- the slots, of which the first ones are cleared
+-- the slots after the first ones were cleared
 abbrev pub cleared_up_to : ℕ → List (Option Object) → List (Option Object)
 cleared_up_to count places = map cleared_place (take count places) ++ drop count places
 
@@ -21,7 +21,7 @@ rest_cleared : (b : Bool) (p : Option Object) (ps qs : List (Option Object)) →
 rest_cleared true p ps qs = refl
 rest_cleared false p ps qs = refl
 
--- If the next slot is cleared too, one more slot is cleared.
+-- A step: clearing the next slot clears one more slot.
 pub cleared_in_turn : (places : List (Option Object)) (i : ℕ) → cond (is_place_cleared (at_place (cleared_up_to i places) i)) (slice_set (cleared_up_to i places) i None) (cleared_up_to i places) ≡ cleared_up_to (suc i) places
 cleared_in_turn [] zero = refl
 cleared_in_turn [] (suc i) = refl
@@ -43,7 +43,7 @@ all_cleared [] (suc i) many = refl
 all_cleared (p ∷ ps) zero many = absurd (omega arith)
 all_cleared (p ∷ ps) (suc i) many = ap (λ (l : List (Option Object)). cleared_place p ∷ l) (all_cleared ps i (omega arith))
 
--- ---- what is found after objects are cleared
+-- ---- the objects after clearing
 
 at_cleared : (places : List (Option Object)) (place : ℕ) → at_place (cleared_objects places) place ≡ cleared_place (at_place places place)
 unfolding cleared_objects
@@ -51,7 +51,7 @@ at_cleared [] place = refl
 at_cleared (p ∷ ps) zero = refl
 at_cleared (p ∷ ps) (suc place) = at_cleared ps place
 
--- the object that a number finds, given the content of its slot
+-- the object with this number, given the content of its slot
 abbrev of_number : ℕ → Option Object → Option Object
 of_number number cell = option_and_then (if_of_kind transient_byte number) cell
 
@@ -107,7 +107,8 @@ cleared_few (p ∷ ps) =
     let old = sum_by-cons counted p ps in
     omega (arith, new, old, one_cleared p, cleared_few ps)
 
--- If a property holds for each object, it holds for each object that is not removed.
+-- If a property holds for an object, it holds for the object in the slot after clearing, if that is
+-- not removed.
 kept_in : (Is : Object → Type 0) (cell : Option Object) → IfSome cell Is → IfSome (cleared_place cell) Is
 kept_in Is None is = tt
 kept_in Is (Some x) is = by (is_cleared x.hierarchy)

@@ -1,5 +1,5 @@
--- The transient and persistent objects of a record: how one is added and removed, and which handle
--- comes next. TPM 2.0 Library, Part 1, sections 15.6 (transient objects) and 37.3 (persistent
+-- The transient and persistent objects of a record together: adding one, removing one, and the next
+-- handle of one. TPM 2.0 Library, Part 1, sections 15.6 (transient objects) and 37.3 (persistent
 -- objects).
 use Rattle.tpm_types.specs.Limits.{object_limit, persistent_limit}
 use Rattle.std.specs.Prelude.{◌≡◌, ℕ, zero, suc, ◌&&◌, nat_le, Bool, is_some, if◌then◌else◌, List, Option, Some, None, option_map, Result}
@@ -14,12 +14,12 @@ use Rattle.tpm_record.specs.Objects.{Adds, object_at, object_handle, without_obj
 use Rattle.tpm_record.specs.Persistent.{next_persistent, without_persistent}
 use Rattle.tpm_record.specs.Record.{Record}
 
--- A transient object was added or refused. Nothing else in the record changed.
+-- A transient object was added or refused, and nothing else in the record changed.
 abbrev pub AddsObject : Bool → Record → Object → Result Handle SlotFault → Record → Type 0
 AddsObject can old object result new =
     Adds can old.objects object result new.objects × (new ≡ record old { objects = new.objects })
 
--- A persistent object was added or refused. Nothing else in the record changed.
+-- A persistent object was added or refused, and nothing else in the record changed.
 abbrev pub AddsPersistent : Bool → Record → Handle → Object → Result (Unit {0}) KeyFault → Record
     → Type 0
 AddsPersistent can old handle object result new =
@@ -40,7 +40,7 @@ abbrev pub or_else : {X : Type 0} → Option X → Option X → Option X
 or_else (Some x) other = Some x
 or_else None other = other
 
--- the lowest number under this limit that passes a test
+-- the lowest number below this limit that passes a test
 abbrev pub least_below : (ℕ → Bool) → ℕ → Option ℕ
 least_below test zero = None
 least_below test (suc n) = or_else (least_below test n) (if test n then Some n else None)

@@ -1,6 +1,6 @@
 -- The effect of TPM2_Clear on transient and persistent objects: it removes those in the owner and
--- endorsement hierarchies. TPM 2.0 Library, Part 3, section 24.6. Its effect on the hierarchies is
--- defined in Hierarchy, and its effect on NV indices in tpm_nv/Clear.
+-- endorsement hierarchies. TPM 2.0 Library, Part 3, section 24.6. The effect on the hierarchies is
+-- defined in Hierarchy, and the effect on NV indices in tpm_nv/Clear.
 use Rattle.std.specs.Prelude.{◌≡◌, ◌≤◌, ℕ, Bool, true, false, not, List, Option, Some, None, map, if◌then◌else◌}
 use Rattle.tpm_containers.specs.SortedMap.{Entries, kept_entries}
 use Rattle.tpm_object.specs.Object.{transient_byte}
@@ -22,21 +22,21 @@ abbrev pub is_place_cleared : Option Object → Bool
 is_place_cleared (Some object) = is_cleared object.hierarchy
 is_place_cleared None = false
 
--- a slot after TPM2_Clear, which frees it if its object is removed
+-- a slot after TPM2_Clear: free if its object is removed, and otherwise unchanged
 abbrev pub cleared_place : Option Object → Option Object
 cleared_place place = if is_place_cleared place then None else place
 
 unfoldable pub cleared_objects : List (Option Object) → List (Option Object)
 cleared_objects places = map cleared_place places
 
--- whether a persistent object survives TPM2_Clear, because it belongs to another hierarchy
+-- whether a persistent object survives TPM2_Clear
 abbrev pub outlasts : Object → Bool
 outlasts object = not (is_cleared object.hierarchy)
 
 abbrev pub cleared_persistent : Entries Object → Entries Object
 cleared_persistent objects = kept_entries outlasts objects
 
--- laws about the objects found after TPM2_Clear
+-- The claims about transient objects after TPM2_Clear.
 pub record ClearingLaws : Type 0 where
   -- an object in a cleared hierarchy is removed, and any other object is unchanged
   pub gone : (places : List (Option Object)) (number : ℕ) (object : Object)

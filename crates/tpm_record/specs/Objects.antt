@@ -1,6 +1,5 @@
--- The transient objects of a device, keyed by handle. TPM 2.0 Library, Part 1, section 15.6
--- (transient objects), and Part 2, section 7.2 (TPM_HT_TRANSIENT: a handle whose highest byte is
--- 80).
+-- The transient objects of a device, by handle. TPM 2.0 Library, Part 1, section 15.6 (transient
+-- objects), and Part 2, section 7.2 (TPM_HT_TRANSIENT: a handle whose highest byte is 80).
 use Rattle.std.specs.Prelude.{◌≡◌, ℕ, Bool, true, List, Option, Some, option_map, Result, Ok, Err, None, slice_set}
 use Rattle.tpm_object.specs.Object.{transient_byte}
 use Rattle.tpm_object.specs.declared.object.Object.{Object}
@@ -27,7 +26,7 @@ object_handle place = record { number = number_of 0x80 place }
 abbrev pub next_handle : List (Option Object) → Option Handle
 next_handle places = option_map object_handle (lowest_free places)
 
--- the slots after an object was put into one of them
+-- the slots after an object was put into this slot
 abbrev pub with_object : List (Option Object) → ℕ → Object → List (Option Object)
 with_object places place object = slice_set places place (Some object)
 

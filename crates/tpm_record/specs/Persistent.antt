@@ -37,13 +37,13 @@ can_persist hierarchy.Endorsement = true
 can_persist hierarchy.Platform = true
 can_persist hierarchy.Null = false
 
--- The conditions that a persistent object and its handle meet.
+-- The invariant of a persistent object and its handle.
 pub record IsPersistent (number : ℕ) (object : Object) : Type 0 where
   pub named : is_persistent (numbered number) ≡ true
   pub owned : can_persist object.hierarchy ≡ true
   pub sized : IsObject object
 
--- The conditions that all persistent objects meet.
+-- The invariant of all persistent objects.
 pub record ArePersistent (objects : Entries Object) : Type 0 where
   pub ascends : Ascends objects
   pub few : length objects ≤ persistent_limit

@@ -16,15 +16,15 @@ found_at r handle = record { handle = handle; entity = entity_at r handle }
 abbrev pub entities_at : Record → List Handle → List Found
 entities_at r handles = map (found_at r) handles
 
--- a handle and the entity that the code found for it, regardless of where it is in memory
+-- a handle and the entity that the code found for it, without its address in memory
 abbrev pub found_by : Resolved → Found
 found_by resolved =
     record { handle = resolved.handle; entity = entity_seen resolved.entity }
 
--- The code found for a handle the entity that the record contains for it.
+-- The entity that the code found for this handle is the one in the record.
 abbrev pub IsFound : Record → Resolved → Type 0
 IsFound r resolved = entity_seen resolved.entity ≡ entity_at r resolved.handle
 
--- The code found for each of these handles the entity that the record contains for it.
+-- The entities that the code found for these handles are those in the record.
 abbrev pub AreFound : Record → List Resolved → List Handle → Type 0
 AreFound r resolved handles = map found_by resolved ≡ entities_at r handles

@@ -39,13 +39,13 @@ values_of Nothing = None
 values_of Clear = None
 values_of (State values) = Some values
 
--- the banks after the saved values, if there are any, were restored
+-- the banks with the saved values restored, if there are any
 abbrev pub restored_from : SavedState → BankValues → BankValues
 restored_from Nothing banks = banks
 restored_from Clear banks = banks
 restored_from (State values) banks = restored_in values banks
 
--- The conditions that every saved state meets.
+-- The invariant of every saved state.
 abbrev pub IsSavedState : SavedState → Type 0
 IsSavedState Nothing = Unit {0}
 IsSavedState Clear = Unit {0}

@@ -1,5 +1,4 @@
-//! The objects in a device's state, transient and persistent: adding one, removing one, and
-//! finding the next one.
+//! Adds and removes objects of the device's state, transient or persistent, and finds the next one.
 
 ghost use Rattle.std.specs.Prelude.{◌≡◌, is_some, true};
 ghost use Rattle.tpm_record.specs.AnyObject.{AddsObject, AddsPersistent, next_object, next_transient};
@@ -44,7 +43,7 @@ pub fn remove_object<K: Keep>(keep: &mut K, handle: Handle) -> bool
     }
 }
 
-/// The number of the lowest handle at or above this one that belongs to a transient or persistent
+/// The number of the lowest handle, from this one on, that belongs to a transient or persistent
 /// object.
 pub fn next_object<K: Keep>(keep: &K, from: Handle) -> Option<u32>
     ensures { result ≡ next_object (K.record_of keep.now) from.number }
@@ -55,7 +54,7 @@ pub fn next_object<K: Keep>(keep: &K, from: Handle) -> Option<u32>
     }
 }
 
-/// The number of the lowest handle at or above this one that belongs to a transient object.
+/// The number of the lowest handle, from this one on, that belongs to a transient object.
 #[tactic(auto, using(crate::proofs::Searching::none_more, crate::proofs::Searching::found_least))]
 fn next_transient<K: Keep>(keep: &K, from: Handle) -> Option<u32>
     ensures { result ≡ next_transient (K.record_of keep.now).objects from.number }

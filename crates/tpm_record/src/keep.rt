@@ -1,5 +1,5 @@
-//! The trait `Keep`, implemented by the types that contain the device's state. It gives read and
-//! write access to each part of the state. In contracts, such a value is the record that it
+//! The trait `Keep`, which types that contain the device's state implement. It provides read and
+//! write access to each part of the state. Contracts refer to such a value by the record that it
 //! represents.
 
 ghost use Rattle.std.specs.Prelude.{◌≡◌, Bool, IfOk, OnErr, replicate, true};
@@ -25,8 +25,8 @@ use tpm_object::Object;
 use tpm_session::{Session, Sessions};
 use tpm_types::{OBJECT_LIMIT, SESSION_LIMIT};
 
-/// A type that contains the device's state. In contracts, a value of it is the record that the
-/// value represents.
+/// A type that contains the device's state. Contracts refer to a value of this type by the record
+/// that it represents.
 pub trait Keep: Drop + Sized {
     /// The type of the slots for sessions.
     type SessionSlots: Slots<Session, SESSION_LIMIT>;
@@ -122,27 +122,31 @@ pub trait Keep: Drop + Sized {
             (with_nv self.entry.now)) }
         ensures value { Self.NvIndices.contents result.now ≡ (record_of self.old).nv };
 
-    /// Changes made to the fixed part through its mutable reference end up in the record.
+    /// If the fixed part is changed through its mutable reference, the record has the changed fixed
+    /// part.
     ghost fixed_written: { (keep : Self) (fixed : FixedParts)
         → record_of (with_fixed keep fixed) ≡ record (record_of keep) { fixed = fixed } };
 
-    /// Changes made to the sessions through their mutable reference end up in the record.
+    /// If the sessions are changed through their mutable reference, the record has the changed
+    /// sessions.
     ghost sessions_written: { (keep : Self) (sessions : SessionsParts Self.SessionSlots)
         → record_of (with_sessions keep sessions)
         ≡ record (record_of keep) { sessions = places_of Self.SessionSlots.places sessions } };
 
-    /// Changes made to the transient objects through their mutable reference end up in the record.
+    /// If the transient objects are changed through their mutable reference, the record has the
+    /// changed objects.
     ghost objects_written: { (keep : Self) (objects : ObjectsParts Self.ObjectSlots)
         → record_of (with_objects keep objects)
         ≡ record (record_of keep) { objects = objects_of Self.ObjectSlots.places objects } };
 
-    /// Changes made to the persistent objects through their mutable reference end up in the
-    /// record.
+    /// If the persistent objects are changed through their mutable reference, the record has the
+    /// changed objects.
     ghost persistent_written: { (keep : Self) (persistent : Self.PersistentMap)
         → record_of (with_persistent keep persistent)
         ≡ record (record_of keep) { persistent = Self.PersistentMap.entries persistent } };
 
-    /// Changes made to the NV indices through their mutable reference end up in the record.
+    /// If the NV indices are changed through their mutable reference, the record has the changed
+    /// indices.
     ghost nv_written: { (keep : Self) (nv : Self.NvIndices)
         → record_of (with_nv keep nv)
         ≡ record (record_of keep) { nv = Self.NvIndices.contents nv } };

@@ -10,10 +10,10 @@
 //! objects and [`persistent::PersistentObjects`] the persistent ones; NV indices are in tpm_nv.
 //! [`tick::tick`] and [`cycle::power_cycle`] change a record independently of commands, and
 //! [`entity`] looks up the entity of a handle. The crate uses `tpm_lockout`, `tpm_pcr`,
-//! `tpm_session`, `tpm_object` and `tpm_nv`, and `tpm_containers` for the slots of sessions and
-//! transient objects and for the map of persistent objects. Each call on a type that implements
-//! the trait does to the record what its definition in `specs/` says. [`rows`] contains what the
-//! rows of all commands share.
+//! `tpm_session`, `tpm_object` and `tpm_nv`. It uses `tpm_containers` for the slots of sessions and
+//! transient objects and for the map of persistent objects. Each call on a type that implements the
+//! trait changes the record as the call's definition in `specs/` says. [`rows`] contains the parts
+//! that the rows of all commands share.
 
 pub mod any_object;
 mod clear;

@@ -1,4 +1,4 @@
-//! The transient objects of a device, keyed by handle, with laws that show that they form a map.
+//! The transient objects of a device as a map by handle, and laws of this map.
 
 ghost use Rattle.tpm_types.specs.Limits.{object_limit};
 ghost use Rattle.std.specs.Prelude.{◌≡◌, ◌<◌, is_some, length, option_copied};
@@ -59,7 +59,7 @@ impl<O: Slots<Object, OBJECT_LIMIT>> Objects<O> {
         Some(handle_of(self.places.free()?))
     }
 
-    /// Facts that follow from the types of each object's fields, and the number of slots. A proof
+    /// The sizes of each object's fields, and the number of slots, follow from their types. A proof
     /// only: it has no effect at run time.
     #[inline(always)]
     pub fn read_sizes(&self)
@@ -120,16 +120,16 @@ impl<O: Slots<Object, OBJECT_LIMIT>> Objects<O> {
     }
 }
 
-/// The transient objects of a device form a map keyed by handle. The laws say what is found after
-/// an object was added or removed. A proof only: it has no effect at run time.
+/// The transient objects of a device are a map by handle: after an object is added or removed, each
+/// handle finds the right object or none. A proof only: it has no effect at run time.
 pub fn object_laws()
     ensures { MapLaws transient_byte }
 {
     numbered::numbered_laws::<Object>()
 }
 
-/// After TPM2_Clear, the objects in the owner and endorsement hierarchies are removed, and all
-/// others are unchanged. A proof only: it has no effect at run time.
+/// TPM2_Clear removes the transient objects in the owner and endorsement hierarchies, and does not
+/// change the others. A proof only: it has no effect at run time.
 #[tactic(auto, using(crate::proofs::ClearLaws::are_cleared))]
 pub fn clearing_laws()
     ensures { ClearingLaws }

@@ -43,7 +43,7 @@ pub fn copied_auth_value<K: Keep>(keep: &K, handle: Handle) -> AuthValue
     AuthValue::of(auth_value_of(keep, handle))
 }
 
-/// How the authorization value of a handle's entity is protected.
+/// The protection of a handle's entity against dictionary attacks.
 #[tactic(auto, unfolding(crate::specs::Entity::protection_of))]
 pub fn protection_of<K: Keep>(keep: &K, handle: Handle) -> Protection
     ensures { result ≡ protection_of (K.record_of keep.now) handle }

@@ -16,8 +16,8 @@ use tpm_containers::{KeyFault, ListMap, Sizes, SlotMap, SortedMap};
 use tpm_object::Object;
 use tpm_types::{Handle, PERSISTENT_LIMIT};
 
-/// The persistent objects of a device, at most [`PERSISTENT_LIMIT`], keyed by handle. These calls
-/// do not check who may make an object persistent or remove it.
+/// The persistent objects of a device, at most [`PERSISTENT_LIMIT`], by handle. The calls do not
+/// check who may make an object persistent or remove it.
 pub trait PersistentObjects: Drop + Sized {
     /// The handles in ascending order, each with its object.
     ghost entries: { Self → Entries ObjectParts };
@@ -41,7 +41,7 @@ pub trait PersistentObjects: Drop + Sized {
     fn get(&self, handle: Handle) -> Option<&Object>
         ensures { option_copied result ≡ persistent_at (entries self.now) handle };
 
-    /// The lowest handle of an object at or above this one.
+    /// The lowest handle of an object, from this one on.
     fn next(&self, handle: Handle) -> Option<u32>
         ensures { result ≡ next_persistent (entries self.now) handle.number };
 
@@ -62,7 +62,7 @@ pub trait PersistentObjects: Drop + Sized {
     fn clear_hierarchies(&mut self)
         ensures { entries self.new ≡ cleared_persistent (entries self.old) };
 
-    /// Facts that always hold for the objects. A proof only: it has no effect at run time.
+    /// The invariant of the persistent objects. A proof only: it has no effect at run time.
     fn read_sizes(&self)
         ensures { ArePersistent (entries self.now) };
 }

@@ -2,10 +2,11 @@
 //! ([`call::Call`]), its answer ([`answer::Answer`]), the reading of parameters ([`reading`]), the
 //! refusals ([`refusals`]), and the NV index that a command acts on ([`target`]).
 //!
-//! The crates of the commands use it: tpm_actions_device, tpm_actions_policy, tpm_actions_object,
-//! tpm_actions_capability and tpm_nvactions. Each call equals its definition in `specs/`. `Acts`,
-//! defined there, is the contract of every row: a success returns the answer and changes the
-//! record as the row says; a refusal is the one that the row says, and does not change the record.
+//! The crates of the commands use these: tpm_actions_device, tpm_actions_policy,
+//! tpm_actions_object, tpm_actions_capability and tpm_nvactions. Each call equals its definition in
+//! `specs/`. `Acts`, defined there, is the contract of every row. It says that a success returns
+//! the row's answer and changes the record as the row says. A refusal is that of the row, and does
+//! not change the record.
 
 pub mod answer;
 pub mod call;

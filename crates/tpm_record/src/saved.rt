@@ -43,7 +43,7 @@ impl Saved {
         }
     }
 
-    /// The saved state after a TPM2_Shutdown with CLEAR: only the fact that there was one.
+    /// The saved state after a TPM2_Shutdown with CLEAR, which saves no values.
     pub fn clear() -> Saved
         ensures { result ≡ Clear }
     {
@@ -53,7 +53,7 @@ impl Saved {
         }
     }
 
-    /// The saved state after a TPM2_Shutdown with STATE: these values.
+    /// The saved state after a TPM2_Shutdown with STATE, which saves these values.
     pub fn state(pcrs: SavedPcrs) -> Saved
         ensures { result ≡ State pcrs }
     {
@@ -73,7 +73,7 @@ impl Saved {
         }
     }
 
-    /// The kind of the TPM2_Shutdown that saved this.
+    /// The kind of the TPM2_Shutdown that saved this state.
     pub fn kind(&self) -> SavedKind
         ensures { result ≡ kind_of self.now }
     {
@@ -109,7 +109,7 @@ impl Saved {
         }
     }
 
-    /// Facts that follow from the types of the saved values. A proof only: it has no effect at run
+    /// The sizes of the saved values follow from their types. A proof only: it has no effect at run
     /// time.
     #[inline(always)]
     pub fn read_sizes(&self)

@@ -23,18 +23,19 @@ pub alike_step : {A B C E : Type 0} (see : B → C) (x : Result A E) (f g : A �
 alike_step see (Ok a) f g more = more a
 alike_step see (Err e) f g more = record { is = refl }
 
--- If two rows begin with the same step, it is enough to compare them for each success of that
--- step.
+-- If two rows begin with the same step, it is enough to compare the rest of the rows for each
+-- success of this step.
 pub alike_step_is : {A B C E : Type 0} (see : B → C) (x : Result A E) (f g : A → Result B E) → ((a : A) → x ≡ Ok a → Alike see (f a) (g a)) → Alike see (x >>= f) (x >>= g)
 alike_step_is see (Ok a) f g more = more a refl
 alike_step_is see (Err e) f g more = record { is = refl }
 
--- If a step is equal in both rows, it is enough to compare them for each success of that step.
+-- If the first steps of two rows are equal, it is enough to compare the rest of the rows for each
+-- success of this step.
 pub alike_both : {A B C E : Type 0} (see : B → C) (x y : Result A E) (f g : A → Result B E) → x ≡ y → ((a : A) → Alike see (f a) (g a)) → Alike see (x >>= f) (y >>= g)
 alike_both see x y f g same more = subst (λ (z : Result _ _). Alike see (z >>= f) (y >>= g)) (sym same) (alike_step see y f g more)
 
--- If a step looks the same in both rows, it is enough to compare them for two successes that look
--- the same.
+-- If the first steps of two rows look the same, it is enough to compare the rest of the rows for
+-- two successes that look the same.
 pub alike_after : {A B C D E : Type 0} (first : A → B) (see : C → D) (x y : Result A E) (f g : A → Result C E) → Alike first x y → ((a b : A) → first a ≡ first b → Alike see (f a) (g b)) → Alike see (x >>= f) (y >>= g)
 alike_after {B = B} {E = E} first see (Ok a) (Ok b) f g alike more = more a b (ap seen alike.is)
   where
@@ -49,8 +50,8 @@ alike_after {B = B} {E = E} first see (Err e) (Err h) f g alike more = subst (λ
     fault (Ok c) = e
     fault (Err k) = k
 
--- If a value is present in both rows, or absent from both, it is enough to compare them for the
--- present values.
+-- If a value is present in both rows, or absent from both, it is enough to compare the rest of the
+-- rows for the present values.
 pub alike_found : {X A B E : Type 0} (see : A → B) (change : X → X) (one other : Option X) (e : E) (f g : X → Result A E) → one ≡ option_map change other → ((x : X) → other ≡ Some x → Alike see (f (change x)) (g x)) → Alike see (ok_or one e >>= f) (ok_or other e >>= g)
 alike_found {X = X} see change one other e f g same more =
     subst (λ (found : Option X). Alike see (ok_or found e >>= f) (ok_or other e >>= g)) (sym same) (by other refl)
@@ -75,9 +76,9 @@ fault_outcome see refused (Err e) = refl
 pub alike_fault : {A B F : Type 0} (see : A → B) (refused : Refused) (x y : Result A F) → Alike see x y → Alike see (or_fault x refused) (or_fault y refused)
 alike_fault {B = B} {F = F} see refused x y alike = record { is = fault_outcome see refused x ∙ ap (λ (z : Result B F). or_fault z refused) alike.is ∙ sym (fault_outcome see refused y) }
 
--- ---- nothing is visible
+-- ---- successes without a visible part
 
--- a view of a success that shows only that it is a success
+-- the visible part of a success, if only the fact that it is a success is visible
 abbrev pub success : {A : Type 0} → A → Unit {0}
 success a = tt
 
@@ -88,7 +89,8 @@ both_succeed {A = A} {E = E} x y alike = sym (unseen x) ∙ ap is_ok alike.is �
     unseen (Ok a) = refl
     unseen (Err e) = refl
 
--- If both results are refusals and look the same, they are equal, whatever a success shows.
+-- If both results are refusals and look the same, they are equal, whatever part of a success is
+-- visible.
 pub refused_alike : {A B E : Type 0} (see : A → B) (x y : Result A E) → Alike success x y → is_ok y ≡ false → Alike see x y
 refused_alike see (Ok a) (Ok b) alike refused = absurd (false≢true (sym refused))
 refused_alike see (Ok a) (Err e) alike refused = let never = alike.is in absurd cc
@@ -99,12 +101,12 @@ refused_alike {E = E} see (Err e) (Err h) alike refused = subst (λ (k : E). Ali
     fault (Ok c) = e
     fault (Err k) = k
 
--- If only an accepted command reads a secret, a command either reads none or is refused.
+-- A step: if a command reads a secret only when it is accepted, it reads none or is refused.
 pub either_free : {P : Type 0} (a b : Bool) → (a && b) ≡ false → (a ≡ false → P) → (b ≡ false → P) → P
 either_free false b free unread refused = unread refl
 either_free true b free unread refused = refused free
 
--- Steps within a step may be compared as one sequence of steps.
+-- Nested steps may be compared as one sequence of steps.
 pub alike_nested : {A B C D E : Type 0} (see : C → D) (x y : Result A E) (f g : A → Result B E) (h k : B → Result C E) → Alike see (x >>= λ a. f a >>= h) (y >>= λ a. g a >>= k) → Alike see ((x >>= f) >>= h) ((y >>= g) >>= k)
 alike_nested see (Ok a) (Ok b) f g h k alike = alike
 alike_nested see (Ok a) (Err e) f g h k alike = alike

@@ -33,8 +33,8 @@ use Rattle.tpm_nv.specs.declared.fault.LockFault.TheVariants as lock_fault
 use Rattle.tpm_types_nv.specs.declared.nv_attributes.NvAttribute.TheVariants as attribute
 use Rattle.tpm_types_nv.specs.declared.nv_type.NvType.TheVariants as type
 
--- If secret bytes are erased before new bytes are computed from them, and the new bytes are erased
--- too, the result is the same as erasing only the new bytes.
+-- Erasing secret bytes before and after new bytes are computed from them gives the same result as
+-- erasing only the new bytes.
 unless_made : (b : Bool) (make : List ℕ → List ℕ) (bytes : List ℕ) → unless b (make (unless b bytes)) ≡ unless b (make bytes)
 unless_made true make bytes = refl
 unless_made false make bytes = refl
@@ -86,7 +86,7 @@ module _ (s : Secrecy) where
   changed_same : (n : NvContents) (handle : Handle) (i j : NvIndex) → bare_index s i ≡ bare_index s j → bare_nv s (changed_index (bare_nv s n) handle i) ≡ bare_nv s (changed_index n handle j)
   changed_same n handle i j same = ap (λ (es : Entries NvIndex). record n { indices = es }) (changed_key_same (bare_index s) (index_again s) n.indices handle.number i j same)
 
-  -- ---- what is public about all indices
+  -- ---- the public parts of all indices
 
   pub is_there_bare : (n : NvContents) (handle : Handle) → is_some (index_at (bare_nv s n) handle) ≡ is_some (index_at n handle)
   is_there_bare n handle = ap is_some (index_at_bare s n handle) ∙ is_some_of (bare_index s) (index_at n handle)
@@ -160,7 +160,7 @@ module _ (s : Secrecy) where
         refused_if (nat_le (2 ^ 64) (number_or contents.max_count i + 1)) write_fault.Exhausted >>= λ fits.
         Ok (counted (changed_index contents handle (with_data i (to_be_bytes w64 (number_or contents.max_count i + 1)))) (number_or contents.max_count i + 1))
 
-    -- an index that differs only in its authorization value
+    -- an index whose authorization value is erased if it is secret
     abbrev other_value : NvIndex → NvIndex
     other_value i = record i { auth_value = unless (s.index_values i.public.nv_index.number) i.auth_value }
 
@@ -173,7 +173,7 @@ module _ (s : Secrecy) where
         alike_step (bare_nv s) (refused_if (nat_le (2 ^ 64) (number_or n.max_count i + 1)) write_fault.Exhausted) _ _ (λ fits.
         alike_end (bare_nv s) _ _ (ap (λ (m : NvContents). counted m (number_or n.max_count i + 1)) (changed_same n handle _ _ (count_same i (to_be_bytes w64 (number_or n.max_count i + 1)))))))
 
-    -- If an index is not a counter, an increment is refused in the same way on both.
+    -- If an index is not a counter, an increment of it is refused in the same way on both devices.
     no_counter : (locked counter : Bool) (f g : Unit {0} → Result NvContents WriteFault) → counter ≡ false → NvAlike ((refused_if locked write_fault.Locked >>= λ unlocked. refused_if (not counter) write_fault.Attributes) >>= f) ((refused_if locked write_fault.Locked >>= λ unlocked. refused_if (not counter) write_fault.Attributes) >>= g)
     no_counter true counter f g is = record { is = refl }
     no_counter false true f g is = absurd (false≢true (sym is))
@@ -194,7 +194,7 @@ module _ (s : Secrecy) where
         at_index write_fault.Undefined _ _ (λ i is.
         counts_alike i (sym (ap (λ (found : Option NvIndex). option_map_or (is_secret_counter s) found false) is) ∙ free))
 
-    -- ---- reading
+    -- ---- reading data
 
     abbrev reading : (offset size : ℕ) → NvIndex → Result (List ℕ) ReadFault
     reading offset size i =
@@ -202,7 +202,7 @@ module _ (s : Secrecy) where
         refused_if (nat_lt i.public.data_size (offset + size)) read_fault.PastData >>= λ inside.
         Ok (piece_of offset size i.bytes)
 
-    -- Whether a read is refused does not depend on the data.
+    -- Whether a read is refused does not depend on the data of the index.
     pub read_refused_alike : (offset size : ℕ) → Alike success (read_at (bare_nv s n) handle offset size) (read_at n handle offset size)
     unfolding read_at
     read_refused_alike offset size =
@@ -211,7 +211,7 @@ module _ (s : Secrecy) where
         alike_step success (refused_if (nat_lt i.public.data_size (offset + size)) read_fault.PastData) _ _ (λ inside.
         alike_end success _ _ refl)))
 
-    -- If data is not secret, a read returns the same on both.
+    -- If the data of an index is not secret, a read returns the same on both devices.
     pub read_shown : (offset size : ℕ) → option_map_or (is_secret_index s) (index_at n handle) false ≡ false → read_at (bare_nv s n) handle offset size ≡ read_at n handle offset size
     unfolding read_at
     read_shown offset size shown = ap (λ (found : Option NvIndex). ok_or found read_fault.Undefined >>= reading offset size) (index_at_bare s n handle) ∙ by (index_at n handle) shown

@@ -69,7 +69,7 @@ module _ (s : Secrecy) (r : Record) (q : Request) where
   unfolding pcr_read_row
   pcr_read_tells = search same_steps depth 12
 
-  -- ---- a change of the fixed part, except hierarchies
+  -- ---- changes of the fixed part, except hierarchies
 
   banks_end : (answer : AnswerParts) (banks : BankValues) → Same s (Ok (record { answer = answer; after = with_banks (without_secrets s r) banks })) (Ok (record { answer = answer; after = with_banks r banks }))
   banks_end answer banks = same_change s r answer (λ t. with_banks t banks) (λ t. refl)
@@ -131,7 +131,7 @@ module _ (s : Secrecy) (r : Record) (q : Request) where
       same_step s (only (auth_value_at q.parameters)) _ _ (λ value.
       same_end s nothing _ _ (with_fixed s r _ _ (ap (λ (h : Hierarchies). record r.fixed { hierarchies = h }) (named_auth_set r.fixed.hierarchies (hierarchy_auth_of handle) value)))))
 
-  -- ---- a startup
+  -- ---- TPM2_Startup
 
   reset_same : bare_fixed s (reset_fixed (bare_fixed s r.fixed) q.random) ≡ bare_fixed s (reset_fixed r.fixed q.random)
   unfolding with_hierarchy_auth

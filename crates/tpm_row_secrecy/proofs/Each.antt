@@ -1,4 +1,4 @@
--- Entries with keys, and slots, after a function was applied to each of their values.
+-- Maps and slots after a function was applied to each of their values.
 use Rattle.std.proofs.Common.{ap, eqb, leb, refl, sym, ◌∙◌}
 use Rattle.std.specs.List.{prefix_len}
 use Rattle.std.specs.Option.{option_map_or}
@@ -7,12 +7,13 @@ use Rattle.tpm_containers.specs.Numbered.{at_number, changed_at, if_of_kind, kin
 use Rattle.tpm_containers.specs.Slots.{at_place, free, lowest_free}
 use Rattle.tpm_containers.specs.SortedMap.{Entries, at_key, changed_key, kept_entries, with_key, without_key}
 
--- Applying a function to a chosen value equals choosing between the function's values.
+-- Applying a function to the chosen one of two values gives the same as choosing between the
+-- function's results.
 pub chosen : {A B : Type 0} (g : A → B) (b : Bool) (x y : A) → cond b (g x) (g y) ≡ g (cond b x y)
 chosen g true x y = refl
 chosen g false x y = refl
 
--- ---- entries
+-- ---- maps
 
 module _ {X Y : Type 0} (f : X → Y) where
   abbrev pub each : Entries X → Entries Y
@@ -53,8 +54,7 @@ module _ {X Y : Type 0} (f : X → Y) where
   length_each [] = refl
   length_each (e ∷ es) = ap (λ (n : ℕ). suc n) (length_each es)
 
--- If the composition of two functions is a third, applying the two in turn equals applying the
--- third.
+-- Applying one function and then another to all values of a map equals applying their composition.
 pub each_twice : {X Y Z : Type 0} (g : Y → Z) (f : X → Y) (h : X → Z) → ((x : X) → g (f x) ≡ h x) → (es : Entries X) → each g (each f es) ≡ each h es
 each_twice g f h same [] = refl
 each_twice {Z = Z} g f h same (e ∷ es) =
@@ -100,8 +100,8 @@ module _ {X Y : Type 0} (f : X → Y) where
   free_each zero = refl
   free_each (suc n) = ap (λ (others : List (Option Y)). None ∷ others) (free_each n)
 
-  -- If the function preserves the kind of a value, each number finds the function's value of what
-  -- it found before.
+  -- If the function preserves the kind of a value, looking up a number after the function was
+  -- applied gives the function's result for the value found before.
   module _ (kind : Y → ℕ) (was : X → ℕ) (kept : (x : X) → kind (f x) ≡ was x) where
     of_kind : (number : ℕ) (found : Option X) → option_and_then (if_of_kind kind number) (option_map f found) ≡ option_map f (option_and_then (if_of_kind was number) found)
     of_kind number None = refl
@@ -139,7 +139,7 @@ places_twice {Z = Z} g f h same (Some x ∷ xs) =
     ap (λ (z : Z). Some z ∷ places g (places f xs)) (same x)
     ∙ ap (λ (others : List (Option Z)). Some (h x) ∷ others) (places_twice g f h same xs)
 
--- ---- a function that changes nothing when applied again, before and after a change
+-- ---- functions that change nothing when applied again
 
 module _ {X : Type 0} (f : X → X) (again : (x : X) → f (f x) ≡ f x) where
   pub places_again : (xs : List (Option X)) → places f (places f xs) ≡ places f xs

@@ -1,5 +1,5 @@
--- The rows for NV indices reveal nothing about secrets, except those of an accepted TPM2_NV_Read,
--- and of TPM2_NV_Increment of a counter.
+-- The rows for NV indices reveal nothing about secrets, except the row of an accepted TPM2_NV_Read,
+-- and that of TPM2_NV_Increment of a counter.
 use Rattle.std.proofs.Common.{ap, refl, sym, ◌∙◌}
 use Rattle.std.specs.Int.{w64}
 use Rattle.std.specs.Prelude.{Bool, List, Ok, Result, false, is_ok, is_some, length, nat_lt, not, ℕ, ◌==◌, ◌≡◌}
@@ -60,7 +60,7 @@ module _ (s : Secrecy) (r : Record) (q : Request) where
       same_step s (all_read q.parameters) _ _ (λ ended.
       same_unchanged s r _)))
 
-  -- ---- an index is defined or removed
+  -- ---- defining or removing an index
 
   pub nv_define_space_tells : Same s (nv_define_space_row (without_secrets s r) q) (nv_define_space_row r q)
   unfolding nv_define_space_row
@@ -80,7 +80,7 @@ module _ (s : Secrecy) (r : Record) (q : Request) where
       same_step s (refused_if (is_kept_from target) (action_refusal action.First (plain code.NvAuthorization))) _ _ (λ a1.
       same_end s nothing _ _ (with_nv s r _ _ (without_index_same s r.nv target.handle)))))
 
-  -- ---- an index is changed
+  -- ---- changing an index
 
   written_row : {P : Type 0} (read : Result P Refused) (change other : P → Handle → Result NvContents WriteFault) → ((p : P) (handle : Handle) → second_handle q.handles ≡ Ok handle → NvAlike s (change p handle) (other p handle)) → Same s (write_row (without_secrets s r) q read change) (write_row r q read other)
   written_row read change other same =
@@ -132,7 +132,7 @@ module _ (s : Secrecy) (r : Record) (q : Request) where
       same_step s (refused_if (nat_lt (digest_size i.public.name_alg) (length value)) (parameter_refusal action.First 1 code.Size)) _ _ (λ a1.
       same_changed s r (λ absence. handle_refusal) _ _ (auth_alike s r.nv handle value)))))
 
-  -- ---- an index is read
+  -- ---- reading an index
 
   abbrev reads_target : Record → Target → Result Success Refused
   reads_target t target =

@@ -1,4 +1,4 @@
--- The rows for objects reveal nothing about secrets, except those of an accepted TPM2_Unseal or
+-- The rows for objects reveal nothing about secrets, except the row of an accepted TPM2_Unseal or
 -- TPM2_HMAC.
 use Rattle.std.proofs.Common.{ap, refl, subst, sym, ◌∙◌}
 use Rattle.std.proofs.lemmas.Bool.{false≢true, not-false}
@@ -70,14 +70,14 @@ use Rattle.tpm_actions_object.specs.Hmac as keyed
 module _ (s : Secrecy) (r : Record) (q : Request) where
   -- ---- objects whose data is not secret
 
-  -- an object that differs only in its authorization value
+  -- an object whose authorization value is erased if it is secret
   abbrev other_value : Object → Object
   other_value o = record o { auth_value = unless (s.object_values o.public) o.auth_value }
 
   data_shown : (o : Object) → has_secret_data s o ≡ false → bare_object s o ≡ other_value o
   data_shown o shown = rw (unless_open _ o.seed_value shown, unless_open _ o.sensitive shown) refl
 
-  -- If an object is a storage parent, it is not a KEYEDHASH object, so its data is not secret.
+  -- A step: a storage parent is not a KEYEDHASH object, so it has no secret data.
   parent_shown : (cipher restricted decrypt sign secret : Bool) → (cipher && restricted && decrypt && sign) ≡ true → (not cipher && secret) ≡ false
   parent_shown true restricted decrypt sign secret is = refl
   parent_shown false restricted decrypt sign secret is = absurd (false≢true is)
@@ -90,7 +90,7 @@ module _ (s : Secrecy) (r : Record) (q : Request) where
       alike_step_is (bare_success s) (parent_passes o) _ _ (λ a1 is.
       subst (λ (x : Object). Same s (f x) (g o)) (sym (parent_bare o (not-false _ (passed _ _ a1 is)))) more)
 
-  -- ---- objects are read
+  -- ---- reading objects
 
   pub read_public_tells : Same s (read_public_row (without_secrets s r) q) (read_public_row r q)
   unfolding read_public_row
@@ -100,7 +100,7 @@ module _ (s : Secrecy) (r : Record) (q : Request) where
       same_step s (all_read q.parameters) _ _ (λ ended.
       same_unchanged s r _)))
 
-  -- ---- objects are created and loaded
+  -- ---- creating and loading objects
 
   proof_same : (h : HierarchyHandle) → secrets_of (bare_hierarchies s r.fixed.hierarchies) h ≡ secrets_of r.fixed.hierarchies h
   proof_same hierarchy.Owner = refl
@@ -145,7 +145,7 @@ module _ (s : Secrecy) (r : Record) (q : Request) where
   place_same : (check : ActionCheck) → place_for check (without_secrets s r) ≡ place_for check r
   place_same check = ap (λ (found : Option ℕ). ok_or found (action_refusal check (plain code.ObjectMemory))) (lowest_free_each (bare_object s) r.objects)
 
-  -- If a new object is put into a slot, the rows look the same.
+  -- Putting a new object into a slot looks the same on both devices.
   placed : (one other : ℕ → AnswerParts) (check : ActionCheck) (o : Object) → ((n : ℕ) → one n ≡ other n) → Same s (place_for check (without_secrets s r) >>= λ n. Ok (record { answer = one n; after = record (without_secrets s r) { objects = with_object (places (bare_object s) r.objects) n o } })) (place_for check r >>= λ n. Ok (record { answer = other n; after = record r { objects = with_object r.objects n o } }))
   placed one other check o same =
       same_both s (place_for check (without_secrets s r)) (place_for check r) _ _ (place_same check) (λ n.
@@ -233,18 +233,18 @@ module _ (s : Secrecy) (r : Record) (q : Request) where
       alike_after (each (bare_object s)) (bare_success s) _ _ _ _ (evicted_alike (is_persistent handle) handle o wanted) (λ xs ys same.
       same_end s nothing _ _ (with_persistent_objects s r xs ys same)))))))
 
-  -- ---- sealed data, and keys
+  -- ---- sealed data and keys
 
   -- If the data of the first handle's object is not secret, it is enough to compare the rows for
-  -- an object that differs only in its authorization value.
+  -- the object with at most its authorization value erased.
   shown_object : (f g : Object → Result Success Refused) → handle_passes (names_secret_object s r) (first_handle q.handles) ≡ false → ((o : Object) → Same s (f (other_value o)) (g o)) → Same s (first_handle q.handles >>= λ handle. loaded_at (without_secrets s r) handle >>= f) (first_handle q.handles >>= λ handle. loaded_at r handle >>= g)
   shown_object f g shown more =
       alike_step_is (bare_success s) (first_handle q.handles) _ _ (λ handle named.
       same_object s r handle f g (λ o found.
       subst (λ (x : Object). Same s (f x) (g o)) (sym (data_shown o (sym (ap (λ (x : Option Object). option_map_or (has_secret_data s) x false) found) ∙ sym (ap (handle_passes (names_secret_object s r)) named) ∙ shown))) (more o)))
 
-  -- If only the fact of a success is compared, it is enough to compare the rows for the object
-  -- with its secrets erased.
+  -- If only the fact of a success is visible, it is enough to compare the rows for the object with
+  -- its secrets erased.
   any_object : (f g : Object → Result Success Refused) → ((o : Object) → Alike success (f (bare_object s o)) (g o)) → Alike success (first_handle q.handles >>= λ handle. loaded_at (without_secrets s r) handle >>= f) (first_handle q.handles >>= λ handle. loaded_at r handle >>= g)
   any_object f g more =
       alike_step success (first_handle q.handles) _ _ (λ handle.

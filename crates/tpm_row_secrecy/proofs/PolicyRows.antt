@@ -1,4 +1,4 @@
--- The rows for policies reveal nothing about secrets, except that of TPM2_PolicyNV on a policy
+-- The rows for policies reveal nothing about secrets, except the row of TPM2_PolicyNV on a policy
 -- session.
 use Rattle.std.proofs.Common.{ap, refl, sym, ◌∙◌}
 use Rattle.std.proofs.lemmas.Bool.{false≢true, not-false}
@@ -55,7 +55,7 @@ use Rattle.tpm_actions_policy.specs.PolicySecret as of_secret
 use Rattle.tpm_policy.specs.Assertion as assertion
 
 module _ (s : Secrecy) (r : Record) (q : Request) where
-  -- ---- an assertion
+  -- ---- making an assertion
 
   policy_set : (handle : Handle) (policy : Policy) → places (bare_session s) (with_session_policy (places (bare_session s) r.sessions) handle policy) ≡ places (bare_session s) (with_session_policy r.sessions handle policy)
   unfolding with_session_policy
@@ -77,7 +77,7 @@ module _ (s : Secrecy) (r : Record) (q : Request) where
       (λ xs ys alike. same_end s _ _ _ (with_sessions s r xs ys alike))
 
   -- If a command decodes its parameters, and its assertion does not depend on the session's
-  -- secrets, the rows look the same.
+  -- secrets, its rows on both devices look the same.
   by_parameters : {P : Type 0} (c : CommandCode) (x : Result P Refused) (f : P → Session → Assertion) → ((p : P) (y : Session) → f p (bare_session s y) ≡ f p y) → Same s (session_handle c q.handles >>= λ handle. (x >>= λ p. Ok (f p)) >>= λ a. with_assertion (places (bare_session s) r.sessions) handle a >>= kept_after c (without_secrets s r)) (session_handle c q.handles >>= λ handle. (x >>= λ p. Ok (f p)) >>= λ a. with_assertion r.sessions handle a >>= kept_after c r)
   by_parameters c x f same =
       same_step s (session_handle c q.handles) _ _ (λ handle.
@@ -117,7 +117,7 @@ module _ (s : Secrecy) (r : Record) (q : Request) where
   unfolding assertion_row
   policy_locality_tells = by_parameters command.PolicyLocality (only (or_fault (number_at w8 q.parameters) (plain code.Insufficient))) (λ localities y. Locality localities) (λ p y. refl)
 
-  -- ---- TPM2_PolicySecret: the Name of the entity
+  -- ---- TPM2_PolicySecret, whose assertion contains the Name of the entity
 
   secret_same : (p : of_secret.Parameters) (entity : Handle) (x : Session) → asserted x.hash (is_trial x.kind) (Secret (secret_of p (name_of (without_secrets s r) entity) (bare_session s x))) x.policy ≡ asserted x.hash (is_trial x.kind) (Secret (secret_of p (name_of r entity) x)) x.policy
   secret_same p entity x = ap (λ (name : List ℕ). asserted x.hash (is_trial x.kind) (Secret (secret_of p name x)) x.policy) (name_bare s r entity)
@@ -132,7 +132,7 @@ module _ (s : Secrecy) (r : Record) (q : Request) where
       (same_step s (secret_parameters q.parameters) _ _ (λ p.
       asserted_end command.PolicySecret handle (λ y. Secret (secret_of p (name_of (without_secrets s r) entity) y)) (λ y. Secret (secret_of p (name_of r entity) y)) (λ x is. secret_same p entity x))))))
 
-  -- ---- TPM2_PolicyNV: of an index that is not secret, or on a trial session
+  -- ---- TPM2_PolicyNV with an index that is not secret, or on a trial session
 
   abbrev parts_with : Target → of_index.Parameters → List ℕ → Result (List ℕ) ActionFault → NvParts
   parts_with target p name found = record {
@@ -148,7 +148,8 @@ module _ (s : Secrecy) (r : Record) (q : Request) where
       ap (λ (name : List ℕ). parts_with target p name (compared (without_secrets s r) target p)) (name_bare s r target.handle)
       ∙ ap (λ (bytes : Result (List ℕ) ReadFault). parts_with target p (name_of r target.handle) (reading_passes target >>= λ readable. or_fault bytes (plain_fault action.Fourth code.NvRange))) (read_shown s r.nv target.handle p.offset (length p.operand) shown)
 
-  -- A trial session compares nothing, so the assertion of TPM2_PolicyNV is the same.
+  -- On a trial session TPM2_PolicyNV compares nothing, so its assertion has the same result on both
+  -- devices.
   trial_same : (trial : Bool) (hash : HashAlg) (target : Target) (p : of_index.Parameters) (policy : Policy) → trial ≡ true → nv_asserted hash trial (nv_parts_of (without_secrets s r) target p) policy ≡ nv_asserted hash trial (nv_parts_of r target p) policy
   unfolding nv_asserted
   trial_same true hash target p policy is = ap (λ (name : List ℕ). nv_asserted hash true (record (nv_parts_of (without_secrets s r) target p) { name = name }) policy) (name_bare s r target.handle)
@@ -157,7 +158,8 @@ module _ (s : Secrecy) (r : Record) (q : Request) where
   is_trial_session : (handle : Handle) (x : Session) → session_at r.sessions handle ≡ Some x → names_policy_session r handle ≡ false → is_trial x.kind ≡ true
   is_trial_session handle x is free = not-false (is_trial x.kind) (sym (ap (λ (found : Option Session). option_map_or (λ (y : Session). not (is_trial y.kind)) found false) is) ∙ free)
 
-  -- If the assertions have the same result, the rows of TPM2_PolicyNV look the same.
+  -- If the assertions have the same result on both devices, the rows of TPM2_PolicyNV look the
+  -- same.
   nv_row : ((handle : Handle) → third_handle q.handles ≡ Ok handle → (target : Target) → second_handle q.handles ≡ Ok target.handle → (p : of_index.Parameters) (x : Session) → session_at r.sessions handle ≡ Some x → nv_asserted x.hash (is_trial x.kind) (nv_parts_of (without_secrets s r) target p) x.policy ≡ nv_asserted x.hash (is_trial x.kind) (nv_parts_of r target p) x.policy) → Same s (assertion_row command.PolicyNv (without_secrets s r) q) (assertion_row command.PolicyNv r q)
   unfolding assertion_row
   nv_row same =

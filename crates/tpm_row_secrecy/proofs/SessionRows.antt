@@ -29,19 +29,19 @@ use Rattle.tpm_row_secrecy.specs.Secrecy.{CoversKeys, Secrecy, bare_binding, bar
 use Rattle.tpm_types.specs.declared.action_check.ActionCheck.TheVariants as action
 use Rattle.tpm_types.specs.declared.rc.ResponseCode.TheVariants as code
 
--- If sessions bound to a Name do not have secret keys, erasing the secrets leaves a binding to
--- that Name unchanged.
+-- If the keys of sessions that are bound to a Name are not secret, erasing the secrets does not
+-- change a binding to this Name.
 shown_binding : (s : Secrecy) (b : Binding) → s.bound_names b.name ≡ false → bare_binding s b ≡ b
 shown_binding s b shown = ap (λ (value : List ℕ). record b { auth_value = value }) (unless_open _ b.auth_value shown)
 
 module _ (s : Secrecy) (covers : CoversKeys s) (r : Record) (q : Request) where
-  -- ---- a session starts
+  -- ---- starting a session
 
   abbrev bound : (name value : List ℕ) → Protection → Binding
   bound name value protection = record { name = name; auth_value = value; protection = protection }
 
-  -- Unless sessions bound to an entity's Name have secret keys, the entity's authorization value
-  -- is the same on both devices.
+  -- Unless the keys of sessions that are bound to an entity's Name are secret, the entity's
+  -- authorization value is the same on both devices.
   value_open : (bind : Handle) (b : Bool) → s.bound_names (name_of r bind) ≡ b → unless b (auth_value_of (without_secrets s r) bind) ≡ unless b (auth_value_of r bind)
   value_open bind true is = refl
   value_open bind false is = value_bare s r bind (by (has_secret_value s r bind) refl)
@@ -103,7 +103,7 @@ module _ (s : Secrecy) (covers : CoversKeys s) (r : Record) (q : Request) where
       (ap (λ (x : Session). Some x) (session_same p (binding_of (without_secrets s r) bind) (binding_of r bind) (binding_same bind)))))))))
 
 module _ (s : Secrecy) (r : Record) (q : Request) where
-  -- ---- a session or an object is flushed
+  -- ---- flushing a session or an object
 
   loaded_same : (handle : Handle) → is_loaded (without_secrets s r) handle ≡ is_loaded r handle
   loaded_same handle =

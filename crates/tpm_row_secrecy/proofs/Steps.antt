@@ -1,4 +1,4 @@
--- Rows on a device with its secrets erased, compared with the same rows on the device itself.
+-- Rows look the same on a device and on the device with its secrets erased, if their steps do.
 use Rattle.std.proofs.Common.{ap, refl, subst, sym, ◌∙◌}
 use Rattle.std.specs.Prelude.{Err, None, Ok, Option, Result, Some, ok_or, option_map, ◌≡◌}
 use Rattle.tpm_actions_object.specs.Loaded.{loaded_at}
@@ -28,7 +28,7 @@ use Rattle.tpm_row_secrecy.proofs.Entities.{index_at_bare, object_of_bare, sessi
 use Rattle.tpm_row_secrecy.specs.Alike.{Same, bare_success}
 use Rattle.tpm_row_secrecy.specs.Secrecy.{Secrecy, bare_index, bare_nv, bare_object, bare_session, without_secrets}
 
--- ---- ends
+-- ---- the ends of rows
 
 pub same_end : (s : Secrecy) (answer : AnswerParts) (a b : Record) → without_secrets s a ≡ without_secrets s b → Same s (Ok (record { answer = answer; after = a })) (Ok (record { answer = answer; after = b }))
 same_end s answer a b same = alike_end (bare_success s) _ _ (ap (λ (r : Record). let x : Success = record { answer = answer; after = r } in x) same)
@@ -51,7 +51,7 @@ same_changed s r refusal x y alike =
     alike_after (bare_nv s) (bare_success s) _ _ _ _ (alike_refusal (bare_nv s) refusal x y alike)
     (λ n m same. same_end s nothing _ _ (with_nv s r n m same))
 
--- ---- steps
+-- ---- the steps of rows
 
 pub same_step : {A : Type 0} (s : Secrecy) (x : Result A Refused) (f g : A → Result Success Refused) → ((a : A) → Same s (f a) (g a)) → Same s (x >>= f) (x >>= g)
 same_step s x f g more = alike_step (bare_success s) x f g more
@@ -59,8 +59,8 @@ same_step s x f g more = alike_step (bare_success s) x f g more
 pub same_both : {A : Type 0} (s : Secrecy) (x y : Result A Refused) (f g : A → Result Success Refused) → x ≡ y → ((a : A) → Same s (f a) (g a)) → Same s (x >>= f) (y >>= g)
 same_both s x y f g same more = alike_both (bare_success s) x y f g same more
 
--- If a step looks up the object, the index or the session with a handle, it is enough to compare
--- the rows for what was found.
+-- If a step looks up the object, the index or the session at a handle, it is enough to compare the
+-- rest of the rows for the value that was found.
 pub same_object : (s : Secrecy) (r : Record) (handle : Handle) (f g : Object → Result Success Refused) → ((o : Object) → object_of r handle ≡ Some o → Same s (f (bare_object s o)) (g o)) → Same s (loaded_at (without_secrets s r) handle >>= f) (loaded_at r handle >>= g)
 same_object s r handle f g more = alike_found (bare_success s) (bare_object s) _ _ handle_refusal f g (object_of_bare s r handle) more
 
@@ -96,7 +96,7 @@ target_bare s r q = target_by (first_handle q.handles) (second_handle q.handles)
 pub same_target : (s : Secrecy) (r : Record) (q : Request) (f g : Target → Result Success Refused) → ((t : Target) → Same s (f t) (g t)) → Same s (target_of (without_secrets s r) q >>= f) (target_of r q >>= g)
 same_target s r q f g more = same_both s _ _ f g (target_bare s r q) more
 
--- The target is the index that the second handle names.
+-- A step: the index of a command's target is the one that the second handle names.
 handle_of_target : (b : Handle) (x : Result NvAttributes Refused) (a : Handle) (t : Target) → (x >>= λ c. let y : Result Target Refused = Ok (record { auth_handle = a; handle = b; attributes = c }) in y) ≡ Ok t → b ≡ t.handle
 handle_of_target b (Err e) a t is = absurd cc
 handle_of_target b (Ok c) a t is = ap (λ (x : Result Target Refused). target_handle x) is

@@ -1,16 +1,16 @@
--- The definition of two rows that look the same: both are the same refusal, or both have the same
--- answer and leave records that differ only in secrets.
+-- Results that look the same: both are the same refusal, or both are successes with the same
+-- visible part.
 use Rattle.std.specs.Prelude.{Err, Ok, Result, ◌≡◌}
 use Rattle.tpm_record.specs.rows.Rows.{Success}
 use Rattle.tpm_types.specs.declared.refused.Refused.{Refused}
 use Rattle.tpm_row_secrecy.specs.Secrecy.{Secrecy, without_secrets}
 
--- a result with its success replaced by what `see` shows of it
+-- a result in which a success is replaced by its visible part
 abbrev pub outcome : {A B E : Type 0} → (A → B) → Result A E → Result B E
 outcome see (Ok a) = Ok (see a)
 outcome see (Err e) = Err e
 
--- Two results are the same refusal, or two successes that look the same.
+-- Two results are the same refusal, or two successes with the same visible part.
 pub record Alike {A B E : Type 0} (see : A → B) (x y : Result A E) : Type 0 where
   pub is : outcome see x ≡ outcome see y
 
@@ -18,7 +18,7 @@ pub record Alike {A B E : Type 0} (see : A → B) (x y : Result A E) : Type 0 wh
 abbrev pub bare_success : Secrecy → Success → Success
 bare_success s x = record { answer = x.answer; after = without_secrets s x.after }
 
--- Two rows are the same refusal, or have the same answer and leave records that differ only in
--- secrets.
+-- Two results of rows are the same refusal, or have the same answer and leave records that differ
+-- only in secrets.
 abbrev pub Same : Secrecy → Result Success Refused → Result Success Refused → Type 0
 Same s x y = Alike (bare_success s) x y

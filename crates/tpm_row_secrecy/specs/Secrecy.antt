@@ -29,7 +29,7 @@ pub record Secrecy : Type 0 where
   pub index_data : ℕ → Bool
   -- the KEYEDHASH objects whose sealed data or HMAC key is secret, by public area
   pub object_data : Public → Bool
-  -- the NV indices, the objects, and the hierarchies or lockout, whose authorization value is
+  -- the NV indices, the objects, and the hierarchies (or lockout) whose authorization value is
   -- secret
   pub index_values : ℕ → Bool
   pub object_values : Public → Bool
@@ -48,8 +48,8 @@ unless secret bytes = if secret then [] else bytes
 abbrev pub has_secret_data : Secrecy → Object → Bool
 has_secret_data s o = is_keyed_hash o.public && s.object_data o.public
 
--- an object with its secrets erased: its authorization value; and its sealed data or key,
--- together with the seedValue, because `unique` is computed from both
+-- an object with its secrets erased: its authorization value; and its sealed data or key together
+-- with the seedValue, because `unique` is computed from both
 abbrev pub bare_object : Secrecy → Object → Object
 bare_object s o = record o {
   auth_value = unless (s.object_values o.public) o.auth_value;
@@ -59,8 +59,8 @@ bare_object s o = record o {
 
 -- ---- NV indices
 
--- an index with its secrets erased, together with its handle; the largest value of any counter is
--- unchanged
+-- an index with its secrets erased; the map keeps its handle, and the largest value of any counter
+-- is unchanged
 abbrev pub bare_index : Secrecy → NvIndex → NvIndex
 bare_index s i = record i {
   auth_value = unless (s.index_values i.public.nv_index.number) i.auth_value;
@@ -104,8 +104,8 @@ bare_session s x = record x {
 
 -- ---- the device
 
--- the record with its secrets erased; everything else is unchanged: the entities with their public
--- areas and Names, the sessions and their policies, the PCRs, the count of failed tries, the seeds
+-- the record with its secrets erased. Everything else is unchanged: the entities with their public
+-- areas and Names, the sessions and their policies, the PCRs, the number of failed tries, the seeds
 abbrev pub without_secrets : Secrecy → Record → Record
 without_secrets s r = record {
   fixed = bare_fixed s r.fixed;
@@ -142,7 +142,7 @@ pub record CoversKeys (s : Secrecy) : Type 0 where
       → option_map_or s.hierarchy_values (hierarchy_auth_of handle) false ≡ true
       → s.bound_names (handle_name handle) ≡ true
 
--- the secrecy in which only data is secret: that of NV indices and of objects
+-- the secrecy in which only the data of these NV indices and objects is secret
 abbrev pub of_data : (ℕ → Bool) → (Public → Bool) → Secrecy
 of_data indices objects = record {
   index_data = indices;

@@ -1,11 +1,11 @@
 #![tactic(auto)]
 
-//! The secrets of a device, and the law that the row of a command reveals nothing about them
-//! unless the command reads them.
+//! The secrets of a device, and the law that the row of a command reveals nothing about them unless
+//! the command reads them.
 //!
-//! The secrets are the data of NV indices, the data that objects seal, HMAC keys, and
-//! authorization values. tpm_step requires a law about the row of every command; `proofs/`
-//! contains these laws.
+//! The secrets are the data of NV indices, the data that objects seal, HMAC keys, and authorization
+//! values. tpm_step has one law about the row of every command, and this law is a part of it.
+//! `proofs/` contains the proofs for the rows.
 
 ghost use Rattle.std.specs.Prelude.{◌≡◌};
 ghost use Rattle.tpm_commands.specs.declared.command_code.CommandCode.{CommandCode};

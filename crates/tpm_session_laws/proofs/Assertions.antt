@@ -26,12 +26,12 @@ use Rattle.tpm_step.specs.rows.Draws.{draws_of}
 use Rattle.tpm_step.proofs.HandleMap.{at_other, at_same, same_handle}
 use Rattle.tpm_session_laws.specs.Assertions.{LeavesNoAssertion, NoneStandsThrough}
 
--- a session, if it exists, has no assertion
+-- The session has no assertion, if it exists.
 abbrev IsBare : Option LiveSession → Type 0
 IsBare None = Unit {0}
 IsBare (Some s) = s.assertions ≡ []
 
--- a change adds no assertion to a session without assertions
+-- The change adds no assertion to a session without assertions.
 abbrev AddsNone : (LiveSession → LiveSession) → Type 0
 AddsNone change = (s : LiveSession) → s.assertions ≡ [] → (change s).assertions ≡ []
 

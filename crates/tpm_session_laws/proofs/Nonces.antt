@@ -1,4 +1,4 @@
--- What a command adds to the earlier nonces of a session.
+-- A command adds the session's old nonce to the session's earlier nonces.
 use Rattle.std.proofs.Common.{◌≡◌, ℕ, Bool, true, false, cond, List, [], ◌∷◌, take, drop, Option, Some, None, option_map, refl, ap, sym, subst, ◌∙◌}
 use Rattle.std.specs.Prelude.{is_some}
 use Rattle.std.specs.List.{zip}
@@ -14,7 +14,7 @@ use Rattle.tpm_step.specs.rows.Draws.{draws_of}
 use Rattle.tpm_step.proofs.HandleMap.{at_same}
 use Rattle.tpm_session_laws.specs.Nonces.{AddsItsNonce}
 
--- a session, if it exists, has these earlier nonces
+-- The session has these earlier nonces, if it exists.
 abbrev Had : List (List ℕ) → Option LiveSession → Type 0
 Had nonces None = Unit {0}
 Had nonces (Some s) = s.earlier_nonces ≡ nonces
@@ -54,7 +54,8 @@ module _ (history : History) (c : AcceptedCommand) where
   abbrev left : List ℕ
   left = drop (draws_of c.command.code c.request) c.request.random
 
-  -- after these entries of the command, the session of an entry has these earlier nonces
+  -- After these entries of the command, the session of entry e has these earlier nonces, if it
+  -- exists.
   abbrev Ended : (nonces : List (List ℕ)) → Entry → List Entry → Type 0
   Ended nonces e es = Had nonces (entries_ended (entries_rolled effect es left).sessions (zip es c.grants) e.session)
 

@@ -17,7 +17,7 @@ LeavesNoAssertion (Done c) handle =
 LeavesNoAssertion PowerCycled handle = Unit {0}
 LeavesNoAssertion (ObjectPlaced at object) handle = ⊥
 
--- No assertion survives such an event.
+-- No assertion of a session survives an event that leaves the session without assertions.
 abbrev pub NoneStandsThrough : Type 0
 NoneStandsThrough =
     (one : Assertion) (handle : Handle) (since : History) (event : PastEvent)

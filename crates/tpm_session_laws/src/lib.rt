@@ -20,7 +20,7 @@ pub fn assertion_laws()
 {}
 
 /// Since a device was manufactured, an object without userWithAuth whose policy is a cpHash has
-/// been used only by commands with this cpHash; otherwise the hash is broken.
+/// been used only by commands with this cpHash, or the hash is broken.
 #[inline(always)]
 #[tactic(auto, using(crate::proofs::CpHash::each_needs_cp_hash))]
 pub fn cp_hash_laws()

@@ -1,5 +1,5 @@
--- Once the checks of a read have passed, a read of the command's index is refused only past the
--- end of the data.
+-- Once a command has passed the checks of a read, a read of its index is refused only past the end
+-- of the data.
 use Rattle.std.proofs.Common.{◌≡◌, ℕ, ◌+◌, Bool, true, false, Some, Result, Ok, Err, IfOk, IfErr, refl, sym, subst}
 use Rattle.std.specs.Prelude.{not, nat_lt}
 use Rattle.std.proofs.lemmas.Bool.{not-false}
@@ -22,7 +22,7 @@ ok_where : {A B : Type 0} (P : A → Type 0) (x : Result A B) → ((a : A) → x
 ok_where P (Ok a) h = h a refl
 ok_where P (Err e) h = tt
 
--- A check that is followed by a success fails only if the check itself fails.
+-- A step: a check followed by a success fails only if the check fails.
 only_if : {A B : Type 0} (b : Bool) (e : B) (a : A) → IfErr (refused_if b e >>= λ u. Ok a) (λ fault. fault ≡ e)
 only_if true e a = refl
 only_if false e a = tt

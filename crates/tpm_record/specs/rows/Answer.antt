@@ -4,8 +4,8 @@ use Rattle.tpm_bytes.specs.Writing.{sized_text}
 use Rattle.tpm_types.specs.declared.handle.Handle.{Handle}
 use Rattle.tpm_record.specs.declared.rows.answer.Answer.{Answer}
 
--- the parameters of an answer: either they begin with a sized buffer, which a session can encrypt,
--- and which other parameters may follow; or they do not
+-- the parameters of an answer. They may begin with a sized buffer, which a session can encrypt, and
+-- which other parameters may follow
 pub data Body : Type 0 where
   Sized : (bytes : List ℕ) → Body
   SizedFirst : (bytes rest : List ℕ) → Body
@@ -21,8 +21,8 @@ begins_sized (Sized bytes) = true
 begins_sized (SizedFirst bytes rest) = true
 begins_sized (Plain text) = false
 
--- an answer: the handle of what the command created, if anything; the parameters; and the number
--- of random bytes drawn from the front of the event's random bytes
+-- an answer: the handle of the entity that the command created, if there is one; the parameters;
+-- and the number of random bytes drawn from the start of the event's random bytes
 pub record AnswerParts : Type 0 where
   pub handle : Option Handle
   pub body : Body

@@ -1,5 +1,5 @@
--- The refusals of rows, except those because of parameters, which are defined in Rows. TPM 2.0
--- Library, Part 3: the response codes of each command.
+-- The refusals of rows, except those of parameters, which are defined in Rows. TPM 2.0 Library,
+-- Part 3: the response codes of each command.
 use Rattle.std.specs.Prelude.{ℕ, Result, Ok, Err}
 use Rattle.tpm_types.specs.declared.action_check.ActionCheck.{ActionCheck}
 use Rattle.tpm_types.specs.declared.action_fault.ActionFault.{ActionFault}
@@ -12,8 +12,8 @@ use Rattle.tpm_types.specs.declared.rc.ResponseCode.{ResponseCode}
 use Rattle.tpm_types.specs.declared.rc.ResponseCode.TheVariants as code
 use Rattle.tpm_types.specs.declared.refused.Refused.{Refused}
 
--- the refusal of a handle that does not name what the general checks found, so that no row acts on
--- it. It never occurs (later_handle_laws of tpm_step)
+-- the refusal of a handle that does not name the entity that the general checks found. It never
+-- occurs (later_handle_laws of tpm_step)
 abbrev pub handle_refusal : Refused
 handle_refusal = refusal check.Handles (plain code.Failure)
 
@@ -33,7 +33,7 @@ fault_refusal fault = action_refusal fault.check fault.rc
 abbrev pub memory_refusal : Refused
 memory_refusal = refusal check.Memory (plain code.Memory)
 
--- the result of a call to a part of the device, in which its fault becomes this command's refusal
+-- the result of a call to a part of the device; a fault of the part becomes the command's refusal
 abbrev pub or_refusal : {X F : Type 0} → (F → Refused) → Result X F → Result X Refused
 or_refusal refusal (Ok x) = Ok x
 or_refusal refusal (Err fault) = Err (refusal fault)

@@ -13,17 +13,17 @@ use Rattle.tpm_record.specs.rows.Answer.{AnswerParts, IsAnswer}
 use Rattle.tpm_record.specs.rows.Refusals.{memory_refusal}
 use Rattle.tpm_record.specs.declared.rows.answer.Answer.{Answer}
 
--- the refusal by G11 because of the parameter with this number
+-- the refusal of the parameter with this number, by G11
 abbrev pub parameter_refusal : ℕ → Rc → Refused
 parameter_refusal n rc = refusal check.Parameters (at (place.Parameter n) rc)
 
--- the value that was read for a parameter and the rest of the text, or the refusal because of that
+-- the value that was read for a parameter and the rest of the bytes, or the refusal of this
 -- parameter
 abbrev pub parameter : {X : Type 0} → ℕ → Result X Rc → Result X Refused
 parameter n (Ok x) = Ok x
 parameter n (Err rc) = Err (parameter_refusal n rc)
 
--- the check that no bytes follow the last parameter, which is part of G11
+-- refuses bytes after the last parameter, which is part of G11
 abbrev pub all_read : List ℕ → Result (Unit {0}) Refused
 all_read rest = refused_if (not (length rest == 0)) (refusal check.Parameters (plain code.Size))
 
@@ -43,10 +43,11 @@ pub record Success : Type 0 where
 abbrev pub unchanged : Record → AnswerParts → Success
 unchanged r answer = record { answer = answer; after = r }
 
--- A command that grows did what its row says and returned the row's answer; or, if an allocation
--- can fail, it was refused with MEMORY instead of succeeding. A refusal does not change the
--- record. After a refusal of any command, the content of the answer is unspecified: it may contain
--- part of a success's answer. The response to a refusal is made only from the refusal.
+-- A command that grows changed the record as its row says, and returned the row's answer. Or an
+-- allocation can fail, and the command was refused with MEMORY instead of succeeding. A refusal
+-- does not change the record. After a refusal of any command, the content of the answer is
+-- unspecified: it may contain part of a success's answer. The response to a refusal is made only
+-- from the refusal.
 abbrev pub ActsIfRoom : Bool → Result Success Refused
     → Record → Result (Unit {0}) Refused → Answer → Record → Type 0
 ActsIfRoom can (Ok s) old (Ok done) answer new = IsAnswer s.answer answer × (new ≡ s.after)
@@ -55,8 +56,8 @@ ActsIfRoom can (Ok s) old (Err e) answer new =
 ActsIfRoom can (Err refused) old (Ok done) answer new = ⊥
 ActsIfRoom can (Err refused) old (Err e) answer new = (e ≡ refused) × (new ≡ old)
 
--- A command that does not grow did what its row says. A refusal does not change the record, and
--- the content of the answer is then unspecified.
+-- A command that does not grow changed the record and returned the answer as its row says. A
+-- refusal does not change the record, and the content of the answer is then unspecified.
 abbrev pub Acts : Result Success Refused
     → Record → Result (Unit {0}) Refused → Answer → Record → Type 0
 Acts row old result answer new = ActsIfRoom false row old result answer new

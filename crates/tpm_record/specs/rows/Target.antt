@@ -20,7 +20,7 @@ use Rattle.tpm_record.specs.rows.Refusals.{handle_refusal}
 use Rattle.tpm_record.specs.rows.Request.{Request, first_handle, second_handle}
 use Rattle.tpm_record.specs.declared.rows.target.Target.{Target}
 
--- the NV index with this handle, which the general checks found to exist
+-- the NV index with this handle; it exists, because the general checks found it
 abbrev pub index_or_refusal : Record → Handle → Result NvIndex Refused
 index_or_refusal r handle = ok_or (index_at r.nv handle) handle_refusal
 
@@ -38,8 +38,8 @@ target_of r q = do
   attributes ← attributes_of r handle
   Ok (record { auth_handle = auth_handle; handle = handle; attributes = attributes })
 
--- whether authHandle may use the index in some way: the owner and the platform may if the index
--- has the attribute that allows them to; any other authHandle must be the index itself
+-- whether authHandle may use the index. The owner and the platform may if the index has the
+-- attribute that allows them to; any other authHandle must be the index itself
 abbrev pub may : (owner platform : NvAttribute) → Target → Bool
 may owner platform target =
     if target.auth_handle.number == owner_handle.number then has target.attributes owner
@@ -52,11 +52,11 @@ may_write target = may attribute.OwnerWrite attribute.PpWrite target
 abbrev pub may_read : Target → Bool
 may_read target = may attribute.OwnerRead attribute.PpRead target
 
--- ---- who may read an index, and what is read
+-- ---- the checks of a read of an index
 
--- the checks A1 to A3 of each command that reads an NV index (Part 3, sections 23.9 and 31.13).
--- Refused by A1 if authHandle may not read the index; by A2 if the index is locked against
--- reading; by A3 if it is not written
+-- the checks A1 to A3 of each command that reads an NV index (Part 3, sections 23.9 and 31.13). A1
+-- refuses the command if authHandle may not read the index, A2 if the index is locked against
+-- reading, and A3 if it is not written
 abbrev pub reading_passes : Target → Result (Unit {0}) ActionFault
 reading_passes target = do
   a1 ← refused_if (not (may_read target)) (plain_fault action.First code.NvAuthorization)

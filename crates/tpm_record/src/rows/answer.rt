@@ -1,5 +1,5 @@
 //! The answer of a successful command: a handle, parameters, and the number of random bytes that
-//! it drew. All commands share one answer.
+//! the command drew. All commands write to the same answer.
 
 ghost use Rattle.std.specs.Prelude.{◌≤◌};
 ghost use Rattle.tpm_record.specs.rows.Draws.{draw_limit};
@@ -17,7 +17,7 @@ pub struct Answer {
     /// The handle of the session or object that the command created, if it returns one.
     pub handle: Option<Handle>,
     pub parameters: Parameters,
-    /// The number of random bytes that the command drew, from the front of the event's random
+    /// The number of random bytes that the command drew, from the start of the event's random
     /// bytes.
     pub drawn: usize,
     ghost few: { drawn ≤ draw_limit },
@@ -26,7 +26,7 @@ pub struct Answer {
 impl Answer {
     ghost use Rattle.tpm_record.specs.rows.Answer.{IsEmpty};
 
-    /// An answer without a handle or parameters, for which no random bytes were drawn.
+    /// An answer without a handle or parameters, and without drawn random bytes.
     pub fn empty() -> Answer
         ensures { IsEmpty result }
     {
@@ -37,7 +37,7 @@ impl Answer {
         }
     }
 
-    /// Empties the answer, which may still contain that of an earlier command.
+    /// Empties the answer, which may still contain the answer of an earlier command.
     pub fn clear(&mut self)
         ensures { IsEmpty self.new }
     {

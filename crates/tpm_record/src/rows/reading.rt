@@ -9,15 +9,14 @@ ghost use Rattle.tpm_record.specs.rows.Rows.{all_read, parameter, parameter_refu
 use tpm_bytes::{Cursor, Short};
 use tpm_types::{Check, Rc, Refused, ResponseCode};
 
-/// The refusal because of the parameter with this number.
+/// The refusal of the parameter with this number.
 fn at_parameter(number: u8, rc: Rc) -> Refused
     ensures { result ≡ parameter_refusal number rc }
 {
     Refused::by(Check::Parameters, rc.at_parameter(number))
 }
 
-/// The value that was read for a parameter, or the refusal because of the parameter at this
-/// position.
+/// The value that was read for the parameter with this number, or the refusal of the parameter.
 pub fn parameter<T>(place: u8, read: Result<T, Rc>) -> Result<T, Refused>
     ensures { result ≡ parameter place read }
 {
@@ -27,8 +26,8 @@ pub fn parameter<T>(place: u8, read: Result<T, Rc>) -> Result<T, Refused>
     }
 }
 
-/// The value that was read for a number, or the refusal because of the parameter at this position.
-/// Reading a number fails only if it is truncated.
+/// The number that was read for the parameter with this number, or the refusal of the parameter.
+/// Reading a number fails only if its bytes are truncated.
 pub fn number<T>(place: u8, read: Result<T, Short>) -> Result<T, Refused>
     ensures { result ≡ parameter place (or_fault read (plain code.Insufficient)) }
 {
