@@ -19,8 +19,8 @@ same_first x y xs ys is = (cc, cc)
 has_first : (x : ℕ) (xs : List ℕ) → x ∷ xs ≡ [] → ⊥
 has_first x xs is = absurd cc
 
--- The front is the short text and more, and the rest is this remainder and the back. So both pairs
--- are the same text, split at two offsets.
+-- The same text is split twice, and the front of the first split begins with the front of the
+-- second.
 abbrev GoesOn : (front back short rest : List ℕ) → Type 0
 GoesOn front back short rest = (more : List ℕ) × (front ≡ short ++ more) × (more ++ back ≡ rest)
 

@@ -75,12 +75,12 @@ pub record IsAstride (text : List ℕ) (texts : List (List ℕ)) : Type 0 where
   pub has_beginning : beginning ≢ []
   pub is_none : IsAmong text texts → ⊥
 
--- The hash is broken, by texts that a policy and a session's assertions determine. Collision: two
--- different texts have the same hash; one was hashed for the policy, the other by the session.
--- HashOfZeros: the hash of a text is all zeros, the initial digest of a session. AstrideBranches: a
--- digest of the session spans the digests of two neighbouring branches of a TPM2_PolicyOR in the
--- policy. TPM2_PolicyOR hashes the concatenation of its digests without their sizes, so a session
--- may pass the same bytes split at other offsets.
+-- Texts that a policy and a session's assertions determine break the hash. Collision: two different
+-- texts have the same hash; one was hashed for the policy, the other by the session. HashOfZeros:
+-- the hash of a text is all zeros, the initial digest of a session. AstrideBranches: a digest of
+-- the session spans the digests of two neighbouring branches of a TPM2_PolicyOR in the policy.
+-- TPM2_PolicyOR hashes the concatenation of its digests without their sizes, so a session may pass
+-- the same bytes split at other offsets.
 pub data BreaksHash (hash : HashAlg) (policy : PolicyExpression) (assertions : List Assertion)
     : Type 0
   where

@@ -1,10 +1,10 @@
 #![tactic(auto)]
 
-//! The meaning of a policy session's digest: written policies, their digests, and what follows if
-//! a session's digest is that of a policy.
+//! The meaning of a policy session's digest: written policies, their digests, and what follows if a
+//! session's digest is that of a policy.
 //!
-//! The crate uses the definitions of tpm_policy. It knows no sessions, no entities and no
-//! history. Each law is the contract of a function that has no effect at run time.
+//! The crate uses the definitions of tpm_policy. It does not refer to sessions, entities or
+//! histories. Each law is the contract of a function that has no effect at run time.
 
 ghost use Rattle.tpm_policy_meaning.specs.Asserted.{AcceptedFindDigest, DemandsValue};
 ghost use Rattle.tpm_policy_meaning.specs.Asserted.{SessionHashesTexts};

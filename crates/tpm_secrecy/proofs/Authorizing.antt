@@ -114,7 +114,7 @@ module _ (s : Secrecy) (covers : CoversKeys s) (r : Record) where
   abbrev bare : Record
   bare = without_secrets s r
 
-  -- ---- what the device with secrets and the one without have in common
+  -- ---- facts that are the same on both devices
 
   pub seen_session : {X : Type 0} (see : Option Session → X) → ((found : Option Session) → see (option_map (bare_session s) found) ≡ see found) → (h : Handle) → see (session_at bare.sessions h) ≡ see (session_at r.sessions h)
   seen_session see same h = ap see (session_at_bare s r.sessions h) ∙ same (session_at r.sessions h)

@@ -1,4 +1,4 @@
--- A command's effect does not change what its sessions got when they started.
+-- A command's effect does not change the properties that sessions got at their start.
 use Rattle.std.proofs.Common.{ap, inl, inr, refl, sym, ◌∙◌}
 use Rattle.std.proofs.lemmas.Bool.{cases_eq, false≢true}
 use Rattle.std.proofs.lemmas.Option.{same_Some}
@@ -37,7 +37,7 @@ use Rattle.tpm_row_secrecy.proofs.Each.{at_number_each, places, set_each}
 use Rattle.tpm_commands.specs.declared.command_code.CommandCode.TheVariants as command
 use Rattle.tpm_commands.specs.Part as part
 
--- what a session got when it started, which does not include its nonce and its policy
+-- the properties that a session got at its start, without its nonce and its policy
 abbrev pub start_of_session : Session → Session
 start_of_session x = record x { nonce_tpm = []; policy = starting x.hash }
 

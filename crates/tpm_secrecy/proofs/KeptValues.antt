@@ -256,7 +256,8 @@ module _ (s : Secrecy) where
   permanent_stays : (old new : Record) (h : Handle) → names_kept h ≡ false → StaysOpen old new h
   permanent_stays old new h kept shown = permanent_value new h kept ∙ sym (permanent_value old h kept) ∙ shown
 
-  -- an existing object is not in a free slot, and so a new object there does not replace it
+  -- an existing object is not in a free slot, and so a new object in a free slot does not replace
+  -- it
   placed_same : (r : Record) (n : ℕ) (new o : Object) (h : Handle) → object_of r h ≡ Some o → lowest_free r.objects ≡ Some n → object_of (record r { objects = with_object r.objects n new }) h ≡ object_of r h
   unfolding object_of object_at at_number
   placed_same r n new o h found free = by (is_persistent h) found

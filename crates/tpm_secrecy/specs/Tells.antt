@@ -77,7 +77,7 @@ EventTellsNothing =
     DifferInSecrets s one other → EventsAlike s event also → is_reading s one event ≡ false
     → TellsNothing s (step_where refused one event) (step_where refused other also)
 
--- An event reads secret data on both of two such devices, or on neither.
+-- An event reads secret data on both of two devices that differ only in this data, or on neither.
 abbrev pub ReadOnBoth : Type 0
 ReadOnBoth =
     (indices : ℕ → Bool) (objects : Public → Bool) (one other : Record) (event : PlainEvent)

@@ -72,7 +72,8 @@ kept_viewed : (r : Record) (handle : Handle) → is_viewed (view_of r handle) �
 unfolding view_of
 kept_viewed r handle = viewed_kept handle (entity_at r handle)
 
--- an entity that is neither an object nor an index has the authorization value of its handle
+-- A step: an entity that is neither an object nor an index has the authorization value of its
+-- permanent handle.
 permanent_value : (r : Record) (handle : Handle) (x : Entity) → is_kept x ≡ false → entity_auth_value r handle x ≡ permanent_auth_value r handle
 permanent_value r handle (AnObject object) none = absurd cc
 permanent_value r handle (AnIndex index) none = absurd cc
@@ -82,7 +83,8 @@ other_value : (r : Record) (handle : Handle) → is_kept (entity_at r handle) �
 unfolding auth_value_of
 other_value r handle none = permanent_value r handle (entity_at r handle) none
 
--- the authorization value of a hierarchy or of lockout is the one at its handle
+-- A step: the handle of a hierarchy or of lockout has the authorization value of this hierarchy or
+-- of lockout.
 hierarchy_seen : (r : Record) (a : HierarchyAuth) → auth_seen r (auth_handle a) ≡ Some (permanent_auth_value r (auth_handle a))
 hierarchy_seen r auth.Owner = refl
 hierarchy_seen r _ = refl

@@ -1,4 +1,4 @@
--- Each command makes the assertion that the history says.
+-- Each command makes the assertion that the history determines for it.
 use Rattle.std.proofs.Common.{◌≡◌, ℕ, Bool, List, [], ◌∷◌, map, Result, Ok, Err, IfOk, refl, ap, sym, ◌∙◌}
 use Rattle.std.specs.Int.{w8, w32}
 use Rattle.tpm_bytes.specs.Reading.{◌>>=◌, number_at, or_fault}
@@ -60,15 +60,15 @@ second_name r (first ∷ second ∷ handles) handle is = view_named r second ∙
 abbrev MakesAs : HashAlg → Assertion → Assertion → Type 0
 MakesAs hash one other = (trial : Bool) (policy : Policy) → policy_with hash trial one policy ≡ policy_with hash trial other policy
 
--- For a command on this session, the history has an assertion, which changes every policy as the
--- device's assertion does.
+-- The history determines an assertion for the command on this session, and it changes every policy
+-- in the same way as the device's assertion.
 pub record Tells (c : AcceptedCommand) (history : History) (code : Code) (s : Session) (a : Assertion) : Type 0 where
   pub told : Assertion
   pub is : assertion_by code c history s.hash s.nonce_tpm ≡ Ok told
   pub makes : MakesAs s.hash a told
 
--- For a command on any session, the history has an assertion, which changes every policy as the
--- device's assertion does.
+-- The history determines an assertion for the command on every session, and it changes every policy
+-- in the same way as the device's assertion.
 abbrev pub IsAsserted : AcceptedCommand → History → Code → (Session → Assertion) → Type 0
 IsAsserted c history code assertion = (s : Session) → Tells c history code s (assertion s)
 

@@ -1,5 +1,5 @@
--- Values and handles in the parameters of commands that set an authorization value: no value ends
--- in a zero, and each handle has its type.
+-- The authorization values in the parameters of commands do not end in a zero, and the handles in
+-- these parameters have their types.
 use Rattle.std.proofs.Common.{rules, ◌≡◌, true, List, ℕ, length, ◌==◌, not, Result, Ok, Err, IfOk}
 use Rattle.tpm_bytes.specs.Reading.{◌>>=◌, refused_if}
 use Rattle.tpm_types.proofs.Trimming.{trimmed_twice}

@@ -169,7 +169,7 @@ flush_keeps r q = search (rules, ok_bind, flushed_keeps)
 
 -- ---- the value that a row sets
 
--- if a command sets this value for this handle, the values are those of the history
+-- if a row sets this value for this handle, the record still has the values of the history
 set_is : (old new : Record) (values : AuthValues) (handle : Handle) (value : List ℕ) (set : Result (Handle × List ℕ) Refused) → set ≡ Ok (handle, value) → Sets handle value old new → HaveValues old values → HaveValues new (with_value set values)
 set_is old new values handle value set is sets have =
     subst (λ (x : Result (Handle × List ℕ) Refused). HaveValues new (with_value x values)) (sym is) (set_values old new values handle value sets have)

@@ -1,5 +1,5 @@
--- Time, failed tries and power cycles keep the balance of `Pays`, and less than one recoveryTime
--- counts towards the next decrement of failedTries.
+-- Time, failed tries and power cycles satisfy `Pays`, and less than one recoveryTime counts towards
+-- the next decrement of failedTries.
 use Rattle.std.proofs.Common.{arith, ◌≡◌, ◌≢◌, ◌⊎◌, ℕ, ◌+◌, ◌*◌, ◌/◌, ◌%◌, ◌-◌, ◌<◌, ◌≤◌, Bool, true, false, cond, refl, sym, ap, ◌∙◌, inl, inr}
 use Rattle.std.specs.Prelude.{not, ◌&&◌, ◌==◌, nat_le}
 use Rattle.std.proofs.lemmas.Bool.{cases_eq, cases_lt, cond_both, leb-false, ne_eqb}
@@ -41,7 +41,7 @@ opened_same elapsed s =
 closing_same : (s : LockoutState) → SameTries s (closed_by_failure s)
 closing_same s = cond_both s.fields.closed _ _ (SameTries s) (λ _. (refl, refl, refl, refl)) (λ _. (refl, refl, refl, refl))
 
--- ---- each step keeps the balance
+-- ---- each step satisfies `Pays`
 
 pub same_pays : (old new : LockoutState) → SameTries old new → Pays old new 0 0
 same_pays old new same = record {
@@ -89,7 +89,8 @@ forgiven_pays elapsed s counts =
       within = inl refl;
     })
 
--- a change that keeps the balance, followed by one that keeps the tries, keeps the balance
+-- a change that satisfies `Pays`, followed by a change that keeps the failed tries, satisfies
+-- `Pays`
 then_same : (a b c : LockoutState) (elapsed : ℕ) → Pays a b 0 elapsed → SameTries b c → Pays a c 0 elapsed
 then_same a b c elapsed pays same = record {
   recovery_time = same.0 ∙ pays.recovery_time;
@@ -111,7 +112,7 @@ cycle_pays s = record {
   within = inl refl;
 }
 
--- a counted failed try keeps the balance, if the device is not in lockout
+-- a counted failed try satisfies `Pays`, if the device is not in lockout
 failure_pays : (s : LockoutState) → s.fields.recovery_time ≢ 0 → is_locked s.fields ≡ false → Pays s (after_failure s) 1 0
 unfolding after_failure
 failure_pays s counts unlocked =
@@ -127,7 +128,7 @@ failure_pays s counts unlocked =
       within = inr (omega (arith, few));
     })
 
--- the effect of a refusal keeps the balance
+-- the effect of a refusal satisfies `Pays`
 pub refusal_pays : (s : LockoutState) (c : Counted) → s.fields.recovery_time ≢ 0 → (is_try c ≡ true → is_locked s.fields ≡ false) → Pays s (lockout_counted c s) (cond (is_try c) 1 0) 0
 refusal_pays s counted.None counts unlocked = same_pays s s (refl, refl, refl, refl)
 refusal_pays s counted.Try counts unlocked = failure_pays s counts (unlocked refl)
@@ -142,7 +143,8 @@ IsPaid s failed elapsed =
     (failed ≡ 0)
     ⊎ (period s * s.fields.failed_tries + period s * failed ≤ period s * s.fields.max_tries + credit s + elapsed)
 
--- if a step and the steps after it keep their bounds, all of them together keep the bound
+-- if a step satisfies `Pays`, and the steps after it keep the bound on failed tries, all of them
+-- together keep the bound
 pub pays_more : (a b : LockoutState) (one failed all first elapsed whole : ℕ) → one + failed ≡ all → first + elapsed ≡ whole → Pays a b one first → IsPaid b failed elapsed → IsPaid a all whole
 pays_more a b one failed all first elapsed whole counted passed pays rest = by pays.within (rw (pays.recovery_time, pays.max_tries) at rest)
   where

@@ -33,12 +33,12 @@ pub ok_then : {A B E : Type 0} (P : A → Type 0) (Q : B → Type 0) (x : Result
 ok_then P Q (Ok a) f k h = h a k
 ok_then P Q (Err e) f k h = tt
 
--- a property of each success implies a weaker one
+-- if each success has a property, each success has every property that follows from it
 pub ok_weaker : {A E : Type 0} (P Q : A → Type 0) (x : Result A E) → IfOk x P → ((a : A) → P a → Q a) → IfOk x Q
 ok_weaker P Q (Ok a) k h = h a k
 ok_weaker P Q (Err e) k h = tt
 
--- a property of each success holds of this one
+-- if each success has a property, this success has it
 pub ok_at : {A E : Type 0} (P : A → Type 0) (x : Result A E) (a : A) → IfOk x P → x ≡ Ok a → P a
 ok_at P (Ok b) a holds is = subst P (ok_is b a is) holds
 ok_at P (Err e) a holds is = absurd cc

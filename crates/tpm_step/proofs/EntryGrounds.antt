@@ -242,7 +242,7 @@ module _ (r : Record) (c : AcceptedCommand) (history : History) (locality : ℕ)
     unfolding session_grant demanded
     session_ground = by_type s.kind refl
 
-  -- ---- by what the entry names
+  -- ---- the kinds of entries
 
   password_ground : (place : ℕ) (handle : Handle) (e : Entry) → used_in c.command place ≡ Some handle → session_kind e.session ≡ kind.Password → IfOk (password_grant r c.command.code (place + 1) (Some handle) e) (λ g. Ground history c place e)
   unfolding password_grant
@@ -255,7 +255,8 @@ module _ (r : Record) (c : AcceptedCommand) (history : History) (locality : ℕ)
       ByPassword is (taken means.AuthValue place handle at (asked available _ u may))
       (password_told r c history viewed valued live place handle e at (asked holds _ v same)))))
 
-  -- A step: what holds for the session of an entry, if it exists, holds for the entry's grant.
+  -- A step: the grant of an entry has a property, if it has the property for the session that the
+  -- entry names.
   with_session : (P : Option Grant → Type 0) (place : ℕ) (used : Option Handle) (e : Entry) → ((s : Session) (l : LiveSession) → sessions_of history e.session ≡ Some l → session_facts s ≡ facts_of l → IfOk (session_grant r c.command locality (place + 1) used e s) P) → IfOk (session_grant_if r c.command locality (place + 1) used e (session_of r e)) P
   with_session P place used e each = by (session_of r e) (live e.session)
     where

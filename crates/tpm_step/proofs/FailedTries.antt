@@ -89,7 +89,7 @@ err_other Q check (Err rc) other h = h rc other
 
 -- ---- checking the password or the HMAC of an entry
 
--- whether a refusal counts a try or is AUTH_FAIL
+-- whether a refusal counts a failed try or is AUTH_FAIL
 abbrev is_failure : Refused → Bool
 is_failure e = is_try e.counted || is_auth_fail e.rc.code
 
@@ -99,7 +99,7 @@ record FailsAt (r : Record) (c : Whole) (locality n : ℕ) (used : Option Handle
   unlocked : is_locked_out r.fixed.lockout (touched r c locality n used entry) ≡ false
   is : e ≡ failure (check_for used) n (touched r c locality n used entry)
 
--- If the refusal counts a try or is AUTH_FAIL, it is the refusal of entry n.
+-- If the refusal counts a failed try or is AUTH_FAIL, it is the refusal of entry n.
 abbrev IfFailsAt : Record → Whole → (locality n : ℕ) → Option Handle → Entry → Refused → Type 0
 IfFailsAt r c locality n used entry e = is_failure e ≡ true → FailsAt r c locality n used entry e
 
@@ -133,8 +133,8 @@ password_at r c locality n used e password =
     comparison_at r c locality n used e granted (used_protection r used) (is_password_of (granted_value r granted) e.hmac) (same_check used)
     (ap (λ k. touched_by k r c locality n used e) password))
 
--- A step: if the refusal of a session's demand counts a try or is AUTH_FAIL, it is the refusal of
--- entry n.
+-- A step: if the refusal of a session's demand counts a failed try or is AUTH_FAIL, it is the
+-- refusal of entry n.
 demand_at : (k : SessionType) (r : Record) (c : Whole) (locality n : ℕ) (handle : Handle) (s : Session) (used : Option Handle) (e : Entry) → IfErr (demand_by k r c locality n handle s) (IfFailsAt r c locality n used e)
 demand_at type.Hmac r c locality n handle s used e = search (rules, err_bind, err_if, other_at)
 demand_at _ r c locality n handle s used e = search (rules, err_other, use_other, other_at)
@@ -211,7 +211,7 @@ failed_number check n m protection.None is = cc
 failed_number check n m protection.Tries is = cc
 failed_number check n m protection.Lockout is = cc
 
--- a wrong password or HMAC counts a try only on a protected entity other than LOCKOUT
+-- a wrong password or HMAC counts as a failed try only on a protected entity other than LOCKOUT
 counts_at : (check : Check) (n : ℕ) (p : Protection) → is_try (failure check n p).counted ≡ true → p ≡ protection.Tries
 counts_at check n protection.Tries tries = refl
 counts_at check n _ tries = absurd (false≢true tries)

@@ -30,7 +30,7 @@ use Rattle.tpm_step.proofs.Leading.{history_apart}
 done_pays : (r : Record) (a : Accepted) (locality : ℕ) (random : List ℕ) → IsAcceptance r locality random a → HasNoReset (with_command r (Ok a) 0 []) → Pays r.fixed.lockout (success_step a random).after.fixed.lockout 0 0
 done_pays r a locality random is quiet = same_pays r.fixed.lockout (success_step a random).after.fixed.lockout (same_done r a locality random is quiet.0)
 
--- a command that is accepted, or that returns MEMORY instead, keeps the balance of `Pays`
+-- a command that is accepted, or that returns MEMORY instead, satisfies `Pays`
 starved_pays : (grows : Bool) (r : Record) (a : Accepted) (locality : ℕ) (random : List ℕ) → IsAcceptance r locality random a → let x : Stepped = cond grows (refusal_without_memory r a.command) (success_step a random) in HasNoReset (with_command r (Ok a) x.row.check []) → Pays r.fixed.lockout x.after.fixed.lockout 0 0
 starved_pays true r a locality random is quiet = same_pays r.fixed.lockout r.fixed.lockout (refl, refl, refl, refl)
 starved_pays false r a locality random is quiet = done_pays r a locality random is quiet

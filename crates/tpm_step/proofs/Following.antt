@@ -1,4 +1,4 @@
--- Every event leads from a history to the same history with that event.
+-- Every event leads from a history to the same history with this event, if it was accepted.
 use Rattle.std.proofs.Common.{arith, ◌≡◌, ◌≤◌, ℕ, Bool, true, false, cond, List, [], ◌∷◌, length, drop, map, Option, Some, None, option_map, Result, Ok, Err, IfOk, Bor, refl, ap, sym, subst, ◌∙◌}
 use Rattle.std.specs.Fn.{Mut}
 use Rattle.tpm_lockout.specs.Lockout.{LockoutState}

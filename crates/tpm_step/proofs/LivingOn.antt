@@ -74,7 +74,7 @@ keeps_then a b c first then = record { continues = continues_then a b c first.co
     by (inl was) (inl same) = inl (same ∙ was)
     by (inr none) (inl same) = inr (same ∙ none)
 
--- There was a session before, and the relation holds between the two.
+-- There was a session before, and the relation holds between this session and the new one.
 abbrev pub Was : (LiveSession → LiveSession → Type 0) → Option LiveSession → LiveSession → Type 0
 Was R found new = (old : LiveSession) × (found ≡ Some old) × R old new
 

@@ -159,7 +159,7 @@ other_same (Ok assertion) s other = record {
     by true is = absurd cc
 other_same (Err e) s other = same_updates s
 
--- a session with the same type, hash and assertions records the same
+-- a session with the same type, hash and assertions recorded the same update counter
 kept_updates : (old new : LiveSession) → new.hash ≡ old.hash → new.kind ≡ old.kind → new.assertions ≡ old.assertions → SameUpdates old new
 kept_updates old new hash kind assertions = record {
   count = ap (λ (h : HashAlg). (evaluated h (is_trial new.kind) new.assertions).update_count) hash
@@ -207,7 +207,7 @@ module _ (r : Record) (a : Accepted) (locality : ℕ) (random : List ℕ) (histo
   abbrev c : AcceptedCommand
   c = command_of r a
 
-  -- while there is a session, no accepted command is a TPM2_Startup
+  -- if there is a session, the accepted command is not a TPM2_Startup
   no_startup : (handle : Handle) (s : LiveSession) → sessions_of history handle ≡ Some s → is_startup c.command.code ≡ false
   no_startup handle s lives = by c.command.code is.due
     where

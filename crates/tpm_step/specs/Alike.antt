@@ -1,5 +1,5 @@
--- Two devices with one history. TPM 2.0 Library, Part 1, section 19 (authorizations), and Part 3,
--- section 5.6 (authorization checks).
+-- Two devices that follow the same history. TPM 2.0 Library, Part 1, section 19 (authorizations),
+-- and Part 3, section 5.6 (authorization checks).
 use Rattle.std.specs.Prelude.{◌≡◌, ℕ}
 use Rattle.tpm_types.specs.declared.handle.Handle.{Handle}
 use Rattle.tpm_types_command.specs.Command.{Whole}

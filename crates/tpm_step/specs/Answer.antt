@@ -1,4 +1,4 @@
--- What a device answers. TPM 2.0 Library, Part 1, section 18 (command and response structures).
+-- The responses of a device. TPM 2.0 Library, Part 1, section 18 (command and response structures).
 use Rattle.std.specs.Prelude.{ℕ, ◌+◌, List, [], ◌∷◌, ◌++◌, length, drop, Option, Some, None}
 use Rattle.std.specs.Int.{w16, w32, to_be_bytes}
 use Rattle.tpm_types.specs.declared.handle.Handle.{Handle}
@@ -23,7 +23,8 @@ abbrev pub framed : (tag code : ℕ) → List ℕ → List ℕ
 framed tag code body =
     to_be_bytes w16 tag ++ to_be_bytes w32 (10 + length body) ++ to_be_bytes w32 code ++ body
 
--- the tag of a refusal: no sessions, or 00C4 (TPM_ST_RSP_COMMAND) if the command's tag was bad
+-- the tag of a refusal: TPM_ST_NO_SESSIONS, or TPM_ST_RSP_COMMAND (00C4) if the command's tag was
+-- bad
 abbrev pub refusal_tag : Check → ℕ
 refusal_tag check.Tag = 0xc4
 refusal_tag _ = 0x8001

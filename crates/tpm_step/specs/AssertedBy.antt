@@ -68,8 +68,8 @@ pub record ShowsSecret (history : History) (handle : Handle) (name reference : L
 
 -- TPM2_PolicyNV was accepted for the NV index with this Name, with this operand, offset and
 -- operation. It is refused unless the operation holds between the index's bytes from the offset and
--- the operand. The handle that authorizes the read of the index was authorized. The session at this
--- handle has had the assertion since then.
+-- the operand. authHandle, which authorizes the read of the index, was authorized. The session at
+-- this handle has had the assertion since then.
 pub record ComparesIndex (history : History) (handle : Handle) (name operand : List ℕ) (offset : ℕ)
     (operation : Operation) : Type 0
   where

@@ -26,8 +26,8 @@ abbrev pub largest : List ℕ → ℕ
 largest [] = 0
 largest (n ∷ ns) = max (largest ns) n
 
--- the next value of a counter: one more than its value, or at the first increment one more than
--- any counter ever had
+-- the next value of a counter: one more than its value; at the first increment, one more than the
+-- largest value that any counter ever had
 abbrev pub next_count : (most : ℕ) → Option ℕ → ℕ
 next_count most None = most + 1
 next_count most (Some n) = n + 1
@@ -51,8 +51,8 @@ defined_handle text = do
   Ok p.public.nv_index
 
 -- the counters after an accepted command. A command that removes an index, such as
--- TPM2_NV_UndefineSpace and TPM2_Clear, changes nothing here: no counter has the handle until its
--- next definition, and that begins again without a value
+-- TPM2_NV_UndefineSpace and TPM2_Clear, changes nothing here: the handle has no counter until its
+-- next definition, which begins without a value
 abbrev pub counters_by : CommandCode → Request → Counters → Counters
 counters_by command.NvIncrement q c = by_handle (second_handle q.handles) counted_at c
 counters_by command.NvDefineSpace q c = by_handle (defined_handle q.parameters) begun_at c

@@ -11,8 +11,8 @@ use Rattle.tpm_record.specs.Record.{Record}
 use Rattle.tpm_step.specs.AuthValues.{AuthValues, auth_of}
 use Rattle.tpm_step.specs.History.{History}
 
--- one of four choices, by the type of a handle: an NV index, a persistent object, a transient
--- object, or anything else
+-- one of four values, by the type of a handle: for an NV index, a persistent object, a transient
+-- object, or any other handle
 abbrev pub by_type : {X : Type 0} → Handle → (index persistent transient other : X) → X
 by_type handle index persistent transient other =
     if is_nv_index handle then index

@@ -14,8 +14,8 @@ pub record IsCounted (index : NvIndex) (count : Option ℕ) : Type 0 where
   pub stays : index_has index attribute.ClearStClear ≡ false
   pub value : stored_count index ≡ count
 
--- The largest value that any counter of the device ever had is the largest of these values, and
--- each counter of the device has its value here.
+-- The largest of these values is the largest value that any counter of the device ever had. Each
+-- counter of the device has the value that is given for its handle.
 pub record AreCounted (contents : NvContents) (c : Counters) : Type 0 where
   pub most : contents.max_count ≡ largest c.all
   pub each : (handle : Handle) (index : NvIndex)

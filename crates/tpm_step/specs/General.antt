@@ -79,7 +79,7 @@ present_handle_at r n rule text = do
   present ← refused_if (not (is_present r handle.0)) (absence_rc n handle.0)
   Ok handle
 
--- the handles in a command's text, one for each of its rules
+-- the handles in a command's text, one for each handle rule of the command
 abbrev pub present_handles_at : Record → CommandCode → List ℕ → Result (List Handle × List ℕ) Rc
 present_handles_at r code text = each_at (present_handle_at r) 1 (shape_of code).handles text
 

@@ -24,7 +24,7 @@ use Rattle.tpm_step.specs.History.{AcceptedCommand, History}
 use Rattle.tpm_step.specs.Pcrs.{digest_in, updates_of}
 use Rattle.tpm_step.specs.View.{name_in}
 
--- ---- what a command asserts
+-- ---- the assertion of a command
 
 -- the assertion of TPM2_PolicyPCR, with the values that the selected PCRs had before the command
 abbrev pub pcr_parts_in : History → HashAlg → Parameters → PcrParts

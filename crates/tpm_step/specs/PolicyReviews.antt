@@ -34,7 +34,7 @@ use Rattle.tpm_step.specs.PolicyUses.{IsMetBy, PolicyUse, ShowsAuthValue}
 use Rattle.tpm_step.specs.Sessions.{LiveSession, sessions_of}
 use Rattle.tpm_step.specs.View.{OfIndex, OfObject}
 
--- ---- what is reviewed
+-- ---- the commands that are reviewed
 
 -- The property holds for each command that a device accepted since it was manufactured, given the
 -- history before the command.
@@ -69,7 +69,7 @@ pub record WritesIndex (c : AcceptedCommand) (place : ℕ) (public : NvPublic)
     pub auth_policy : public.auth_policy ≡ policy_digest public.name_alg policy
 
 -- The entry at this position of a command names a policy session with this hash, and the property
--- holds for the use. Or the hash is broken, by texts of the policy and of the session.
+-- holds for the use. Otherwise, texts of the policy and of the session break the hash.
 pub record IsUsedBySession (history : History) (c : AcceptedCommand) (place : ℕ) (hash : HashAlg)
     (policy : PolicyExpression) (Holds : PolicyUse → Type 0) : Type 0
   where
@@ -155,8 +155,8 @@ NeedsPinOrSecret history c =
 
 -- ---- an index that is written once
 
--- If an NV index has the policy that it is not written, it is written only while it is not
--- WRITTEN.
+-- If an NV index has the policy that it is not WRITTEN, commands write the index only while it is
+-- not WRITTEN.
 abbrev pub IsWrittenOnce : History → AcceptedCommand → Type 0
 IsWrittenOnce history c =
     (place : ℕ) (public : NvPublic)

@@ -34,7 +34,7 @@ pub record PolicyUse : Type 0 where
   pub entry : Entry
   pub session : LiveSession
 
--- ---- what is met at a use
+-- ---- the conditions that a use meets
 
 -- The selected PCRs have this digest now, and no PCR was written since the session's first
 -- TPM2_PolicyPCR (Part 3, section 23.7).
@@ -80,8 +80,8 @@ pub record HasAuthPolicy (c : AcceptedCommand) (place : ℕ) (hash : HashAlg)
         ≡ Some (record { hash = hash; digest = policy_digest hash policy })
 
 -- If a policy session authorizes a use, the use meets every policy whose digest is the entity's
--- authPolicy, along one branch at each TPM2_PolicyOR. Or the hash is broken, by texts of the policy
--- and of the session.
+-- authPolicy, along one branch at each TPM2_PolicyOR. Otherwise, texts of the policy and of the
+-- session break the hash.
 abbrev pub MeetsPolicies : (history : History) (c : AcceptedCommand) (place : ℕ) → Handle
     → (e : Entry) → Ground history c place e → Type 0
 MeetsPolicies history c place handle e (ByPassword names takes has) = Unit {0}

@@ -24,7 +24,7 @@ is_pcr _ = false
 abbrev pub asserts_pcrs : LiveSession → Bool
 asserts_pcrs s = list_any is_pcr s.assertions
 
--- whether a session is live at this handle and has an assertion by TPM2_PolicyPCR
+-- whether there is a live session at this handle, with an assertion by TPM2_PolicyPCR
 abbrev pub has_pcrs : History → Handle → Bool
 has_pcrs history handle = option_map_or asserts_pcrs (sessions_of history handle) false
 

@@ -45,7 +45,7 @@ use Rattle.tpm_nvactions.specs.NvUndefineSpace.{nv_undefine_space_row}
 use Rattle.tpm_nvactions.specs.NvWrite.{nv_write_row}
 use Rattle.tpm_nvactions.specs.NvWriteLock.{nv_write_lock_row}
 
--- the row of each command: what the command refuses, answers and changes
+-- the row of each command, which says what the command refuses, returns and changes
 unfoldable pub row_of : Record → CommandCode → Request → Result Success Refused
 row_of r command.EvictControl q = evict_control_row r q
 row_of r command.NvUndefineSpace q = nv_undefine_space_row r q

@@ -1,5 +1,5 @@
--- What the view of a handle shows of the entity: its Name, its policy, whether it is written, its
--- protection against dictionary attacks, and what can authorize it. TPM 2.0 Library, Part 1,
+-- What the view of a handle shows about its entity: its Name, its policy, whether it is written,
+-- its protection against dictionary attacks, and what can authorize it. TPM 2.0 Library, Part 1,
 -- sections 16 (Names), 19.2 (roles), 19.7 (policies) and 19.8 (dictionary attacks), and Part 2,
 -- section 13.4 (TPMA_NV).
 use Rattle.std.specs.Prelude.{◌≡◌, ℕ, ◌==◌, ◌&&◌, not, Bool, true, false, List, length, if◌then◌else◌, Option, Some, None}
@@ -38,7 +38,7 @@ view_protection (OfIndex public) =
     if index_has public.attributes mark.NoDa then protection.None else protection.Tries
 view_protection (OfHandle handle) = permanent_protection handle
 
--- whether an authPolicy is a policy, which the empty one is not
+-- whether an authPolicy is not empty, and so is a policy
 abbrev pub is_policy : List ℕ → Bool
 is_policy digest = not (length digest == 0)
 

@@ -1,4 +1,4 @@
--- What the definitions say of the rows of all commands.
+-- Definitions about the rows of all commands.
 pub mod Footprint
 pub mod IndexChanges
 pub mod Shapes

@@ -210,9 +210,9 @@ pub fn replay_laws()
 {}
 
 /// If TPM2_PolicyPCR is the only assertion of a policy session that uses an entity, the entity's
-/// policy is that the PCRs have the values that they have at the use. They have had these values
-/// since the first TPM2_PolicyPCR. If TPM2_PolicyCommandCode is the only assertion, the policy is
-/// the code of the command that uses the entity. If TPM2_PolicyNvWritten is the only assertion, the
+/// policy is that the PCRs have certain values. They have these values at the use, unchanged since
+/// the first TPM2_PolicyPCR. If TPM2_PolicyCommandCode is the only assertion, the policy is the
+/// code of the command that uses the entity. If TPM2_PolicyNvWritten is the only assertion, the
 /// entity is an NV index, WRITTEN or not as the assertion says.
 #[inline(always)]
 pub fn policy_laws()
@@ -246,8 +246,8 @@ pub fn reset_laws()
     ensures { (one : PastEvent) → (is_reset one ≡ true ↔ IsReset one) }
 {}
 
-/// The lower bound of `few_tries_laws` is tight: in an example run, which reads an NV index with a
-/// wrong password, as many tries fail as the bound allows.
+/// The smaller bound of `few_tries_laws` is reached: in an example run, which reads an NV index
+/// with a wrong password, as many tries fail as this bound allows.
 #[inline(always)]
 pub fn failed_run_laws()
     ensures { IsFailedRun }
@@ -277,7 +277,7 @@ pub fn alike_laws()
 
 /// In every history of a device, each use has a ground. Each use by a policy session meets every
 /// policy whose digest is the authPolicy of the used entity, along one branch at each
-/// TPM2_PolicyOR. Or the hash is broken, by texts of the policy and of the session.
+/// TPM2_PolicyOR. Otherwise, texts of the policy and of the session break the hash.
 #[inline(always)]
 pub fn auth_policy_laws()
     ensures { (can : Bool) (random : List ℕ) (executions : List Execution) (new : Record)

@@ -49,7 +49,7 @@ ghost use Rattle.tpm_step.specs.rows.Sizes.{AreSized};
 
 use crate::event::Outcome;
 
-/// A success changes its command's part of the state, and nothing else.
+/// A success changes nothing except its command's part of the state.
 #[inline(always)]
 #[tactic(auto, using(crate::proofs::rows::Table::row_touches))]
 pub fn footprint_laws()

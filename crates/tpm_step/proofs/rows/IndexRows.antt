@@ -75,7 +75,8 @@ use Rattle.tpm_row_secrecy.proofs.IndexRows as index_secrets
 
 -- ---- how the rows of NV indices refuse
 
--- a step of a change refuses late, if all faults of the step and of what follows are late refusals
+-- a step of a change has only late refusals, if all faults of the step and of the steps after it
+-- are late refusals
 late_step : {A B F : Type 0} (Fit : Type 0) (refusal : F → Refused) (x : Result A F)
     (f : A → Result B F) → Late Fit (or_refusal refusal x)
     → ((a : A) → Late Fit (or_refusal refusal (f a))) → Late Fit (or_refusal refusal (x >>= f))
@@ -87,7 +88,7 @@ late_if : {F : Type 0} (Fit : Type 0) (refusal : F → Refused) (b : Bool) (faul
 late_if Fit refusal true fault late = late
 late_if Fit refusal false fault late = tt
 
--- looking up the index to change refuses late: the index exists if the handles fit
+-- looking up the index to change has only late refusals: the index exists if the handles fit
 late_index : {X F : Type 0} (Fit : Type 0) (refusal : F → Refused) (nv : NvContents) (h : Handle)
     (absence : F) (f : NvIndex → Result X F) → refusal absence ≡ handle_refusal
     → (Fit → is_some (index_at nv h) ≡ true) → ((i : NvIndex) → Late Fit (or_refusal refusal (f i)))
@@ -136,7 +137,8 @@ late_read_locked : (Fit : Type 0) (nv : NvContents) (h : Handle)
 unfolding read_locked
 late_read_locked Fit nv h there = search changes
 
--- setting a new authorization value of the index that is the command's only handle refuses late
+-- setting a new authorization value of the index that is the command's only handle has only late
+-- refusals
 late_auth_value : (Fit : Type 0) (r : Record) (role : Option Role) (h : Handle) (value : List ℕ)
     → (Fit → FitsRule r (record { kind = handle_kind.NvIndex; role = role }) h)
     → Late Fit (or_refusal (λ absence. handle_refusal) (with_auth_value r.nv h value))

@@ -118,7 +118,7 @@ late_creation Fit before x = grind arith
 late_scheme : (Fit : Type 0) (p : PublicParameters) → Late Fit (scheme_of p)
 late_scheme Fit p = grind arith
 
--- removing a persistent object, or copying a transient one, refuses late
+-- removing a persistent object, or copying a transient one, has only late refusals
 late_evicted : (Fit : Type 0) (objects : Entries Object) (h : Handle) (o : Object) (wanted : Handle)
     → Late Fit (evicted objects h o wanted)
 late_evicted Fit objects h o wanted = by (is_persistent h)

@@ -81,7 +81,7 @@ parameter_fault : {X : Type 0} (n : ℕ) (x : Result X Rc)
 parameter_fault n (Ok x) = tt
 parameter_fault n (Err rc) = refl
 
--- if parameters are not of their kinds, the fault is a parameter's
+-- parameters that are not of their kinds are refused by the check of parameters
 pub spelled_faults : (n : ℕ) (kinds : List ParameterKind) (text : List ℕ)
     → IfErr (spelled n kinds text) (λ e. e.check ≡ check.Parameters)
 spelled_faults n [] text = err_if (λ e. e.check ≡ check.Parameters) _ _ refl

@@ -36,8 +36,8 @@ KeepsCount old new =
     × (stored_count new ≡ stored_count old)
     × (index_has new attribute.ClearStClear ≡ index_has old attribute.ClearStClear)
 
--- One index changes, which is locked, or is no counter and is written. It keeps its value as a
--- counter, and its authorization value.
+-- One index is locked, or one index that is not a counter is written. The index keeps its value as
+-- a counter, and its authorization value.
 pub record Writes (old new : NvContents) : Type 0 where
   pub handle : Handle
   pub before : NvIndex
