@@ -66,8 +66,8 @@ module _ (s : Secrecy) (r : Record) (q : Request) where
   abbrev kept_after : CommandCode → Record → List (Option Session) → Result Success Refused
   kept_after c t sessions = Ok (record { answer = answer_of (body_of c); after = record t { sessions = sessions } })
 
-  -- If an assertion has the same result on the session with its secrets erased, the ends of the
-  -- rows look the same.
+  -- If an assertion has the same result on the session with its secrets erased, the last steps of
+  -- the rows look the same.
   asserted_end : (c : CommandCode) (handle : Handle) (a b : Session → Assertion) → ((x : Session) → session_at r.sessions handle ≡ Some x → asserted x.hash (is_trial x.kind) (a (bare_session s x)) x.policy ≡ asserted x.hash (is_trial x.kind) (b x) x.policy) → Same s (with_assertion (places (bare_session s) r.sessions) handle a >>= kept_after c (without_secrets s r)) (with_assertion r.sessions handle b >>= kept_after c r)
   asserted_end c handle a b same =
       alike_after (places (bare_session s)) (bare_success s) _ _ _ _

@@ -1,4 +1,4 @@
--- An assertion that the history records met its condition on the policy session when it was
+-- Each assertion that the history records met its condition on the policy session when it was
 -- accepted.
 use Rattle.std.proofs.Common.{◌≡◌, ◌<◌, ◌^◌, ◌+◌, ℕ, arith, Bool, true, false, cond, List, [], ◌∷◌, length, Option, Some, None, Result, Ok, Err, IfOk, IfSome, refl, ap, sym, subst, ◌∙◌}
 use Rattle.std.specs.Prelude.{not, nat_lt, is_some, ◌==◌, ◌&&◌}

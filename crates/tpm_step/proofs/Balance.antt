@@ -51,8 +51,8 @@ same_pays old new same = record {
   within = inl refl;
 }
 
--- the number of tries that are forgiven in this time, if each takes n milliseconds and some
--- milliseconds already counted
+-- A step: forgiving tries satisfies the inequality of `Pays`, if each forgiven try takes n
+-- milliseconds.
 forgiven : (n tries passed elapsed : ℕ) → n * tries + cond ((tries - (passed + elapsed) / n) == 0) 0 (cond ((tries - (passed + elapsed) / n) == 0) 0 ((passed + elapsed) % n)) ≤ n * (tries - (passed + elapsed) / n) + cond (tries == 0) 0 passed + elapsed
 forgiven n tries passed elapsed = by (cases_eq tries 0) (cases_lt (time / n) tries)
   where
@@ -162,14 +162,14 @@ pays_more a b one failed all first elapsed whole counted passed pays rest = by p
         let zero : n * failed ≡ 0 = ap (λ k. n * k) nought ∙ mul-zero n in
         inr (omega (arith, pays.balance, most, sum, zero, passed))
 
--- A step: the bound on failed tries follows from their balance.
+-- A step: the bound on failed tries follows from the inequality of `Pays`.
 few_of : (n tries failed most passed elapsed : ℕ) → 0 < n → passed < n → n * tries + n * failed ≤ n * most + cond (tries == 0) 0 passed + elapsed → failed ≤ most + elapsed / n
 few_of n tries failed most passed elapsed some below paid = by (cases_lt (most + elapsed / n) failed)
   where
     q : ℕ
     q = elapsed / n
 
-    -- A step: each try that was counted at the start is one of maxTries.
+    -- A step: the time that counted at the start does not raise the bound.
     under : (tries ≡ 0) ⊎ (tries ≡ 0 → ⊥) → n * failed ≤ n * most + elapsed
     under (inl none) =
         let at : n * 0 + n * failed ≤ n * most + 0 + elapsed = rw none at paid in

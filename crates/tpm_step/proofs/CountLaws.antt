@@ -1,4 +1,4 @@
--- The claims about counters that follow from the history alone.
+-- Proofs of the claims about counters that follow from the history alone.
 use Rattle.std.proofs.Common.{arith, ◌≡◌, ◌⊎◌, ℕ, ◌+◌, ◌<◌, ◌≤◌, Bool, true, false, List, [], ◌∷◌, ◌++◌, Option, Some, None, Result, Ok, Err, refl, sym, ap, subst, ◌∙◌, inl, inr}
 use Rattle.std.proofs.lemmas.Bool.{cases_eq, eq-eqb, eqb-true, false≢true}
 use Rattle.tpm_types.specs.declared.handle.Handle.{Handle}
@@ -158,7 +158,7 @@ first_exceeds old new handle n none some = by (all_above old new handle none)
 
 -- ---- a definition
 
--- a command names this handle exactly if the numbers are equal
+-- if a command names this handle, it names a handle with the same number
 named_is : (named : Result Handle Refused) (handle : Handle) → is_named named handle ≡ true → (h : Handle) × (named ≡ Ok h) × (h.number ≡ handle.number)
 named_is (Ok h) handle is = (h, refl, eqb-true h.number handle.number is)
 named_is (Err e) handle is = absurd (false≢true is)

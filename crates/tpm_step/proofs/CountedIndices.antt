@@ -81,7 +81,8 @@ auth_counted old new c made are =
 
 -- ---- incrementing a counter
 
--- A step: the next value of a counter, whether or not it has a value already.
+-- A step: the next value of a counter is one more than its value or, if it has none, than the
+-- largest value.
 next_by : (b : Bool) (most n : ℕ) → next_count most (cond b (Some n) None) ≡ cond b n most + 1
 next_by true most n = refl
 next_by false most n = refl

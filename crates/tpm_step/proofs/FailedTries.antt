@@ -119,7 +119,7 @@ module _ (r : Record) (c : Whole) (locality n : ℕ) (used : Option Handle) (ent
       err_bind_is Q (may_be_tried r.fixed.lockout granted p) _ (err_if Q _ _ (other_at _ _ refl)) (λ tried may.
       err_bind Q (refused_if (not holds) _) _ (err_if Q _ _ (λ fails. failure_at granted p same touches (passed _ _ tried may))) (λ compared. tt))
 
--- A step: a password is checked by the check for the handle that the entry has to authorize.
+-- A step: a password is refused by the same check as any entry that has to authorize this handle.
 same_check : (used : Option Handle) → check_of (option_map undemanding used) ≡ check_for used
 same_check None = refl
 same_check (Some handle) = refl
@@ -216,7 +216,8 @@ counts_at : (check : Check) (n : ℕ) (p : Protection) → is_try (failure check
 counts_at check n protection.Tries tries = refl
 counts_at check n _ tries = absurd (false≢true tries)
 
--- AUTH_FAIL for the entry at a position is the refusal of that entry
+-- if a command is refused with AUTH_FAIL for the entry at this position, the entry's password or
+-- HMAC is wrong
 failed_in : (r : Record) (c : Whole) (locality place : ℕ) (entry : Entry) (e : Refused) → slice_get c.entries place ≡ Some entry → authorize r c locality ≡ Err e → e.rc ≡ entry_fault (place + 1) code.AuthFail → FailsAt r c locality (place + 1) (used_in c place) entry e
 failed_in r c locality place entry e there is fails =
     let found = IfErr-at_err (IfFailsIn r c locality) is (authorization_in r c locality) (or_right (is_try e.counted) _ (ap (λ (rc : Rc). is_auth_fail rc.code) fails)) in
@@ -273,7 +274,7 @@ accepted_of r buffer locality random =
     Q : RefusedCommand → Type 0
     Q e = IfTryOf r locality buffer e.refused
 
--- a command that counts a failed try is refused with AUTH_FAIL
+-- a command whose refusal counts a failed try is refused with AUTH_FAIL
 pub try_of : (r : Record) (buffer : List ℕ) (locality : ℕ) (random : List ℕ) → counts_try (accepted r buffer locality random) ≡ true → FailsTry r locality buffer
 try_of r buffer locality random = by (accepted r buffer locality random) (accepted_of r buffer locality random)
   where
@@ -281,7 +282,7 @@ try_of r buffer locality random = by (accepted r buffer locality random) (accept
     by (Ok a) holds tries = absurd (false≢true tries)
     by (Err e) holds tries = holds tries
 
--- a command that fails a try gets the refusal of its failed entry
+-- the refusal of a command that fails a try is that of the entry with the wrong password or HMAC
 module _ {r : Record} {locality : ℕ} {buffer : List ℕ} (f : FailsTry r locality buffer) where
   failure_of : FailsAt r f.command locality (f.place + 1) (used_in f.command f.place) f.entry f.refused
   failure_of = failed_in r f.command locality f.place f.entry f.refused f.there f.is f.fails

@@ -30,8 +30,8 @@ use Rattle.tpm_step.proofs.HandleMap.{at_other, at_same}
 abbrev Matches : Option Session → Option LiveSession → Type 0
 Matches found told = option_map session_facts found ≡ option_map facts_of told
 
--- a relation that holds for any two sessions with the same facts, and if there is no session, holds
--- for these two
+-- a relation between a device's session and the history's session holds, if it holds for any two
+-- with the same facts, and if neither exists
 pub of_both : (P : Option Session → Option LiveSession → Type 0) → ((s : Session) (l : LiveSession) → session_facts s ≡ facts_of l → P (Some s) (Some l)) → P None None → (found : Option Session) (told : Option LiveSession) → option_map session_facts found ≡ option_map facts_of told → P found told
 of_both P some none (Some s) (Some l) same = some s l (same_Some (session_facts s) (facts_of l) same)
 of_both P some none None None same = none

@@ -50,7 +50,8 @@ accepted_spells r buffer locality random =
 
 -- ---- accepted events
 
--- This event accepted the command: the buffer encodes the command, and each history records it.
+-- This event accepted the command: the buffer encodes the command, and the event is recorded as the
+-- command after any history.
 record IsAcceptedAt (buffer : List ℕ) (one : Execution) (c : AcceptedCommand) : Type 0 where
   spelled : command_at buffer ≡ Ok (c.command, [])
   is : (before : History) → with_execution one before ≡ Done c ∷ before

@@ -1,5 +1,5 @@
--- When a policy session accepts an assertion, given the policy before it. TPM 2.0 Library, Part 3,
--- section 23: the section of each assertion says when it is refused.
+-- The conditions under which a policy session accepts an assertion, given the policy before it. TPM
+-- 2.0 Library, Part 3, section 23: the section of each assertion says when it is refused.
 use Rattle.std.specs.Prelude.{◌≡◌, ◌<◌, ◌^◌, ℕ, true, false, IfSome, List, [], ◌∷◌, Some, Ok}
 use Rattle.tpm_mac.specs.declared.algorithm.HashAlg.{HashAlg}
 use Rattle.tpm_policy.specs.Assertion as assertion

@@ -18,8 +18,8 @@ pub record AreAlike (one other : Record) (history : History) : Type 0 where
   pub views : (handle : Handle) → view_of one handle ≡ view_of other handle
   pub lockout : one.fixed.lockout ≡ other.fixed.lockout
 
--- Two such devices authorize each command from each locality with the same grants, or refuse it
--- with the same refusal.
+-- If two devices are alike (`AreAlike`), they authorize each command from each locality with the
+-- same grants, or refuse it with the same refusal.
 abbrev pub AuthorizeAlike : Type 0
 AuthorizeAlike =
     (one other : Record) (history : History) → AreAlike one other history

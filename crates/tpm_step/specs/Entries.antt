@@ -77,7 +77,7 @@ unfoldable pub entry_answer : Record → HashedParts → Option Grant → Entry 
 entry_answer r hashed grant e =
     option_map_or (session_answer r hashed grant e) (session_of r e) password_answer
 
--- the answers to the entries of a command, each given with its grant
+-- the answers to the entries of a command; each entry comes with its grant
 abbrev pub entries_answer : Record → HashedParts → List Granted → List ℕ
 entries_answer r hashed granted = flat_map (λ g. entry_answer r hashed g.1 g.0) granted
 

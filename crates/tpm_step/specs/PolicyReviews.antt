@@ -102,7 +102,7 @@ NeedsItsPolicy history c =
 
 -- ---- PCRs
 
--- the written policy that the selected PCRs have these values, which are concatenated
+-- the written policy that the selected PCRs have these concatenated values
 abbrev pub by_pcrs : HashAlg → List BankSelection → (values : List ℕ) → PolicyExpression
 by_pcrs hash selection values = Then Nothing (PolicyPcr selection (hash_of hash values))
 

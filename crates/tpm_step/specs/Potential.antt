@@ -18,7 +18,7 @@ IsForgiving s = s.fields.recovery_time ≢ 0 → s.forgiving_time < period s
 
 -- From the old state to the new one this many tries failed, this many milliseconds passed, and the
 -- parameters did not change. Each try that was counted before, or failed since, is still counted or
--- was forgiven. The forgiven tries used up milliseconds from these and from those that counted
+-- was forgiven. Forgiving the tries used up some of these milliseconds and of those that counted
 -- before. If a try failed, failedTries is at most maxTries now.
 pub record Pays (old new : LockoutState) (failed elapsed : ℕ) : Type 0 where
   pub recovery_time : new.fields.recovery_time ≡ old.fields.recovery_time

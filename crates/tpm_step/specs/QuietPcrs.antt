@@ -42,8 +42,8 @@ KeepsPcrs handle [] before = Unit {0}
 KeepsPcrs handle (event ∷ events) before =
     (has_pcrs (event ∷ events ++ before) handle ≡ true) × KeepsPcrs handle events before
 
--- A history ends in the first TPM2_PolicyPCR of the session at this handle, with only quiet events
--- after it. Since then the session has had an assertion by TPM2_PolicyPCR after every event.
+-- The history contains the first TPM2_PolicyPCR of the session at this handle, and only quiet
+-- events after it. Since then the session has had an assertion by TPM2_PolicyPCR after every event.
 pub record AreQuietSince (handle : Handle) (history : History) : Type 0 where
   pub since : History
   pub first : AcceptedCommand

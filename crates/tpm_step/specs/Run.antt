@@ -1,4 +1,4 @@
--- Runs of events.
+-- Runs: events that are executed one after another, and a closure that is called with each outcome.
 use Rattle.std.specs.Prelude.{◌≡◌, Bool, List, [], ◌∷◌}
 use Rattle.std.specs.Borrow.{Bor}
 use Rattle.std.specs.Fn.{Mut, CalledAt}

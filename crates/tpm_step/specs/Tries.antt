@@ -120,7 +120,7 @@ abbrev pub check_for : Option Handle → Check
 check_for (Some handle) = check.Authorization
 check_for None = check.Others
 
--- the refusal of an entry that touches a protected entity other than LOCKOUT, with AUTH_FAIL
+-- the refusal with AUTH_FAIL of an entry that touches a protected entity other than LOCKOUT
 abbrev pub try_refusal : Whole → (place : ℕ) → Refused
 try_refusal c place = failure (check_for (used_in c place)) (place + 1) protection.Tries
 
@@ -129,7 +129,8 @@ pub record IsAnsweredFailure (e : Refused) (x : Stepped) : Type 0 where
   pub response : x.response ≡ refusal_text e
   pub check : x.row.check ≡ check_number e.check
 
--- The event is a command that fails a try, and its response is the refusal of that entry.
+-- The event is a command that fails a try, and its response is the refusal of the entry that
+-- failed.
 abbrev pub IsAnsweredTry : Record → PlainEvent → Stepped → Type 0
 IsAnsweredTry r (Given buffer locality elapsed random) x =
     (fails : FailsTry (ticked r elapsed) locality buffer)

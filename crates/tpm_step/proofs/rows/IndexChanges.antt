@@ -191,7 +191,7 @@ target_names r q =
     ok_bind_is _ (second_handle q.handles) _ (λ handle is.
     ok_bind _ (attributes_of r handle) _ (λ attributes. is)))
 
--- if a part's fault is replaced by a refusal, successes are unchanged
+-- a property of each success still holds if faults are replaced by refusals
 ok_or_refusal : {X F : Type 0} (P : X → Type 0) (refusal : F → Refused) (x : Result X F) → IfOk x P
     → IfOk (or_refusal refusal x) P
 ok_or_refusal P refusal (Ok x) holds = holds

@@ -128,8 +128,8 @@ answer_sized c grants a effect random enough sized =
 
 -- ---- steps
 
--- An accepted command leaves a record whose sessions have their sizes, and of 256 random bytes
--- enough for new nonces.
+-- An accepted command leaves a record whose sessions have their sizes, and it leaves enough of 256
+-- random bytes for new nonces.
 abbrev Fits : Accepted → Type 0
 Fits a = AreSized a.success.after × (a.success.answer.drawn + 32 * length a.command.entries ≤ 256)
 

@@ -1,4 +1,4 @@
--- Checks that refuse something, and checks that do not.
+-- Which checks refuse a command, and which do not.
 use Rattle.std.specs.Prelude.{◌≡◌, ◌≢◌, ◌⊎◌, IfErr, Result}
 use Rattle.tpm_types.specs.declared.check.Check.{Check}
 use Rattle.tpm_types.specs.declared.check.Check.TheVariants as check
