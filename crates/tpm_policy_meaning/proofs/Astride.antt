@@ -56,8 +56,8 @@ behind_first text first digests none astride = record {
   is_none = none;
 }
 
--- If a text is not in a list of digests of its size, starts within the first digest and ends after
--- it, then it spans two neighbours of the list.
+-- If a text starts within the first digest of a list and ends after it, and is not in the list, it
+-- spans two neighbours of the list. All of them have the same size.
 next_begins : (text first front : List ℕ) (x y : ℕ) (end beginning : List ℕ) (digests : List (List ℕ)) (back : List ℕ) → (IsAmong text (first ∷ digests) → ⊥) → HaveSize (length text) digests → first ≡ front ++ x ∷ end → text ≡ (x ∷ end) ++ y ∷ beginning → joined digests ≡ (y ∷ beginning) ++ back → IsAstride text (first ∷ digests)
 next_begins text first front x y end beginning [] back none sizes is spelled stands = absurd (has_first y (beginning ++ back) (sym stands))
 next_begins text first front x y end beginning (next ∷ digests) back none sizes is spelled stands = by (two_ways next (joined digests) (y ∷ beginning) back stands)

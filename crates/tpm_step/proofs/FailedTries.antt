@@ -1,4 +1,4 @@
--- An event fails a try exactly if its authorization is refused with AUTH_FAIL for an entry that
+-- An event is a failed try exactly if its authorization is refused with AUTH_FAIL for an entry that
 -- touches a protected entity. The response is that refusal.
 use Rattle.std.proofs.Common.{arith, rules, ◌≡◌, ℕ, ◌+◌, Bool, true, false, List, [], ◌∷◌, ◌++◌, append_assoc, length, length-append, slice_get, Option, Some, None, option_map, Result, Ok, Err, IfErr, refl, sym, ap, subst, ◌∙◌}
 use Rattle.std.specs.Prelude.{not, nat_lt, ◌&&◌, ◌||◌, is_none}
@@ -282,7 +282,7 @@ try_of r buffer locality random = by (accepted r buffer locality random) (accept
     by (Ok a) holds tries = absurd (false≢true tries)
     by (Err e) holds tries = holds tries
 
--- the refusal of a command that fails a try is that of the entry with the wrong password or HMAC
+-- the refusal of a failed try is that of the entry with the wrong password or HMAC
 module _ {r : Record} {locality : ℕ} {buffer : List ℕ} (f : FailsTry r locality buffer) where
   failure_of : FailsAt r f.command locality (f.place + 1) (used_in f.command f.place) f.entry f.refused
   failure_of = failed_in r f.command locality f.place f.entry f.refused f.there f.is f.fails

@@ -39,7 +39,7 @@ use Rattle.tpm_step.specs.Executions.{Execution, Leads, history_after}
 use Rattle.tpm_step.specs.History.{AcceptedCommand, Done, History, ObjectPlaced, PastEvent, PowerCycled}
 use Rattle.tpm_step.specs.Potential.{period}
 
--- ---- events that fail a try
+-- ---- events that are failed tries
 
 -- whether a refusal counts a failed try on a protected entity other than LOCKOUT
 abbrev pub is_try : Counted → Bool
@@ -105,7 +105,7 @@ pub record FailsTry (r : Record) (locality : ℕ) (buffer : List ℕ) : Type 0 w
   pub is : authorize r command locality ≡ Err refused
   pub fails : refused.rc ≡ entry_fault (place + 1) code.AuthFail
 
--- The event is a command that fails a try.
+-- The event is a failed try.
 abbrev pub IsRefusedTry : Record → PlainEvent → Type 0
 IsRefusedTry r (Given buffer locality elapsed random) =
     FailsTry (ticked r elapsed) locality buffer
@@ -129,8 +129,7 @@ pub record IsAnsweredFailure (e : Refused) (x : Stepped) : Type 0 where
   pub response : x.response ≡ refusal_text e
   pub check : x.row.check ≡ check_number e.check
 
--- The event is a command that fails a try, and its response is the refusal of the entry that
--- failed.
+-- The event is a failed try, and its response is the refusal of the entry that failed.
 abbrev pub IsAnsweredTry : Record → PlainEvent → Stepped → Type 0
 IsAnsweredTry r (Given buffer locality elapsed random) x =
     (fails : FailsTry (ticked r elapsed) locality buffer)
@@ -145,7 +144,8 @@ elapsed_of (Given buffer locality elapsed random) = elapsed
 elapsed_of Cycled = 0
 elapsed_of (Placed object) = 0
 
--- the milliseconds that pass in a stretch of events, and the number of events that fail a try
+-- the milliseconds that pass in a stretch of events, and the number of failed tries among the
+-- events
 abbrev pub elapsed_in : List Execution → ℕ
 elapsed_in executions = sum_by (λ (one : Execution). elapsed_of one.event) executions
 

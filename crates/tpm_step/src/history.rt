@@ -222,8 +222,8 @@ pub fn policy_laws()
     ensures command { UsesItsCommand }
 {}
 
-/// An event fails a try exactly if its authorization is refused with AUTH_FAIL for an entry that
-/// touches a protected entity other than LOCKOUT. The response is AUTH_FAIL for that entry.
+/// An event is a failed try exactly if its authorization is refused with AUTH_FAIL for an entry
+/// that touches a protected entity other than LOCKOUT. The response is AUTH_FAIL for that entry.
 #[inline(always)]
 pub fn failed_try_laws()
     ensures exactly { (old : Record) (event : PlainEvent)
