@@ -14,7 +14,8 @@ use Rattle.tpm_step.specs.Sessions.{LiveSession, sessions_of}
 
 -- The assertion meets its condition on the policy before it. The digests of TPM2_PolicyOR contain
 -- the policy's digest. A command code, a cpHash and a written state were not recorded before, or
--- with the same value. A command code has 32 bits. TPM2_PolicyNV found bytes to compare.
+-- were recorded with the same value. A command code has 32 bits. TPM2_PolicyNV found bytes to
+-- compare.
 abbrev pub Finds : Assertion → Policy → Type 0
 Finds (assertion.Or digests) p = IsAmong p.digest digests
 Finds (assertion.CommandCode number) p =

@@ -1,5 +1,5 @@
--- The device is in the right mode for an accepted command, which fits its shape and is authorized,
--- and its row succeeds.
+-- The device is in the right mode for an accepted command. The command fits its shape and is
+-- authorized, and its row succeeds.
 use Rattle.std.proofs.Common.{◌≡◌, ℕ, Bool, true, false, List, [], Result, Ok, Err, IfOk, refl}
 use Rattle.tpm_bytes.proofs.Fields.{passed}
 use Rattle.tpm_bytes.specs.Reading.{refused_if}
