@@ -33,7 +33,7 @@ impl KeptText {
         KeptText { text: Text::new() }
     }
 
-    /// Replaces the text by that of this device, and returns whether the new text differs from
+    /// Replaces the text with that of this device, and returns whether the new text differs from
     /// the old one.
     pub fn renew<K: Keep>(&mut self, machine: &Machine<K>) -> bool
         ensures text { self.new ≡ kept_text (state_of K.record_of machine.now) }
@@ -48,7 +48,7 @@ impl KeptText {
     }
 }
 
-/// Writes the text of what a device keeps, except for Clock, to the front of a buffer, if it
+/// Writes the text of what a device keeps, except for Clock, to the beginning of a buffer, if it
 /// fits. Returns the size of the text in either case.
 pub fn kept_into<K: Keep>(machine: &Machine<K>, room: &mut [u8]) -> usize
     ensures { PutsFront (kept_text (state_of K.record_of machine.now)) room.old result room.new }

@@ -1,5 +1,5 @@
--- The machine and the connections after a schedule of calls: one lemma for each call, and then all
--- calls.
+-- The state of the machine and the connections after a schedule of calls: one lemma for each call,
+-- and then one for all calls.
 use Rattle.std.proofs.Common.{◌≡◌, ◌≢◌, ℕ, zero, suc, ◌+◌, ◌<◌, Bool, true, false, List, [], ◌∷◌, ◌++◌, length, map, take, Option, Some, None, Result, Ok, Err, slice_set, refl, sym, ap, ◌∙◌, subst, append_assoc, get_or, length-append, inl, inr}
 use Rattle.std.specs.Prelude.{◌⊎◌, if◌then◌else◌}
 use Rattle.std.specs.List.{AllZip, FoldsTo}
@@ -56,7 +56,7 @@ set_served streams lives n stream life so below here = record {
         let l = at_set-other lives n number life apart in
         subst (λ (x : Option Stream). IsServed x (at_place (slice_set lives n life) number)) (sym s) (subst (λ (y : Option Life). IsServed (at_place streams number) y) (sym l) (so.each number))
 
--- a served connection with this stream has a life
+-- if a connection with this stream is served, it has a life
 life_of : (stream : Stream) (life : Option Life) → IsServed (Some stream) life → (l : Life) × (life ≡ Some l) × IsServed (Some stream) (Some l)
 life_of stream None served = absurd served
 life_of stream (Some l) served = (l, refl, served)
@@ -69,7 +69,7 @@ abbrev Happens : Bool → Record → Event → Record → Type 0
 Happens can old (Executed plain_event outcome) new = Executes can old plain_event (outcome_step new outcome)
 Happens can old PowerCycled new = new ≡ cycled old
 
--- A call led the machine through these events, and each connection is served after it.
+-- A call led the machine through these events, and each connection is served after the call.
 record Led (can : Bool) (old new : Wire) (lives : List (Option Life)) (events : List Event) : Type 0 where
   pub machine : FoldsTo (Happens can) old.machine events new.machine
   pub served : Serve new.streams lives

@@ -99,8 +99,9 @@ HoldsLastBack held holds executions =
     (answered : List Execution) × (last : Execution) × (executions ≡ answered ++ last ∷ [])
     × Appends held holds (responses_of answered)
 
--- These executions executed all complete buffers, and their responses were written, with this
--- result.
+-- The result of executing the complete buffers of a stream. On success, all of them were executed,
+-- and all responses were written. If the writer, the witness or the host failed, the executions end
+-- at that buffer.
 abbrev pub Finishes : {F : Type 0} → Asking F → Option (List ℕ) → Option (List ℕ)
     → Marks → Marks → F → List Execution → F → Stream → Result ℕ ServeFault → Type 0
 Finishes g held holds before after asked executions asking left (Ok count) =
@@ -154,11 +155,14 @@ ReadsNoMore reader cut =
 
 -- How serving ended.
 -- - The reader or the stream ended: all buffers were executed and all responses were written.
--- - The reader failed, or reached the limit on reads that return bytes: the same.
--- - The writer failed: some buffers were executed, the last one without its whole response.
--- - The witness failed: some buffers were executed, the last one without its response.
--- - The host returned a fault: the buffers before the next one, which is whole, were executed,
---   with their responses.
+-- - The reader failed, or reached the limit on reads that return bytes: likewise, all buffers were
+--   executed and all responses were written.
+-- - The writer failed: some buffers were executed, and the response of the last one was not written
+--   completely.
+-- - The witness failed: some buffers were executed, and the response of the last one was not
+--   written.
+-- - The host returned a fault: the buffers before the next one, which is complete, were executed,
+--   and their responses were written.
 abbrev pub Ends : {F : Type 0} → Asking F → Option (List ℕ) → Option (List ℕ)
     → Marks → Marks → Cutting → F → List Execution → F → Result ℕ ServeFault → Type 0
 Ends g held holds reader writer cut asked executions asking (Ok count) =
