@@ -1,4 +1,4 @@
--- Each event leaves the folder and all holders fine, and so does a run.
+-- Each event preserves the invariant of the folder and of all holders, and so does every run.
 use Rattle.std.proofs.Common.{◌≡◌, ℕ, suc, ◌+◌, ◌<◌, ◌==◌, Bool, true, false, cond, List, [], ◌∷◌, ◌++◌, length, take, drop, refl, sym, ap, ◌∙◌, subst, arith, append_assoc, length-append}
 use Rattle.std.specs.List.{AllByRecursion}
 use Rattle.tpm_keeping.specs.Journal.{Entered, Journal, IsJournal, entries, run}
@@ -103,7 +103,7 @@ does_fine Settling j w p more laws h is now lock =
 
 -- ---- what fails
 
--- the lock of the one that has it is its own after all that it does
+-- a process that has the lock still has it after its task
 lock_after : (j : Journal) (phase : Phase) (effect : Effect) (s : Shared) (k : Holder) (p : ℕ) → (s.locked ≡ true) × (s.locker ≡ p)
     → ((does j phase s k effect).locked ≡ true) × ((does j phase s k effect).locker ≡ p)
 lock_after j phase effect s k p lock = let same = same_lock j phase effect s k in (same.0 ∙ lock.0, same.1 ∙ lock.1)
@@ -148,7 +148,7 @@ freed_still : (j : Journal) (s : Shared) (p : ℕ) → Still j s → Still j (fr
 freed_still j s p still =
     record { told = still.told; file = still.file; older = still.older; alone = still.alone; each = still.each; once = still.once; safe = still.safe }
 
--- another one's lock is its own still
+-- if another process dies, a process keeps its lock
 freed_fits : (j : Journal) (s : Shared) (p q : ℕ) (k : Holder) → (q == p) ≡ false → Fits j s q k → Fits j (freed s p) q k
 freed_fits j s p q k apart h = record {
   lock = λ theirs. (
@@ -218,7 +218,7 @@ rests_fits (Ended e) j s p child k is now h = record {
 }
 rests_fits phase j s p child k is now h = newborn_fits j s child k.force k.limit (omega (arith, h.below))
 
--- what the system drops by itself
+-- if the system drops bytes by itself, the invariant still holds
 drops_by_itself : (j : Journal) (w : World) → Fine j w → (b : Bool) → w.shared.locked ≡ b
     → Fine j (cond b w (record w { shared = record w.shared { file = record w.shared.file { is_dropped = true } } }))
 drops_by_itself j w h true is = h
