@@ -30,7 +30,7 @@ pub record Journal : Type 0 where
   pub first : List ℕ → ℕ
   -- the spot after a text that is a head, also of a kind that is no longer written
   pub after_head : List ℕ → Option Spot
-  -- the spot to which a text leads, by itself or from a spot, and how many bytes of the text lead
+  -- the spot to which a text leads, by itself or from a spot, and the size of the part that leads
   -- there
   pub opened : List ℕ → Option (Spot × ℕ)
   pub followed : Spot → List ℕ → Option (Spot × ℕ)
