@@ -30,21 +30,20 @@ Ascend (a ∷ before) =
     × Ascend before
 
 pub record IsKept (j : Journal) (w : Shared) : Type 0 where
-  -- if there is a journal, it opens as the device that executed the history
+  -- the journal, where there is one, opens as the device that executed the history
   pub opens : 0 < w.file.number
       → (p : Spot) × (taken : ℕ) × (j.opened w.file.now.text ≡ Some (p, taken))
       × (p.state ≡ run j w.origin w.history)
-  -- the history contains the command of each response that is not gone, at a position of its own
+  -- which has the command of each answer that is not gone, in a place of its own
   pub each : AllByRecursion (λ a. a.is_gone ≡ false → IsTrue j w.origin w.history a) w.answers
   pub once : Ascend w.answers
-  -- no response of a holder with `force=always` is gone, whatever the words of force of other
-  -- holders
+  -- no answer of a holder with `force=always` is gone, whatever word others have
   pub always : AllByRecursion
       (λ a. is_always a.force ≡ true → (a.is_gone ≡ false) × (a.place ≤ w.promised))
       w.answers
-  -- the promised commands are in the history
+  -- what was promised is there
   pub promised : w.promised ≤ length w.history
-  -- after a holder that syncs has done a call, the device exists
+  -- and so is the device, once a holder that forces has done a call
   pub lasts : w.lasting ≡ true → 0 < w.file.number
 
 -- The commands that were promised before are the beginning of the history after.
