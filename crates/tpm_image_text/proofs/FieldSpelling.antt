@@ -1,6 +1,6 @@
--- The fields of an image. A decoder is exact if it returns a value exactly if the bytes begin with
--- the encoding of that value. The decoders of fields are exact, and so are the decoders composed of
--- them.
+-- The fields of an image. A decoder is called exact if it returns a value if and only if the bytes
+-- begin with the value's encoding. The decoders of fields are exact, and so are the decoders
+-- composed of them.
 use Rattle.std.proofs.Common.{◌≡◌, ℕ, ◌^◌, ◌<◌, ◌≤◌, Bool, true, false, cond, List, [], ◌∷◌, ◌++◌, length, Option, Some, Result, Ok, Err, refl, sym, ap, subst, ◌∙◌, append_assoc, append-nil, arith}
 use Rattle.std.specs.Prelude.{◌==◌, nat_lt, not, ok_or}
 use Rattle.std.specs.Int.{Width, w8, w16, w64, to_be_bytes}

@@ -66,7 +66,7 @@ front_cut version kept n is long less =
 
 -- ---- records
 
--- powering on with what a record keeps has the same result as a power cycle
+-- powering on with the kept state of a record has the same result as a power cycle
 pub powered_again : (r : Record) → powered_on (kept_of r) ≡ cycled r
 powered_again r = refl
 

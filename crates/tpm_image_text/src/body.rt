@@ -1,4 +1,4 @@
-//! The body of an image: what a device keeps without power.
+//! The body of an image: the state that a device keeps without power.
 
 ghost use Rattle.tpm_image_text.specs.Sizes.{body_size, state_size, text_size};
 ghost use Rattle.std.specs.Prelude.{◌≡◌, ◌≤◌, ◌+◌, ◌++◌, [], length, replicate};

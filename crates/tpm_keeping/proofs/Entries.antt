@@ -63,7 +63,7 @@ pub whole_length : (j : Journal) (head : List ℕ) (p : Spot) (cs ds : List (Lis
 whole_length j head p cs ds =
     omega (arith, ap length (whole_both j head p cs ds), length-append (whole j head p cs) (entries j (trail j p cs) ds))
 
--- ---- a front
+-- ---- a prefix
 
 pub front_past : (x y : List ℕ) (count : ℕ) → length x ≤ count → take count (x ++ y) ≡ x ++ take (count - length x) y
 front_past x y count le =

@@ -210,7 +210,7 @@ state_is j s still named =
 pub state_lives : (j : Journal) (s : Shared) → IsJournal j → Still j s → 0 < s.file.number → j.is_state (state_of j s.file) ≡ true
 state_lives j s laws still named = trail_lives j s.file.start s.file.now.commands laws (still.file.headed named).lives
 
--- ---- what others know
+-- ---- the knowledge of other holders
 
 -- After a step of another process, everything that a holder knew of the folder still holds.
 pub record Grows (j : Journal) (s t : Shared) : Type 0 where
@@ -314,7 +314,7 @@ put_moves j s k n laws still puts = record {
   grows = forced_grows j s (put j s k n) (put_more j k n) refl refl refl refl (omega (arith, puts.all.reached)) (λ none. none) (omega arith);
 }
 
--- ---- a force, and what is dropped
+-- ---- a sync, and dropped bytes
 
 -- if only the bytes on the disk changed, the invariant of the folder still holds
 forced_still : (j : Journal) (s : Shared) (forced : ℕ) (past : List Content) (is_dropped : Bool) → Still j s

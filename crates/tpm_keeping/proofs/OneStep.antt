@@ -48,7 +48,7 @@ same_lock j Naming All s k = (refl, refl)
 same_lock j Settling All s k = (refl, refl)
 same_lock j phase effect s k = (refl, refl)
 
--- ---- the others
+-- ---- the other holders
 
 -- a holder without the lock depends only on what it knows of the file
 away_in : (phase : Phase) (j : Journal) (v w : Sight) (k : Holder) → (holds phase ≡ true → ⊥) → (KnowsOf j v k → KnowsOf j w k) → In phase j v k → In phase j w k
@@ -106,7 +106,7 @@ goes_fine j w s p new h mine moves fits =
 pub beside : (j : Journal) (w : World) (p : ℕ) (new : Holder) → Fine j w → Fits j w.shared p new → Fine j (with_holder w.shared w.holders p new)
 beside j w p new h fits = update j w w.shared p new h.still (λ q _. h.holders q) fits
 
--- ---- who knows nothing
+-- ---- a holder that knows nothing
 
 pub knows_nothing : (j : Journal) (f : File) (force : Force) → Knows j f force 0 None 0 []
 knows_nothing j f force = record { at = λ d none _. absurd cc; empty = λ _. (refl, refl) }
@@ -346,7 +346,7 @@ put_fits j s p k still lock below calm puts = by (is_always k.force) refl
         })
         (λ yes'. absurd (quietly j k.force k.job k.command puts.quiet word yes'))
 
--- ---- forcing
+-- ---- syncing
 
 pub forced_fits : (j : Journal) (s : Shared) (p : ℕ) (k : Holder) → Still j s → (s.locked ≡ true) × (s.locker ≡ p) → k.file < s.next → Calm (sight s) k.settled k.file
     → StaysOf j (sight s) k → s.file.is_dropped ≡ false → Fits j (record s { file = forced s.file }) p (record k { phase = settles k; unsure = [] })

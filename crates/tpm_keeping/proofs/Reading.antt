@@ -15,7 +15,7 @@ use Rattle.tpm_keeping.specs.declared.holder.Job.TheVariants.{Execute, Renew, Sh
 use Rattle.tpm_keeping.specs.declared.holder.End.TheVariants as ending
 use Rattle.tpm_keeping.specs.declared.holder.Phase.TheVariants.{Reading, Putting, Settling, Leaving}
 
--- ---- what is read leads to the state of the file
+-- ---- reading leads to the state of the file
 
 pub record IsCaughtUp (j : Journal) (s : Shared) (k : Holder) : Type 0 where
   pub taken : ℕ
@@ -101,7 +101,7 @@ caught j s k laws still knows same named read = by k.device refl
         opens_all j s k laws (still.file.headed named) still.file.now.entered (still.file.now.text named) same named is e.0 e.1 read
     by (Some d) is = follows_all j s k d laws (still.file.headed named).lives still.file.now.entered (still.file.now.text named) same named is (knows.at d is same) read
 
--- ---- then it acts
+-- ---- then the holder does its job
 
 -- the folder is synced, if it is not yet synced and the word of force requires it
 pub settles_fits : (j : Journal) (s : Shared) (p : ℕ) (k : Holder) → (s.locked ≡ true) × (s.locker ≡ p) → k.file < s.next → Calm (sight s) k.settled k.file

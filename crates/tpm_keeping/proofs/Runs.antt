@@ -52,7 +52,7 @@ leaves_fine (ending.Failed f) j w p h mine now =
     goes_fine j w (left j (ending.Failed f) s k) p (goes (Ended (ending.Failed f)) k) h mine (left_moves (ending.Failed f) j s k h.still now)
     (record { lock = λ off. absurd cc; now = now; below = (h.holders p).below; calm = (h.holders p).calm })
 
--- ---- what is done
+-- ---- a task is done
 
 does_fine : (phase : Phase) (j : Journal) (w : World) (p more : ℕ) → IsJournal j → (h : Fine j w) → (w.holders p).phase ≡ phase
     → In phase j (sight w.shared) (w.holders p) → (holds phase ≡ true → (w.shared.locked ≡ true) × (w.shared.locker ≡ p)) → Fine j (does_in j phase w p (w.holders p) more)
@@ -101,7 +101,7 @@ does_fine Settling j w p more laws h is now lock =
       calm = λ _ _. refl;
     })
 
--- ---- what fails
+-- ---- a task fails
 
 -- a process that has the lock still has it after its task
 lock_after : (j : Journal) (phase : Phase) (effect : Effect) (s : Shared) (k : Holder) (p : ℕ) → (s.locked ≡ true) × (s.locker ≡ p)
@@ -142,7 +142,7 @@ fails_fine Naming effect false j w p laws h is now lock = drops_fine Naming effe
 fails_fine Settling effect true j w p laws h is now lock = drops_fine Settling effect j w p Starved laws h is refl now (lock refl)
 fails_fine Settling effect false j w p laws h is now lock = drops_fine Settling effect j w p Failed laws h is refl now (lock refl)
 
--- ---- who dies
+-- ---- a process dies
 
 freed_still : (j : Journal) (s : Shared) (p : ℕ) → Still j s → Still j (freed s p)
 freed_still j s p still =
@@ -196,7 +196,7 @@ dies_fine Naming effect j w p laws h is now = dies_holding Naming effect j w p l
 dies_fine Settling effect j w p laws h is now = dies_holding Settling effect j w p laws h is refl now
 dies_fine (Leaving e) effect j w p laws h is now = dies_holding (Leaving e) effect j w p laws h is refl now
 
--- ---- who is asked, begins, or forks
+-- ---- a process gets a job, begins, or forks
 
 asked_fits : (phase : Phase) (j : Journal) (s : Shared) (p : ℕ) (k : Holder) (job : Job) (command : List ℕ) → In phase j (sight s) k → Fits j s p k
     → Fits j s p (asked_in phase k job command)

@@ -33,7 +33,7 @@ caller_of state k = record {
 abbrev pub idle : Holder → Caller
 idle k = record { holder = k; on_damage = Ends; job = Show; command = [] }
 
--- A call begins. A call that was interrupted is dropped.
+-- the keeper after a call begins; a call that was interrupted is dropped
 abbrev pub called : (cuts : Bool) → Job → List ℕ → Holder → Caller
 called true job command k = record {
   holder = asked (rests k) job command;
@@ -44,8 +44,8 @@ called true job command k = record {
 called false job command k =
     record { holder = asked (rests k) job command; on_damage = Ends; job = job; command = [] }
 
--- If damage is to be cut, a call that ended with damage is followed by a cut. A cut that is done is
--- followed by the call.
+-- the keeper after a call ended; if damage has to be cut, a call that ended with damage is followed
+-- by a cut, and a cut that is done is followed by the call
 abbrev pub goes_on_in : OnDamage → Phase → Caller → Caller
 goes_on_in IsCut (Ended (ending.Failed fault.Damaged)) c =
     record c { holder = asked c.holder Cut []; on_damage = BeginsAgain }

@@ -83,7 +83,8 @@ newborn force limit = record {
   response = [];
 }
 
--- A call in progress is dropped: it was interrupted, or this process is a fork.
+-- the holder after it dropped a call in progress, which was interrupted, or which the parent of a
+-- fork made
 abbrev pub rests_in : Phase → Holder → Holder
 rests_in (Ended e) k = k
 rests_in phase k = newborn k.force k.limit
@@ -99,7 +100,7 @@ asked_in phase k job command = k
 abbrev pub asked : Holder → Job → List ℕ → Holder
 asked k job command = asked_in k.phase k job command
 
--- The holder forgets everything: its next look opens the device from the file.
+-- the holder after it forgot everything: its next look opens the device from the file
 abbrev pub forgets : Phase → Holder → Holder
 forgets p k = record (newborn k.force k.limit) { phase = p }
 
@@ -121,17 +122,19 @@ is_never f = false
 abbrev pub sure : Holder → ℕ
 sure k = k.place - length k.unsure
 
--- The folder is synced once, before the first response from a file, unless the holder never syncs.
+-- the phase after the file is as required; the folder is synced once, before the first response
+-- from a file, unless the holder never syncs
 abbrev pub settles : Holder → Phase
 settles k = cond (k.settled || is_never k.force) (Leaving ending.Done) Settling
 
--- A journal has grown if its size has reached the limit and twice the size of a new journal's head.
+-- whether a journal has grown: its size has reached the limit and twice the size of a new journal's
+-- head
 abbrev pub is_grown : Journal → Holder → (p : Spot) → Bool
 is_grown j k p = nat_le k.limit k.place && nat_le (length (j.head p.state)) (k.place / 2)
 
--- A command has an entry. The text to write is the bytes that the holder has not seen synced,
--- followed by the entry; or, if the old journal has grown, a new journal that begins with the
--- entry.
+-- the holder after it executed a command that has an entry; the text to write is the bytes that the
+-- holder has not seen synced, followed by the entry, or, if the old journal has grown, a new
+-- journal that begins with the entry
 abbrev pub enters : Journal → Holder → (p : Spot) → (grown : Bool) → Holder
 enters j k p true = record k {
   phase = Making;
@@ -146,7 +149,7 @@ enters j k p false = record k {
   response = j.response p.state k.command;
 }
 
--- A state begins a new journal.
+-- the holder when a state begins a new journal
 abbrev pub renews : Journal → Holder → (state response : List ℕ) → Holder
 renews j k state response = record k {
   phase = Making;
@@ -155,11 +158,12 @@ renews j k state response = record k {
   response = response;
 }
 
--- The state after a command that has no entry begins a new journal.
+-- the holder after it executed a command that has no entry; the state after the command begins a
+-- new journal
 abbrev pub leaps : Journal → Holder → (p : Spot) → Holder
 leaps j k p = renews j k (j.after p.state k.command) (j.response p.state k.command)
 
--- A text that is not a command is refused, and nothing changes.
+-- the holder after it refused a text that is not a command
 abbrev pub refuses : Holder → (p : Spot) → Holder
 refuses k p = record k {
   phase = Leaving (ending.Failed fault.NoCommand);
@@ -198,8 +202,8 @@ caught_up k taken = record k {
   read = [];
 }
 
--- The bytes that were read are damaged. The file stays as it is, unless a cut has read all of it:
--- then the state after the undamaged beginning begins a new journal.
+-- the holder if the bytes that it read are damaged; the file stays as it is, unless a cut has read
+-- all of it: then the state after the undamaged beginning begins a new journal
 abbrev pub salvages_of : Journal → Holder → Option (Spot × ℕ) → Holder
 salvages_of j k None = dropped fault.Damaged k
 salvages_of j k (Some salvaged) = renews j (caught_up k salvaged.1) salvaged.0.state []
@@ -223,7 +227,7 @@ is_read k = nat_le k.size k.seen
 abbrev pub reads_on : Journal → Holder → Holder
 reads_on j k = cond (is_read k) (finishes j k (found j k.device k.read)) (goes Reading k)
 
--- A read returns at least one byte, unless the file was truncated.
+-- the holder after a read; a read of no bytes means that the file was truncated
 abbrev pub has_read : Journal → Holder → List ℕ → Holder
 has_read j k [] = dropped fault.Read k
 has_read j k bytes = reads_on j (record k { seen = k.seen + length bytes; read = k.read ++ bytes })
@@ -243,7 +247,7 @@ looked j k file size =
       size = size;
     }))
 
--- If there is no journal, one begins, if that is the job.
+-- the holder if there is no journal; one begins, if that is the job
 abbrev pub begins_of : Journal → Holder → Option (List ℕ) → Holder
 begins_of j k None = dropped fault.Unreadable k
 begins_of j k (Some s) = renews j (record k { place = 0 }) s []

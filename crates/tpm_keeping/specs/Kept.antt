@@ -46,7 +46,8 @@ pub record IsKept (j : Journal) (w : Shared) : Type 0 where
   -- and so is the device, once a holder that forces has done a call
   pub lasts : w.lasting ≡ true → 0 < w.file.number
 
--- The commands that were promised before are the beginning of the history after.
+-- No fewer commands are promised than before, and the commands that were promised before are still
+-- the beginning of the history.
 abbrev pub KeepsPromises : Shared → Shared → Type 0
 KeepsPromises old new =
     (old.promised ≤ new.promised)
@@ -114,7 +115,7 @@ pub record KeepsFront (j : Journal) (text : List ℕ) (k : Holder) : Type 0 wher
   pub is : j.opened (take k.place text) ≡ Some (spot, k.place)
   pub out : k.out ≡ j.head spot.state
 
--- ---- what was asked for
+-- ---- the commands that were requested
 
 -- Each requested command passes a test.
 abbrev pub Pass : (List ℕ → Bool) → List Event → Type 0

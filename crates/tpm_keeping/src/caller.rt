@@ -35,7 +35,7 @@ pub struct CuttingKeeper<D: Device> {
 
 impl<D: Device> CuttingKeeper<D> {
     /// Creates a keeper that has seen no file. A journal is restarted when its size has reached
-    /// `limit` and twice the size of a new journal's head.
+    /// both `limit` and twice the size of a new journal's head.
     pub fn new(alloc: Global, force: Force, limit: u64) -> CuttingKeeper<D>
         ensures { caller_of D.spot result ≡ idle (newborn force limit) }
     {

@@ -80,7 +80,7 @@ pub struct Keeper<D: Device> {
 
 impl<D: Device> Keeper<D> {
     /// Creates a keeper that has seen no file. A journal is restarted when its size has reached
-    /// `limit` and twice the size of a new journal's head.
+    /// both `limit` and twice the size of a new journal's head.
     pub fn new(alloc: Global, force: Force, limit: u64) -> Keeper<D>
         ensures { holder_of D.spot result ≡ newborn force limit }
     {

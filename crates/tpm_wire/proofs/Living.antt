@@ -29,7 +29,7 @@ use Rattle.tpm_wire.specs.declared.turn.Turn.TheVariants.{Answer, Ended, Wants}
 use Rattle.tpm_wire.proofs.Cutting.{buffers_stay, cut_next, read_more}
 use Rattle.tpm_wire.proofs.Folds.{folds_on}
 
--- There are equally many lives and streams, and each connection is served.
+-- The lists of lives and of streams have the same size, and each connection is served.
 record Serve (streams : List (Option Stream)) (lives : List (Option Life)) : Type 0 where
   pub many : length lives ≡ length streams
   pub each : (number : ℕ) → IsServed (at_place streams number) (at_place lives number)
@@ -265,7 +265,8 @@ happens_run r new (Executed plain_event outcome ∷ events) run =
 happens_run r new (PowerCycled ∷ events) run =
     happens_run run.0 new events run.2 ∙ ap (λ (m : Record). after_all m (map plain_event_of events)) run.1
 
--- If no allocation can fail, the events of a schedule are a run.
+-- If no allocation can fail, the machine has the record to which a run of the schedule's events
+-- leads.
 pub schedules_run : SchedulesAreRuns
 schedules_run r calls new run =
     happens_run r new.machine (events_in (free 8) calls) (led_anew false r calls new run).machine

@@ -48,8 +48,8 @@ Schedules can old calls new = FoldsTo (Does can) old calls new
 
 -- ---- what follows from the calls and their results only
 
--- what happened on a connection since it was opened: all bytes that it received, and all outcomes
--- that its turns returned, in order
+-- the life of a connection: all bytes that it received since it was opened, and all outcomes that
+-- its turns returned, in order
 pub record Life : Type 0 where
   pub bytes : List ℕ
   pub answers : List Outcome
@@ -102,7 +102,7 @@ abbrev pub events_in : List (Option Life) → List Call → List Event
 events_in lives [] = []
 events_in lives (call ∷ calls) = events_of lives call ++ events_in (lives_after lives call) calls
 
--- ---- the laws of schedules
+-- ---- what holds for every schedule
 
 -- An execution belongs to an event if it executed the event's buffer with the event's outcome, or
 -- if both are power cycles.

@@ -20,7 +20,7 @@ use Rattle.tpm_wire.specs.declared.fault.ServeFault.{ServeFault}
 use Rattle.tpm_wire.specs.declared.fault.ServeFault.TheVariants as fault
 use Rattle.tpm_wire.specs.declared.host.Host.{Host}
 
--- ---- what is executed
+-- ---- the buffers that are executed
 
 -- the buffer of an event; a power cycle and a placed object have none
 abbrev pub buffer_in : PlainEvent → List ℕ
@@ -36,7 +36,7 @@ buffers_of executions = map (λ (one : Execution). buffer_in one.event) executio
 abbrev pub responses_of : List Execution → List ℕ
 responses_of executions = flat_map (λ (one : Execution). one.seen.response) executions
 
--- ---- what the host is asked for
+-- ---- requests to the host
 
 -- a closure that returns the host's values for a command
 abbrev pub Asking : Type 0 → Type 1
@@ -100,8 +100,8 @@ HoldsLastBack held holds executions =
     × Appends held holds (responses_of answered)
 
 -- The result of executing the complete buffers of a stream. On success, all of them were executed,
--- and all responses were written. If the writer, the witness or the host failed, the executions end
--- at that buffer.
+-- and all responses were written. If the writer or the witness failed, it failed for the last
+-- execution. If the host failed, the next buffer was not executed.
 abbrev pub Finishes : {F : Type 0} → Asking F → Option (List ℕ) → Option (List ℕ)
     → Marks → Marks → F → List Execution → F → Stream → Result ℕ ServeFault → Type 0
 Finishes g held holds before after asked executions asking left (Ok count) =
@@ -116,7 +116,7 @@ Finishes g held holds before after asked executions asking left (Err fault.Host)
     × Appends held holds (responses_of executions) × (after ≡ before)
 Finishes g held holds before after asked executions asking left (Err e) = ⊥
 
--- ---- what is read
+-- ---- the bytes that are read
 
 -- The first list of buffers is a prefix of the second.
 abbrev pub AreFirst : List (List ℕ) → List (List ℕ) → Type 0
@@ -203,7 +203,7 @@ pub record Serves {F : Type 0} (g : Asking F) (can : Bool) (had has held holds :
         → StretchFollows can old executions new history
     pub ends : Ends g held holds reader writer (cut_of read) asked executions asking result
 
--- ---- what a witness is notified of
+-- ---- the notifications of a witness
 
 -- A witness was notified of each of these executions, in order.
 abbrev pub NotesEach : {S : Type 0} → (S → Execution → S → Type 0) → S → List Execution → S → Type 0

@@ -110,7 +110,8 @@ next_of s =
     if s.ended then None
     else option_and_then (λ size. cut_within size (is_last s.taken) s.taken) (buffer_size s.taken)
 
--- The size and the end mark are those of the stream's next buffer; or there is no next buffer.
+-- The size is that of the stream's next buffer, and `last` says whether this buffer is the last
+-- one; or there is no next buffer.
 abbrev pub IsFront : Stream → Option Front → Type 0
 IsFront s None = next_of s ≡ None
 IsFront s (Some f) = (f.size ≤ length s.taken) × (next_of s ≡ Some (cut_at f.size f.last s.taken))

@@ -11,8 +11,7 @@ const HEADER_SIZE: usize = 10;
 /// The offset of the end of commandSize in a command.
 const SIZE_END: usize = 6;
 
-/// The size of a connection's next buffer, which begins with the first of its bytes, and whether
-/// this buffer is the last one.
+/// The size of a connection's next buffer, and whether this buffer is the last one.
 #[derive(Clone, Copy)]
 pub struct Front {
     pub size: usize,

@@ -61,7 +61,7 @@ pub data Invocation : Type 0 where
   replay : Text → Invocation
   tell : ErrorKind → Invocation
 
--- ---- what words ask for
+-- ---- the requests of words
 
 -- whether a flag was given: if so, clap's text for it is "true", and otherwise "false"
 abbrev pub is_set : Text → List Row → Bool
@@ -204,7 +204,7 @@ asked_in = option_and_then (λ command. asked_of command.0 command.1)
 abbrev pub asked_by : List Text → Option Invocation
 asked_by words = asked_in (subcommand_of program words)
 
--- ---- what the code gives for words
+-- ---- the values of the code, as the definitions see them
 
 abbrev pub kept : Place → Kept
 kept (place.Image path) = in_image path.now

@@ -1,4 +1,4 @@
-//! What the words of a command line request.
+//! The request of a command line, from its words.
 
 ghost use Rattle.std.specs.Prelude.{◌≡◌, codes, map, ok_or, option_map};
 ghost use Rattle.clap.specs.Words.{first_of, found_of, rows_of, subcommand_rows_of};

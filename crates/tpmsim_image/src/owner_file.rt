@@ -5,7 +5,7 @@ use std::fs::{File, OpenOptions, Permissions};
 use std::io;
 use std::os::unix::fs::{OpenOptionsExt, PermissionsExt};
 
-/// The permissions of such a file.
+/// The permissions of a file that only its owner can use.
 const OWNER_ALONE: u32 = 0o600;
 
 /// Creates a file at this path, which must not exist yet, not even as a link. Its owner can read

@@ -38,8 +38,7 @@ cut_longer None b more h = tt
 cut_longer (Some a) None more h = absurd h
 cut_longer (Some a) (Some b) more h = (h.0 ++ more, ap (λ (l : List ℕ). l ++ more) h.1 ∙ append_assoc b h.0 more)
 
--- If a text was printed and then truncated together with the output before it, the output with that
--- text is truncated.
+-- If the output was truncated after a text was printed, the output with that text is truncated.
 pub cut_behind : (a b c : Option (List ℕ)) (text : List ℕ) → Appends a b text → CutOff b c → CutOff (append_known a text) c
 cut_behind None b c text h k = tt
 cut_behind (Some a) None c text h k = absurd h

@@ -1,4 +1,4 @@
--- The text of a log: a head, and the entries of what was executed since.
+-- The text of a log: a head, and the entries of the commands executed since then.
 use Rattle.std.specs.Prelude.{◌≡◌, ℕ, Bool, false, List, map, Option, Some, None}
 use Rattle.std.specs.Io.KnownBytes.{Appends}
 use Rattle.std.specs.List.{AllByRecursion, FoldsTo}
