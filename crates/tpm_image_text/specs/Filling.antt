@@ -19,7 +19,7 @@ Fills can read filled (Ok done) rest = read ≡ Ok (filled, rest)
 Fills can read filled (Err unfilled.Malformed) rest = read ≡ Err malformed
 Fills can read filled (Err unfilled.NoMemory) rest = can ≡ true
 
--- every key of these entries is below this one
+-- Every key of these entries is below this key.
 abbrev pub AllBelow : {X : Type 0} → ℕ → Entries X → Type 0
 AllBelow key [] = Unit {0}
 AllBelow key (e ∷ es) = (e.0 < key) × AllBelow key es

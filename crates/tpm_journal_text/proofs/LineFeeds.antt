@@ -259,7 +259,7 @@ lines_end_front mark front back end place there =
     end place (get_or-drop 72 (front ++ back) place 0
     ∙ get_or_append_left front back 0 (72 + place) (feed_within front (72 + place) at) ∙ at)
 
--- If zeros are appended to a text, no line ends in them.
+-- After zeros are appended to a text, its lines still end where those of the mark's entry end.
 pub lines_end_zeros : (mark front : List ℕ) (count : ℕ) → LinesEnd mark front → LinesEnd mark (front ++ replicate count 0)
 lines_end_zeros mark front count end place there =
     let text = front ++ replicate count 0 in

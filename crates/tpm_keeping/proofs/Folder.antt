@@ -223,8 +223,8 @@ pub record Moves (j : Journal) (s t : Shared) : Type 0 where
   pub still : Still j t
   pub grows : Grows j s t
 
--- if other first bytes are on the disk, and no fewer than a holder has seen synced, the holder's
--- spot is still right
+-- if at least the bytes that a holder has seen synced are still on the disk, the holder's spot is
+-- still right
 forced_at : (j : Journal) (f g : File) (more : List (List ℕ)) (force : Force) (state : Spot) (place : ℕ) (unsure : List ℕ)
     → g.head ≡ f.head → g.start ≡ f.start → g.now.commands ≡ f.now.commands ++ more → min f.forced (length (body j f)) ≤ g.forced
     → IsAt j f.head f.start f.now.commands f.forced force state place unsure
@@ -396,7 +396,7 @@ settle_moves j s still = record {
 pub same_moves : (j : Journal) (s : Shared) → Still j s → Moves j s s
 same_moves j s still = record { still = still; grows = same_grows j s s refl (λ none. none) (omega arith) }
 
--- what a holder knows of the old file does not concern the new one
+-- after a new file gets the journal's name, everything that a holder knew of the folder still holds
 named_grows : (j : Journal) (origin : List ℕ) (s : Shared) (k : Holder) → Grows j s (named_from j origin s k)
 named_grows j origin s k = record {
   knows = λ force file device place unsure below h. record { at = λ d has same. absurd (omega (arith, below, same)); empty = h.empty };

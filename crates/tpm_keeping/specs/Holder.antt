@@ -232,7 +232,8 @@ abbrev pub has_read : Journal → Holder → List ℕ → Holder
 has_read j k [] = dropped fault.Read k
 has_read j k bytes = reads_on j (record k { seen = k.seen + length bytes; read = k.read ++ bytes })
 
--- whether the file is the one that the holder knows; otherwise the holder opens it
+-- whether the holder knows this file, and the file still has all bytes that the holder executed;
+-- otherwise the holder opens the file
 abbrev pub knows_file : Holder → (file size : ℕ) → Bool
 knows_file k file size = k.file == file && nat_le k.place size
 

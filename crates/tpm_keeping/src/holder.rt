@@ -4,7 +4,7 @@ ghost use Rattle.std.specs.Prelude.{◌≡◌};
 ghost use Rattle.tpm_keeping.specs.Holder.{fault_of};
 ghost use Rattle.tpm_keeping.specs.Sentence.{sentence};
 
-/// The word of force of a holder: when it syncs to the disk what it wrote.
+/// The word of force of a holder: when the holder syncs its writes to the disk.
 #[derive(Clone, Copy, PartialEq, Eq)]
 pub enum Force {
     /// Only when it writes a new journal.

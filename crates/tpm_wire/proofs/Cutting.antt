@@ -249,7 +249,8 @@ next_shorter s c is = by s.ended s.taken (buffer_size s.taken) refl is
 
 -- ---- streams that continue
 
--- The cut of a stream with more bytes continues the cut of the stream.
+-- Cutting a stream and then adding bytes to its cut has the same result as cutting the stream with
+-- these bytes.
 pub cut_fed : (done : List (List ℕ)) (s : Stream) (bytes : List ℕ) → fold with_byte (cut_with done s) bytes ≡ cut_with done (fed s bytes)
 cut_fed done s bytes = sym (fold-append with_byte (uncut done s.ended) s.taken bytes)
 
