@@ -31,8 +31,8 @@ pcr_elements = map by_itself (numbers_below 24)
 abbrev pub index_elements : Record → List Element
 index_elements r = map (λ e. by_itself e.0) (heads_of r.nv)
 
--- the handles of type 40, which always name something: the hierarchies, TPM_RH_NULL, lockout and
--- the password session
+-- the handles of type 40, each of which always names an entity: the hierarchies, TPM_RH_NULL,
+-- lockout and the password session
 abbrev pub permanent_elements : List Element
 permanent_elements =
     by_itself owner_handle.number

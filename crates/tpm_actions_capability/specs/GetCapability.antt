@@ -84,7 +84,8 @@ get_capability_row r q = do
   text ← told_of r p capability
   Ok (unchanged r (answer_of (Plain text)))
 
--- The code wrote the text or the elements of the definition, or refused as the definition does.
+-- The code wrote the text or the elements that the definition returns, or it refused with the
+-- definition's refusal.
 abbrev pub Tells : {X : Type 0} → Result X Refused → Result (Unit {0}) Refused → X → Type 0
 Tells (Ok wanted) (Ok done) new = new ≡ wanted
 Tells (Ok wanted) (Err e) new = ⊥

@@ -28,7 +28,7 @@ pub(crate) fn pcrs(elements: &mut Elements)
     }
 }
 
-/// Lists the permanent handles, which always name something.
+/// Lists the permanent handles, each of which always names an entity.
 pub(crate) fn permanent(elements: &mut Elements)
     requires { elements.old.items ≡ [] }
     ensures { elements.new.items ≡ permanent_elements }

@@ -86,7 +86,7 @@ evicted objects handle object wanted =
     if is_persistent handle then removed objects handle wanted else copied objects object wanted
 
 -- the row of TPM2_EvictControl. Handles: auth (the owner or the platform) and objectHandle.
--- Parameter: persistentHandle. Refused by A1 to A6 as above
+-- Parameter: persistentHandle. Refused by A1 to A6, the checks of an eviction
 unfoldable pub evict_control_row : Record → Request → Result Success Refused
 evict_control_row r q = do
   auth ← first_handle q.handles

@@ -18,7 +18,7 @@ public_body object =
     SizedFirst (public_text object.public)
     (sized_text (object_name object.public) ++ sized_text object.qualified_name)
 
--- no parameters; returned: the object's public area and its two Names
+-- the row of TPM2_ReadPublic. Parameters: none. Answer: the object's public area and its two Names
 unfoldable pub read_public_row : Record → Request → Result Success Refused
 read_public_row r q = do
   handle ← first_handle q.handles

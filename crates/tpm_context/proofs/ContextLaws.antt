@@ -1,5 +1,5 @@
--- What was made opens again, and what opens was made with the same proof, start and counts, or the
--- HMAC has a collision.
+-- A context that was made opens as its object. A context that opens was made with the same proof,
+-- start and counts, or the HMAC has a collision.
 use Rattle.std.proofs.Common.{◌≡◌, ◌⊎◌, ℕ, ◌^◌, ◌<◌, Bool, true, false, List, [], ◌++◌, length, take, drop, Ok, refl, sym, ap, ◌∙◌, arith, inl, inr}
 use Rattle.std.specs.Int.{Width, w32, w64, from_be_bytes, to_be_bytes}
 use Rattle.std.specs.Str.{bytes_eq}
@@ -34,7 +34,8 @@ opens_again c is = context_opens c.hierarchies c.binding c.sequence c.object is.
 
 -- ---- the fields of a text
 
--- two texts whose fronts have the same size have the same fronts and the same rests
+-- if two texts are equal and their first parts have the same size, their first parts are equal, and
+-- so are their rests
 parted : (a b c d : List ℕ) → length a ≡ length b → a ++ c ≡ b ++ d → (a ≡ b) × (c ≡ d)
 parted a b c d size e = (
   sym (take_at a c (length a) refl) ∙ ap (take (length a)) e ∙ take_at b d (length a) (sym size),
@@ -48,7 +49,7 @@ restart_small : (b : Binding) (one : SavedHandle) → IsBinding b → restart_bo
 restart_small b saved.Ordinary is = omega arith
 restart_small b saved.StClear is = is.restart_count
 
--- the fields before the encrypted object are the same
+-- The fields that precede the encrypted object are the same.
 record SameBound (a b : Binding) (h k : ContextHead) : Type 0 where
   start : a.start ≡ b.start
   reset_count : a.reset_count ≡ b.reset_count
@@ -91,7 +92,7 @@ same_bytes proof other h k key sequence one =
     ∙ ap (λ (n : ℕ). cipher_bytes other (record h { sequence = n })) sequence
     ∙ ap (λ (s : SavedHandle). cipher_bytes other (record h { sequence = k.sequence; saved = s })) one
 
--- two texts that are encrypted alike, with the same key and IV, are the same
+-- if two texts have the same ciphertext, with the same key and IV, they are equal
 same_plain : (proof other : List ℕ) (h k : ContextHead) (plain text : List ℕ) → cipher_bytes proof h ≡ cipher_bytes other k
     → encrypted proof h plain ≡ encrypted other k text → plain ≡ text
 same_plain proof other h k plain text bytes e =
@@ -130,7 +131,7 @@ same_making c d is js key text =
       object = same_object c.object d.object is.object js.object plain;
     }
 
--- two pairs of a key and a text with the same HMAC are the same, or the HMAC has a collision
+-- Two keys and texts with the same HMAC are equal, or the HMAC has a collision.
 abbrev Alike : (key text other_key other_text : List ℕ) → Type 0
 Alike key text other_key other_text =
     ((key ≡ other_key) × (text ≡ other_text)) ⊎ Collides key text other_key other_text
@@ -156,7 +157,7 @@ integrity_means c d is js e = by (alike (key_of c) (covered_text c.binding c) (k
 
 -- ---- a context that opens
 
--- the object that opens is the one of the context
+-- the object that opens is that of the context
 opened_object : (proof other : List ℕ) (sequence : ℕ) (o object : Object) → IsObject o → proof ≡ other
     → object_in (head_of sequence o) (decrypted other (head_of sequence o) (encrypted proof (head_of sequence o) (object_fields_text o))) ≡ Ok object
     → o ≡ object
@@ -170,7 +171,7 @@ opened_object proof other sequence o object is key e =
     ∙ e
     )
 
--- what a reader with these hierarchies and this binding finds in a context that opens
+-- what follows for a reader with these hierarchies and this binding if the context opens
 abbrev Finds : Making → Hierarchies → Binding → Object → Type 0
 Finds c h b object =
     let head = head_of c.sequence c.object in

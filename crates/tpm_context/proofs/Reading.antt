@@ -1,4 +1,4 @@
--- Reading a context: what was made is read again, and what is read was made.
+-- Reading a context: a context that was made can be read, and each context that is read was made.
 use Rattle.std.proofs.Common.{◌≡◌, ℕ, ◌^◌, ◌<◌, ◌≤◌, Bool, List, [], ◌∷◌, ◌++◌, length, Result, Ok, Err, refl, sym, ap, subst, ◌∙◌, append-nil, length-append, arith}
 use Rattle.std.specs.Prelude.{◌==◌, not, IfOk}
 use Rattle.std.specs.Str.{bytes_eq}
@@ -72,11 +72,11 @@ none_left : (bytes : List ℕ) → length bytes ≡ 0 → bytes ≡ []
 none_left [] e = refl
 none_left (byte ∷ bytes) e = absurd (omega arith)
 
--- the sized buffer that was read, without a fault of the context's
+-- a sized buffer that was read without a fault is the same if its faults are replaced
 sized_read : (limit : ℕ) (bytes : List ℕ) (x : List ℕ × List ℕ) → sized_at limit bytes ≡ Ok x → or_fault (sized_at limit bytes) fault.Size ≡ Ok x
 sized_read limit bytes x e = ap (λ (r : Result (List ℕ × List ℕ) SizedFault). or_fault r fault.Size) e
 
--- the blob that was read is the whole text
+-- if a blob was read, the text consists of this blob as a sized buffer
 pub blob_found : (text blob : List ℕ) → AreBytes text → blob_in text ≡ Ok blob → (text ≡ sized_text blob) × (length blob ≤ blob_size) × AreBytes blob
 unfolding blob_in
 blob_found text blob fits e =
@@ -132,7 +132,7 @@ object_found head plain o fits e =
 
 -- ---- the whole context
 
--- a context that was made with another binding is read as its parts
+-- reading a context that was made with another binding returns its parts
 pub opened_is : (h : Hierarchies) (a b : Binding) (proof : List ℕ) (head : ContextHead) (cipher : List ℕ)
     → head.sequence < 2 ^ 64 → length cipher ≤ object_fields_size
     → opened h b (sealed_text proof a head cipher) ≡ opened_parts (proof_of h head.hierarchy) b head (integrity_of proof a head cipher) cipher
@@ -146,14 +146,14 @@ opened_is h a b proof head cipher counted small =
     ∙ ap (λ (r : Result (List ℕ) ContextFault). r >>= λ l. parts_in l >>= λ p. opened_parts (proof_of h head.hierarchy) b head p.0 p.1) (blob_again blob fits)
     ∙ ap (λ (r : Result (List ℕ × List ℕ) ContextFault). r >>= λ p. opened_parts (proof_of h head.hierarchy) b head p.0 p.1) (parts_again integrity cipher whole)
 
--- the parts open as the object if the integrity value is right
+-- if the integrity value is correct, the parts open as the object
 pub parts_open : (proof : List ℕ) (b : Binding) (head : ContextHead) (cipher : List ℕ) → opened_parts proof b head (integrity_of proof b head cipher) cipher ≡ object_in head (decrypted proof head cipher)
 unfolding opened_parts
 parts_open proof b head cipher =
     let value : List ℕ = integrity_of proof b head cipher in
     ap (λ (right : Bool). refused_if (not right) fault.Integrity >>= λ passed. object_in head (decrypted proof head cipher)) ((bytes_eq-Decides value value).1 refl)
 
--- parts that open have the right integrity value
+-- if the parts open, the integrity value is correct
 pub parts_right : (proof : List ℕ) (b : Binding) (head : ContextHead) (integrity cipher : List ℕ) (o : Object)
     → opened_parts proof b head integrity cipher ≡ Ok o
     → (integrity ≡ integrity_of proof b head cipher) × (object_in head (decrypted proof head cipher) ≡ Ok o)
@@ -203,7 +203,7 @@ context_found h b bytes text blob integrity cipher head o fits first second thir
 
 -- ---- what the code finds
 
--- a text of bytes that equals a decrypted one
+-- if a decrypted text equals a list of bytes, it is a list of bytes
 pub if_plain : (r : Result Object ContextFault) (found plain : List ℕ) → AreBytes found → found ≡ plain → IfOk r (λ object. AreBytes plain)
 if_plain (Ok o) found plain are same = subst AreBytes same are
 if_plain (Err e) found plain are same = tt

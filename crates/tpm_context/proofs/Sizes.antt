@@ -1,4 +1,4 @@
--- The sizes of a contextBlob and its parts.
+-- Bounds on the sizes of a contextBlob and its parts.
 use Rattle.std.proofs.Common.{◌≡◌, ℕ, ◌+◌, ◌≤◌, cond, ltb, List, length, take, drop, Ok, Err, subst, arith, length-drop, length-take}
 use Rattle.std.specs.Int.{w16, from_be_bytes}
 use Rattle.std.proofs.lemmas.Bool.{ltb-false}
@@ -6,8 +6,8 @@ use Rattle.tpm_bytes.specs.Reading.{bytes_at, number_at, or_fault, sized_at, too
 use Rattle.tpm_bytes.specs.declared.cursor.SizedFault.TheVariants as fault
 use Rattle.tpm_bytes.proofs.Fields.{bind_ok, guard_ok, guard_passed, or_fault_ok}
 
--- The content of a sized buffer is within the limit, and with its size and what follows it, it is
--- no longer than the text.
+-- The content of a sized buffer is within the limit. With its size field and the bytes after it, it
+-- is no longer than the text.
 abbrev IsWithin : ℕ → List ℕ → List ℕ × List ℕ → Type 0
 IsWithin limit text x = (length x.0 ≤ limit) × (2 + length x.0 + length x.1 ≤ length text)
 

@@ -1,5 +1,5 @@
--- The context of an object, and the reading of a context. TPM 2.0 Library, Part 1, section 30,
--- Part 2, section 14 (TPMS_CONTEXT), and Part 3, sections 28.2 and 28.3.
+-- The context of an object: how it is written and read. TPM 2.0 Library, Part 1, section 30, Part
+-- 2, section 14 (TPMS_CONTEXT), and Part 3, sections 28.2 and 28.3.
 use Rattle.std.specs.Prelude.{ℕ, ◌+◌, ◌==◌, not, List, ◌++◌, length, Result, Ok, Err}
 use Rattle.std.specs.Str.{bytes_eq}
 use Rattle.tpm_bytes.specs.Reading.{◌>>=◌, or_fault, refused_if, sized_at}
@@ -56,8 +56,8 @@ context_text h b sequence object =
 
 -- ---- reading a context
 
--- the fault of a contextBlob: SIZE if it is longer than any object's, otherwise INSUFFICIENT if it
--- is truncated
+-- the fault of a contextBlob: SIZE if it is longer than that of any object, otherwise INSUFFICIENT
+-- if it is truncated
 abbrev pub blob_fault : SizedFault → ContextFault
 blob_fault sized.TooLong = fault.Size
 blob_fault sized.Short = fault.Truncated
@@ -74,15 +74,15 @@ blob_in text = do
   Ok blob.0
 
 -- the integrity value and the encrypted object in a contextBlob; SIZE if the integrity value is
--- truncated, or is not the size of a SHA-256 digest
+-- truncated, or does not have the size of a SHA-256 digest
 unfoldable pub parts_in : List ℕ → Result (List ℕ × List ℕ) ContextFault
 parts_in blob = do
   parts ← or_fault (sized_at 32 blob) fault.Size
   whole ← refused_if (not (length parts.0 == 32)) fault.Size
   Ok parts
 
--- the object in a decrypted text, which it fills. Its hierarchy and its stClear must be those of
--- the head
+-- the object in a decrypted text, which must end with it; its hierarchy and its stClear must be
+-- those of the head
 unfoldable pub object_in : ContextHead → (plain : List ℕ) → Result Object ContextFault
 object_in head plain = do
   object ← or_fault (object_fields_in plain) fault.Integrity
@@ -90,7 +90,7 @@ object_in head plain = do
   same ← refused_if (not (is_of head object.0)) fault.Integrity
   Ok object.0
 
--- the object of a context whose parts are these, if the integrity value is correct
+-- the object of a context with these parts, if the integrity value is correct
 unfoldable pub opened_parts : (proof : List ℕ)
     → Binding → ContextHead → (integrity cipher : List ℕ)
     → Result Object ContextFault
@@ -99,10 +99,9 @@ opened_parts proof b head integrity cipher = do
       fault.Integrity
   object_in head (decrypted proof head cipher)
 
--- the object of a context. The faults, in the order in which they are found: those of the head,
--- which is read field by field; those of the contextBlob; bytes that are left over; an integrity
--- value of the wrong size; a wrong integrity value; and an object that cannot be read or does not
--- match the head
+-- the object of a context. The faults, in the order of the checks: those of the head, which is read
+-- field by field; those of the contextBlob; bytes after it; an integrity value of the wrong size; a
+-- wrong integrity value; and an object that cannot be decoded or does not match the head
 unfoldable pub opened : Hierarchies → Binding → List ℕ → Result Object ContextFault
 opened h b bytes = do
   head ← head_at bytes

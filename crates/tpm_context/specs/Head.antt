@@ -1,6 +1,5 @@
--- The head of an object's context, and what a context is bound to. TPM 2.0 Library, Part 2,
--- section 14.5 (TPMS_CONTEXT: sequence, savedHandle, hierarchy), and Part 3, section 28.3
--- (TPM2_ContextLoad).
+-- The head of an object's context, and its savedHandle. TPM 2.0 Library, Part 2, section 14.5
+-- (TPMS_CONTEXT: sequence, savedHandle, hierarchy), and Part 3, section 28.3 (TPM2_ContextLoad).
 use Rattle.std.specs.Prelude.{ℕ, ◌==◌, Bool, false, if◌then◌else◌}
 use Rattle.std.specs.Prelude.{List, ◌++◌, ok_or, Option, Some, None, Result, Ok}
 use Rattle.std.specs.Int.{w32, w64, to_be_bytes}

@@ -1,4 +1,4 @@
--- What it means that a context opens: it was made with the same proof and the same binding, or the
+-- What follows if a context opens: it was made with the same proof and the same binding, or the
 -- HMAC has a collision.
 use Rattle.std.specs.Prelude.{◌≡◌, ◌⊎◌, ◌<◌, ◌^◌, ℕ, List, Ok}
 use Rattle.tpm_mac.specs.Hmac.{hmac_of}
@@ -19,18 +19,18 @@ pub record IsContext (h : Hierarchies) (b : Binding) (bytes : List ℕ) (object 
     pub sized : IsObject object
     pub text : bytes ≡ context_text h b sequence object
 
--- what a context is made from
+-- the values from which a context is made
 pub record Making : Type 0 where
   pub hierarchies : Hierarchies
   pub binding : Binding
   pub sequence : ℕ
   pub object : Object
 
--- the context that is made
+-- the context that is made from these values
 abbrev pub context_of : Making → List ℕ
 context_of c = context_text c.hierarchies c.binding c.sequence c.object
 
--- the key and the text of its integrity value
+-- the key of its integrity value; then, the text that this value covers
 abbrev pub key_of : Making → List ℕ
 key_of c = proof_of c.hierarchies c.object.hierarchy
 
@@ -56,8 +56,8 @@ pub record IsMaking (c : Making) : Type 0 where
   pub sequence : c.sequence < 2 ^ 64
   pub object : IsObject c.object
 
--- Two contexts are of the same object and sequence, under the same proof, and with the same start
--- and counts.
+-- Two contexts have the same object and sequence, and were made with the same proof, start and
+-- counts.
 pub record AreSame (c d : Making) : Type 0 where
   pub key : key_of c ≡ key_of d
   pub start : c.binding.start ≡ d.binding.start
@@ -87,19 +87,19 @@ IntegrityMeans =
     → AreSame c d
     ⊎ Collides (key_of c) (covered_text c.binding c) (key_of d) (covered_text d.binding d)
 
--- the same context, made with these hierarchies and this binding
+-- the values of a context, with these hierarchies, this binding and this object instead
 abbrev pub made_with : Hierarchies → Binding → Object → Making → Making
 made_with h b object c =
     record { hierarchies = h; binding = b; sequence = c.sequence; object = object }
 
--- The HMAC collides for a context and for a reader with these hierarchies and this binding.
+-- The HMAC has a collision between a context and a reader with these hierarchies and this binding.
 abbrev pub CollidesFor : Hierarchies → Binding → Making → Type 0
 CollidesFor h b c =
     Collides (key_of c) (covered_text c.binding c)
     (proof_of h c.object.hierarchy) (covered_text b c)
 
--- A context that opens, with any hierarchies and any binding, was made with the same ones as far
--- as they count, and opens as its object; or the HMAC has a collision.
+-- If a context opens with some hierarchies and some binding, it was made with the same proof, start
+-- and counts, and opens as its object; or the HMAC has a collision.
 abbrev pub OpensOnlyAsMade : Type 0
 OpensOnlyAsMade =
     (c : Making) (h : Hierarchies) (b : Binding) (object : Object)

@@ -41,23 +41,23 @@ decrypted proof head cipher =
     let bytes : List ℕ = cipher_bytes proof head in
     cfb_decrypt_of (cipher_key bytes) (cipher_iv bytes) cipher
 
--- the restartCount that a context is bound to: an object with stClear does not outlive a TPM
+-- the restartCount to which a context is bound: an object with stClear does not outlive a TPM
 -- Restart. For an object without stClear it is 0
 abbrev pub restart_bound : Binding → SavedHandle → ℕ
 restart_bound b saved.Ordinary = 0
 restart_bound b saved.StClear = b.restart_count
 
--- the fields before the encrypted object in the text of the integrity value. From Part 1, section
--- 30.3: resetCount, restartCount for an object with stClear, sequence and savedHandle. This
--- device's own: the start of the layer, and a 0 as restartCount for an object without stClear, so
--- that two contexts with different fields have different texts
+-- the fields that precede the encrypted object in the text of the integrity value. Part 1, section
+-- 30.3, requires resetCount, restartCount for an object with stClear, sequence and savedHandle.
+-- This device adds the start of the layer, and a 0 as restartCount for an object without stClear,
+-- so that two contexts with different fields have different texts
 abbrev pub bound_text : Binding → ContextHead → List ℕ
 bound_text b head =
     to_be_bytes w64 b.start ++ to_be_bytes w32 b.reset_count
     ++ to_be_bytes w32 (restart_bound b head.saved)
     ++ to_be_bytes w64 head.sequence ++ to_be_bytes w32 (saved_number head.saved)
 
--- the text of the integrity value
+-- the text that the integrity value covers
 abbrev pub protected_text : Binding → ContextHead → (cipher : List ℕ) → List ℕ
 protected_text b head cipher = bound_text b head ++ cipher
 

@@ -1,14 +1,14 @@
-//! What a context is bound to.
+//! The numbers to which a context is bound.
 
-/// What a context is bound to, besides the proof of its hierarchy. A context is loaded only with
-/// the numbers with which it was saved.
+/// The numbers to which a context is bound, in addition to the proof of its hierarchy. A context is
+/// loaded only with the same numbers as when it was saved.
 #[derive(Clone, Copy, PartialEq, Eq)]
 pub struct Binding {
     /// A number that the caller chose for this start of the completing layer.
     pub start: u64,
     /// The device's count of TPM Resets. The context does not outlive a TPM Reset.
     pub reset_count: u32,
-    /// The device's count of TPM Restarts. It counts for an object with stClear, whose context does
-    /// not outlive a TPM Restart.
+    /// The device's count of TPM Restarts. It matters only for an object with stClear, whose
+    /// context does not outlive a TPM Restart.
     pub restart_count: u32,
 }

@@ -6,14 +6,14 @@ ghost use Rattle.tpm_context.specs.Head.{fault_code, fault_rc};
 use tpm_types::{Rc, ResponseCode};
 
 /// Why the context of an object is not loaded. The definition of `opened` says in which order the
-/// faults are found.
+/// faults are checked.
 #[derive(Clone, Copy, PartialEq, Eq)]
 pub enum ContextFault {
     /// The bytes end before the context does: TPM_RC_INSUFFICIENT.
     Truncated,
-    /// The savedHandle is not an object's: TPM_RC_HANDLE.
+    /// The savedHandle is not that of an object: TPM_RC_HANDLE.
     SavedHandle,
-    /// The hierarchy is not a hierarchy: TPM_RC_VALUE.
+    /// The number of the hierarchy is not that of a hierarchy: TPM_RC_VALUE.
     Hierarchy,
     /// The contextBlob or its integrity value has the wrong size, or bytes are left over:
     /// TPM_RC_SIZE.

@@ -50,7 +50,7 @@ impl SavedHandle {
         }
     }
 
-    /// The savedHandle of an object with this public area.
+    /// Returns the savedHandle of an object with this public area.
     fn of(public: &Public) -> SavedHandle
         ensures { result ≡ saved_of public.now }
     {
@@ -94,7 +94,7 @@ fn read_hierarchy(text: &mut Cursor) -> Result<HierarchyHandle, ContextFault>
 }
 
 impl ContextHead {
-    /// The head of the context of an object.
+    /// Returns the head of the context of an object.
     pub(crate) fn of(sequence: u64, object: &Object) -> ContextHead
         ensures { result ≡ head_of sequence object.now }
     {
@@ -105,7 +105,7 @@ impl ContextHead {
         }
     }
 
-    /// Reads the head at the front of a context.
+    /// Reads the head at the beginning of a context.
     #[tactic(auto, unfolding(crate::specs::Head::head_at))]
     pub(crate) fn read(text: &mut Cursor) -> Result<ContextHead, ContextFault>
         ensures { Reads (λ head. head) (head_at text.old) text.old result text.new }
@@ -124,7 +124,7 @@ impl ContextHead {
         })
     }
 
-    /// The text of the head.
+    /// Returns the text of the head.
     pub(crate) fn text(self) -> Sink<HEAD_SIZE>
         ensures text { result ≡ head_text self }
         ensures size { length result ≡ HEAD_SIZE }

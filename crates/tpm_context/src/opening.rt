@@ -23,7 +23,7 @@ struct BlobParts<'a> {
     cipher: &'a [u8],
 }
 
-/// The contextBlob in the bytes after the head. No bytes may follow it.
+/// Returns the contextBlob in the bytes after the head. No bytes may follow it.
 #[tactic(auto, unfolding(crate::specs::Context::blob_in), using(crate::proofs::Sizes::sized_few))]
 fn blob_in<'a>(text: &mut Cursor<'a>) -> Result<&'a [u8], ContextFault>
     ensures value { Gives (λ blob. blob.now) (blob_in text.old) result }
@@ -40,7 +40,7 @@ fn blob_in<'a>(text: &mut Cursor<'a>) -> Result<&'a [u8], ContextFault>
     Ok(blob)
 }
 
-/// The integrity value and the encrypted object in a contextBlob.
+/// Returns the integrity value and the encrypted object in a contextBlob.
 #[tactic(auto, unfolding(crate::specs::Context::parts_in), using(crate::proofs::Sizes::sized_rest))]
 fn parts_in<'a>(blob: &'a [u8]) -> Result<BlobParts<'a>, ContextFault>
     ensures value { Gives (λ parts. (parts.integrity.now, parts.cipher.now))
@@ -60,7 +60,7 @@ fn parts_in<'a>(blob: &'a [u8]) -> Result<BlobParts<'a>, ContextFault>
     })
 }
 
-/// The object in a decrypted text, which must match the head.
+/// Returns the object in a decrypted text; the object must match the head.
 #[tactic(auto, unfolding(crate::specs::Context::object_in))]
 fn object_in(head: ContextHead, plain: &[u8]) -> Result<Object, ContextFault>
     ensures value { result ≡ object_in head plain.now }
@@ -86,7 +86,7 @@ fn decrypt_into(proof: &[u8; 32], head: ContextHead, cipher: &[u8], plain: &mut 
     decrypt(proof, head, plain.as_mut_slice());
 }
 
-/// The object of a context with these parts, if the integrity value is correct. Checks the
+/// Returns the object of a context with these parts, if the integrity value is correct. Checks the
 /// integrity value before it decrypts anything.
 #[tactic(auto, unfolding(crate::specs::Context::opened_parts))]
 fn open_parts(
@@ -110,7 +110,8 @@ fn open_parts(
     object_in(head, plain.as_slice())
 }
 
-/// The object of a context, if the device made it with these hierarchies and this binding.
+/// Returns the object of a context, if the device made the context with these hierarchies and this
+/// binding.
 #[tactic(auto, unfolding(crate::specs::Context::opened))]
 pub fn open(
     hierarchies: &Hierarchies,

@@ -19,7 +19,7 @@ struct ContextCipher {
     iv: [u8; 16],
 }
 
-/// The cipher and its IV: the first 16 bytes are the key, the rest is the IV.
+/// Returns the cipher and its IV: the first 16 bytes are the key, and the rest is the IV.
 fn cipher_from(bytes: &[u8; 32]) -> ContextCipher
     ensures key { result.cipher ≡ cipher_key bytes.now }
     ensures iv { result.iv ≡ cipher_iv bytes.now }
@@ -34,7 +34,7 @@ fn cipher_from(bytes: &[u8; 32]) -> ContextCipher
     }
 }
 
-/// The cipher of the context with this head, derived from the proof of its hierarchy.
+/// Returns the cipher of the context with this head, derived from the proof of its hierarchy.
 #[tactic(auto, unfolding(crate::specs::Protection::cipher_bytes))]
 fn context_cipher(proof: &[u8; 32], head: ContextHead) -> ContextCipher
     ensures key { result.cipher ≡ cipher_key (cipher_bytes proof.now head) }
@@ -68,7 +68,7 @@ pub(crate) fn decrypt(proof: &[u8; 32], head: ContextHead, text: &mut [u8])
     by.cipher.cfb_decrypt(&by.iv, text);
 }
 
-/// The restartCount that a context is bound to.
+/// Returns the restartCount to which a context is bound.
 fn restart_bound(binding: Binding, saved: SavedHandle) -> u32
     ensures { result ≡ restart_bound binding saved }
 {
@@ -78,7 +78,7 @@ fn restart_bound(binding: Binding, saved: SavedHandle) -> u32
     }
 }
 
-/// The fields before the encrypted object in the text of the integrity value.
+/// Returns the fields that precede the encrypted object in the text of the integrity value.
 fn bound_text(binding: Binding, head: ContextHead) -> Sink<28>
     ensures { result ≡ bound_text binding head }
 {
@@ -91,7 +91,7 @@ fn bound_text(binding: Binding, head: ContextHead) -> Sink<28>
     text
 }
 
-/// The integrity value of the context with this head and this encrypted object.
+/// Returns the integrity value of the context with this head and this encrypted object.
 #[tactic(auto, unfolding(crate::specs::Protection::integrity_of))]
 pub(crate) fn integrity(
     proof: &[u8; 32],

@@ -44,8 +44,8 @@ fn write_object(object: &Object, text: &mut Sink<OBJECT_SIZE>)
     text.append_sized(sensitive.text().as_slice());
 }
 
-/// Writes the context of an object. No two contexts of a start may have the same sequence, since
-/// they would be encrypted with the same key and IV.
+/// Writes the context of an object. No two contexts of one start of the layer may have the same
+/// sequence, since they would be encrypted with the same key and IV.
 #[tactic(auto, unfolding(crate::specs::Context::context_text))]
 pub fn seal(
     hierarchies: &Hierarchies,

@@ -22,14 +22,14 @@ const ST_CLEAR_KEY: &[u8] = b"\0\x10\0\x08\0\x0b\0\x04\x04\x44\0\0\0\x05\0\x0b\0
 /// The sensitive area of both keys, in a sized buffer.
 const SENSITIVE: &[u8] = b"\0\x0f\0\x08\0\x01a\0\x02sd\0\x04Jefe";
 
-/// What the contexts are bound to.
+/// The numbers to which the contexts are bound.
 const BINDING: Binding = Binding {
     start: 0x1122_3344_5566_7788,
     reset_count: 3,
     restart_count: 5,
 };
 
-/// The first context of the binding, which is that of the key without stClear.
+/// The first context with this binding, that of the key without stClear.
 const CONTEXT: &[u8] =
     b"\x00\x00\x00\x00\x00\x00\x00\x01\x80\x00\x00\x00\x40\x00\x00\x01\x00\x6d\x00\x20\
     \x23\x88\x53\xda\x72\x7c\xd4\x32\x90\xcd\xb0\xb6\x4d\xa7\x59\x7f\xbb\xc3\x6e\x6b\
@@ -39,7 +39,7 @@ const CONTEXT: &[u8] =
     \xff\xb6\xc5\xab\xde\x8d\x91\x17\x5c\xee\xb8\xc9\x63\xde\x88\x7b\x87\xea\x88\x7c\
     \xce\xd9\xf5\xc0\xd2\x1d\xbb";
 
-/// The second context of the binding, which is that of the key with stClear.
+/// The second context with this binding, that of the key with stClear.
 const ST_CLEAR_CONTEXT: &[u8] =
     b"\x00\x00\x00\x00\x00\x00\x00\x02\x80\x00\x00\x02\x40\x00\x00\x01\x00\x6d\x00\x20\
     \xe7\xd1\xc0\x48\x7c\xbf\xb1\xa1\x0f\xaf\x18\x26\x9e\xec\x10\x3f\xd4\xc4\xb5\x23\
@@ -49,8 +49,8 @@ const ST_CLEAR_CONTEXT: &[u8] =
     \x00\xef\x50\xcd\x1b\x77\x3e\x75\xa7\x76\x1d\x87\x03\xa4\x80\x41\x12\xb6\x6e\xbd\
     \x99\x77\x09\xe0\x21\xf8\x4e";
 
-/// The hierarchies of a device that is manufactured with random bytes of this value: each proof
-/// consists of it.
+/// The hierarchies of a device that is manufactured with random bytes that all have this value: so
+/// has each byte of each proof.
 fn hierarchies(value: u8) -> Hierarchies {
     Hierarchies::manufactured(&[value; 256])
 }
@@ -63,7 +63,7 @@ fn key_of(public: &[u8]) -> Option<Object> {
     Some(Object::loaded(owner, public, &sensitive, b"\x40\0\0\x01"))
 }
 
-/// Whether the key has this context, with this sequence.
+/// Whether this is the context of the key, with this sequence.
 fn is_sealed(public: &[u8], sequence: u64, context: &[u8]) -> bool {
     let Some(object) = key_of(public) else {
         return false;
@@ -100,7 +100,7 @@ fn a_context_opens_as_its_object(rt: HostRuntime) {
     );
 }
 
-/// The fault with which a context does not open.
+/// Returns the fault of opening the context, if it does not open.
 fn fault_of(context: &[u8], binding: Binding) -> Option<ContextFault> {
     open(&hierarchies(7), binding, context).err()
 }
@@ -132,7 +132,7 @@ fn a_context_is_bound_to_the_start_and_the_counts(rt: HostRuntime) {
     }
 }
 
-/// The fault of the context of the key, with this byte changed.
+/// Returns the fault of opening the key's context with this byte changed.
 fn fault_with(place: usize, byte: u8) -> Option<ContextFault> {
     let mut bytes = [0; 127];
     bytes.copy_from_slice(CONTEXT);

@@ -11,7 +11,8 @@ use Rattle.std.specs.Option.{option_or}
 use Rattle.std.specs.Result.{result_ok}
 use Rattle.hex.specs.Hex.{decode_of}
 
--- the codes that identify no place: success, a bad tag, and errors of the version 2.0 (RC_VER1)
+-- the codes that identify no place, and are not warnings: success, a bad tag, and errors of version
+-- 2.0 (RC_VER1)
 unfoldable pub errors : List (ℕ × List ℕ)
 errors = (0x000, codes "SUCCESS") ∷ (0x01e, codes "BAD_TAG")
     ∷ (0x100, codes "INITIALIZE")
@@ -50,7 +51,7 @@ errors = (0x000, codes "SUCCESS") ∷ (0x01e, codes "BAD_TAG")
     ∷ (0x155, codes "SENSITIVE")
     ∷ []
 
--- the codes that identify no place, and are warnings (RC_WARN)
+-- the codes of warnings (RC_WARN), which identify no place
 unfoldable pub warnings : List (ℕ × List ℕ)
 warnings = (0x901, codes "CONTEXT_GAP")
     ∷ (0x902, codes "OBJECT_MEMORY")
@@ -82,7 +83,7 @@ warnings = (0x901, codes "CONTEXT_GAP")
     ∷ (0x923, codes "NV_UNAVAILABLE")
     ∷ []
 
--- the codes that identify a place, here without it (RC_FMT1)
+-- the codes that identify a place (RC_FMT1), without the bits of the place
 unfoldable pub located : List (ℕ × List ℕ)
 located = (0x081, codes "ASYMMETRIC")
     ∷ (0x082, codes "ATTRIBUTES")
@@ -143,7 +144,7 @@ told_by code =
     else option_map (λ name. (name, place.Nowhere))
     (option_or (name_in errors code) (name_in warnings code))
 
--- the meaning of a response code; a code of more than twelve bits is not from a TPM
+-- the meaning of a response code; a TPM returns no code of more than twelve bits
 abbrev pub told_of : ℕ → Option (List ℕ × Place)
 told_of code = if nat_lt code 0x1000 then told_by code else None
 

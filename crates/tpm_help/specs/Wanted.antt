@@ -21,8 +21,8 @@ abbrev pub words_behind : CommandCode → (entries : ℕ) → List (List ℕ)
 words_behind code entries = map (λ rule. handle_word rule.kind) (shape_of code).handles
     ++ (replicate entries (codes "entry") ++ map parameter_word (shape_of code).parameters)
 
--- the word for what is expected at a position after the name, counted from 0, of the command that
--- the first token names
+-- the word for the part that is expected at a position after the name of a command; the first token
+-- names the command, and positions are counted from 0
 abbrev pub word_for : Option CommandCode → (tokens : List (List ℕ)) → (place : ℕ) → List ℕ
 word_for None tokens place = codes "command"
 word_for (Some code) tokens place =

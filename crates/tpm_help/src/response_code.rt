@@ -8,7 +8,8 @@ ghost use Rattle.tpm_help.specs.ResponseCode.{name_in, place_in, told_of, warnin
 use std::fmt;
 use tpm_types::rc::Place;
 
-/// The meaning of a response code: its name, without TPM_RC_, and the place of the fault.
+/// The meaning of a response code: its name without TPM_RC_, and the handle, parameter or session
+/// with the fault.
 #[derive(Clone, Copy)]
 pub struct CodeMeaning {
     pub name: &'static str,

@@ -43,8 +43,8 @@ fn space_count(text: &[u8]) -> usize
     text.iter().filter(|byte| **byte == b' ').count()
 }
 
-/// The word for what is expected at a position after the name, counted from 0, of the command
-/// that the first token names.
+/// The word for the part that is expected at a position after the name of a command. The first
+/// token names the command, and positions are counted from 0.
 fn word_behind(words: &[u8], place: usize) -> &'static str
     ensures { result.now ≡ word_behind words.now place }
 {
@@ -75,7 +75,7 @@ fn entry_count(words: &[u8], code: CommandCode) -> usize
         .count()
 }
 
-/// Whether a token is read as an entry.
+/// Whether a token begins like an entry.
 fn begins_entry(token: &[u8]) -> bool
     ensures { result ≡ begins_entry token.now }
 {

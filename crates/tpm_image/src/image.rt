@@ -44,7 +44,7 @@ pub fn save<K: Keep, D: Write>(machine: &Machine<K>, tap: &mut Tap<D>) -> Result
     send(tap, head.as_slice(), text.as_slice())
 }
 
-/// Writes the image of a device, in version 2, to the front of a buffer, and leaves the device
+/// Writes the image of a device, in version 2, to the beginning of a buffer, and leaves the device
 /// unchanged. Returns the size of the image; if the buffer is smaller, nothing is written.
 pub fn save_into<K: Keep>(machine: &Machine<K>, room: &mut [u8]) -> usize
     ensures { PutsFront (image_text Two (kept_of (state_of K.record_of machine.now))) room.old

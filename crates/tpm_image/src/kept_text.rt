@@ -1,5 +1,5 @@
-//! What a device keeps without power, except for Clock, as a text. If anything except Clock has
-//! changed, the texts differ.
+//! The state that a device keeps without power, except for Clock, as a text. If anything except
+//! Clock has changed, the texts differ.
 
 ghost use Rattle.std.specs.Prelude.{◌≡◌, List, [], not, ℕ};
 ghost use Rattle.std.specs.Str.{bytes_eq};
@@ -12,7 +12,7 @@ use tpm_image_text::{Text, put_front, write_body_at};
 use tpm_machine::Machine;
 use tpm_record::Keep;
 
-/// What a device keeps, except for Clock. In contracts, the value is its text.
+/// The state that a device keeps, except for Clock. In contracts, the value is its text.
 #[derive(Drop)]
 pub struct KeptText {
     text: Text,
@@ -25,15 +25,14 @@ impl Model for KeptText {
 }
 
 impl KeptText {
-    /// The empty text, which differs from that of every device, since every device keeps
-    /// something.
+    /// The empty text, which differs from that of every device, since no device has an empty text.
     pub fn none() -> KeptText
         ensures { result ≡ [] }
     {
         KeptText { text: Text::new() }
     }
 
-    /// Replaces the text by that of this device, and returns whether the new text differs from
+    /// Replaces the text with that of this device, and returns whether the new text differs from
     /// the old one.
     pub fn renew<K: Keep>(&mut self, machine: &Machine<K>) -> bool
         ensures text { self.new ≡ kept_text (state_of K.record_of machine.now) }
@@ -48,8 +47,8 @@ impl KeptText {
     }
 }
 
-/// Writes the text of what a device keeps, except for Clock, to the front of a buffer, if it
-/// fits. Returns the size of the text in either case.
+/// Writes the text of the state that a device keeps, except for Clock, to the beginning of a
+/// buffer, if it fits. Returns the size of the text in either case.
 pub fn kept_into<K: Keep>(machine: &Machine<K>, room: &mut [u8]) -> usize
     ensures { PutsFront (kept_text (state_of K.record_of machine.now)) room.old result room.new }
 {

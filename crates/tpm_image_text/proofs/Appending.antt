@@ -1,11 +1,11 @@
--- Appending an entry to entries with lower keys.
+-- Lemmas about an entry that is appended to entries with lower keys.
 use Rattle.std.proofs.Common.{arith, ◌≡◌, ℕ, ◌+◌, ◌≤◌, [], ◌∷◌, ◌++◌, None, refl, ap}
 use Rattle.std.proofs.lemmas.Bool.{lt-leb, ne_eqb}
 use Rattle.tpm_containers.specs.SortedMap.{Entries, at_key, with_key}
 use Rattle.tpm_image_text.specs.Filling.{AllBelow}
 
 module _ {X : Type 0} where
-  -- if all keys are below one key, they are below every higher key
+  -- if all keys are below a bound, they are below every higher bound
   pub all_below : (low key : ℕ) (es : Entries X) → low ≤ key → AllBelow low es → AllBelow key es
   all_below low key [] up below = tt
   all_below low key (e ∷ es) up below = (omega (arith, up, below.0), all_below low key es up below.1)
@@ -17,7 +17,7 @@ module _ {X : Type 0} where
       let other = ne_eqb e.0 key (λ same. absurd (omega (arith, same, up, below.0))) in
       rw other (free_above es low key up below.1)
 
-  -- a value with a key above all others is added at the end
+  -- inserting a value with a key above all others appends it
   pub put_behind : (es : Entries X) (low key : ℕ) (x : X) → low ≤ key → AllBelow low es → with_key es key x ≡ es ++ (key, x) ∷ []
   put_behind [] low key x up below = refl
   put_behind (e ∷ es) low key x up below =

@@ -1,5 +1,6 @@
--- The fields of an image: decoding returns a value exactly if the bytes begin with its encoding.
--- The same holds for decoders that are composed of others.
+-- The fields of an image. A decoder is called exact if it returns a value if and only if the bytes
+-- begin with the value's encoding. The decoders of fields are exact, and so are the decoders
+-- composed of them.
 use Rattle.std.proofs.Common.{◌≡◌, ℕ, ◌^◌, ◌<◌, ◌≤◌, Bool, true, false, cond, List, [], ◌∷◌, ◌++◌, length, Option, Some, Result, Ok, Err, refl, sym, ap, subst, ◌∙◌, append_assoc, append-nil, arith}
 use Rattle.std.specs.Prelude.{◌==◌, nat_lt, not, ok_or}
 use Rattle.std.specs.Int.{Width, w8, w16, w64, to_be_bytes}
@@ -24,21 +25,21 @@ use Rattle.tpm_image_text.specs.declared.fault.Malformed.{Malformed}
 
 -- ---- decoders composed of others
 
--- a decoder whose faults are replaced by another one
+-- a decoder is still exact after its faults are replaced by another fault
 pub in_body_spelled : {A E : Type 0} {text : A → List ℕ} {Is : A → Type 0} {at : List ℕ → Result (A × List ℕ) E} → Spelled text Is at → Spelled text Is (in_body at)
 in_body_spelled {A} {E} {text} {Is} {at} law = record {
   taken = λ bytes x fits e. law.taken bytes x fits (or_fault_ok (at bytes) malformed x e);
   again = λ x rest is. ap (λ (r : Result (A × List ℕ) E). or_fault r malformed) (law.again x rest is);
 }
 
--- two definitions of the same decoder
+-- a decoder with the same results as an exact one is exact
 pub same_reading : {A E : Type 0} {text : A → List ℕ} {Is : A → Type 0} {at other : List ℕ → Result (A × List ℕ) E} → ((bytes : List ℕ) → other bytes ≡ at bytes) → Spelled text Is at → Spelled text Is other
 same_reading same law = record {
   taken = λ bytes x fits e. law.taken bytes x fits (sym (same bytes) ∙ e);
   again = λ x rest is. same _ ∙ law.again x rest is;
 }
 
--- a decoder that runs after a test of what was decoded before
+-- an exact decoder that runs only if an earlier test passes is exact
 pub behind_test : {A E : Type 0} {text : A → List ℕ} {Is Are : A → Type 0} {at : List ℕ → Result (A × List ℕ) E} (refuses : Bool) (fault : E) → ((x : A) → refuses ≡ false → Is x → Are x) → ((x : A) → Are x → (refuses ≡ false) × Is x) → Spelled text Is at → Spelled text Are (λ bytes. refused_if refuses fault >>= λ passed. at bytes)
 behind_test {A} {E} {text} {Is} {Are} {at} refuses fault to from law = record {
   taken = λ bytes x fits e.
@@ -52,7 +53,8 @@ pub not_false : (b : Bool) → not b ≡ false → b ≡ true
 not_false true e = refl
 not_false false e = absurd cc
 
--- a decoder that tests the value it decodes, and returns a value made from it
+-- if a decoder is exact, it is still exact after it also tests the decoded value and returns a
+-- value made from it
 pub tested : {A B E : Type 0} {text : A → List ℕ} {Is : A → Type 0} {at : List ℕ → Result (A × List ℕ) E} (test : A → Bool) (refusal : E) (made : A → B) (given : B → A) → ((x : A) → given (made x) ≡ x) → ((y : B) → made (given y) ≡ y) → Spelled text Is at → Spelled (λ y. text (given y)) (λ y. Is (given y) × (test (given y) ≡ true)) (λ bytes. at bytes >>= λ x. refused_if (not (test x.0)) refusal >>= λ passed. Ok (made x.0, x.1))
 tested {A} {B} {E} {text} {Is} {at} test refusal made given same whole law = record {
   taken = λ bytes y fits e.
@@ -69,8 +71,8 @@ tested {A} {B} {E} {text} {Is} {at} test refusal made given same whole law = rec
 pub passing_spelled : {A : Type 0} {text : A → List ℕ} {Is : A → Type 0} {at : List ℕ → Result (A × List ℕ) Malformed} (test : A → Bool) → Spelled text Is at → Spelled text (λ x. Is x × (test x ≡ true)) (passing test at)
 passing_spelled test law = tested test malformed (λ x. x) (λ x. x) (λ _. refl) (λ _. refl) law
 
--- a decoder that returns a value made from the one it decodes; each of the two determines the
--- other
+-- if a decoder is exact, it is still exact after it returns a value made from the decoded one; each
+-- of the two values must determine the other
 pub made_of : {A B E : Type 0} {text : A → List ℕ} {Is : A → Type 0} {at : List ℕ → Result (A × List ℕ) E} (made : A → B) (given : B → A) {Are : B → Type 0} → ((x : A) → Is x → (given (made x) ≡ x) × Are (made x)) → ((y : B) → Are y → (made (given y) ≡ y) × Is (given y)) → Spelled text Is at → Spelled (λ y. text (given y)) Are (λ bytes. at bytes >>= λ x. Ok (made x.0, x.1))
 made_of {A} {B} {E} {text} {Is} {at} made given {Are} to from law = record {
   taken = λ bytes y fits e.
@@ -105,21 +107,22 @@ module _ {A : Type 0} {text : A → List ℕ} {Is : A → Type 0} {at : List ℕ
 
 -- ---- a decoder chosen by a test
 
--- a decoder that takes no bytes, because there is only one possible value
+-- if there is only one possible value, the decoder that returns it and takes no bytes is exact
 pub only : {A E : Type 0} {text : A → List ℕ} {Is : A → Type 0} (one : A) → text one ≡ [] → Is one → ((x : A) → Is x → x ≡ one) → Spelled {E = E} text Is (λ bytes. Ok (one, bytes))
 only {A} {E} {text} {Is} one empty is same = record {
   taken = λ bytes x fits e. subst (λ (y : A × List ℕ). Takes bytes (text y.0) y.1 × Is y.0) (ok_is {E = E} (one, bytes) x e) (record { parts = rw empty refl; rest_fits = fits }, is);
   again = λ x rest are. rw (same x are, empty) refl;
 }
 
--- a decoder that always fails, because there is no possible value
+-- if there is no possible value, the decoder that always fails is exact
 pub never : {A E : Type 0} {text : A → List ℕ} {Is : A → Type 0} (fault : E) → ((x : A) → Is x → ⊥) → Spelled text Is (λ bytes. Err fault)
 never fault none = record {
   taken = λ bytes x fits e. absurd cc;
   again = λ x rest is. absurd (none x is);
 }
 
--- one decoder if the test holds, another one if it does not
+-- a decoder that chooses one of two decoders by a test is exact if each of them is exact in its
+-- case
 pub either : {A E : Type 0} {text : A → List ℕ} {Is : A → Type 0} {at other : List ℕ → Result (A × List ℕ) E} (test : Bool) → (test ≡ true → Spelled text Is at) → (test ≡ false → Spelled text Is other) → Spelled text Is (λ bytes. cond test (at bytes) (other bytes))
 either true law _ = let l = law refl in record { taken = l.taken; again = l.again }
 either false _ law = let l = law refl in record { taken = l.taken; again = l.again }
@@ -131,7 +134,7 @@ three_texts a b c = simp (append_assoc, append-nil) refl
 
 -- ---- a decoder with one more field
 
--- a decoder with one more field, whose value is always the same
+-- a decoder is still exact after a field with only one possible value is added
 pub then_always : {A B C E : Type 0} {text : A → List ℕ} {Is : A → Type 0} {at : List ℕ → Result (A × List ℕ) E} {seen : B → C} {others : B → List ℕ} {Are : B → Type 0} {behind : C → List ℕ → Result (B × List ℕ) E} (one : A) → Is one → ((x : A) → Is x → x ≡ one) → Spelled text Is at → Behind seen others Are behind → Behind seen (λ x. text one ++ others x) Are (λ c bytes. at bytes >>= λ a. behind c a.1)
 then_always {A} {B} {C} {E} {text} {Is} {at} {seen} {others} {Are} {behind} one is same field next = record {
   taken = λ before bytes x fits e.
@@ -162,7 +165,7 @@ number_in_spelled w limit wide = record {
   again = λ n rest small. number_or_again w limit wide malformed n rest small;
 }
 
--- a decoder of numbers that stand for values
+-- a decoder of numbers that stand for values is exact
 pub names_spelled : {A E : Type 0} (w : Width) (limit : ℕ) → IsWide w limit → (number_of : A → ℕ) (named : ℕ → Option A) (cut unknown : E) → ((n : ℕ) (x : A) → named n ≡ Some x → n ≡ number_of x) → ((x : A) → named (number_of x) ≡ Some x) → ((x : A) → number_of x < limit) → Spelled (λ x. to_be_bytes w (number_of x)) (λ x. Unit {0}) (λ text. or_fault (number_at w text) cut >>= λ number. ok_or (named number.0) unknown >>= λ one. Ok (one, number.1))
 names_spelled {A} {E} w limit wide number_of named cut unknown is found small = record {
   taken = λ bytes x fits e.

@@ -56,7 +56,7 @@ module _ {V E : Type 0} (format : Format V E) where
       let digest = (bytes_eq-Decides (hash_of Sha256 (before_digest text)) (digest_of text)).1 is.digest in
       rw (long, word, is.number, whole, digest) refl
 
-  -- if all five tests pass, no fault is returned
+  -- if the decoder returns no fault, all five tests passed
   none_refuses : (short word : Bool) (version : Option V) (whole digest : Bool) (body : List ℕ) (said : V × List ℕ) → (refused_if short format.short >>= λ a. refused_if (not word) format.magic >>= λ b. ok_or version format.version >>= λ v. refused_if (not whole) format.whole >>= λ c. refused_if (not digest) format.digest >>= λ d. let done : Result (V × List ℕ) E = Ok (v, body) in done) ≡ Ok said → (v : V) × (short ≡ false) × (word ≡ true) × (version ≡ Some v) × (whole ≡ true) × (digest ≡ true) × ((v, body) ≡ said)
   none_refuses false true (Some v) true true body said e = (v, refl, refl, refl, refl, refl, ok_is {E = E} (v, body) said e)
   none_refuses true word version whole digest body said e = absurd cc
@@ -86,7 +86,7 @@ module _ {V E : Type 0} (format : Format V E) where
       let front = head ++ body in
       omega (arith, length-append head body, length-append front (hash_of Sha256 front), length-hash_of Sha256 front)
 
-  -- the size decoded from a head is the one it was written with, whatever follows the head
+  -- the size decoded from a head is the size that was written, whatever follows the head
   length_said : (version : V) (whole : ℕ) (rest : List ℕ) → whole < 2 ^ 32 → length_of (head_in format version whole ++ rest) ≡ whole
   length_said version whole rest small = wide32.again whole small
 
@@ -97,7 +97,7 @@ module _ {V E : Type 0} (format : Format V E) where
   cut_short text short = rw (lt-ltb (length text) (head_bytes + digest_bytes) short) refl
 
   module _ (numbers : AreNumbered format) where
-    -- the version decoded from a head is the one it was written with, whatever follows the head
+    -- the version decoded from a head is the version that was written, whatever follows the head
     version_said : (version : V) (whole : ℕ) (rest : List ℕ) → format.numbered (number_of (head_in format version whole ++ rest)) ≡ Some version
     version_said version whole rest = ap format.numbered (wide16.again (format.number version) (numbers.small version)) ∙ numbers.again version
 

@@ -54,7 +54,7 @@ image_small version kept is = omega (arith, length-image_text version kept, body
 
 -- ---- a prefix of an image
 
--- a text that is too short for head and digest is not an image
+-- a prefix that is too short for a head and a digest is refused with Short
 pub front_short : (text : List ℕ) (n : ℕ) → n < head_bytes + digest_bytes → image_of (take n text) ≡ Err fault.Short
 front_short text n few = ap kept_by (cut_short image_format (take n text) (omega (arith, few, length-take n text)))
 
@@ -66,7 +66,7 @@ front_cut version kept n is long less =
 
 -- ---- records
 
--- powering on with what a record keeps has the same result as a power cycle
+-- powering on with the kept state of a record has the same result as a power cycle
 pub powered_again : (r : Record) → powered_on (kept_of r) ≡ cycled r
 powered_again r = refl
 

@@ -76,14 +76,14 @@ values_spelled =
     (λ values is. record { sha1 = is.0; sha256 = is.1.0 })
     (λ values is. (is.sha1, (is.sha256, tt)))
 
--- ---- what a shutdown saved
+-- ---- the state that a shutdown saved
 
 kind_number : SavedState → ℕ
 kind_number Nothing = 0
 kind_number Clear = 1
 kind_number (State values) = 2
 
--- the text after the byte for the kind of what was saved
+-- the text of a saved state after the byte for its kind
 behind_kind : SavedState → List ℕ
 behind_kind Nothing = []
 behind_kind Clear = []

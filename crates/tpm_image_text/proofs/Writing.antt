@@ -7,7 +7,7 @@ use Rattle.std.specs.List.{flat_map}
 use Rattle.std.proofs.lemmas.List.{drop_more}
 use Rattle.std.proofs.lemmas.List.Concat.{flat_map-cons}
 
--- writing one more element does not change what the whole text will be
+-- writing one more element does not change the whole text that results
 pub written_more : {X : Type 0} (text_of : X → List ℕ) (text new whole : List ℕ) (xs : List X) (i : ℕ) (d : X) → i < length xs → new ≡ text ++ text_of (get_or xs i d) → text ++ flat_map text_of (drop i xs) ≡ whole → new ++ flat_map text_of (drop (i + 1) xs) ≡ whole
 written_more text_of text new whole xs i d below more so_far =
     let x = get_or xs i d in

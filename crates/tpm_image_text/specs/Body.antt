@@ -1,5 +1,5 @@
--- The body of an image: what a device keeps without power, part by part. The layout is this
--- device's own; its objects and indices are encoded as the standard's structures (TPM 2.0
+-- The body of an image: the state that a device keeps without power, part by part. The layout is
+-- this device's own; its objects and indices are encoded as the standard's structures (TPM 2.0
 -- Library, Part 2, sections 12.2.4, TPMT_PUBLIC, 12.3.2.4, TPMT_SENSITIVE, and 13.6,
 -- TPM2B_NV_PUBLIC).
 use Rattle.tpm_types.specs.Limits.{nv_data_limit, persistent_limit}
@@ -137,7 +137,7 @@ lockout_in text = do
     closed.1,
   )
 
--- ---- what a TPM2_Shutdown saved
+-- ---- the state that a TPM2_Shutdown saved
 
 -- the text of PCRs 0 to 15: their values in the SHA-1 bank, then those in the SHA-256 bank
 abbrev pub values_text : SavedValues → List ℕ
@@ -154,8 +154,8 @@ values_in text = do
   sha256 ← bank_in 32 sha1.1
   Ok (record { sha1 = sha1.0; sha256 = sha256.0 }, sha256.1)
 
--- the text of what a TPM2_Shutdown saved: one byte, which is 0 for nothing, 1 for CLEAR and 2 for
--- STATE; a 2 is followed by the values that STATE saves
+-- the text of the state that a TPM2_Shutdown saved: one byte, which is 0 for nothing, 1 for CLEAR
+-- and 2 for STATE; a 2 is followed by the values that STATE saves
 unfoldable pub saved_text : SavedState → List ℕ
 saved_text Nothing = to_be_bytes w8 0
 saved_text Clear = to_be_bytes w8 1
@@ -166,7 +166,7 @@ saved_values_in text = do
   values ← values_in text
   Ok (State values.0, values.1)
 
--- reads what was saved, after the byte for its kind
+-- reads the saved state, after the byte for its kind
 abbrev pub saved_by_kind : ℕ → List ℕ → Result (SavedState × List ℕ) Malformed
 saved_by_kind kind text =
     if kind == 0 then Ok (Nothing, text)
@@ -300,8 +300,8 @@ index_in text = do
   index ← passing is_index fields_of_index_in text
   Ok ((index.0.public.nv_index.number, index.0), index.1)
 
--- the total size of the data that these NV indices have or will have, and whether the limit
--- allows it
+-- the total size of the data that these NV indices have or will have; then, whether a limit allows
+-- this size
 abbrev pub bytes_of : Entries NvIndex → ℕ
 bytes_of indices = sum_by (λ e. e.1.public.data_size) indices
 
@@ -321,8 +321,8 @@ indices_in version text =
 -- ---- the whole body
 
 -- the text of the fixed part: the hierarchies, whether TPM2_Clear is refused, lockout, Clock, the
--- counts of TPM Resets and TPM Restarts, the largest value that a counter ever had, and what was
--- saved
+-- counts of TPM Resets and TPM Restarts, the largest value that a counter ever had, and the saved
+-- state
 unfoldable pub state_text : KeptState → List ℕ
 state_text s =
     hierarchies_text s.hierarchies ++ yes_no_text s.disable_clear ++ lockout_text s.lockout

@@ -63,7 +63,8 @@ bytes_in count text = in_body (bytes_at count) text
 abbrev pub buffer_in : ℕ → List ℕ → Result (List ℕ × List ℕ) Malformed
 buffer_in limit text = in_body (buffer_at limit) text
 
--- an authorization value: a sized buffer of at most 32 bytes that does not end with a zero byte
+-- whether a value does not end with a zero byte; `auth_value_in` reads an authorization value: a
+-- sized buffer of at most 32 bytes, without a zero byte at its end
 abbrev pub is_trimmed : List ℕ → Bool
 is_trimmed value = bytes_eq (trimmed value) value
 

@@ -19,7 +19,7 @@ Fills can read filled (Ok done) rest = read ≡ Ok (filled, rest)
 Fills can read filled (Err unfilled.Malformed) rest = read ≡ Err malformed
 Fills can read filled (Err unfilled.NoMemory) rest = can ≡ true
 
--- every key of these entries is below this one
+-- Every key of these entries is below this key.
 abbrev pub AllBelow : {X : Type 0} → ℕ → Entries X → Type 0
 AllBelow key [] = Unit {0}
 AllBelow key (e ∷ es) = (e.0 < key) × AllBelow key es
@@ -65,8 +65,8 @@ PowersOn can read (Ok done) new = (kept : NonVolatile) × (read ≡ Ok kept) × 
 PowersOn can read (Err unfilled.Malformed) new = read ≡ Err malformed
 PowersOn can read (Err unfilled.NoMemory) new = can ≡ true
 
--- The record became that of a device that was powered on with the kept state at the front of the
--- text, and `rest` is left to read; or the text is malformed; or an allocation failed, in which
+-- The record became that of a device that was powered on with the kept state at the beginning of
+-- the text, and `rest` is left to read; or the text is malformed; or an allocation failed, in which
 -- case the text may be anything.
 abbrev pub PowersOnFrom : Bool → Result (NonVolatile × List ℕ) Malformed
     → Result (Unit {0}) FillFault → Record → (rest : List ℕ) → Type 0

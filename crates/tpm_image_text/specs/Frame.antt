@@ -24,7 +24,7 @@ pub record Format (V E : Type 0) : Type 0 where
   pub whole : E
   pub digest : E
 
--- the magic word at the front of a framed text: TPM and the letter of the format
+-- the magic word at the beginning of a framed text: TPM and the letter of the format
 abbrev pub word_of : ℕ → List ℕ
 word_of letter = 0x54 ∷ 0x50 ∷ 0x4d ∷ letter ∷ []
 

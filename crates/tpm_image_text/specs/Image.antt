@@ -1,6 +1,6 @@
--- The image of a device: what it keeps without power, in a frame. TPM 2.0 Library, Part 1,
--- section 37, says what is in NV memory; the encoding is this device's own. Of its two versions,
--- the device writes version 2 and reads both.
+-- The image of a device: the state that it keeps without power, in a frame. TPM 2.0 Library, Part
+-- 1, section 37, defines the contents of NV memory; the encoding is this device's own. Of its two
+-- versions, the device writes version 2 and reads both.
 use Rattle.std.specs.Prelude.{◌≡◌, ℕ, ◌≤◌, List, length, Result}
 use Rattle.tpm_bytes.specs.Reading.{◌>>=◌, or_fault}
 use Rattle.tpm_image_text.specs.Body.{body_of, bytes_of, image_body_text}
@@ -11,16 +11,16 @@ use Rattle.tpm_image_text.specs.declared.fault.ImageFault.{ImageFault}
 use Rattle.tpm_image_text.specs.declared.fault.ImageFault.TheVariants as fault
 use Rattle.tpm_image_text.specs.declared.version.Version.{Version}
 
--- the image of what a device keeps, in the given version
+-- the image of a kept state, in the given version
 unfoldable pub image_text : Version → NonVolatile → List ℕ
 image_text version kept = framed_text version (image_body_text version kept)
 
--- What a device keeps fits the limits of a version.
+-- A kept state fits the limits of a version.
 pub record IsWithin (version : Version) (kept : NonVolatile) : Type 0 where
   pub few : length kept.indices ≤ index_limit version
   pub small : bytes_of kept.indices ≤ space_limit version
 
--- The text is the image, in this version, of what a device keeps, which fits the limits of the
+-- The text is the image of a kept state in this version, and the state fits the limits of the
 -- version.
 abbrev pub IsImage : Version → NonVolatile → List ℕ → Type 0
 IsImage version kept text = IsWithin version kept × (text ≡ image_text version kept)

@@ -1,5 +1,5 @@
--- What a device keeps without power. TPM 2.0 Library, Part 1, sections 12.2.2 (_TPM_Init) and 37
--- (NV memory).
+-- The state that a device keeps without power. TPM 2.0 Library, Part 1, sections 12.2.2 (_TPM_Init)
+-- and 37 (NV memory).
 use Rattle.std.specs.Prelude.{ℕ, ◌<◌, ◌^◌, Bool, false}
 use Rattle.tpm_containers.specs.SortedMap.{Entries}
 use Rattle.tpm_lockout.specs.Lockout.{IsLockout, restored}
@@ -14,9 +14,9 @@ use Rattle.tpm_record.specs.Record.{Record, no_objects, no_sessions}
 use Rattle.tpm_record.specs.Saved.{IsSavedState, SavedState}
 use Rattle.tpm_record.specs.declared.hierarchy.Hierarchies.{Hierarchies}
 
--- the fixed part of what a device keeps: the hierarchies; whether TPM2_Clear is refused; failed
--- tries, their parameters and whether lockoutAuth is disabled; Clock and the counts of TPM Resets
--- and TPM Restarts; the largest value that a counter ever had; and what the last TPM2_Shutdown
+-- the fixed part of a kept state: the hierarchies; whether TPM2_Clear is refused; failed tries,
+-- their parameters and whether lockoutAuth is disabled; Clock and the counts of TPM Resets and TPM
+-- Restarts; the largest value that a counter ever had; and the state that the last TPM2_Shutdown
 -- saved
 pub record KeptState : Type 0 where
   pub hierarchies : Hierarchies
@@ -28,7 +28,7 @@ pub record KeptState : Type 0 where
   pub max_count : ℕ
   pub saved : SavedState
 
--- what a device keeps: the fixed part, the persistent objects and the NV indices
+-- a kept state: the fixed part, the persistent objects and the NV indices
 pub record NonVolatile : Type 0 where
   pub state : KeptState
   pub persistent : Entries Object

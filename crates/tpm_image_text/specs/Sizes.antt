@@ -6,8 +6,8 @@ use Rattle.tpm_types.specs.Limits.{nv_index_limit, nv_space_limit, persistent_li
 abbrev pub limits_size : ℕ
 limits_size = 6
 
--- the largest size of the fixed part: hierarchies, lockout, clock, counts, and what a shutdown
--- saved
+-- the largest size of the fixed part: hierarchies, lockout, clock, counts, and the state that a
+-- shutdown saved
 abbrev pub state_size : ℕ
 state_size = 1269
 
@@ -40,7 +40,7 @@ body_size = limits_size + (state_size + (objects_size + indices_size))
 abbrev pub image_size : ℕ
 image_size = 10 + (body_size + 32)
 
--- the largest size of what a state text contains in addition to the body of an image
+-- the largest size of the part of a state text that is not in the body of an image
 abbrev pub more_size : ℕ
 more_size = 7962
 

@@ -1,4 +1,4 @@
-//! The body of an image: what a device keeps without power.
+//! The body of an image: the state that a device keeps without power.
 
 ghost use Rattle.tpm_image_text.specs.Sizes.{body_size, state_size, text_size};
 ghost use Rattle.std.specs.Prelude.{◌≡◌, ◌≤◌, ◌+◌, ◌++◌, [], length, replicate};
@@ -38,7 +38,7 @@ fn read_state(fixed: &mut Fixed, text: &mut Cursor) -> Result<u64, Malformed>
     Ok(max_count)
 }
 
-/// Reads the state that a device keeps without power from the front of a text of the given
+/// Reads the state that a device keeps without power from the beginning of a text of the given
 /// version into a new `Keep`.
 #[tactic(auto, unfolding(crate::specs::Body::kept_in))]
 pub fn read_kept<K: Keep>(

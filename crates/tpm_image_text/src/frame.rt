@@ -11,10 +11,10 @@ use crate::version::Version;
 use tpm_bytes::Sink;
 use tpm_mac::{HashAlg, digest_parts};
 
-/// The magic bytes at the front of an image.
+/// The magic bytes at the beginning of an image.
 const MAGIC: [u8; 4] = [0x54, 0x50, 0x4d, 0x49];
 
-/// Sizes of the head and of the digest, in bytes.
+/// The sizes of the head and of the digest, in bytes.
 const HEAD_BYTES: usize = 10;
 
 const DIGEST_BYTES: usize = 32;

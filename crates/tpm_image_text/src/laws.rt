@@ -1,4 +1,4 @@
-//! The laws of images.
+//! What holds for every image.
 
 ghost use Rattle.std.specs.Prelude.{◌≡◌, ◌≤◌, ◌<◌, ℕ, List, Ok, Err, length, take};
 ghost use Rattle.tpm_image_text.specs.Image.{IsImage, IsWithin, image_of, image_text};
@@ -12,9 +12,9 @@ ghost use Rattle.tpm_record.specs.Cycle.{cycled};
 ghost use Rattle.tpm_record.specs.IsRecord.{IsRecord};
 ghost use Rattle.tpm_record.specs.Record.{Record};
 
-/// Every device has an image in version 2. The image of a device, in either version, determines
-/// what the device keeps, and does not exceed the largest size. Powering on with what a device
-/// kept gives the same device as a power cycle. A proof only: it has no effect at run time.
+/// Every device has an image in version 2. The image of a device, in either version, determines the
+/// kept state, and does not exceed the largest size. Powering on with the kept state of a device
+/// results in the same device as a power cycle. A proof only: it has no effect at run time.
 #[inline(always)]
 #[tactic(auto, using(crate::proofs::RecordLaws::record_image, crate::proofs::RecordLaws::record_again, crate::proofs::RecordLaws::record_small, crate::proofs::ImageLaws::powered_again))]
 pub fn image_laws()

@@ -30,7 +30,7 @@ pub fn read_lockout(text: &mut Cursor) -> Result<LockoutFields, Malformed>
     })
 }
 
-/// Writes what the dictionary-attack protection keeps through a power cycle: 17 bytes.
+/// Writes the state of the dictionary-attack protection that survives a power cycle: 17 bytes.
 #[tactic(auto, unfolding(crate::specs::Body::lockout_text))]
 pub fn write_lockout(fields: LockoutFields, text: &mut Text)
     requires { length text.old + 17 ≤ text_size }

@@ -92,7 +92,7 @@ fn write_values(values: &SavedPcrs, text: &mut Text)
     write_bank(values.sha256(), text);
 }
 
-/// Writes what the last TPM2_Shutdown saved, at most 833 bytes.
+/// Writes the state that the last TPM2_Shutdown saved, at most 833 bytes.
 #[tactic(auto, unfolding(crate::specs::Body::saved_text))]
 pub fn write_saved(saved: &Saved, text: &mut Text)
     requires { length text.old + 833 ≤ text_size }

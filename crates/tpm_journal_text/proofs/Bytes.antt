@@ -1,4 +1,4 @@
--- Facts about lists of bytes.
+-- Lemmas about lists of bytes.
 use Rattle.std.proofs.Common.{ℕ, zero, suc, ◌<◌, List, [], ◌∷◌, arith}
 use Rattle.std.specs.List.{AllByRecursion}
 use Rattle.tpm_bytes.specs.Reading.{AreBytes}

@@ -32,7 +32,7 @@ no_line sum text long none = record {
   no_entry = λ e rest is t. none (mark_of e) (mark_many e) (mark_bytes e) (line_stands sum e text rest t);
 }
 
--- If two marks have their lines at the same offset of a text, they are equal.
+-- If two marks have their lines at the same offset of a text, the marks are equal.
 pub same_mark : (sum : ℕ) (text mark other : List ℕ) → length mark ≡ 26 → AreBytes mark → take 72 text ≡ mark_line sum mark
     → length other ≡ 26 → AreBytes other → take 72 text ≡ mark_line sum other → mark ≡ other
 same_mark sum text mark other many are line other_many other_are other_line =

@@ -1,4 +1,4 @@
--- The parts of a head are at their offsets in its mark and in its text.
+-- The parts of a head are at the expected offsets in its mark and in its text.
 use Rattle.std.proofs.Common.{◌≡◌, ℕ, ◌*◌, ◌≤◌, List, [], ◌∷◌, ◌++◌, length, take, drop, get_or, Bool, true, false, refl, ap, sym, ◌∙◌, append_assoc, arith, length-append}
 use Rattle.std.specs.Prelude.{codes}
 use Rattle.std.specs.Int.{w32, w64, from_be_bytes, to_be_bytes}
@@ -129,7 +129,7 @@ head_text_many kind clock content =
     let c = length-append (head_line kind clock content ++ codes "# " ++ encode_lower content) (10 ∷ []) in
     omega (arith, line, a, b, c, length-encode_with lower_digits content)
 
--- The mark that was read is that of the head.
+-- If a mark was read from a text that begins with a head, it is the mark of that head.
 pub head_mark_stands : (kind : HeadKind) (clock : ℕ) (content mark text rest : List ℕ) → length mark ≡ 20 → AreBytes mark
     → take 77 text ≡ marked_line (head_word kind) mark (sum_from offset_basis mark) → text ≡ head_text kind clock content ++ rest
     → mark ≡ head_mark clock content
@@ -194,7 +194,7 @@ same_kind kind other clock time content bytes x y same =
     let b = word_stands other time bytes (head_text kind clock content ++ x) y same in
     one_word kind other a.0 b.0 (sym a.1 ∙ b.1)
 
--- If one text begins with two heads of one kind, they are equal.
+-- If one text begins with two heads of one kind, the heads are equal.
 pub same_head : (kind : HeadKind) (clock other : ℕ) (content bytes x y : List ℕ) → HasHead kind clock content → HasHead kind other bytes
     → head_text kind clock content ++ x ≡ head_text kind other bytes ++ y → (clock ≡ other) × (content ≡ bytes)
 same_head kind clock other content bytes x y has others same =

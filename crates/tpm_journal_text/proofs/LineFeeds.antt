@@ -1,4 +1,4 @@
--- The offsets at which the lines of an entry end.
+-- Lemmas about the offsets at which the lines of an entry end.
 use Rattle.std.proofs.Common.{◌≡◌, ℕ, zero, suc, ◌+◌, ◌-◌, ◌*◌, ◌<◌, ◌≤◌, ◌⊎◌, inl, inr, List, [], ◌∷◌, ◌++◌, length, take, drop, max, get_or, replicate, slice_index, Some, None, refl, ap, sym, subst, ◌∙◌, append_assoc, arith, length-append}
 use Rattle.std.specs.Prelude.{codes}
 use Rattle.std.specs.List.{AllByRecursion}
@@ -182,7 +182,7 @@ abbrev Ends : (e : PlainEntry) (place : ℕ) → Type 0
 Ends e place =
     ((place ≡ 15) ⊎ ((place ≡ 21) ⊎ (place ≡ drawn_line_end (length e.drawn)))) ⊎ (place ≡ last_end e)
 
--- Each line feed in the lines ends one of them.
+-- Each line feed in the lines of an entry ends one of these lines.
 feeds_end : (e : PlainEntry) (place : ℕ) → get_or (lines_of e) place 0 ≡ 10 → Ends e place
 unfolding lines_of
 feeds_end e place is =
@@ -259,7 +259,7 @@ lines_end_front mark front back end place there =
     end place (get_or-drop 72 (front ++ back) place 0
     ∙ get_or_append_left front back 0 (72 + place) (feed_within front (72 + place) at) ∙ at)
 
--- If zeros are appended to a text, no line ends in them.
+-- After zeros are appended to a text, its lines still end where those of the mark's entry end.
 pub lines_end_zeros : (mark front : List ℕ) (count : ℕ) → LinesEnd mark front → LinesEnd mark (front ++ replicate count 0)
 lines_end_zeros mark front count end place there =
     let text = front ++ replicate count 0 in
@@ -274,7 +274,7 @@ lines_end_zeros mark front count end place there =
 
 -- ---- lines that were split off
 
--- The lines after the line of a mark end where the mark says.
+-- The lines after the line of a mark end at the offsets that the mark determines.
 abbrev EndAt : (lines : List ℕ) → (drawn_end : ℕ) → Type 0
 EndAt lines drawn_end = (place : ℕ) → get_or lines place 0 ≡ 10 → (place ≡ 15) ⊎ ((place ≡ 21) ⊎ (place ≡ drawn_end))
 

@@ -1,4 +1,4 @@
--- The pieces of a text are at their offsets.
+-- The pieces of a text are at the expected offsets.
 use Rattle.std.proofs.Common.{◌≡◌, ℕ, ◌*◌, ◌+◌, List, [], ◌∷◌, ◌++◌, length, take, drop, Result, Ok, IsErr, refl, ap, sym, ◌∙◌, append_assoc, arith, length-append, take_all}
 use Rattle.std.specs.Prelude.{MatchResult, true, nat_eq}
 use Rattle.std.specs.Cmp.Lexicographic.{pointwise}
@@ -13,7 +13,7 @@ use Rattle.hex.specs.declared.error.FromHexError.{FromHexError}
 use Rattle.tpm_journal_text.specs.Marked.{marked_line}
 use Rattle.tpm_hex.specs.declared.NotHex.{NotHex}
 
--- A piece is at its offset in a text, whatever follows.
+-- A piece is at its offset in a text, whatever follows it.
 pub piece_in : (front piece back text : List ℕ) (size place count : ℕ) → take size text ≡ front ++ piece ++ back
     → length front ≡ place → length piece ≡ count → take count (drop place text) ≡ piece
 piece_in front piece back text size place count e at of =
@@ -23,7 +23,7 @@ piece_in front piece back text size place count e at of =
     ap (λ (t : List ℕ). take count (drop place t)) whole
     ∙ rw (drop_at front (piece ++ (back ++ drop size text)) place at, take_at piece (back ++ drop size text) count of) refl
 
--- If digits encode bytes, they are read as these bytes.
+-- Digits that encode bytes are decoded to these bytes.
 pub digits_read : (digits bytes new : List ℕ) (result : Result (Unit {0}) NotHex)
     → MatchResult (decode_of digits) (λ read. (result ≡ Ok tt) × (new ≡ read)) (λ fault. IsErr result)
     → digits ≡ encode_lower bytes → AreBytes bytes → (result ≡ Ok tt) × (new ≡ bytes)
@@ -38,7 +38,7 @@ line_parts word bytes sum =
     append_assoc (word ++ encode_lower bytes ++ 32 ∷ []) (encode_lower (to_be_bytes w64 sum)) (10 ∷ [])
     ∙ append_assoc (word ++ encode_lower bytes) (32 ∷ []) (encode_lower (to_be_bytes w64 sum) ++ 10 ∷ [])
 
--- The digits of the bytes are at their offset.
+-- The digits of a marked line's bytes are at their offset.
 pub line_digits : (word bytes text : List ℕ) (sum size count : ℕ) → length bytes ≡ count
     → take size text ≡ marked_line word bytes sum → take (2 * count) (drop (length word) text) ≡ encode_lower bytes
 line_digits word bytes text sum size count many there =
@@ -55,7 +55,7 @@ all_equal (byte ∷ text) = rw (eq-eqb byte byte refl, all_equal text) refl
 pub same_is_equal : (text other : List ℕ) → text ≡ other → pointwise nat_eq text other ≡ true
 same_is_equal text other e = rw (← e) (all_equal text)
 
--- If a text consists of this front and a rest, it begins with the front.
+-- If a text consists of a front and a rest, it begins with the front.
 pub front_of : (front rest text : List ℕ) (size : ℕ) → length front ≡ size → text ≡ front ++ rest → take size text ≡ front
 front_of front rest text size many e = ap (take size) e ∙ take_at front rest size many
 

@@ -1,4 +1,4 @@
--- The parts of an entry are at their offsets in its mark and in its text.
+-- The parts of an entry are at the expected offsets in its mark and in its text.
 use Rattle.std.proofs.Common.{◌≡◌, ℕ, ◌+◌, ◌*◌, ◌<◌, List, [], ◌∷◌, ◌++◌, length, take, drop, max, slice_index, refl, ap, sym, ◌∙◌, append_assoc, arith, length-append}
 use Rattle.std.specs.Prelude.{codes}
 use Rattle.std.specs.Int.{w32, w64, from_be_bytes}

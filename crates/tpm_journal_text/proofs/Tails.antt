@@ -1,4 +1,4 @@
--- Torn texts, and changes that keep them torn.
+-- Lemmas about torn texts, and about changes after which a text is still torn.
 use Rattle.std.proofs.Common.{◌≡◌, ℕ, zero, suc, ◌-◌, ◌<◌, ◌≤◌, ◌==◌, Bool, true, false, List, [], ◌∷◌, ◌++◌, length, take, drop, max, replicate, inl, inr, refl, ap, sym, ◌∙◌, subst, arith, length-append}
 use Rattle.std.specs.Prelude.{nat_lt}
 use Rattle.std.specs.List.{list_all}
@@ -53,7 +53,7 @@ whole_is_fewer text size short = record { front = text; zeros = 0; is = sym (app
 
 -- ---- less than an entry
 
--- If a text is less than an entry, so is each prefix of it.
+-- If a text is less than an entry, each prefix of the text is less than an entry.
 cut_off_front : (sum : ℕ) (front back : List ℕ) → IsCutOff sum (front ++ back) → IsCutOff sum front
 cut_off_front sum front back cut = by (nat_lt (length front) 72) refl
   where
@@ -72,7 +72,7 @@ cut_off_front sum front back cut = by (nat_lt (length front) 72) refl
               )
         ]
 
--- If a prefix of an entry is not the whole entry, it is less than an entry.
+-- A proper prefix of an entry is less than an entry.
 part_of_entry : (sum : ℕ) (e : PlainEntry) (size : ℕ) → IsEntry e → size < length (entry_text sum e) → IsCutOff sum (take size (entry_text sum e))
 part_of_entry sum e size is less = by (nat_lt size 72) refl
   where

@@ -95,7 +95,7 @@ unfoldable pub ten_digits : ℕ → List ℕ
 ten_digits number =
     map (digit_at number) (1000000000 ∷ 100000000 ∷ 10000000 ∷ 1000000 ∷ 100000 ∷ 10000 ∷ 1000 ∷ 100 ∷ 10 ∷ 1 ∷ [])
 
--- the random bytes in a script line, which needs at least one byte
+-- the random bytes as a script line contains them: at least one byte, since the line needs one
 abbrev pub shown : List ℕ → List ℕ
 shown [] = 0 ∷ []
 shown (byte ∷ bytes) = byte ∷ bytes

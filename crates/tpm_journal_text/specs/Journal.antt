@@ -43,8 +43,8 @@ IsCutOff sum text =
     ⊎ ((mark : List ℕ) × BeginsWithMark sum mark text × (length text < entry_size mark)
     × LinesEnd mark text)
 
--- A text is torn: it is less than an entry, possibly followed by zeros. Killing a process leaves
--- less than an entry, and a crash of the host may leave zeros instead of the rest.
+-- A torn text is less than an entry, possibly followed by zeros. Killing a process leaves less than
+-- an entry, and a crash of the host may leave zeros instead of the rest.
 pub record IsTorn (sum : ℕ) (text : List ℕ) : Type 0 where
   pub front : List ℕ
   pub zeros : ℕ
@@ -63,8 +63,8 @@ pub record IsDamaged (sum : ℕ) (text : List ℕ) : Type 0 where
   pub not_torn : IsTorn sum text → ⊥
   pub no_entry : (e : PlainEntry) (rest : List ℕ) → IsEntry e → text ≡ entry_text sum e ++ rest → ⊥
 
--- One of these was found at the beginning of a text: an entry, its size and the checksum after it;
--- or the text is torn; or it is damaged.
+-- The text begins with an entry of this size, and the checksum after it is `after`; or the text is
+-- torn; or it is damaged. `Next` says which of these was found.
 abbrev pub Finds : (sum : ℕ) → List ℕ → Next → Type 0
 Finds sum text (Whole entry size after) =
     IsEntry (plain_entry entry) × (size ≤ length text)

@@ -32,7 +32,7 @@ pub struct Entry<'a> {
     pub answered: u64,
 }
 
-/// The decimal digit of a number at a place (a power of ten).
+/// Returns the decimal digit of a number at a place (a power of ten).
 fn digit(number: u32, place: u32) -> u8
     requires { 0 < place }
     ensures { result ≡ digit_at number place }
@@ -63,7 +63,7 @@ impl<'a> Entry<'a> {
     ghost use Rattle.std.specs.Prelude.{◌+◌, ◌*◌, ◌++◌, max};
     ghost use Rattle.tpm_journal_text.specs.Entry.{IsEntry, entry_room, entry_text, executing_lines, mark_of, plain_entry, setting_lines, shown, sum_after};
 
-    /// The mark of the entry.
+    /// Returns the mark of the entry.
     #[tactic(auto, using(crate::proofs::Sums::sum_behind), unfolding(crate::specs::Entry::mark_of))]
     fn mark(&self) -> Sink<26>
         requires { IsEntry (plain_entry self.now) }
@@ -98,7 +98,8 @@ impl<'a> Entry<'a> {
         put(room, place, b"\n")
     }
 
-    /// The random bytes in a script line, which needs at least one byte.
+    /// Returns the random bytes as a script line contains them: at least one byte, since the line
+    /// needs one.
     fn shown(&self) -> &[u8]
         ensures value { result.now ≡ shown self.now.drawn.now }
         ensures size { length result.now ≡ max 1 (length self.now.drawn.now) }

@@ -26,7 +26,7 @@ const STATE_LIMIT: usize = 36_864;
 /// The largest size of the content of any head.
 pub const CONTENT_LIMIT: usize = STATE_LIMIT;
 
-/// Sizes of a head's mark, and of the mark's line, in bytes.
+/// The sizes of a head's mark, and of the mark's line, in bytes.
 pub(crate) const MARK_SIZE: usize = 20;
 
 pub(crate) const MARK_LINE_SIZE: usize = 77;
@@ -78,7 +78,7 @@ pub fn head_size(count: usize) -> usize
     MARK_LINE_SIZE + 3 + 2 * count
 }
 
-/// The mark of a head whose content comes in two parts.
+/// Returns the mark of a head whose content comes in two parts.
 #[tactic(auto, using(crate::proofs::Sums::sum_behind, crate::proofs::Sums::joined_many), unfolding(crate::specs::Head::head_mark))]
 pub(crate) fn mark_of(clock: u64, front: &[u8], back: &[u8]) -> Sink<MARK_SIZE>
     requires { length front.now + length back.now ≤ 36864 }

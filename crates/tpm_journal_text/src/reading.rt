@@ -14,7 +14,7 @@ use crate::torn::{has_fewer, lines_end};
 use tpm_bytes::is_equal;
 use tpm_hex::decode;
 
-/// Sizes of an entry's mark, and of the mark's line, in bytes.
+/// The sizes of an entry's mark, and of the mark's line, in bytes.
 const MARK_SIZE: usize = 26;
 
 const MARK_LINE_SIZE: usize = 72;
@@ -33,7 +33,8 @@ pub enum Next<'a> {
         size: usize,
         sum: u64,
     },
-    /// Less than an entry: its lines end where an entry's lines end, and only zeros may follow.
+    /// Less than an entry: its lines end where an entry's lines end, and any bytes after it are
+    /// zeros.
     Torn,
     /// Neither an entry nor the remains of one after a crash.
     Damaged,

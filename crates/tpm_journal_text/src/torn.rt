@@ -51,9 +51,9 @@ pub(crate) fn lines_end(lines: &[u8], drawn_end: usize) -> bool
 }
 
 /// If a crash leaves nothing of an entry, or a prefix of it, possibly followed by zeros, the text
-/// is torn. It stays torn if another crash truncates it or adds zeros. An entry is not torn. If
-/// one byte of an entry is removed, and it is not the last byte, the entry is damaged. A proof
-/// only: it has no effect at run time.
+/// is torn. It stays torn if another crash truncates it or adds zeros. An entry is not torn. If any
+/// byte of an entry except the last is removed, the entry is damaged. A proof only: it has no
+/// effect at run time.
 #[inline(always)]
 pub fn torn_laws()
     ensures nothing { (sum : ℕ) → IsTorn sum [] }

@@ -1,4 +1,4 @@
--- What holds of all commands that were asked for holds of the history.
+-- If all requested commands have a property, so have all commands of the history.
 use Rattle.std.proofs.Common.{◌≡◌, ℕ, ◌+◌, ◌==◌, Bool, true, false, cond, List, [], ◌∷◌, ◌++◌, length, Some, None, Option, refl, sym, subst}
 use Rattle.std.specs.List.{AllByRecursion}
 use Rattle.std.specs.Prelude.{nat_le, ◌||◌}
@@ -20,7 +20,7 @@ use Rattle.tpm_keeping.specs.declared.holder.Phase.TheVariants.{Ended, Locking, 
 abbrev Passing : (List ℕ → Bool) → List (List ℕ) → Type 0
 Passing test cs = AllByRecursion (λ c. test c ≡ true) cs
 
--- the command of a call that is under way
+-- The command of a call in progress passes the test.
 abbrev Fair : (List ℕ → Bool) → Phase → List ℕ → Type 0
 Fair test (Ended e) c = Unit {0}
 Fair test (Leaving e) c = Unit {0}
@@ -200,7 +200,7 @@ choice : (test : List ℕ → Bool) (b : Bool) (v w : World) → AllFair test v 
 choice test true v w hv hw = hv
 choice test false v w hv hw = hw
 
--- a step that is not about the lock
+-- a step that does not concern the lock preserves that all commands pass the test
 moves_fair : (phase : Phase) (effect : Effect) (told : Told) (test : List ℕ → Bool) (j : Journal) (w : World) (p : ℕ) → AllFair test w → (w.holders p).phase ≡ phase
     → Fair test phase (w.holders p).command
     → AllFair test (with_holder (does j phase w.shared (w.holders p) effect) w.holders p (next_in j phase (w.holders p) told))

@@ -1,4 +1,4 @@
--- The steps of a keeper that cuts damage.
+-- Lemmas about the steps of a keeper that cuts damage.
 use Rattle.std.proofs.Common.{[], refl, inl, inr}
 use Rattle.tpm_keeping.specs.Cutting.{Caller, IsOrIsAsked, goes_on_in, next_call}
 use Rattle.tpm_keeping.specs.Holder.{Told, next_of}

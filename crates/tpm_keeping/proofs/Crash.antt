@@ -1,4 +1,4 @@
--- Whatever a crash of the host leaves is a journal that has all that was promised.
+-- Whatever a crash of the host leaves is a journal that contains all promised commands.
 use Rattle.std.proofs.Common.{◌≡◌, ℕ, zero, suc, ◌+◌, ◌-◌, ◌<◌, ◌≤◌, ◌==◌, Bool, true, false, cond, List, [], ◌∷◌, ◌++◌, length, take, max, refl, sym, ap, ◌∙◌, arith, append_assoc, length-append}
 use Rattle.std.specs.List.{AllByRecursion}
 use Rattle.std.specs.Prelude.{nat_le}
@@ -12,7 +12,7 @@ use Rattle.tpm_keeping.proofs.Invariant.{Each, IsContent, IsFile, IsText, Safe, 
 
 -- ---- the answers
 
--- a front of the history that is long enough has what is in its place
+-- a prefix of the history that is long enough contains the command at each position within it
 front_has : (before rest front more : List (List ℕ)) (c : List ℕ) → before ++ (c ∷ rest) ≡ front ++ more → length before < length front
     → (left : List (List ℕ)) × (front ≡ before ++ (c ∷ left))
 front_has [] rest [] more c e le = absurd (omega (arith, le))
@@ -87,7 +87,8 @@ is_litter j litter laws = by (j.is_litter litter) refl
     by true is = is
     by false is = laws.clean
 
--- the text that is left of a content
+-- what a crash leaves of a content is a head, complete entries, and possibly the remains of one
+-- more
 left_text : (j : Journal) (f : File) (c : Content) (count : ℕ) (litter : List ℕ) → IsJournal j → j.is_state f.start.state ≡ true → Entered j c.commands
     → j.is_litter litter ≡ true → IsText j f.head f.start c → length f.head ≤ count → IsText j f.head f.start (left_of j f c count litter).now
 left_text j f c count litter laws lives entered ok t le =
@@ -105,7 +106,7 @@ left_text j f c count litter laws lives entered ok t le =
       torn = cut.torn;
     }
 
--- how many commands are left, at least
+-- a crash leaves at least the commands whose entries are on the disk
 left_sure : (j : Journal) (head : List ℕ) (start : Spot) (surely rest : List (List ℕ)) (c : Content) (count : ℕ) → c.commands ≡ surely ++ rest
     → length (whole j head start surely) ≤ count → length surely ≤ length (whole_in j start c.commands (count - length head))
 left_sure j head start surely rest c count has le =
@@ -118,7 +119,7 @@ left_sure j head start surely rest c count has le =
 none_in : (j : Journal) (start : Spot) (cs : List (List ℕ)) (count : ℕ) → cs ≡ [] → whole_in j start cs count ≡ []
 none_in j start cs count none = ap (λ (x : List (List ℕ)). whole_in j start x count) none
 
--- what was promised is among them
+-- the promised commands are among those that a crash leaves
 kept_in : (s : Shared) (f : File) (inside surely rest commands : List (List ℕ)) → s.promised ≤ length f.before + length surely
     → commands ≡ surely ++ rest → (0 < f.number → length surely ≤ length inside) → (f.number ≡ 0 → commands ≡ [])
     → s.promised ≤ length f.before + length inside

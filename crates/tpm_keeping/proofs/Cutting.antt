@@ -1,4 +1,4 @@
--- A cut begins a journal in the state to which a front of the damaged one leads.
+-- A cut begins a journal in the state to which a prefix of the damaged one leads.
 use Rattle.std.proofs.Common.{◌≡◌, ℕ, ◌+◌, ◌<◌, ◌||◌, Bool, true, false, cond, List, [], ◌∷◌, ◌++◌, length, take, Some, None, Option, refl, sym, subst, arith}
 use Rattle.tpm_keeping.specs.Journal.{Journal, IsJournal, Spot}
 use Rattle.tpm_keeping.specs.Holder.{Holder, Told, Done, Stands, Gone, Bytes, acts, begins, caught_up, finishes, found, goes, is_always, is_never, is_read, knows_file, looked, newborn, next_in, next_of, reads_on, salvages, salvages_of}
@@ -9,11 +9,11 @@ use Rattle.tpm_keeping.specs.declared.holder.End.TheVariants as ending
 use Rattle.tpm_keeping.specs.declared.holder.Phase.{Phase}
 use Rattle.tpm_keeping.specs.declared.holder.Phase.TheVariants.{Ended, Locking, Looking, Reading, Putting, Forcing, Making, Naming, Settling, Leaving}
 
--- a holder that opens the file, if it has no device
+-- A holder without a device reads the file from the beginning.
 abbrev Opens : Holder → Type 0
 Opens k = k.device ≡ None → k.place ≡ 0
 
--- if it begins a journal, that is in the state of a front
+-- If the holder begins a new journal, it is in the state of a prefix of the text.
 abbrev IsCut : Journal → (text : List ℕ) → Holder → Type 0
 IsCut j text k = k.phase ≡ Making → KeepsFront j text k
 
@@ -37,7 +37,7 @@ salvages_cuts Renew device j k laws is opens = absurd cc
 salvages_cuts Show device j k laws is opens = absurd cc
 salvages_cuts Begin device j k laws is opens = absurd cc
 
--- a journal that is whole stays as it is
+-- a cut of an undamaged journal begins no new journal
 acts_cuts : (job : Job) (j : Journal) (k : Holder) (p : Spot) (text : List ℕ) → job ≡ Cut → IsCut j text (acts j job k p)
 acts_cuts Cut j k p text is = by (is_always k.force) (k.settled || is_never k.force)
   where

@@ -1,4 +1,4 @@
--- Entries one after another, and what is left of them up to a byte.
+-- Lemmas about entries one after another, and what is left of them up to a byte.
 use Rattle.std.proofs.Common.{◌≡◌, ℕ, ◌+◌, ◌-◌, ◌<◌, ◌≤◌, Bool, true, false, List, [], ◌∷◌, ◌++◌, length, take, refl, sym, ap, ◌∙◌, subst, arith, append_assoc, length-append}
 use Rattle.std.specs.Prelude.{nat_le}
 use Rattle.std.proofs.lemmas.Bool.Decides.{nat_tests}
@@ -7,7 +7,7 @@ use Rattle.std.proofs.lemmas.List.{take_all, take-append-le}
 use Rattle.std.proofs.Math.Seq.{take-append-add}
 use Rattle.tpm_keeping.specs.Journal.{Entered, Journal, IsJournal, Spot, entries, run, stepped, trail, whole_in}
 
--- a head, and the entries of commands after it
+-- a head, followed by the entries of commands
 abbrev pub whole : Journal → (head : List ℕ) → Spot → List (List ℕ) → List ℕ
 whole j head p cs = head ++ entries j p cs
 
@@ -31,7 +31,7 @@ pub trail_both : (j : Journal) (p : Spot) (cs ds : List (List ℕ)) → trail j 
 trail_both j p [] ds = refl
 trail_both j p (c ∷ cs) ds = trail_both j (stepped j p c) cs ds
 
--- the state at a spot does not depend on what entries are chained to
+-- the state after entries is the one to which their commands lead
 pub trail_state : (j : Journal) (p : Spot) (cs : List (List ℕ)) → (trail j p cs).state ≡ run j p.state cs
 trail_state j p [] = refl
 trail_state j p (c ∷ cs) = trail_state j (stepped j p c) cs
@@ -63,7 +63,7 @@ pub whole_length : (j : Journal) (head : List ℕ) (p : Spot) (cs ds : List (Lis
 whole_length j head p cs ds =
     omega (arith, ap length (whole_both j head p cs ds), length-append (whole j head p cs) (entries j (trail j p cs) ds))
 
--- ---- a front
+-- ---- a prefix
 
 pub front_past : (x y : List ℕ) (count : ℕ) → length x ≤ count → take count (x ++ y) ≡ x ++ take (count - length x) y
 front_past x y count le =
@@ -73,7 +73,8 @@ front_past x y count le =
 front_twice : (n : ℕ) (x : List ℕ) → take n (take n x) ≡ take n x
 front_twice n x = take_all n (take n x) (grind (arith, common_steps))
 
--- up to a byte, with litter after it: whole entries, and less than one
+-- Entries are truncated at a byte and litter follows: complete entries are left, and then less than
+-- one entry.
 pub record IsCut (j : Journal) (s : Spot) (cs : List (List ℕ)) (tail : List ℕ) (count : ℕ) (litter : List ℕ) : Type 0 where
   pub left : List ℕ
   pub is : take count (entries j s cs ++ tail) ++ litter ≡ entries j s (whole_in j s cs count) ++ left
@@ -128,7 +129,7 @@ is_cut j s (c ∷ cs) tail count litter laws lives entered ok torn =
     let rest = is_cut j (stepped j s c) cs tail (count - length (j.entry s c)) litter laws (laws.leads s.state c lives) entered.1 ok torn in
     cut_one j s c cs tail count litter laws lives entered.0 ok (nat_le (length (j.entry s c)) count) refl rest
 
--- these are the first of all
+-- The commands in the first list are the first ones of the second list.
 pub record IsFront (cs all : List (List ℕ)) : Type 0 where
   pub more : List (List ℕ)
   pub is : all ≡ cs ++ more
@@ -156,7 +157,7 @@ whole_in_entered j s cs count entered =
     let front = is_front j s cs count in
     entered_first j (whole_in j s cs count) front.more (subst (Entered j) front.is entered)
 
--- the entries that end before the byte are among them
+-- the commands whose entries end before the byte are among those that are left
 pub keeps_sure : (j : Journal) (s : Spot) (surely rest : List (List ℕ)) (count : ℕ) → length (entries j s surely) ≤ count
     → whole_in j s (surely ++ rest) count ≡ surely ++ whole_in j (trail j s surely) rest (count - length (entries j s surely))
 keeps_sure j s [] rest count le = let same : count ≡ count - 0 = omega arith in ap (whole_in j s rest) same

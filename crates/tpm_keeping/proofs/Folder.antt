@@ -1,4 +1,4 @@
--- What is so of the folder stays so, whatever a holder does to it.
+-- Whatever a holder does to the folder, the invariant of the folder still holds.
 use Rattle.std.proofs.Common.{◌≡◌, ◌⊎◌, ℕ, zero, suc, ◌+◌, ◌-◌, ◌<◌, ◌≤◌, ◌==◌, Bool, true, false, cond, List, [], ◌∷◌, ◌++◌, length, take, drop, min, Option, refl, sym, ap, ◌∙◌, subst, arith, inl, inr, append_assoc, length-append}
 use Rattle.std.specs.List.{AllByRecursion}
 use Rattle.std.specs.Prelude.{nat_le}
@@ -73,7 +73,7 @@ each_longer j origin history more (a ∷ answers) h = (
 
 -- ---- a put
 
--- bytes that are there already are written again, and then others
+-- writing the same bytes again, and then others, only appends the others
 again : (same rest : List ℕ) (n : ℕ)
     → take n (same ++ rest) ++ drop (length (take n (same ++ rest))) same ≡ same ++ take (n - length same) rest
 again [] rest n =
@@ -103,7 +103,7 @@ over front same rest n =
 
 -- ---- what a job adds
 
--- each command that it adds has an entry
+-- each command that a job adds has an entry
 pub adds_entered : (j : Journal) (job : Job) (c : List ℕ) → Entered j (adds j job c)
 adds_entered j Execute c = by (j.is_entered c) refl
   where
@@ -115,13 +115,13 @@ adds_entered j Show c = tt
 adds_entered j Begin c = tt
 adds_entered j Cut c = tt
 
--- what is put is torn, or whole
+-- After a write, the file consists of complete entries and a torn end.
 pub record IsPut (j : Journal) (s : Shared) (k : Holder) (n : ℕ) : Type 0 where
   pub tail : List ℕ
   pub is : (put_on j s.file k n).now.text ≡ whole j s.file.head s.file.start (s.file.now.commands ++ put_more j k n) ++ tail
   pub torn : j.is_torn (trail j s.file.start (s.file.now.commands ++ put_more j k n)) tail ≡ true
 
--- a part of the entry, or none
+-- a proper prefix of the entry that a job adds is torn, and so is the empty text
 less_torn : (j : Journal) (p : Spot) (job : Job) (c : List ℕ) (m : ℕ) → IsJournal j → j.is_state p.state ≡ true
     → (m < length (entries j p (adds j job c))) ⊎ (m ≡ 0) → j.is_torn p (take m (entries j p (adds j job c))) ≡ true
 less_torn j p job c m laws lives (inr none) =
@@ -199,7 +199,7 @@ is_put j s k n laws lives t puts = by (nat_le (length k.out) n) refl
         some n u r true is less = let le : u ≤ n = grind (arith, nat_tests) in inl (omega (arith, le, less))
         some n u r false is less = let le : n < u = grind (arith, nat_tests) in inr (omega (arith, le))
 
--- where a file is, it has executed up to a state, and that is the one of the history
+-- if there is a file, the state after its entries is that of the history
 pub state_is : (j : Journal) (s : Shared) → Still j s → 0 < s.file.number → state_of j s.file ≡ run j s.origin s.history
 state_is j s still named =
     let h = still.file.headed named in
@@ -210,9 +210,9 @@ state_is j s still named =
 pub state_lives : (j : Journal) (s : Shared) → IsJournal j → Still j s → 0 < s.file.number → j.is_state (state_of j s.file) ≡ true
 state_lives j s laws still named = trail_lives j s.file.start s.file.now.commands laws (still.file.headed named).lives
 
--- ---- what others know
+-- ---- the knowledge of other holders
 
--- what a holder knows that does nothing to the folder is so after it
+-- After a step of another process, everything that a holder knew of the folder still holds.
 pub record Grows (j : Journal) (s t : Shared) : Type 0 where
   pub knows : (force : Force) (file : ℕ) (device : Option Spot) (place : ℕ) (unsure : List ℕ) → file < s.next
       → Knows j s.file force file device place unsure → Knows j t.file force file device place unsure
@@ -223,7 +223,8 @@ pub record Moves (j : Journal) (s t : Shared) : Type 0 where
   pub still : Still j t
   pub grows : Grows j s t
 
--- other bytes of the front are on the disk, and no fewer than a holder has seen forced
+-- if at least the bytes that a holder has seen synced are still on the disk, the holder's spot is
+-- still right
 forced_at : (j : Journal) (f g : File) (more : List (List ℕ)) (force : Force) (state : Spot) (place : ℕ) (unsure : List ℕ)
     → g.head ≡ f.head → g.start ≡ f.start → g.now.commands ≡ f.now.commands ++ more → min f.forced (length (body j f)) ≤ g.forced
     → IsAt j f.head f.start f.now.commands f.forced force state place unsure
@@ -313,9 +314,9 @@ put_moves j s k n laws still puts = record {
   grows = forced_grows j s (put j s k n) (put_more j k n) refl refl refl refl (omega (arith, puts.all.reached)) (λ none. none) (omega arith);
 }
 
--- ---- a force, and what is dropped
+-- ---- a sync, and dropped bytes
 
--- nothing but what is on the disk has changed
+-- if only the bytes on the disk changed, the invariant of the folder still holds
 forced_still : (j : Journal) (s : Shared) (forced : ℕ) (past : List Content) (is_dropped : Bool) → Still j s
     → min s.file.forced (length (body j s.file)) ≤ forced → (past ≡ s.file.past) ⊎ (past ≡ [])
     → Still j (record s { file = record s.file { forced = forced; past = past; is_dropped = is_dropped } })
@@ -395,7 +396,7 @@ settle_moves j s still = record {
 pub same_moves : (j : Journal) (s : Shared) → Still j s → Moves j s s
 same_moves j s still = record { still = still; grows = same_grows j s s refl (λ none. none) (omega arith) }
 
--- what a holder knows of the file that had the name is not of the new one
+-- after a new file gets the journal's name, everything that a holder knew of the folder still holds
 named_grows : (j : Journal) (origin : List ℕ) (s : Shared) (k : Holder) → Grows j s (named_from j origin s k)
 named_grows j origin s k = record {
   knows = λ force file device place unsure below h. record { at = λ d has same. absurd (omega (arith, below, same)); empty = h.empty };
@@ -403,7 +404,7 @@ named_grows j origin s k = record {
   next = omega arith;
 }
 
--- the new file
+-- the new file satisfies the invariant of a file
 named_file : (j : Journal) (origin : List ℕ) (s : Shared) (k : Holder) → IsJournal j → s.fresh ≡ k.out → length k.out ≤ s.fresh_forced → s.promised ≤ length s.history
     → k.out ≡ begun j (run j origin (s.history ++ leads j k.job k.command)) (adds j k.job k.command) → 0 < s.next → j.is_state (run j origin (s.history ++ leads j k.job k.command)) ≡ true
     → IsFile j origin ((s.history ++ leads j k.job k.command) ++ adds j k.job k.command) s.promised s.lasting (s.next + 1) (named_from j origin s k).file
@@ -431,7 +432,7 @@ named_file j origin s k laws fresh enough kept text next lives =
       past = tt;
     }
 
--- the history is longer by what the new journal adds
+-- adding two lists of commands to the history, one after the other, is adding both together
 twice_longer : (history some more : List (List ℕ)) → (history ++ some) ++ more ≡ history ++ (some ++ more)
 twice_longer history some more = append_assoc history some more
 
@@ -464,7 +465,7 @@ follows_still j s k laws still h fresh enough =
 
 -- ---- the first journal
 
--- where there is no file, nothing depends on the state in which all began
+-- if there is no file, nothing depends on the state in which everything began
 file_anew : (j : Journal) (origin other : List ℕ) (history : List (List ℕ)) (promised : ℕ) (lasting : Bool) (next : ℕ) (f : File) → f.number ≡ 0
     → IsFile j origin history promised lasting next f → IsFile j other history promised lasting next f
 file_anew j origin other history promised lasting next f none h = record {
@@ -479,7 +480,7 @@ file_anew j origin other history promised lasting next f none h = record {
   past = h.past;
 }
 
--- and no answer is in the history
+-- if the history is empty, no response depends on that state either
 pub each_gone : (j : Journal) (origin other : List ℕ) (history : List (List ℕ)) (answers : List Answer) → history ≡ []
     → Each j origin history answers → Each j other history answers
 each_gone j origin other history [] none h = tt

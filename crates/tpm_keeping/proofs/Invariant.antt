@@ -1,4 +1,4 @@
--- What is so at each moment of the folder and of each holder.
+-- The invariant of the folder and of each holder, which holds at each moment.
 use Rattle.std.proofs.Common.{◌≡◌, ◌⊎◌, ℕ, ◌+◌, ◌<◌, ◌≤◌, Bool, true, false, cond, List, [], ◌∷◌, ◌++◌, length, take, drop, Some, None, Option}
 use Rattle.std.specs.List.{AllByRecursion}
 use Rattle.tpm_keeping.specs.Journal.{Entered, Journal, Spot, entries, run, started, trail}
@@ -16,11 +16,11 @@ use Rattle.tpm_keeping.specs.declared.holder.Phase.TheVariants.{Ended, Locking, 
 
 -- ---- the folder
 
--- the bytes of its head and of all whole entries
+-- the head and all complete entries of a file
 abbrev pub body : Journal → File → List ℕ
 body j f = whole j f.head f.start f.now.commands
 
--- the spot after them, and its state
+-- the spot after these entries, and its state
 abbrev pub spot_of : Journal → File → Spot
 spot_of j f = trail j f.start f.now.commands
 
@@ -32,7 +32,7 @@ pub record IsText (j : Journal) (head : List ℕ) (start : Spot) (c : Content) :
   pub is : c.text ≡ whole j head start c.commands ++ tail
   pub torn : j.is_torn (trail j start c.commands) tail ≡ true
 
--- one content of a file, of whose commands the first are surely on the disk
+-- A content of a file; its first commands are certainly on the disk.
 pub record IsContent (j : Journal) (head : List ℕ) (start : Spot) (number : ℕ) (history before surely : List (List ℕ)) (c : Content) : Type 0 where
   pub rest : List (List ℕ)
   pub has : c.commands ≡ surely ++ rest
@@ -42,13 +42,13 @@ pub record IsContent (j : Journal) (head : List ℕ) (start : Spot) (number : �
   pub text : 0 < number → IsText j head start c
   pub empty : number ≡ 0 → c.commands ≡ []
 
--- a head, after the commands before it
+-- The state after a head is the one to which the commands before it lead.
 pub record IsHeaded (j : Journal) (origin head : List ℕ) (start : Spot) (before : List (List ℕ)) : Type 0 where
   pub after : j.after_head head ≡ Some start
   pub lives : j.is_state start.state ≡ true
   pub state : start.state ≡ run j origin before
 
--- Whatever a crash leaves of the file: it is a journal that has all that was promised.
+-- Whatever a crash leaves of the file is a journal that contains all promised commands.
 pub record IsFile (j : Journal) (origin : List ℕ) (history : List (List ℕ)) (promised : ℕ) (lasting : Bool) (next : ℕ) (f : File) : Type 0 where
   pub surely : List (List ℕ)
   pub enough : 0 < f.number → length (whole j f.head f.start surely) ≤ f.forced
@@ -78,7 +78,7 @@ pub record Still (j : Journal) (s : Shared) : Type 0 where
 
 -- ---- one holder
 
--- what a holder depends on
+-- the part of the folder on which a holder depends
 pub record Sight : Type 0 where
   pub origin : List ℕ
   pub file : File
@@ -101,8 +101,8 @@ sight s = record {
   answers = s.answers;
 }
 
--- a spot that has executed the first of these commands, up to a place in the file; what the holder
--- has seen forced is forced
+-- The spot is that of a device that executed the first of these commands, up to an offset in the
+-- file. The bytes that the holder has seen synced are on the disk.
 pub record IsAt (j : Journal) (head : List ℕ) (start : Spot) (cs : List (List ℕ)) (forced : ℕ) (force : Force) (spot : Spot) (place : ℕ) (unsure : List ℕ) : Type 0 where
   pub done : List (List ℕ)
   pub ahead : List (List ℕ)
@@ -113,7 +113,8 @@ pub record IsAt (j : Journal) (head : List ℕ) (start : Spot) (cs : List (List 
   pub reached : place ≡ length (whole j head start done)
   pub sure : is_always force ≡ true → length front ≤ forced
 
--- what a holder has in memory is of the file, if that is still the one that it knows
+-- The device in a holder's memory is that of the file, if the file is still the one that the holder
+-- knows.
 pub record Knows (j : Journal) (f : File) (force : Force) (file : ℕ) (device : Option Spot) (place : ℕ) (unsure : List ℕ) : Type 0 where
   pub at : (s : Spot) → device ≡ Some s → file ≡ f.number
       → IsAt j f.head f.start f.now.commands f.forced force s place unsure
@@ -122,7 +123,7 @@ pub record Knows (j : Journal) (f : File) (force : Force) (file : ℕ) (device :
 abbrev pub KnowsOf : Journal → Sight → Holder → Type 0
 KnowsOf j v k = Knows j v.file k.force k.file k.device k.place k.unsure
 
--- it has executed the whole file
+-- The holder has executed the whole file.
 pub record HasAll (j : Journal) (f : File) (force : Force) (file place : ℕ) (unsure : List ℕ) : Type 0 where
   pub same : file ≡ f.number
   pub named : 0 < f.number
@@ -131,13 +132,13 @@ pub record HasAll (j : Journal) (f : File) (force : Force) (file place : ℕ) (u
   pub reached : place ≡ length (body j f)
   pub sure : is_always force ≡ true → length front ≤ f.forced
 
--- the response is that of the job, in this state
+-- The response is that of the job, in this state.
 abbrev pub Gives : Job → Journal → (state command response : List ℕ) → Type 0
 Gives Execute j state c response = response ≡ j.response state c
 Gives Show j state c response = response ≡ j.head state
 Gives job j state c response = Unit {0}
 
--- the command is the last of the history, and has no answer yet
+-- The command is the last one of the history, and has no response yet.
 pub record IsLast (j : Journal) (origin : List ℕ) (history : List (List ℕ)) (answers : List Answer) (command response : List ℕ) : Type 0 where
   pub before : List (List ℕ)
   pub is : history ≡ before ++ command ∷ []
@@ -149,7 +150,7 @@ LastIf Execute j origin history answers c response = IsLast j origin history ans
 LastIf Show j origin history answers c response = response ≡ j.head (run j origin history)
 LastIf job j origin history answers c response = Unit {0}
 
--- what was read of the file is what the file has there
+-- The bytes that the holder has read are those of the file at that offset.
 pub record IsReading (j : Journal) (v : Sight) (k : Holder) : Type 0 where
   pub knows : KnowsOf j v k
   pub same : k.file ≡ v.file.number
@@ -158,14 +159,15 @@ pub record IsReading (j : Journal) (v : Sight) (k : Holder) : Type 0 where
   pub seen : k.seen ≡ k.place + length k.read
   pub read : take (length k.read) (drop k.place v.file.now.text) ≡ k.read
 
--- with this word, what is done then is promised
+-- whether a holder with this word of force promises the result of the job
 abbrev pub promises : Journal → Force → Job → (command : List ℕ) → Bool
 promises j Always job c = true
 promises j Power Execute c = cond (j.is_entered c) false true
 promises j Power Renew c = true
 promises j force job c = false
 
--- it is to put its command's entry, if it has one, after all that it has not seen forced
+-- The holder has to write the bytes that it has not seen synced, followed by its command's entry,
+-- if it has one.
 pub record Puts (j : Journal) (f : File) (job : Job) (k : Holder) : Type 0 where
   pub all : HasAll j f k.force k.file k.place k.unsure
   pub quiet : promises j Power job k.command ≡ false
@@ -173,7 +175,7 @@ pub record Puts (j : Journal) (f : File) (job : Job) (k : Holder) : Type 0 where
   pub out : k.out ≡ k.unsure ++ entries j (spot_of j f) (adds j job k.command)
   pub gives : Gives job j (state_of j f) k.command k.response
 
--- it has executed the file, and its command is in it
+-- The holder has executed the file, and the file contains its command.
 pub record Stays (j : Journal) (origin : List ℕ) (f : File) (history : List (List ℕ)) (answers : List Answer) (force : Force) (file : ℕ) (device : Option Spot) (place : ℕ) (unsure : List ℕ) (job : Job) (command response : List ℕ) : Type 0 where
   pub all : HasAll j f force file place unsure
   pub has : device ≡ Some (spot_of j f)
@@ -182,18 +184,18 @@ pub record Stays (j : Journal) (origin : List ℕ) (f : File) (history : List (L
 abbrev pub StaysOf : Journal → Sight → Holder → Type 0
 StaysOf j v k = Stays j v.origin v.file v.history v.answers k.force k.file k.device k.place k.unsure k.job k.command k.response
 
--- the text of a journal that begins in a state
+-- the text of a journal that begins in a state, followed by the entries of commands
 abbrev pub begun : Journal → List ℕ → List (List ℕ) → List ℕ
 begun j state cs = whole j (j.head state) (started j state) cs
 
--- it begins a journal after the one that is there
+-- The holder begins a new journal after the existing one.
 pub record Follows (j : Journal) (f : File) (job : Job) (command : List ℕ) (device : Option Spot) (out response : List ℕ) : Type 0 where
   pub named : 0 < f.number
   pub has : device ≡ Some (trail j (started j (run j (state_of j f) (leads j job command))) (adds j job command))
   pub text : out ≡ begun j (run j (state_of j f) (leads j job command)) (adds j job command)
   pub gives : Gives job j (state_of j f) command response
 
--- or the first one
+-- The holder begins the first journal.
 pub record Founds (j : Journal) (f : File) (job : Job) (device : Option Spot) (out : List ℕ) : Type 0 where
   pub unnamed : f.number ≡ 0
   pub is : job ≡ Begin
@@ -216,7 +218,7 @@ pub record IsDone (j : Journal) (v : Sight) (k : Holder) : Type 0 where
   pub forced : promises j k.force k.job k.command ≡ true → IsForced j v.file
   pub settled : is_never k.force ≡ false → v.older ≡ []
 
--- what is so in a phase
+-- What holds for a holder in a phase.
 abbrev pub In : Phase → Journal → Sight → Holder → Type 0
 In (Ended e) j v k = KnowsOf j v k
 In Locking j v k = KnowsOf j v k
@@ -236,7 +238,8 @@ holds (Ended e) = false
 holds Locking = false
 holds phase = true
 
--- the folder was forced since it opened the file
+-- If the folder was synced since the holder opened the file, no earlier file can have the name
+-- again.
 abbrev pub Calm : Sight → (settled : Bool) → (file : ℕ) → Type 0
 Calm v settled file = settled ≡ true → file ≡ v.file.number → v.older ≡ []
 

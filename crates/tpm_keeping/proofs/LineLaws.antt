@@ -1,4 +1,4 @@
--- The journal of lines meets what a keeper needs.
+-- The journal of lines satisfies a keeper's requirements.
 use Rattle.std.proofs.Common.{◌≡◌, ◌⊎◌, ℕ, zero, suc, ◌+◌, ◌<◌, true, List, [], ◌∷◌, ◌++◌, length, take, Option, Some, None, refl, sym, ap, ◌∙◌, arith, inl, inr, append_assoc, length-append}
 use Rattle.std.proofs.lemmas.List.{append-nil}
 use Rattle.tpm_keeping.specs.Journal.{IsJournal, Spot, entries, stepped, trail}
@@ -70,7 +70,7 @@ cut_unended (suc (suc b) ∷ tail) (suc k) litter torn is = cut_unended tail k l
 some_is : (a b : List ℕ × List ℕ) → Some a ≡ Some b → a ≡ b
 some_is a b is = cc
 
--- what is before the end of a line, and after it
+-- if a byte is put before the text of a line, the result begins with this byte
 with_first_is : (b : ℕ) (o : Option (List ℕ × List ℕ)) (s rest : List ℕ) → with_first b o ≡ Some (s, rest)
     → (part : List ℕ) × (s ≡ b ∷ part) × (o ≡ Some (part, rest))
 with_first_is b None s rest is = absurd cc
@@ -78,7 +78,7 @@ with_first_is b (Some found) s rest is =
     let same = some_is (b ∷ found.0, found.1) (s, rest) is in
     (found.0, sym (ap (λ (x : List ℕ × List ℕ). x.0) same), ap (λ (x : List ℕ). Some (found.0, x)) (ap (λ (x : List ℕ × List ℕ). x.1) same))
 
--- a text is its first line and what follows it
+-- a text consists of its first line and the bytes after it
 first_line : (text s rest : List ℕ) → line_at text ≡ Some (s, rest) → text ≡ line s ++ rest
 first_line [] s rest is = absurd cc
 first_line (zero ∷ text) s rest is = absurd cc
@@ -103,7 +103,8 @@ head_is (Some found) p is = by found.1 refl is
 
 -- ---- what is salvaged
 
--- executing ends where no line has ended, or after the last line that has, whatever follows
+-- execution ends at the start if no line has ended, and otherwise after the last line that has
+-- ended, whatever follows
 walk_front : (text state part : List ℕ) (taken far : ℕ)
     → (walk state part taken far text ≡ (state, taken))
     ⊎ ((count : ℕ) × ((walk state part taken far text).1 ≡ far + count) × (walk state part taken far (take count text) ≡ walk state part taken far text))

@@ -1,5 +1,5 @@
--- Each step of a holder, done, failed or cut off by its death, leaves the folder and all holders
--- fine.
+-- Each step of a holder preserves the invariant of the folder and of all holders, whether the step
+-- is done, fails or is interrupted by the holder's death.
 use Rattle.std.proofs.Common.{◌≡◌, ℕ, zero, suc, ◌+◌, ◌<◌, ◌≤◌, ◌==◌, ◌&&◌, Bool, true, false, cond, List, [], ◌∷◌, ◌++◌, length, take, drop, min, Some, None, Option, refl, sym, ap, ◌∙◌, subst, arith, inl, inr, append_assoc, length-append}
 use Rattle.std.specs.List.{AllByRecursion}
 use Rattle.std.specs.Prelude.{nat_le}
@@ -36,7 +36,7 @@ does_moves Naming All j s k laws still now = named_moves j s k laws still now.0 
 does_moves Settling All j s k laws still now = settle_moves j s still
 does_moves phase effect j s k laws still now = same_moves j s still
 
--- and nobody's lock is touched
+-- no task of a process changes the lock
 pub same_lock : (j : Journal) (phase : Phase) (effect : Effect) (s : Shared) (k : Holder) → ((does j phase s k effect).locked ≡ s.locked) × ((does j phase s k effect).locker ≡ s.locker)
 same_lock j Putting (Part count) s k = (refl, refl)
 same_lock j Putting All s k = (refl, refl)
@@ -48,9 +48,9 @@ same_lock j Naming All s k = (refl, refl)
 same_lock j Settling All s k = (refl, refl)
 same_lock j phase effect s k = (refl, refl)
 
--- ---- the others
+-- ---- the other holders
 
--- who has no lock only knows what it knows of the file
+-- a holder without the lock depends only on what it knows of the file
 away_in : (phase : Phase) (j : Journal) (v w : Sight) (k : Holder) → (holds phase ≡ true → ⊥) → (KnowsOf j v k → KnowsOf j w k) → In phase j v k → In phase j w k
 away_in (Ended e) j v w k away grows h = grows h
 away_in Locking j v w k away grows h = grows h
@@ -71,7 +71,7 @@ away_fits j s t q k grows h away = record {
   calm = grows.calm k.settled k.file h.below h.calm;
 }
 
--- no other one has the lock
+-- No other process has the lock.
 abbrev Alone : World → ℕ → Type 0
 Alone w p = (q : ℕ) → (q == p) ≡ false → holds (w.holders q).phase ≡ true → ⊥
 
@@ -94,18 +94,19 @@ pub update : (j : Journal) (w : World) (s : Shared) (p : ℕ) (new : Holder) →
 update j w s p new still others mine =
     record { still = still; holders = λ q. pick j s p q new (w.holders q) (q == p) refl (others q) mine }
 
--- the one that has the lock goes on
+-- if the process with the lock makes a step, the invariant still holds
 pub goes_fine : (j : Journal) (w : World) (s : Shared) (p : ℕ) (new : Holder) → Fine j w → holds (w.holders p).phase ≡ true → Moves j w.shared s
     → Fits j s p new → Fine j (with_holder s w.holders p new)
 goes_fine j w s p new h mine moves fits =
     update j w s p new moves.still
     (λ q apart. away_fits j w.shared s q (w.holders q) moves.grows (h.holders q) (alone j w p h mine q apart)) fits
 
--- one that has none goes on, and the folder is as it was
+-- if a process without the lock makes a step that leaves the folder unchanged, the invariant still
+-- holds
 pub beside : (j : Journal) (w : World) (p : ℕ) (new : Holder) → Fine j w → Fits j w.shared p new → Fine j (with_holder w.shared w.holders p new)
 beside j w p new h fits = update j w w.shared p new h.still (λ q _. h.holders q) fits
 
--- ---- who knows nothing
+-- ---- a holder that knows nothing
 
 pub knows_nothing : (j : Journal) (f : File) (force : Force) → Knows j f force 0 None 0 []
 knows_nothing j f force = record { at = λ d none _. absurd cc; empty = λ _. (refl, refl) }
@@ -137,7 +138,7 @@ begins_fits Renew j s p k laws is none next lock below calm = dropped_fits j s p
 begins_fits Show j s p k laws is none next lock below calm = dropped_fits j s p k fault.Absent next lock
 begins_fits Cut j s p k laws is none next lock below calm = dropped_fits j s p k fault.Absent next lock
 
--- what it looks at again: the file that it knows, from where it executed it
+-- the holder when it reads on in the file that it knows, from where it executed the file
 abbrev pub again : Shared → Holder → Holder
 again s k = record k { size = length s.file.now.text; seen = k.place; read = [] }
 
@@ -147,7 +148,7 @@ again_reading j s k is knows named =
     let same : k.file ≡ s.file.number = grind (arith, nat_tests) in
     record { knows = knows; same = same; named = named; size = refl; seen = omega arith; read = refl }
 
--- and another one, from its front
+-- the holder when it reads another file, from the beginning
 abbrev pub anew : Shared → Holder → Holder
 anew s k = record (newborn k.force k.limit) { job = k.job; command = k.command; file = s.file.number; size = length s.file.now.text }
 
@@ -183,7 +184,7 @@ looks_fits j s p k more laws still lock below calm knows = by (s.file.number == 
 
 -- ---- reading
 
--- it has read these bytes more
+-- the holder after it read these further bytes
 abbrev pub more_read : Holder → List ℕ → Holder
 more_read k bytes = record k { seen = k.seen + length bytes; read = k.read ++ bytes }
 
@@ -225,7 +226,8 @@ has_read_fits j s p k (b ∷ bs) n laws still lock below calm r is =
 
 -- ---- putting
 
--- the command that was put is the last one
+-- every response has a position below any number above the size of the history, so the command that
+-- is written next is the last one
 each_before : (j : Journal) (origin : List ℕ) (history : List (List ℕ)) (answers : List Answer) (n : ℕ) → length history < n → Each j origin history answers
     → AllByRecursion (λ a. a.is_gone ≡ false → a.place < n) answers
 each_before j origin history [] n le h = tt
@@ -286,7 +288,7 @@ put_all j s k t new false word a out number text forced' =
       sure = λ always. absurd (let e : false ≡ true = sym word ∙ always in cc);
     }
 
--- what was dropped has been written again
+-- after a complete write, no bytes are dropped
 undropped : (s : Shared) (k : Holder) → (is_always k.force ≡ true → sure k ≤ s.file.forced) → is_always k.force ≡ true → put_dropped s.file k (length k.out) ≡ false
 undropped s k le word =
     let low = le word in
@@ -344,7 +346,7 @@ put_fits j s p k still lock below calm puts = by (is_always k.force) refl
         })
         (λ yes'. absurd (quietly j k.force k.job k.command puts.quiet word yes'))
 
--- ---- forcing
+-- ---- syncing
 
 pub forced_fits : (j : Journal) (s : Shared) (p : ℕ) (k : Holder) → Still j s → (s.locked ≡ true) × (s.locker ≡ p) → k.file < s.next → Calm (sight s) k.settled k.file
     → StaysOf j (sight s) k → s.file.is_dropped ≡ false → Fits j (record s { file = forced s.file }) p (record k { phase = settles k; unsure = [] })
@@ -385,7 +387,7 @@ last_named Show j s c response still named gives =
 last_named Begin j s c response still named gives = tt
 last_named Cut j s c response still named gives = tt
 
--- the new journal, in which all is forced
+-- The new journal is the file, and is completely on the disk.
 pub record IsNew (j : Journal) (origin : List ℕ) (s : Shared) (k : Holder) : Type 0 where
   pub body : body j (named_from j origin s k).file ≡ k.out
   pub has : k.device ≡ Some (spot_of j (named_from j origin s k).file)

@@ -1,4 +1,4 @@
--- What was promised stays the beginning of the history.
+-- The commands that were promised stay the beginning of the history.
 use Rattle.std.proofs.Common.{◌≡◌, ℕ, ◌-◌, ◌≤◌, ◌==◌, Bool, true, false, cond, List, [], ◌++◌, length, max, take, refl, sym, ap, ◌∙◌, subst, arith, append_assoc}
 use Rattle.std.proofs.lemmas.List.{append-nil, take-append-le}
 use Rattle.tpm_keeping.specs.Journal.{Journal, IsJournal, run, whole_in}
@@ -18,7 +18,7 @@ use Rattle.tpm_keeping.specs.declared.holder.End.TheVariants as ending
 use Rattle.tpm_keeping.specs.declared.holder.Phase.{Phase}
 use Rattle.tpm_keeping.specs.declared.holder.Phase.TheVariants.{Ended, Locking, Looking, Reading, Putting, Forcing, Making, Naming, Settling, Leaving}
 
--- the history is longer, and no less is promised
+-- The history became longer, and no fewer commands are promised.
 pub record Longer (s t : Shared) : Type 0 where
   pub more : List (List ℕ)
   pub is : t.history ≡ s.history ++ more
@@ -79,7 +79,7 @@ longer_keeps : (s t : Shared) → s.promised ≤ length s.history → Longer s t
 longer_keeps s t le h =
     (h.promised, ap (take s.promised) h.is ∙ take-append-le s.promised s.history h.more le)
 
--- what a crash leaves is the beginning of the history, and no less than was promised
+-- a crash leaves a prefix of the history
 crash_front : (j : Journal) (s : Shared) (f : File) (content far : ℕ) (litter : List ℕ) → IsFile j s.origin s.history s.promised s.lasting s.next f
     → IsFront (crashed_to j s f content far litter).history s.history
 crash_front j s f content far litter h =

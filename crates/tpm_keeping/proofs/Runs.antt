@@ -1,4 +1,4 @@
--- Each event leaves the folder and all holders fine, and so does a run.
+-- Each event preserves the invariant of the folder and of all holders, and so does every run.
 use Rattle.std.proofs.Common.{◌≡◌, ℕ, suc, ◌+◌, ◌<◌, ◌==◌, Bool, true, false, cond, List, [], ◌∷◌, ◌++◌, length, take, drop, refl, sym, ap, ◌∙◌, subst, arith, append_assoc, length-append}
 use Rattle.std.specs.List.{AllByRecursion}
 use Rattle.tpm_keeping.specs.Journal.{Entered, Journal, IsJournal, entries, run}
@@ -52,7 +52,7 @@ leaves_fine (ending.Failed f) j w p h mine now =
     goes_fine j w (left j (ending.Failed f) s k) p (goes (Ended (ending.Failed f)) k) h mine (left_moves (ending.Failed f) j s k h.still now)
     (record { lock = λ off. absurd cc; now = now; below = (h.holders p).below; calm = (h.holders p).calm })
 
--- ---- what is done
+-- ---- a task is done
 
 does_fine : (phase : Phase) (j : Journal) (w : World) (p more : ℕ) → IsJournal j → (h : Fine j w) → (w.holders p).phase ≡ phase
     → In phase j (sight w.shared) (w.holders p) → (holds phase ≡ true → (w.shared.locked ≡ true) × (w.shared.locker ≡ p)) → Fine j (does_in j phase w p (w.holders p) more)
@@ -101,9 +101,9 @@ does_fine Settling j w p more laws h is now lock =
       calm = λ _ _. refl;
     })
 
--- ---- what fails
+-- ---- a task fails
 
--- the lock of the one that has it is its own after all that it does
+-- a process that has the lock still has it after its task
 lock_after : (j : Journal) (phase : Phase) (effect : Effect) (s : Shared) (k : Holder) (p : ℕ) → (s.locked ≡ true) × (s.locker ≡ p)
     → ((does j phase s k effect).locked ≡ true) × ((does j phase s k effect).locker ≡ p)
 lock_after j phase effect s k p lock = let same = same_lock j phase effect s k in (same.0 ∙ lock.0, same.1 ∙ lock.1)
@@ -142,13 +142,13 @@ fails_fine Naming effect false j w p laws h is now lock = drops_fine Naming effe
 fails_fine Settling effect true j w p laws h is now lock = drops_fine Settling effect j w p Starved laws h is refl now (lock refl)
 fails_fine Settling effect false j w p laws h is now lock = drops_fine Settling effect j w p Failed laws h is refl now (lock refl)
 
--- ---- who dies
+-- ---- a process dies
 
 freed_still : (j : Journal) (s : Shared) (p : ℕ) → Still j s → Still j (freed s p)
 freed_still j s p still =
     record { told = still.told; file = still.file; older = still.older; alone = still.alone; each = still.each; once = still.once; safe = still.safe }
 
--- another one's lock is its own still
+-- if another process dies, a process keeps its lock
 freed_fits : (j : Journal) (s : Shared) (p q : ℕ) (k : Holder) → (q == p) ≡ false → Fits j s q k → Fits j (freed s p) q k
 freed_fits j s p q k apart h = record {
   lock = λ theirs. (
@@ -196,7 +196,7 @@ dies_fine Naming effect j w p laws h is now = dies_holding Naming effect j w p l
 dies_fine Settling effect j w p laws h is now = dies_holding Settling effect j w p laws h is refl now
 dies_fine (Leaving e) effect j w p laws h is now = dies_holding (Leaving e) effect j w p laws h is refl now
 
--- ---- who is asked, begins, or forks
+-- ---- a process gets a job, begins, or forks
 
 asked_fits : (phase : Phase) (j : Journal) (s : Shared) (p : ℕ) (k : Holder) (job : Job) (command : List ℕ) → In phase j (sight s) k → Fits j s p k
     → Fits j s p (asked_in phase k job command)
@@ -218,7 +218,7 @@ rests_fits (Ended e) j s p child k is now h = record {
 }
 rests_fits phase j s p child k is now h = newborn_fits j s child k.force k.limit (omega (arith, h.below))
 
--- what the system drops by itself
+-- if the system drops bytes by itself, the invariant still holds
 drops_by_itself : (j : Journal) (w : World) → Fine j w → (b : Bool) → w.shared.locked ≡ b
     → Fine j (cond b w (record w { shared = record w.shared { file = record w.shared.file { is_dropped = true } } }))
 drops_by_itself j w h true is = h

@@ -1,4 +1,4 @@
--- A keeper that cuts damage: the calls that it makes one of.
+-- A keeper that cuts damage: a call that finds damage is followed by a cut, and then begins again.
 use Rattle.std.specs.Prelude.{◌≡◌, ℕ, ◌⊎◌, Bool, true, false, List, []}
 use Rattle.tpm_keeping.specs.Holder.{Holder, Told, asked, next_of, rests}
 use Rattle.tpm_keeping.specs.Journal.{Journal, Spot}
@@ -13,8 +13,8 @@ use Rattle.tpm_keeping.specs.declared.holder.Job.TheVariants.{Show, Cut}
 use Rattle.tpm_keeping.specs.declared.holder.Phase.{Phase}
 use Rattle.tpm_keeping.specs.declared.holder.Phase.TheVariants.{Ended}
 
--- A holder; what its call does about damage; and the call that then begins again. The command of a
--- call that is not cut is not kept.
+-- A holder; what happens if its call finds damage; and the call that begins again after a cut. If
+-- damage is not cut, the command of the call is not stored.
 pub record Caller : Type 0 where
   pub holder : Holder
   pub on_damage : OnDamage
@@ -29,11 +29,11 @@ caller_of state k = record {
   command = k.command.items;
 }
 
--- a holder that has not called
+-- a holder that has not begun a call
 abbrev pub idle : Holder → Caller
 idle k = record { holder = k; on_damage = Ends; job = Show; command = [] }
 
--- A call begins. What was left in the middle is dropped.
+-- the keeper after a call begins; a call that was interrupted is dropped
 abbrev pub called : (cuts : Bool) → Job → List ℕ → Holder → Caller
 called true job command k = record {
   holder = asked (rests k) job command;
@@ -44,8 +44,8 @@ called true job command k = record {
 called false job command k =
     record { holder = asked (rests k) job command; on_damage = Ends; job = job; command = [] }
 
--- A call that ended with damage is followed by a cut, if damage is to be cut. A cut that is done is
--- followed by the call.
+-- the keeper after a call ended; if damage has to be cut, a call that ended with damage is followed
+-- by a cut, and a cut that is done is followed by the call
 abbrev pub goes_on_in : OnDamage → Phase → Caller → Caller
 goes_on_in IsCut (Ended (ending.Failed fault.Damaged)) c =
     record c { holder = asked c.holder Cut []; on_damage = BeginsAgain }
@@ -56,11 +56,11 @@ goes_on_in on_damage phase c = c
 abbrev pub goes_on : Caller → Caller
 goes_on c = goes_on_in c.on_damage c.holder.phase c
 
--- the next step
+-- the keeper after the next step
 abbrev pub next_call : Journal → Caller → Told → Caller
 next_call j c told = goes_on (record c { holder = next_of j c.holder told })
 
--- A holder is another one, or this one was asked for something.
+-- The holder is unchanged, or a job was requested of it.
 abbrev pub IsOrIsAsked : (before after : Holder) → Type 0
 IsOrIsAsked before after =
     (after ≡ before) ⊎ ((job : Job) × (command : List ℕ) × (after ≡ asked before job command))

@@ -1,5 +1,6 @@
--- One holder of a kept device: what it knows, and where it goes. A holder is a process; its keeper,
--- which decides this, is `Keeper` of the code, and this record is what the definitions see of it.
+-- One holder of a kept device: what it knows, and what it does next. A holder is a process. Its
+-- keeper decides what it does: in the code the keeper is a `Keeper`, and in the definitions it is
+-- this record.
 use Rattle.std.specs.Prelude.{ℕ, ◌+◌, ◌-◌, ◌/◌, ◌==◌, ◌&&◌, ◌||◌, Bool, true, false, cond, List, [], ◌++◌, length, nat_le, take, Option, Some, None}
 use Rattle.tpm_keeping.specs.Journal.{Journal, Spot, started, stepped}
 use Rattle.tpm_keeping.specs.declared.holder.Force.{Force}
@@ -13,37 +14,37 @@ use Rattle.tpm_keeping.specs.declared.holder.Phase.{Phase}
 use Rattle.tpm_keeping.specs.declared.holder.Phase.TheVariants.{Ended, Locking, Looking, Reading, Putting, Forcing, Making, Naming, Settling, Leaving}
 
 pub record Holder : Type 0 where
-  -- when it forces, and the size from which on a journal may be restarted
+  -- when the holder syncs, and the size from which on a journal may be restarted
   pub force : Force
   pub limit : ℕ
   pub phase : Phase
   pub job : Job
   pub command : List ℕ
-  -- the spot of the device in memory; the number of the file that it was read from; how many of
-  -- its bytes it executed
+  -- the spot of the device in memory, the number of the file from which the device was read, and
+  -- the number of the file's bytes that it executed
   pub device : Option Spot
   pub file : ℕ
   pub place : ℕ
-  -- the last of these bytes, which the holder has not itself seen forced
+  -- the last of these bytes, which the holder has not itself seen synced
   pub unsure : List ℕ
   -- the size of the file, the number of bytes read, and the bytes that are not executed yet
   pub size : ℕ
   pub seen : ℕ
   pub read : List ℕ
-  -- the folder was forced since the file was opened
+  -- whether the folder was synced since the file was opened
   pub settled : Bool
-  -- what is to be written
+  -- the text to be written
   pub out : List ℕ
   pub response : List ℕ
 
--- what the host reports
+-- the report of the host
 pub data Told : Type 0 where
   Done : Told
   Stands : (file size : ℕ) → Told
   Gone : Told
   Bytes : (bytes : List ℕ) → Told
   Failed : Told
-  -- it did it, and there was no memory for what comes next
+  -- the task was done, but an allocation for the next step failed
   Starved : Told
 
 abbrev pub fault_of : Phase → Fault
@@ -82,7 +83,8 @@ newborn force limit = record {
   response = [];
 }
 
--- What was left in the middle is not gone on with: by a call that was interrupted, or in a fork.
+-- the holder after it dropped a call in progress, which was interrupted, or which the parent of a
+-- fork made
 abbrev pub rests_in : Phase → Holder → Holder
 rests_in (Ended e) k = k
 rests_in phase k = newborn k.force k.limit
@@ -90,7 +92,7 @@ rests_in phase k = newborn k.force k.limit
 abbrev pub rests : Holder → Holder
 rests k = rests_in k.phase k
 
--- a holder that does nothing is asked for something
+-- a holder of which a job was requested; if a call is in progress, it is unchanged
 abbrev pub asked_in : Phase → Holder → Job → List ℕ → Holder
 asked_in (Ended e) k job command = record k { phase = Locking; job = job; command = command }
 asked_in phase k job command = k
@@ -98,7 +100,7 @@ asked_in phase k job command = k
 abbrev pub asked : Holder → Job → List ℕ → Holder
 asked k job command = asked_in k.phase k job command
 
--- The holder knows nothing any more: its next look opens the device from the file.
+-- the holder after it forgot everything: its next look opens the device from the file
 abbrev pub forgets : Phase → Holder → Holder
 forgets p k = record (newborn k.force k.limit) { phase = p }
 
@@ -116,20 +118,23 @@ abbrev pub is_never : Force → Bool
 is_never Never = true
 is_never f = false
 
--- the place from which on the holder has not itself seen the file forced
+-- the offset from which on the holder has not itself seen the file synced
 abbrev pub sure : Holder → ℕ
 sure k = k.place - length k.unsure
 
--- The folder is forced once, before the first answer from a file.
+-- the phase after the file is as required; the folder is synced once, before the first response
+-- from a file, unless the holder never syncs
 abbrev pub settles : Holder → Phase
 settles k = cond (k.settled || is_never k.force) (Leaving ending.Done) Settling
 
--- A journal has grown where it has reached the limit, and twice what it would begin with now.
+-- whether a journal has grown: its size has reached the limit and twice the size of a new journal's
+-- head
 abbrev pub is_grown : Journal → Holder → (p : Spot) → Bool
 is_grown j k p = nat_le k.limit k.place && nat_le (length (j.head p.state)) (k.place / 2)
 
--- A command that has an entry. What is put is all that the holder has not seen forced, and the
--- entry; or a new journal, where the old one has grown.
+-- the holder after it executed a command that has an entry; the text to write is the bytes that the
+-- holder has not seen synced, followed by the entry, or, if the old journal has grown, a new
+-- journal that begins with the entry
 abbrev pub enters : Journal → Holder → (p : Spot) → (grown : Bool) → Holder
 enters j k p true = record k {
   phase = Making;
@@ -144,7 +149,7 @@ enters j k p false = record k {
   response = j.response p.state k.command;
 }
 
--- A state begins a new journal.
+-- the holder when a state begins a new journal
 abbrev pub renews : Journal → Holder → (state response : List ℕ) → Holder
 renews j k state response = record k {
   phase = Making;
@@ -153,11 +158,12 @@ renews j k state response = record k {
   response = response;
 }
 
--- A command that has no entry. The state after it begins a new journal.
+-- the holder after it executed a command that has no entry; the state after the command begins a
+-- new journal
 abbrev pub leaps : Journal → Holder → (p : Spot) → Holder
 leaps j k p = renews j k (j.after p.state k.command) (j.response p.state k.command)
 
--- What is no command is refused, and nothing is changed.
+-- the holder after it refused a text that is not a command
 abbrev pub refuses : Holder → (p : Spot) → Holder
 refuses k p = record k {
   phase = Leaving (ending.Failed fault.NoCommand);
@@ -180,7 +186,7 @@ shows k p response = record k {
   response = response;
 }
 
--- the device has executed the whole file
+-- the holder after the device has executed the whole file
 abbrev pub acts : Journal → Job → Holder → (p : Spot) → Holder
 acts j Execute k p = executes j k p
 acts j Renew k p = renews j k p.state []
@@ -188,7 +194,7 @@ acts j Show k p = shows k p (j.head p.state)
 acts j Begin k p = shows k p []
 acts j Cut k p = shows k p []
 
--- so much of what was read is executed
+-- the holder after the first `taken` bytes of those read are executed
 abbrev pub caught_up : Holder → (taken : ℕ) → Holder
 caught_up k taken = record k {
   place = k.place + taken;
@@ -196,8 +202,8 @@ caught_up k taken = record k {
   read = [];
 }
 
--- What was read is damaged. It stays as it is, unless a cut has read all of it: then the state
--- after its front that is whole begins a new journal.
+-- the holder if the bytes that it read are damaged; the file stays as it is, unless a cut has read
+-- all of it: then the state after the undamaged beginning begins a new journal
 abbrev pub salvages_of : Journal → Holder → Option (Spot × ℕ) → Holder
 salvages_of j k None = dropped fault.Damaged k
 salvages_of j k (Some salvaged) = renews j (caught_up k salvaged.1) salvaged.0.state []
@@ -214,19 +220,20 @@ abbrev pub found : Journal → Option Spot → List ℕ → Option (Spot × ℕ)
 found j None text = j.opened text
 found j (Some p) text = j.followed p text
 
--- once all was read, it is executed
+-- whether the whole file was read, so that it can be executed
 abbrev pub is_read : Holder → Bool
 is_read k = nat_le k.size k.seen
 
 abbrev pub reads_on : Journal → Holder → Holder
 reads_on j k = cond (is_read k) (finishes j k (found j k.device k.read)) (goes Reading k)
 
--- a read gives something, or the file was cut
+-- the holder after a read; a read of no bytes means that the file was truncated
 abbrev pub has_read : Journal → Holder → List ℕ → Holder
 has_read j k [] = dropped fault.Read k
 has_read j k bytes = reads_on j (record k { seen = k.seen + length bytes; read = k.read ++ bytes })
 
--- the file that the holder knows, or another one, which it opens
+-- whether the holder knows this file, and the file still has all bytes that the holder executed;
+-- otherwise the holder opens the file
 abbrev pub knows_file : Holder → (file size : ℕ) → Bool
 knows_file k file size = k.file == file && nat_le k.place size
 
@@ -241,7 +248,7 @@ looked j k file size =
       size = size;
     }))
 
--- There is no journal: one begins, if that is asked for.
+-- the holder if there is no journal; one begins, if that is the job
 abbrev pub begins_of : Journal → Holder → Option (List ℕ) → Holder
 begins_of j k None = dropped fault.Unreadable k
 begins_of j k (Some s) = renews j (record k { place = 0 }) s []
@@ -267,7 +274,7 @@ has_named k file = record k {
   settled = false;
 }
 
--- the next step
+-- the holder after the next step
 abbrev pub next_in : Journal → Phase → Holder → Told → Holder
 next_in j Locking k Done = goes Looking k
 next_in j Locking k told = forgets (Ended (ending.Failed (fault_told Locking told))) k

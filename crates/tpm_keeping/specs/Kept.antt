@@ -1,4 +1,4 @@
--- What holds at each moment.
+-- What holds at each moment for the folder of a kept device.
 use Rattle.std.specs.Prelude.{◌≡◌, ◌⊎◌, ℕ, Bool, false, true, cond, ◌+◌, ◌<◌, ◌≤◌, ◌==◌, List, [], ◌∷◌, ◌++◌, length, map, take, Option, Some, None}
 use Rattle.std.specs.List.{AllByRecursion}
 use Rattle.tpm_keeping.specs.Journal.{Journal, Spot, run}
@@ -12,8 +12,8 @@ use Rattle.tpm_keeping.specs.declared.holder.End.TheVariants as ending
 use Rattle.tpm_keeping.specs.declared.holder.Phase.{Phase}
 use Rattle.tpm_keeping.specs.declared.holder.Phase.TheVariants.{Ended, Locking, Looking, Reading, Putting, Forcing, Making, Naming, Settling, Leaving}
 
--- An answer's command is in the history, in its place, and the response is the one that the device
--- gives which executed all before it.
+-- The command of a response is in the history at its position, and the response is that of the
+-- device that executed all commands before it.
 pub record IsTrue (j : Journal) (origin : List ℕ) (history : List (List ℕ)) (a : Answer)
     : Type 0 where
   pub before : List (List ℕ)
@@ -22,7 +22,7 @@ pub record IsTrue (j : Journal) (origin : List ℕ) (history : List (List ℕ)) 
   pub place : a.place ≡ length before + 1
   pub response : a.response ≡ j.response (run j origin before) a.command
 
--- each answer has a place of its own, after those before it
+-- each response has a position of its own, after those of the earlier responses
 abbrev pub Ascend : List Answer → Type 0
 Ascend [] = Unit {0}
 Ascend (a ∷ before) =
@@ -46,7 +46,8 @@ pub record IsKept (j : Journal) (w : Shared) : Type 0 where
   -- and so is the device, once a holder that forces has done a call
   pub lasts : w.lasting ≡ true → 0 < w.file.number
 
--- what was promised before is the beginning of the history after
+-- No fewer commands are promised than before, and the commands that were promised before are still
+-- the beginning of the history.
 abbrev pub KeepsPromises : Shared → Shared → Type 0
 KeepsPromises old new =
     (old.promised ≤ new.promised)
@@ -54,7 +55,7 @@ KeepsPromises old new =
 
 -- ---- one call
 
--- how far a call has come
+-- the progress of a call in each phase
 abbrev pub rank : Phase → ℕ
 rank Locking = 0
 rank Looking = 1
@@ -67,13 +68,13 @@ rank Settling = 5
 rank (Leaving e) = 6
 rank (Ended e) = 7
 
--- Each answer of the host takes a call further, or it has read more of the file.
+-- A report of the host advances the call to a later phase, or more of the file has been read.
 abbrev pub Advances : Holder → Holder → Type 0
 Advances old new =
     (rank old.phase < rank new.phase)
     ⊎ ((old.phase ≡ Reading) × (new.phase ≡ Reading) × (old.seen < new.seen))
 
--- How a call ends whose host does all that it is to do, where there is no journal,
+-- how a call ends if its host does all its tasks: without a journal,
 abbrev pub begun_or : Option (List ℕ) → End
 begun_or None = ending.Failed fault.Unreadable
 begun_or (Some s) = ending.Done
@@ -82,7 +83,7 @@ abbrev pub end_without : Journal → Job → (command : List ℕ) → End
 end_without j Begin c = begun_or (j.begun c)
 end_without j job c = ending.Failed fault.Absent
 
--- and where there is one.
+-- and with a journal
 abbrev pub end_with : Journal → Job → (command : List ℕ) → End
 end_with j Execute c = cond (j.is_command c) ending.Done (ending.Failed fault.NoCommand)
 end_with j job c = ending.Done
@@ -90,31 +91,33 @@ end_with j job c = ending.Done
 abbrev pub end_of : Journal → File → Job → (command : List ℕ) → End
 end_of j f job c = cond (f.number == 0) (end_without j job c) (end_with j job c)
 
--- A process does what it is to do, as often as the list is long, and each time it reads one byte
--- and at most so many more.
+-- the events in which a process does its tasks, one for each number of the list; each read returns
+-- one byte, and at most that number of further bytes
 abbrev pub turns : (p : ℕ) → (mores : List ℕ) → List Event
 turns p mores = map (λ (more : ℕ). Does p more) mores
 
--- A call has ended so, and the lock is free.
+-- A call has ended in this way, and the lock is free.
 abbrev pub HasEnded : World → (p : ℕ) → End → Type 0
 HasEnded w p e = ((w.holders p).phase ≡ Ended e) × (w.shared.locked ≡ false)
 
 -- ---- a cut
 
--- what a holder has read of the file that it does not know yet, with what the host reports
+-- the bytes that a holder has read of a file that it does not know yet, including those that the
+-- host reports
 abbrev pub text_read : Phase → Holder → Told → List ℕ
 text_read Reading k (Bytes bytes) = k.read ++ bytes
 text_read phase k told = []
 
--- A holder's text begins a journal in the state to which a front of this text leads.
+-- The text that a holder has to write is the head of the state to which a prefix of this text
+-- leads.
 pub record KeepsFront (j : Journal) (text : List ℕ) (k : Holder) : Type 0 where
   pub spot : Spot
   pub is : j.opened (take k.place text) ≡ Some (spot, k.place)
   pub out : k.out ≡ j.head spot.state
 
--- ---- what was asked for
+-- ---- the commands that were requested
 
--- each command that is asked for passes a test
+-- Each requested command passes a test.
 abbrev pub Pass : (List ℕ → Bool) → List Event → Type 0
 Pass test [] = Unit {0}
 Pass test (Asks p job command ∷ events) = (test command ≡ true) × Pass test events

@@ -1,7 +1,8 @@
--- A small journal, which shows that one can meet what a keeper needs. A text is a line: each byte
--- two more than it is, and a 1 at its end. So no line has a zero, and a line without its end is
--- none. A state is all that was executed. A command that begins with a zero has no entry, and no
--- bytes are no command. What has a line opens, and what is salvaged is that.
+-- A small journal, which shows that the requirements of a keeper can be satisfied. The line of a
+-- text consists of the text's bytes, each increased by two, and a 1 at the end. So a line contains
+-- no zero, and without its end it is not a line. A state consists of all texts that were executed.
+-- A command that begins with a zero has no entry, and the empty text is not a command. A text that
+-- begins with a line opens, and is salvaged in the same way.
 use Rattle.std.specs.Prelude.{ℕ, zero, suc, ◌+◌, Bool, true, false, List, [], ◌∷◌, ◌++◌, length, Option, Some, None}
 use Rattle.tpm_keeping.specs.Journal.{Journal, Spot}
 
@@ -12,7 +13,7 @@ marked (b ∷ text) = suc (suc b) ∷ marked text
 abbrev pub line : List ℕ → List ℕ
 line text = marked text ++ 1 ∷ []
 
--- the text of a line, and what follows it
+-- the text of a line, and the bytes after the line
 abbrev pub with_first : ℕ → Option (List ℕ × List ℕ) → Option (List ℕ × List ℕ)
 with_first b None = None
 with_first b (Some found) = Some (b ∷ found.0, found.1)
@@ -23,14 +24,14 @@ line_at (zero ∷ rest) = None
 line_at (suc zero ∷ rest) = Some ([], rest)
 line_at (suc (suc b) ∷ rest) = with_first b (line_at rest)
 
--- Executes lines: `part` is what is read of a line, `taken` the size of the lines before it,
--- and `far` the number of bytes read.
+-- Executes lines: `part` is the part of a line that was read, `taken` the size of the lines before
+-- it, and `far` the number of bytes read.
 abbrev pub walk : (state part : List ℕ) → (taken far : ℕ) → List ℕ → List ℕ × ℕ
 walk state part taken far [] = (state, taken)
 walk state part taken far (suc zero ∷ rest) = walk (state ++ part) [] (suc far) (suc far) rest
 walk state part taken far (b ∷ rest) = walk state (part ++ b ∷ []) taken (suc far) rest
 
--- lines are chained to nothing
+-- the spot with this state; no entry depends on the checksum of a spot
 abbrev pub spot_at : (chain : ℕ) → List ℕ → Spot
 spot_at chain state = record { state = state; chain = chain }
 
@@ -42,7 +43,7 @@ opened_by (Some found) =
       suc (length found.0) + (walk found.0 [] 0 0 found.1).1,
     )
 
--- a head is a line, and nothing after it
+-- a head is a line with nothing after it
 abbrev pub spot_if_all : (state rest : List ℕ) → Option Spot
 spot_if_all state [] = Some (spot_at 0 state)
 spot_if_all state (b ∷ rest) = None
@@ -51,7 +52,7 @@ abbrev pub headed_by : Option (List ℕ × List ℕ) → Option Spot
 headed_by None = None
 headed_by (Some found) = spot_if_all found.0 found.1
 
--- no line ends in it
+-- whether no line ends in these bytes
 abbrev pub unended : List ℕ → Bool
 unended [] = true
 unended (suc zero ∷ rest) = false

@@ -1,4 +1,4 @@
--- What the faults of a call say, after the path of a file or of the folder.
+-- The sentences of the faults of a call, which follow the path of a file or of the folder.
 use Rattle.std.specs.Prelude.{List, ℕ, codes}
 use Rattle.tpm_keeping.specs.declared.holder.Fault.{Fault}
 use Rattle.tpm_keeping.specs.declared.holder.Fault.TheVariants as fault

@@ -1,4 +1,4 @@
--- The keeper of the code, as the definitions see it.
+-- The keeper in the code, as the definitions see it.
 use Rattle.std.specs.Option.{option_map}
 use Rattle.tpm_keeping.specs.Holder.{Holder, Told, sure}
 use Rattle.tpm_keeping.specs.Holder as holder
@@ -37,7 +37,7 @@ told_of got.Gone = holder.Gone
 told_of (got.Bytes bytes) = holder.Bytes bytes.now
 told_of got.Failed = holder.Failed
 
--- what the host is to do in a phase
+-- what the host has to do in a phase
 abbrev pub ask_in : Phase → Holder → Ask
 ask_in (Ended e) k = ask.Nothing e
 ask_in Locking k = ask.Lock

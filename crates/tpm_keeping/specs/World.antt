@@ -1,27 +1,28 @@
--- The folder of a kept device, as its processes see it and as a crash of the host may leave it.
+-- The folder of a kept device, as its processes see it, and as a crash of the host may leave it.
 --
--- For somebody who knows fsync. A file is what all processes see of it (`now`), and what else a
--- crash may leave of it: any text that it had since it was forced (`past`), up to any byte that is
--- not before `forced`, and litter after that, as zeros. A rename is seen at once. Until the folder
--- is forced, a crash may take it back: an earlier file (`older`) has the name again, or none has.
+-- This model assumes that the reader knows fsync. A file has the contents that all processes see
+-- (`now`). After a crash it may have any text that it had since it was last synced (`past`), up to
+-- any byte that is not before `forced`, followed by litter such as zeros. All processes see a
+-- rename at once. Until the folder is synced, a crash may undo the rename: an earlier file
+-- (`older`) has the name again, or no file has it.
 --
--- A force that fails may have dropped what it did not write: the pages count as clean. Then a force
--- by another process succeeds without them (`is_dropped`), until they are written again. The system
--- may also drop them by itself, when it writes back (`Drops`). Where it does so between a holder's
--- write and its force, the force says so: that is the holder's `Fails`.
+-- A sync that fails may have dropped the bytes that it did not write: their pages count as clean.
+-- Then a sync by another process succeeds without them (`is_dropped`), until they are written
+-- again. The system may also drop bytes by itself when it writes back (`Drops`). If it does so
+-- between a holder's write and its sync, that sync reports the failure: it is the holder's `Fails`.
 --
--- One process has the lock. Processes read less than they asked for, fail in the middle of a write
--- or after it, finish an operation and still report an error, die at any byte, and fork. A fork has
--- the memory of its parent, and no lock. Each has a word of force of its own.
+-- One process has the lock. Processes read less than they requested, fail during a write or after
+-- it, finish an operation and still report an error, die at any byte, and fork. A fork has the
+-- memory of its parent, but not the lock. Each process has its own word of force.
 --
--- What is left out: what processes read after a failed force, where the system then shows older
--- bytes (a holder opens the file again if it has fewer, and does not notice others in their place);
--- a crash that mixes blocks of two contents; a disk that says forced and has not; file systems that
--- leave a file without bytes and with later ones, as ext4 and XFS may, or take back one of two
--- renames; a folder whose force fails and then succeeds without the rename; a sector that is torn
--- over bytes that were forced before; network file systems, whose locks and renames are seen
--- late; two hosts on one folder; the lock's file removed under its holder; anybody else who writes
--- to the folder.
+-- The model leaves out: what processes read after a failed sync, if the system then shows older
+-- bytes (a holder opens the file again if it is shorter, and does not notice other bytes in their
+-- place); a crash that mixes blocks of two contents; a disk that reports a sync that it did not do;
+-- file systems that lose bytes of a file and keep later ones, as ext4 and XFS may, or undo one of
+-- two renames; a folder whose sync fails and then succeeds without the rename; a torn sector over
+-- bytes that were synced before; network file systems, on which locks and renames are seen late;
+-- two hosts on one folder; the removal of the lock's file while a holder has the lock; and anybody
+-- else who writes to the folder.
 use Rattle.std.specs.Prelude.{◌≡◌, ℕ, zero, suc, ◌+◌, ◌-◌, ◌<◌, ◌≤◌, ◌==◌, ◌&&◌, Bool, true, false, cond, List, [], ◌∷◌, ◌++◌, drop, length, max, min, nat_le, take, Option, Some, None}
 use Rattle.tpm_keeping.specs.Journal.{Entered, Journal, Spot, entries, run, started, trail, whole_in}
 use Rattle.tpm_keeping.specs.Holder.{Holder, Told, Done, Stands, Gone, Bytes, Failed, Starved, asked, is_never, newborn, next_in, rests, sure}
@@ -37,12 +38,12 @@ use Rattle.tpm_keeping.specs.declared.holder.End.TheVariants as ending
 use Rattle.tpm_keeping.specs.declared.holder.Phase.{Phase}
 use Rattle.tpm_keeping.specs.declared.holder.Phase.TheVariants.{Ended, Locking, Putting, Leaving}
 
--- what a file holds, and the commands whose entries are whole in it
+-- the text of a file, and the commands whose entries are complete in it
 pub record Content : Type 0 where
   pub text : List ℕ
   pub commands : List (List ℕ)
 
--- A file. Its number is 0 where there is none, and no other has it ever.
+-- A file. Its number is 0 if there is no file, and no two files ever have the same number.
 pub record File : Type 0 where
   pub number : ℕ
   -- its head, and the spot after it
@@ -51,53 +52,54 @@ pub record File : Type 0 where
   -- the commands before its first entry
   pub before : List (List ℕ)
   pub now : Content
-  -- what it held since it was forced
+  -- its contents since it was last synced
   pub past : List Content
-  -- so many bytes of its front are on the disk
+  -- the number of its first bytes that are on the disk
   pub forced : ℕ
-  -- bytes after these were dropped, and not written since
+  -- whether bytes after these were dropped, and not written since
   pub is_dropped : Bool
 
--- a response that went out
+-- a response that was sent
 pub record Answer : Type 0 where
-  -- how many commands the history had then, its own as the last
+  -- the number of commands in the history at that time, of which its own is the last
   pub place : ℕ
-  -- the word of the holder that gave it
+  -- the word of force of the holder that sent it
   pub force : Force
   pub command : List ℕ
   pub response : List ℕ
-  -- a crash of the host has taken its command from the history
+  -- whether a crash of the host has removed its command from the history
   pub is_gone : Bool
 
 -- what the processes share
 pub record Shared : Type 0 where
   -- the state in which the first journal began
   pub origin : List ℕ
-  -- the file that is named journal, and those that had the name since the folder was forced
+  -- the file that is named journal, and the files that had this name since the folder was last
+  -- synced
   pub file : File
   pub older : List File
-  -- the number of the next file that is made
+  -- the number of the next file that is created
   pub next : ℕ
-  -- the bytes of the new file that has no name yet, and how many are on the disk
+  -- the bytes of the new file that has no name yet, and the number of them that are on the disk
   pub fresh : List ℕ
   pub fresh_forced : ℕ
   pub locked : Bool
   pub locker : ℕ
-  -- The device's history: each command whose entry was written whole, or after which a journal
-  -- began, but for those that a crash of the host has taken.
+  -- The device's history: each command whose entry was written completely, or after which a journal
+  -- began, except those that a crash of the host has removed.
   pub history : List (List ℕ)
-  -- so many of them no crash takes
+  -- the number of first commands that no crash removes
   pub promised : ℕ
-  -- a holder that forces has done a call: no crash takes the device
+  -- whether a holder that syncs has done a call; then no crash removes the device
   pub lasting : Bool
-  -- the latest first
+  -- the responses that were sent, the latest first
   pub answers : List Answer
 
 pub record World : Type 0 where
   pub shared : Shared
   pub holders : ℕ → Holder
 
--- how far a process came with what it was to do
+-- how much of its task a process did
 pub data Effect : Type 0 where
   Nothing : Effect
   Part : (count : ℕ) → Effect
@@ -105,17 +107,17 @@ pub data Effect : Type 0 where
 
 -- What may happen. `p` is the process.
 pub data Event : Type 0 where
-  -- it begins, with a word of its own
+  -- the process begins, with its own word of force
   Starts : (p : ℕ) → (force : Force) → (limit : ℕ) → Event
   Asks : (p : ℕ) → (job : Job) → (command : List ℕ) → Event
-  -- it does what it is to do; reading, it gets one byte and at most `more`
+  -- the process does its task; a read returns one byte, and at most `more` further bytes
   Does : (p more : ℕ) → Event
   Fails : (p : ℕ) → (effect : Effect) → (starved : Bool) → Event
   Dies : (p : ℕ) → (effect : Effect) → Event
   Forks : (p child : ℕ) → Event
   Drops : Event
-  -- The host crashes. It leaves this file, in this one of its contents, up to this byte and no less
-  -- than is on the disk, and this litter.
+  -- The host crashes. It leaves this file with one of its contents, up to this byte but no less
+  -- than is on the disk, followed by this litter.
   Crashes : (file content far : ℕ) → (litter : List ℕ) → Event
 
 abbrev pub with_holder : Shared → (ℕ → Holder) → ℕ → Holder → World
@@ -123,12 +125,12 @@ with_holder s holders p k = record { shared = s; holders = λ q. cond (q == p) k
 
 -- ---- what a process does
 
--- bytes are written over those at an offset, and after the end
+-- a text after bytes were written at an offset, over the bytes there and beyond the end
 abbrev pub written : (text : List ℕ) → (at : ℕ) → (bytes : List ℕ) → List ℕ
 written text at bytes = take at text ++ (bytes ++ drop (at + length bytes) text)
 
--- the commands whose entries a job appends, to the journal or to a new one; and those that lead to
--- the state in which its new journal begins
+-- the commands whose entries a job appends, to the journal or to a new one; then, the commands that
+-- lead to the state in which its new journal begins
 abbrev pub adds : Journal → Job → List ℕ → List (List ℕ)
 adds j Execute c = cond (j.is_entered c) (c ∷ []) []
 adds j job c = []
@@ -137,16 +139,18 @@ abbrev pub leads : Journal → Job → List ℕ → List (List ℕ)
 leads j Execute c = cond (j.is_entered c) [] (c ∷ [])
 leads j job c = []
 
--- so much of a holder's text is put: what is after the executed bytes is cut first
+-- the commands that a file gains if the first `count` bytes of a holder's text are written: none,
+-- unless all of the text is written
 abbrev pub put_more : Journal → Holder → (count : ℕ) → List (List ℕ)
 put_more j k count = cond (nat_le (length k.out) count) (adds j k.job k.command) []
 
--- what was dropped is written again, where all from the forced bytes on is
+-- whether bytes are still dropped after a write; they are not if the whole text was written and
+-- begins within the synced bytes
 abbrev pub put_dropped : File → Holder → (count : ℕ) → Bool
 put_dropped f k count =
     cond (nat_le (length k.out) count && nat_le (sure k) (min f.forced k.place)) false f.is_dropped
 
--- a text after its end is cut and bytes are written, where the request says
+-- a text after a `Put`: its end is cut, and bytes are written at the requested offset
 abbrev pub put_by : Ask → (text bytes : List ℕ) → List ℕ
 put_by (ask.Put cut at) text bytes = written (take cut text) at bytes
 put_by asked text bytes = text
@@ -172,18 +176,19 @@ put j s k count = record s {
   history = s.history ++ put_more j k count;
 }
 
--- all bytes are on the disk, but where some were dropped
+-- a file after a sync: all bytes are on the disk, unless some were dropped
 abbrev pub forced : File → File
 forced f = record f {
   past = cond f.is_dropped f.past [];
   forced = cond f.is_dropped f.forced (length f.now.text);
 }
 
--- what is not forced is dropped
+-- the folder after the bytes that are not synced were dropped
 abbrev pub lost : Shared → Shared
 lost s = record s { file = record s.file { is_dropped = true } }
 
--- the new file has the journal's name; the first one that has it says in which state all began
+-- the state of a holder's device; everything begins in this state when the first file gets the
+-- journal's name
 abbrev pub state_in : Option Spot → List ℕ
 state_in None = []
 state_in (Some p) = p.state
@@ -212,7 +217,7 @@ named_from j origin s k =
 abbrev pub named : Journal → Shared → Holder → Shared
 named j s k = named_from j (cond (s.file.number == 0) (state_in k.device) s.origin) s k
 
--- what a host does of a request of a holder
+-- the folder after the host did a holder's request, or a part of it
 abbrev pub does_asked : Journal → Ask → Shared → Holder → Effect → Shared
 does_asked j (ask.Put cut at) s k (Part count) = put j s k count
 does_asked j (ask.Put cut at) s k All = put j s k (length k.out)
@@ -229,7 +234,7 @@ does_asked j asked s k effect = s
 abbrev pub does : Journal → Phase → Shared → Holder → Effect → Shared
 does j phase s k effect = does_asked j (ask_in phase k) s k effect
 
--- what the host then reports
+-- the report of the host about this
 abbrev pub tells_asked : Ask → Shared → (more : ℕ) → Told
 tells_asked ask.Look s more =
     cond (s.file.number == 0) Gone (Stands s.file.number (length s.file.now.text))
@@ -240,7 +245,7 @@ tells_asked asked s more = Done
 abbrev pub tells : Phase → Shared → Holder → (more : ℕ) → Told
 tells phase s k more = tells_asked (ask_in phase k) s more
 
--- ---- what a call that is done promises
+-- ---- what a completed call promises
 
 abbrev pub answer_of : Shared → Holder → Answer
 answer_of s k = record {
@@ -261,7 +266,7 @@ promise j Power Execute c s = cond (j.is_entered c) s.promised (length s.history
 promise j Power Renew c s = length s.history
 promise j force job c s = s.promised
 
--- the lock is given back
+-- the folder after a holder releases the lock
 abbrev pub left : Journal → End → Shared → Holder → Shared
 left j ending.Done s k = record s {
   locked = false;
@@ -292,7 +297,7 @@ fails_in j (Leaving e) w p k effect told =
 fails_in j phase w p k effect told =
     with_holder (does j phase w.shared k effect) w.holders p (next_in j phase k told)
 
--- a process that died has no lock
+-- the folder after a process died, which then has no lock
 abbrev pub freed : Shared → ℕ → Shared
 freed s p = record s { locked = cond (s.locker == p) false s.locked }
 
@@ -315,7 +320,7 @@ content_at c (d ∷ ds) (suc n) = content_at d ds n
 abbrev pub litter_of : Journal → List ℕ → List ℕ
 litter_of j litter = cond (j.is_litter litter) litter []
 
--- what is left of a file: so many bytes of a content, and litter
+-- what is left of a file after a crash: the first `count` bytes of a content, and litter
 abbrev pub left_of : Journal → File → Content → (count : ℕ) → (litter : List ℕ) → File
 left_of j f c count litter = record {
   number = f.number;
@@ -331,7 +336,7 @@ left_of j f c count litter = record {
   is_dropped = false;
 }
 
--- an answer whose command is not among so many is gone
+-- the responses after a crash: a response is gone if its command is not among the first `count`
 abbrev pub within : ℕ → List Answer → List Answer
 within count [] = []
 within count (a ∷ answers) =
@@ -383,7 +388,7 @@ abbrev pub happen : Journal → List Event → World → World
 happen j [] w = w
 happen j (e ∷ es) w = happen j es (happens j w e)
 
--- A journal is there, forced, with whole entries and perhaps what is left of one.
+-- There is a synced journal, with complete entries and possibly the remains of one more.
 pub record IsFound (j : Journal) (f : File) : Type 0 where
   pub after : j.after_head f.head ≡ Some f.start
   pub lives : j.is_state f.start.state ≡ true
@@ -393,8 +398,8 @@ pub record IsFound (j : Journal) (f : File) : Type 0 where
   pub text : f.now.text ≡ f.head ++ (entries j f.start f.now.commands ++ tail)
   pub forced : f.forced ≡ length f.now.text
 
--- A folder with a journal or none, and processes that have done nothing yet. The history begins
--- with the commands whose entries the journal has.
+-- A folder with or without a journal, and processes that have done nothing yet. The history
+-- consists of the commands whose entries are in the journal.
 pub record IsStart (j : Journal) (w : World) : Type 0 where
   pub found : 0 < w.shared.file.number
       → IsFound j w.shared.file × (w.shared.origin ≡ w.shared.file.start.state)

@@ -1,4 +1,5 @@
-//! A keeper that cuts damage. A call that finds a damaged journal begins again after a cut.
+//! A keeper that cuts damage. If a call finds a damaged journal, the keeper cuts the damage and
+//! begins the call again.
 
 ghost use Rattle.std.specs.Prelude.{◌≡◌, OnErr, OnOk};
 ghost use Rattle.tpm_keeping.specs.Cutting.{called, caller_of, goes_on, idle, next_call};
@@ -11,12 +12,12 @@ use crate::keeper::{Ask, Got, Keeper};
 use std::alloc::Global;
 use std::mem;
 
-/// What a call does about damage.
+/// What happens if a call finds damage.
 #[derive(Clone, Copy, PartialEq, Eq)]
 pub enum OnDamage {
-    /// It ends with the fault.
+    /// The call ends with the fault.
     Ends,
-    /// It is followed by a cut.
+    /// A cut follows the call.
     IsCut,
     /// The damage is being cut. Then the call begins again.
     BeginsAgain,
@@ -33,8 +34,8 @@ pub struct CuttingKeeper<D: Device> {
 }
 
 impl<D: Device> CuttingKeeper<D> {
-    /// A keeper that has seen nothing. A journal is restarted once it has `limit` bytes, and twice
-    /// what it would begin with.
+    /// Creates a keeper that has seen no file. A journal is restarted when its size has reached
+    /// both `limit` and twice the size of a new journal's head.
     pub fn new(alloc: Global, force: Force, limit: u64) -> CuttingKeeper<D>
         ensures { caller_of D.spot result ≡ idle (newborn force limit) }
     {
@@ -47,8 +48,8 @@ impl<D: Device> CuttingKeeper<D> {
         }
     }
 
-    /// Begins a call. If `cuts` is true, damage is cut, and the call begins again; otherwise it
-    /// ends with the fault. At `Err` nothing has changed.
+    /// Begins a call. If `cuts` is true, damage is cut and the call begins again; otherwise the
+    /// call ends with the fault. On `Err`, nothing has changed.
     pub fn begin(&mut self, cuts: bool, job: Job, command: Vec<u8>) -> Result<(), Exhausted>
         ensures ok { OnOk result (caller_of D.spot self.new
             ≡ called cuts job command.items (caller_of D.spot self.old).holder) }
@@ -69,36 +70,36 @@ impl<D: Device> CuttingKeeper<D> {
         Ok(())
     }
 
-    /// What the host is to do next.
+    /// Returns what the host has to do next.
     pub fn ask(&self) -> Ask
         ensures { result ≡ ask_of (caller_of D.spot self.now).holder }
     {
         self.keeper.ask()
     }
 
-    /// What the keeper is doing, or did last: the job that was begun, or the cut of its damage.
+    /// Returns the keeper's current or last job: the job of the call, or the cut of its damage.
     pub fn job(&self) -> Job
         ensures { result ≡ (caller_of D.spot self.now).holder.job }
     {
         self.keeper.job
     }
 
-    /// What the host is to write at a `Put` or a `Make`.
+    /// Returns the text that the host has to write at a `Put` or a `Make`.
     pub fn out(&self) -> &[u8]
         ensures { result.now ≡ (caller_of D.spot self.now).holder.out }
     {
         self.keeper.out()
     }
 
-    /// The response of the last call, if that is done.
+    /// Returns the response of the last call, if that call is done.
     pub fn response(&self) -> &[u8]
         ensures { result.now ≡ (caller_of D.spot self.now).holder.response }
     {
         self.keeper.response()
     }
 
-    /// Takes what the host did or saw, and goes on. At `Err` the keeper's call ends: memory was
-    /// refused.
+    /// Takes what the host did or saw, and makes the next step. On `Err`, an allocation failed, and
+    /// the keeper's call ends.
     pub fn next(&mut self, got: Got<'_>) -> Result<(), Exhausted>
         ensures ok { OnOk result (caller_of D.spot self.new
             ≡ next_call D.journal (caller_of D.spot self.old) (told_of got.entry)) }
@@ -110,7 +111,7 @@ impl<D: Device> CuttingKeeper<D> {
         next
     }
 
-    /// Once a call has ended, begins the cut of its damage, or the call again.
+    /// After a call has ended, begins the cut of its damage, or begins the call again.
     fn goes_on(&mut self)
         ensures { caller_of D.spot self.new ≡ goes_on (caller_of D.spot self.old) }
     {

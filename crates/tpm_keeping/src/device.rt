@@ -1,4 +1,4 @@
-//! What a keeper asks of the device that it keeps and of its journal.
+//! What a keeper requires of the device that it keeps, and of the device's journal.
 
 ghost use Rattle.std.specs.Prelude.{◌≡◌, ◌++◌, ℕ, List, IfOk, OnOk, false, true};
 ghost use Rattle.std.specs.Option.{MatchOption};
@@ -7,53 +7,55 @@ ghost use Rattle.tpm_keeping.specs.Journal.{Journal, IsJournal, Spot, started, s
 
 use std::alloc::Global;
 
-/// Memory was refused, or a number is too large for the machine.
+/// An allocation failed, or a number is too large for the machine.
 #[derive(Clone, Copy, PartialEq, Eq)]
 pub struct Exhausted;
 
 /// A device in memory that executes the entries of a journal.
 pub trait Device: Drop + Sized {
-    /// What its journal is.
+    /// The definition of its journal.
     ghost journal: { Journal };
 
-    /// The text that stands for its state, and what its next entry is chained to.
+    /// The text that represents its state, and the checksum to which its next entry is chained.
     ghost spot: { Self → Spot };
 
-    /// The journal meets what a keeper needs.
+    /// The journal satisfies a keeper's requirements.
     ghost keeps: { IsJournal journal };
 
-    /// A device that begins with random bytes or with a text; None if it cannot.
+    /// Returns a device that begins with random bytes or with a text; None if `seed` is not valid.
     fn begin(alloc: Global, seed: &[u8]) -> Result<Option<Self>, Exhausted>
         ensures { IfOk result (λ begun. MatchOption begun (journal.begun seed.now ≡ None)
             (λ device. journal.begun seed.now ≡ Some (spot device).state)) };
 
-    /// The device of a journal, and the size of what it executed; None if the text is no journal.
+    /// Returns the device of a journal, and the size of the text that it executed; None if the text
+    /// is not a journal.
     fn open(alloc: Global, text: &[u8]) -> Result<Option<(Self, usize)>, Exhausted>
         ensures { IfOk result (λ opened. MatchOption opened (journal.opened text.now ≡ None)
             (λ found. journal.opened text.now ≡ Some (spot found.0, found.1))) };
 
-    /// Executes the entries of a text, and returns the size of what it executed; None if they do
-    /// not follow.
+    /// Executes the entries of a text, and returns the size of the text that it executed; None if
+    /// the text does not continue the journal.
     fn follow(&mut self, text: &[u8]) -> Result<Option<usize>, Exhausted>
         ensures { IfOk result (λ followed. MatchOption followed
             (journal.followed (spot self.old) text.now ≡ None)
             (λ taken. journal.followed (spot self.old) text.now ≡ Some (spot self.new, taken))) };
 
-    /// The device of the front of a damaged journal that is whole, and the size of what it
-    /// executed; None if there is none.
+    /// Returns the device of the undamaged beginning of a damaged journal, and the size of the text
+    /// that it executed; None if there is no such beginning.
     fn salvage(alloc: Global, text: &[u8]) -> Result<Option<(Self, usize)>, Exhausted>
         ensures { IfOk result (λ salvaged. MatchOption salvaged (journal.salvaged text.now ≡ None)
             (λ found. journal.salvaged text.now ≡ Some (spot found.0, found.1))) };
 
-    /// Whether a text is one of a command.
+    /// Whether a text encodes a command.
     fn is_command(command: &[u8]) -> bool
         ensures { result ≡ journal.is_command command.now };
 
-    /// Whether a text is one of a command that has an entry.
+    /// Whether a text encodes a command that has an entry.
     fn is_entered(command: &[u8]) -> bool
         ensures { result ≡ journal.is_entered command.now };
 
-    /// Executes a command that has an entry, and appends the entry and the response.
+    /// Executes a command that has an entry; appends the entry to `out` and the response to
+    /// `response`.
     fn execute(
         &mut self,
         command: &[u8],
@@ -67,8 +69,8 @@ pub trait Device: Drop + Sized {
         ensures response { OnOk result (response.new.items
             ≡ response.old.items ++ journal.response (spot self.old).state command.now) };
 
-    /// Executes a command that has no entry, and appends the response. What the next entry is
-    /// chained to is not said: `renew` is called before there is one.
+    /// Executes a command that has no entry, and appends the response. The checksum for the next
+    /// entry is unspecified: `renew` is called before the next entry.
     fn leap(&mut self, command: &[u8], response: &mut Vec<u8>) -> Result<(), Exhausted>
         requires command { journal.is_command command.now ≡ true }
         requires unentered { journal.is_entered command.now ≡ false }
@@ -77,12 +79,12 @@ pub trait Device: Drop + Sized {
         ensures response { OnOk result (response.new.items
             ≡ response.old.items ++ journal.response (spot self.old).state command.now) };
 
-    /// Appends the text with which a journal begins in this state.
+    /// Appends the text with which a journal in this state begins.
     fn show(&self, out: &mut Vec<u8>) -> Result<(), Exhausted>
         ensures { OnOk result (out.new.items
             ≡ out.old.items ++ journal.head (spot self.now).state) };
 
-    /// Appends this text, and goes on in the journal that begins with it.
+    /// Appends this text, and continues with the journal that begins with it.
     fn renew(&mut self, out: &mut Vec<u8>) -> Result<(), Exhausted>
         ensures spot { OnOk result (spot self.new ≡ started journal (spot self.old).state) }
         ensures head { OnOk result (out.new.items

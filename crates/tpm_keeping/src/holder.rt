@@ -1,43 +1,43 @@
-//! What a holder of a device is asked for, where it is, and why it gave up.
+//! The jobs and phases of a holder, and the reasons why its calls fail.
 
 ghost use Rattle.std.specs.Prelude.{◌≡◌};
 ghost use Rattle.tpm_keeping.specs.Holder.{fault_of};
 ghost use Rattle.tpm_keeping.specs.Sentence.{sentence};
 
-/// When a holder forces what it wrote to the disk.
+/// The word of force of a holder: when the holder syncs its writes to the disk.
 #[derive(Clone, Copy, PartialEq, Eq)]
 pub enum Force {
-    /// Never, but a new journal.
+    /// Only when it writes a new journal.
     Never,
-    /// When a journal is restarted, as at a power cycle or a checkpoint.
+    /// When a journal is restarted, for example at a power cycle or a checkpoint.
     Power,
-    /// Before each answer.
+    /// Before each response.
     Always,
 }
 
-/// What a holder is asked for.
+/// The jobs of a holder.
 #[derive(Clone, Copy, PartialEq, Eq)]
 pub enum Job {
-    /// To execute a command. Its entry is appended, or begins a new journal where the old one has
-    /// grown. The state after a command without an entry, as a power cycle or the restoring of a
-    /// snapshot, begins a new journal.
+    /// Execute a command. Its entry is appended to the journal, or begins a new journal if the old
+    /// one has grown. The state after a command without an entry, such as a power cycle or the
+    /// restoring of a snapshot, begins a new journal.
     Execute,
-    /// To restart the journal in the same state: a checkpoint.
+    /// Restart the journal in the same state: a checkpoint.
     Renew,
-    /// To give the text of the state: a snapshot.
+    /// Return the text of the state: a snapshot.
     Show,
-    /// To see that there is a device: to open it, or to begin one of random bytes or of a text.
+    /// Make sure that there is a device: open it, or begin one with random bytes or a text.
     Begin,
-    /// To see that there is a device, and if the journal is damaged, to begin a new journal in the
-    /// state after its front that is whole. A device in memory whose file is damaged is dropped
-    /// first: then the job has to be asked for again.
+    /// Make sure that there is a device. If the journal is damaged, begin a new journal in the
+    /// state after its undamaged beginning. If a device is in memory and its file is damaged, the
+    /// device is dropped first, and the job has to be requested again.
     Cut,
 }
 
-/// Why a call was not done.
+/// Why a call failed.
 #[derive(Clone, Copy, PartialEq, Eq)]
 pub enum Fault {
-    /// Nothing was asked for, or the call was left in the middle.
+    /// No call was begun, or the call was interrupted.
     Idle,
     /// The host did not take the lock.
     Lock,
@@ -47,29 +47,29 @@ pub enum Fault {
     Read,
     /// The host did not write the journal.
     Write,
-    /// The host did not force the journal to the disk.
+    /// The host did not sync the journal to the disk.
     Force,
-    /// The host did not write a new journal, or did not force it to the disk.
+    /// The host did not write a new journal, or did not sync it to the disk.
     Make,
-    /// The host did not give the new journal the journal's name.
+    /// The host did not rename the new file to the journal's name.
     Name,
-    /// The host did not force the folder to the disk.
+    /// The host did not sync the folder to the disk.
     Settle,
     /// There is no journal.
     Absent,
-    /// The device was to begin of what is no text of one.
+    /// The bytes for a new device are not valid.
     Unreadable,
-    /// What was to be executed is no command.
+    /// The text to execute is not a command.
     NoCommand,
-    /// What the journal's file holds is no journal.
+    /// The journal's file does not contain a journal.
     Damaged,
-    /// Memory was refused, or a number is too large for the machine.
+    /// An allocation failed, or a number is too large for the machine.
     Memory,
 }
 
 impl Fault {
-    /// What the fault says, to be written after a path: the lock's for `Lock`, the new journal's
-    /// for `Make` and `Name`, the folder's for `Settle`, else the journal's.
+    /// Returns the sentence of the fault, to be written after a path: the lock's path for `Lock`,
+    /// the new journal's for `Make` and `Name`, the folder's for `Settle`, otherwise the journal's.
     pub fn sentence(self) -> &'static str
         ensures { result.now ≡ sentence self }
     {
@@ -99,33 +99,33 @@ pub enum End {
     Failed(Fault),
 }
 
-/// Where a holder is: what its host is to do next.
+/// The phase of a holder: what its host has to do next.
 #[derive(Clone, Copy, PartialEq, Eq)]
 pub enum Phase {
-    /// Nothing. The last call ended so.
+    /// Nothing. The last call ended in this way.
     Ended(End),
-    /// To take the lock.
+    /// Take the lock.
     Locking,
-    /// To say which file the journal is.
+    /// Report which file is the journal.
     Looking,
-    /// To read what follows what was read.
+    /// Read the bytes after those already read.
     Reading,
-    /// To write the holder's text into the file.
+    /// Write the holder's text to the file.
     Putting,
-    /// To force the file.
+    /// Sync the file.
     Forcing,
-    /// To write a new file, whole, and to force it.
+    /// Write a whole new file, and sync it.
     Making,
-    /// To give the new file the journal's name.
+    /// Rename the new file to the journal's name.
     Naming,
-    /// To force the folder.
+    /// Sync the folder.
     Settling,
-    /// To give the lock back. The call ends so.
+    /// Release the lock. Then the call ends in this way.
     Leaving(End),
 }
 
 impl Phase {
-    /// What is said where the host does not do what it is to do in this phase.
+    /// Returns the fault if the host does not do its task in this phase.
     pub fn fault(self) -> Fault
         ensures { result ≡ fault_of self }
     {

@@ -1,4 +1,5 @@
-//! The keeper of a device: what its host is to do next. It does no input and no output itself.
+//! The keeper of a device, which decides what its host has to do next. It does no input and no
+//! output itself.
 
 ghost use Rattle.std.specs.Prelude.{◌≡◌, ◌+◌, ◌++◌, ℕ, List, [], IfOk, OnErr, OnOk, length};
 ghost use Rattle.tpm_keeping.specs.Holder.{acts, asked, begins, caught_up, dropped, executes};
@@ -14,32 +15,32 @@ use crate::device::{Device, Exhausted};
 use crate::holder::{End, Fault, Force, Job, Phase};
 use std::alloc::Global;
 
-/// What the host is to do next.
+/// What the host has to do next.
 #[derive(Clone, Copy, PartialEq, Eq)]
 pub enum Ask {
-    /// Nothing: the call has ended. If it is done, the response may go out.
+    /// Nothing: the call has ended. If it is done, the response may be sent.
     Nothing(End),
-    /// To take the folder's lock, by an open file of this process's own: where that fails, to close
-    /// it.
+    /// Take the folder's lock, through an open file that only this process has. If that fails,
+    /// close the file.
     Lock,
-    /// To open the file that is named journal, unless it is the one that is open, and to report
-    /// its number and its size.
+    /// Open the file that is named journal, unless it is already open, and report its number and
+    /// its size.
     Look,
-    /// To read the file from this byte on, as much as it likes.
+    /// Read some bytes of the file, from this offset on.
     Read(u64),
-    /// To cut the file to `cut` bytes where it has more, and to write the keeper's text at `at`, by
-    /// the open file that is forced later.
+    /// Truncate the file to `cut` bytes if it is larger, and write the keeper's text at the offset
+    /// `at`, through the same open file that is synced later.
     Put { cut: u64, at: u64 },
-    /// To force the file to the disk.
+    /// Sync the file to the disk.
     Force,
-    /// To write the keeper's text to a new file, whole, and to force it to the disk. The device has
-    /// executed the first `whole` bytes of the old journal, or 0 where there is none.
+    /// Write the keeper's text to a new file, completely, and sync it to the disk. The device has
+    /// executed the first `whole` bytes of the old journal, or 0 if there is no old journal.
     Make { whole: u64 },
-    /// To give the new file the journal's name, and to report its number.
+    /// Rename the new file to the journal's name, and report its number.
     Name,
-    /// To force the folder to the disk.
+    /// Sync the folder to the disk.
     Settle,
-    /// To give the lock back: where that fails, by closing its file.
+    /// Release the lock. If that fails, close its file.
     Unlock,
 }
 
@@ -47,12 +48,12 @@ pub enum Ask {
 #[derive(Clone, Copy)]
 pub enum Got<'a> {
     Done,
-    /// The journal is the file of this number, and has so many bytes.
+    /// The journal is the file with this number, and has this size.
     Stands { file: u64, size: u64 },
     /// There is no journal.
     Gone,
     Bytes(&'a [u8]),
-    /// It was not done, or not all of it, or nobody knows.
+    /// The task was not done, or only in part, or its result is unknown.
     Failed,
 }
 
@@ -78,8 +79,8 @@ pub struct Keeper<D: Device> {
 }
 
 impl<D: Device> Keeper<D> {
-    /// A keeper that has seen nothing. A journal is restarted once it has `limit` bytes, and twice
-    /// what it would begin with.
+    /// Creates a keeper that has seen no file. A journal is restarted when its size has reached
+    /// both `limit` and twice the size of a new journal's head.
     pub fn new(alloc: Global, force: Force, limit: u64) -> Keeper<D>
         ensures { holder_of D.spot result ≡ newborn force limit }
     {
@@ -103,7 +104,7 @@ impl<D: Device> Keeper<D> {
         }
     }
 
-    /// What the host is to do next.
+    /// Returns what the host has to do next.
     pub fn ask(&self) -> Ask
         ensures { result ≡ ask_of (holder_of D.spot self.now) }
     {
@@ -124,29 +125,29 @@ impl<D: Device> Keeper<D> {
         }
     }
 
-    /// What the host is to write at a `Put` or a `Make`.
+    /// Returns the text that the host has to write at a `Put` or a `Make`.
     pub fn out(&self) -> &[u8]
         ensures { result.now ≡ self.now.out.items }
     {
         &self.out
     }
 
-    /// The response of the last call, if that is done.
+    /// Returns the response of the last call, if that call is done.
     pub fn response(&self) -> &[u8]
         ensures { result.now ≡ self.now.response.items }
     {
         &self.response
     }
 
-    /// The place from which on this holder has not itself seen the file forced.
+    /// Returns the offset from which on this holder has not itself seen the file synced.
     pub(crate) fn sure(&self) -> u64
         ensures { result ≡ sure (holder_of D.spot self.now) }
     {
         self.place.saturating_sub(self.unsure.len() as u64)
     }
 
-    /// Begins a call. What was left in the middle is dropped: the host that left it, or that is a
-    /// fork of one that did, first closes its lock.
+    /// Begins a call. A call that was interrupted is dropped: the host that interrupted it, or a
+    /// fork of that host, first has to close its lock.
     pub fn begin(&mut self, job: Job, command: &[u8]) -> Result<(), Exhausted>
         ensures ok { OnOk result (holder_of D.spot self.new
             ≡ asked (rests (holder_of D.spot self.old)) job command.now) }
@@ -161,7 +162,7 @@ impl<D: Device> Keeper<D> {
         Ok(())
     }
 
-    /// Begins a call with a command that the keeper then owns. What was left in the middle is
+    /// Begins a call with a command that the keeper then owns. A call that was interrupted is
     /// dropped.
     pub(crate) fn begin_with(&mut self, job: Job, command: Vec<u8>)
         ensures { holder_of D.spot self.new
@@ -173,7 +174,7 @@ impl<D: Device> Keeper<D> {
         self.phase = Phase::Locking;
     }
 
-    /// Drops all, if something is under way.
+    /// If a call is in progress, drops it and everything that is known.
     fn rest(&mut self)
         ensures holder { holder_of D.spot self.new ≡ rests (holder_of D.spot self.old) }
         ensures ended { (e : End) × (self.new.phase ≡ Ended e) }
@@ -184,7 +185,7 @@ impl<D: Device> Keeper<D> {
         *self = Keeper::new(self.alloc, self.force, self.limit);
     }
 
-    /// Knows nothing any more: the next look opens the device from the file.
+    /// Forgets everything: the next look opens the device from the file.
     fn forget(&mut self, phase: Phase)
         ensures { holder_of D.spot self.new ≡ forgets phase (holder_of D.spot self.old) }
     {
@@ -199,7 +200,8 @@ impl<D: Device> Keeper<D> {
         self.forget(Phase::Leaving(End::Failed(fault)));
     }
 
-    /// Takes what the host did or saw, and goes on. At `Err` the call ends: memory was refused.
+    /// Takes what the host did or saw, and makes the next step. On `Err`, an allocation failed, and
+    /// the call ends.
     pub fn next(&mut self, got: Got<'_>) -> Result<(), Exhausted>
         ensures ok { OnOk result (holder_of D.spot self.new
             ≡ next_of D.journal (holder_of D.spot self.old) (told_of got.entry)) }
@@ -230,8 +232,8 @@ impl<D: Device> Keeper<D> {
         Ok(())
     }
 
-    /// What follows once the file is as it is to be: the folder is forced, before the first answer
-    /// from a file.
+    /// Returns the phase after the file is as required: the folder is synced before the first
+    /// response from a file, unless the holder never syncs.
     pub(crate) fn settles(&self) -> Phase
         ensures { result ≡ settles (holder_of D.spot self.now) }
     {

@@ -1,4 +1,4 @@
-//! What holds after every run of every holder.
+//! What holds after every run of all holders.
 
 ghost use Rattle.std.specs.Prelude.{◌≡◌, ◌+◌, ◌<◌, ◌≤◌, ◌∷◌, ℕ, Bool, List, None, false, length, true};
 ghost use Rattle.std.specs.List.{AllByRecursion};
@@ -17,23 +17,24 @@ ghost use Rattle.tpm_keeping.specs.declared.holder.Job.{Job};
 ghost use Rattle.tpm_keeping.specs.declared.holder.Job.TheVariants.{Cut, Show};
 ghost use Rattle.tpm_keeping.specs.declared.holder.Phase.TheVariants.{Ended, Leaving, Making};
 
-/// Whatever the holders of one device are asked for, wherever each is killed, whatever fails and
-/// whenever the host crashes: the journal opens as the device that executed the history, each
-/// answer is of it, and what each holder promised by its word is there.
+/// Whatever the holders of one device are asked to do, wherever each is killed, whatever fails and
+/// whenever the host crashes: the journal opens as the device that executed the history. Each
+/// response whose command no crash removed is that of the history, and what each holder promised by
+/// its word of force is still there.
 pub fn kept_through_crashes()
     ensures { (j : Journal) (start : World) (events : List Event)
         → IsJournal j → IsStart j start → IsKept j (happen j events start).shared }
 {}
 
-/// Each answer of the host takes a call further, or it has read more of the file.
+/// Each report of the host advances the call to a later phase, or more of the file has been read.
 pub fn calls_advance()
     ensures { (j : Journal) (k : Holder) (told : Told) → rank k.phase < 7
         → Advances k (next_of j k told) }
 {}
 
-/// A call ends, if its host does all that it is to do and memory suffices: it is done, unless there
-/// is no journal or what was passed is no command and no text of a device. It takes no more steps
-/// than six and one for each byte of the file, and the lock is free then.
+/// If its host does all its tasks and memory suffices, a call ends. It is done, unless there is no
+/// journal and none can begin, or the text to execute is not a command. It takes at most six steps
+/// and one more for each byte of the file, and then the lock is free.
 pub fn calls_end()
     ensures { (j : Journal) (start : World) (events : List Event) (p : ℕ) (e : End) (job : Job)
         (command : List ℕ) (mores : List ℕ) → IsJournal j → IsStart j start
@@ -44,15 +45,15 @@ pub fn calls_end()
         (end_of j w.shared.file job command) }
 {}
 
-/// What was promised stays the beginning of the history, whatever happens next.
+/// The commands that were promised stay the beginning of the history, whatever happens next.
 pub fn promises_are_kept()
     ensures { (j : Journal) (start : World) (events : List Event) (e : Event)
         → IsJournal j → IsStart j start
         → let w = happen j events start in KeepsPromises w.shared (happens j w e).shared }
 {}
 
-/// What holds of all commands that the journal had and of all that were asked for holds of the
-/// history: nothing else is in it.
+/// If all commands of the journal at the start and all requested commands have a property, so have
+/// all commands of the history: it contains no others.
 pub fn only_what_was_asked()
     ensures { (j : Journal) (start : World) (events : List Event) (test : List ℕ → Bool)
         → IsJournal j → IsStart j start → AllByRecursion (λ c. test c ≡ true) start.shared.history
@@ -60,8 +61,8 @@ pub fn only_what_was_asked()
         → AllByRecursion (λ c. test c ≡ true) (happen j events start).shared.history }
 {}
 
-/// What a holder shows, before it gives the lock back, is the text of the state in which the
-/// history has left the device.
+/// The response of a snapshot, before its holder releases the lock, is the text of the state to
+/// which the history has led.
 pub fn snapshots_are_true()
     ensures { (j : Journal) (start : World) (events : List Event) (p : ℕ)
         → IsJournal j → IsStart j start
@@ -71,8 +72,8 @@ pub fn snapshots_are_true()
         (run j (happen j events start).shared.origin (happen j events start).shared.history) }
 {}
 
-/// A cut replaces a damaged journal by the head of the state to which a front of the journal leads.
-/// That front has as many bytes as the keeper then says that the device executed.
+/// A cut replaces a damaged journal with the head of the state to which a prefix of the journal
+/// leads. The size of this prefix is the number of bytes that the keeper then reports as executed.
 pub fn cuts_keep_a_front()
     ensures { (j : Journal) (k : Holder) (told : Told) → IsJournal j → k.job ≡ Cut
         → rank k.phase < 3 → (k.device ≡ None → k.place ≡ 0)
@@ -80,14 +81,14 @@ pub fn cuts_keep_a_front()
         → KeepsFront j (text_read k.phase k told) (next_of j k told) }
 {}
 
-/// A step of a keeper that cuts damage is that of a keeper, which may then be asked for a further
-/// call. So what holds after every run of every holder holds with cuts too.
+/// A step of a keeper that cuts damage is a step of a keeper, possibly followed by a request for
+/// another call. So whatever holds after every run of all holders also holds with cuts.
 pub fn cuts_are_calls()
     ensures { (j : Journal) (c : Caller) (told : Told)
         → IsOrIsAsked (next_of j c.holder told) (next_call j c told).holder }
 {}
 
-/// There is a journal that meets what a keeper needs.
+/// There is a journal that satisfies a keeper's requirements.
 pub fn a_journal_can_be_kept()
     ensures { IsJournal lines }
 {}

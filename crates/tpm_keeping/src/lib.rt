@@ -1,6 +1,6 @@
 #![tactic(auto)]
 
-//! How a device is kept in a folder: what its holder is to do next, and what holds after a crash.
+//! How a device is kept in a folder: what its holder has to do next, and what holds after a crash.
 
 pub mod caller;
 pub mod device;

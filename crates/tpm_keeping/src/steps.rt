@@ -1,4 +1,4 @@
-//! The steps of a keeper: what it makes of what its host did or saw.
+//! The steps of a keeper, after what its host did or saw.
 
 ghost use Rattle.std.specs.Prelude.{◌≡◌, ◌+◌, ◌++◌, ℕ, List, [], IfOk, OnErr, OnOk, length};
 ghost use Rattle.std.specs.Prelude.{false, take, true};
@@ -16,7 +16,7 @@ use crate::keeper::Keeper;
 use std::mem;
 
 impl<D: Device> Keeper<D> {
-    /// Goes on with the journal's file: the one that is known, or another one.
+    /// Continues with the journal's file: the file that is known, or another one.
     pub(crate) fn looked(&mut self, file: u64, size: u64) -> Result<(), Exhausted>
         ensures ok { OnOk result (holder_of D.spot self.new
             ≡ looked D.journal (holder_of D.spot self.old) file size) }
@@ -37,7 +37,7 @@ impl<D: Device> Keeper<D> {
         self.reads_on()
     }
 
-    /// Takes what was read, and goes on.
+    /// Takes the bytes that were read, and continues.
     pub(crate) fn has_read(&mut self, bytes: &[u8]) -> Result<(), Exhausted>
         ensures ok { OnOk result (holder_of D.spot self.new
             ≡ has_read D.journal (holder_of D.spot self.old) bytes.now) }
@@ -57,7 +57,7 @@ impl<D: Device> Keeper<D> {
         self.reads_on()
     }
 
-    /// Reads on, or executes what was read once that is all, and acts.
+    /// Reads more; or, if everything was read, executes it and does the job.
     fn reads_on(&mut self) -> Result<(), Exhausted>
         ensures ok { OnOk result (holder_of D.spot self.new
             ≡ reads_on D.journal (holder_of D.spot self.old)) }
@@ -75,7 +75,7 @@ impl<D: Device> Keeper<D> {
         done
     }
 
-    /// Executes what was read, and acts. At `Err` the device is nowhere.
+    /// Executes the bytes that were read, and does the job. On `Err`, the keeper has no device.
     fn finishes(&mut self) -> Result<(), Exhausted>
         ensures ok { OnOk result (holder_of D.spot self.new ≡ finishes D.journal
             (holder_of D.spot self.old)
@@ -94,7 +94,7 @@ impl<D: Device> Keeper<D> {
         self.acts(device)
     }
 
-    /// Opens the device of what was read, which is the whole file, and acts.
+    /// Opens the device from the bytes that were read, which are the whole file, and does the job.
     fn opens(&mut self) -> Result<(), Exhausted>
         requires { self.old.device ≡ None }
         ensures ok { OnOk result (holder_of D.spot self.new ≡ finishes D.journal
@@ -109,8 +109,8 @@ impl<D: Device> Keeper<D> {
         self.acts(device)
     }
 
-    /// What was read, which is the whole file, is damaged. A cut goes on with the device of its
-    /// front that is whole, in a new journal.
+    /// Handles damage in the bytes that were read, which are the whole file. A cut continues with
+    /// the device of the undamaged beginning, in a new journal.
     fn salvages(&mut self) -> Result<(), Exhausted>
         ensures ok { OnOk result (holder_of D.spot self.new ≡ salvages D.journal self.old.job None
             (holder_of D.spot self.old)) }
@@ -131,8 +131,8 @@ impl<D: Device> Keeper<D> {
         self.renews(device)
     }
 
-    /// So much of what was read is executed. A holder that forces before each answer keeps it,
-    /// since it has not seen it forced.
+    /// Records that the first `taken` bytes of those read are executed. A holder that syncs before
+    /// each response keeps these bytes, since it has not seen them synced.
     fn caught_up(&mut self, taken: usize) -> Result<(), Exhausted>
         ensures ok { OnOk result (holder_of D.spot self.new
             ≡ caught_up (holder_of D.spot self.old) taken) }
@@ -155,7 +155,7 @@ impl<D: Device> Keeper<D> {
         Ok(())
     }
 
-    /// Does what was asked for with the device that has executed the whole file.
+    /// Does the job with the device, which has executed the whole file.
     fn acts(&mut self, device: D) -> Result<(), Exhausted>
         ensures ok { OnOk result (holder_of D.spot self.new
             ≡ acts D.journal self.old.job (holder_of D.spot self.old) (D.spot device)) }
@@ -175,7 +175,7 @@ impl<D: Device> Keeper<D> {
         }
     }
 
-    /// Executes the command, where it is one.
+    /// Executes the command, or refuses a text that is not a command.
     fn executes(&mut self, device: D) -> Result<(), Exhausted>
         requires out { self.old.out.items ≡ [] }
         requires response { self.old.response.items ≡ [] }
@@ -196,8 +196,8 @@ impl<D: Device> Keeper<D> {
         }
     }
 
-    /// Whether the journal has grown: it has reached the limit, and twice what it would begin with
-    /// now.
+    /// Whether the journal has grown: its size has reached the limit and twice the size of a new
+    /// journal's head.
     fn is_grown(&self, device: &D) -> Result<bool, Exhausted>
         ensures { IfOk result (λ grown. grown ≡ is_grown D.journal (holder_of D.spot self.now)
             (D.spot device.now)) }
@@ -210,8 +210,8 @@ impl<D: Device> Keeper<D> {
         Ok(head.len() as u64 <= self.place / 2)
     }
 
-    /// Executes a command that has an entry. The entry follows all that the holder has not seen
-    /// forced, or begins a new journal.
+    /// Executes a command that has an entry. The text to write is the bytes that the holder has not
+    /// seen synced, followed by the entry; or a new journal that begins with the entry.
     fn enters(&mut self, mut device: D) -> Result<(), Exhausted>
         requires out { self.old.out.items ≡ [] }
         requires response { self.old.response.items ≡ [] }
@@ -265,8 +265,8 @@ impl<D: Device> Keeper<D> {
         Ok(())
     }
 
-    /// Gives the response, of a state that the holder has seen forced if it forces before each
-    /// answer.
+    /// Returns the response. A holder that syncs before each response first has to write and sync
+    /// the bytes that it has not seen synced.
     fn shows(&mut self, device: D) -> Result<(), Exhausted>
         requires out { self.old.out.items ≡ [] }
         ensures ok { OnOk result (holder_of D.spot self.new ≡ shows (holder_of D.spot self.old)
@@ -285,7 +285,7 @@ impl<D: Device> Keeper<D> {
         Ok(())
     }
 
-    /// There is no journal: one begins, if that is asked for.
+    /// Begins a journal if there is none, and if that is the job; otherwise ends the call.
     pub(crate) fn begins(&mut self) -> Result<(), Exhausted>
         ensures ok { OnOk result (holder_of D.spot self.new
             ≡ begins D.journal self.old.job (holder_of D.spot self.old)) }
@@ -303,7 +303,7 @@ impl<D: Device> Keeper<D> {
         done
     }
 
-    /// Makes a device and the text with which its journal begins. At `Err` there is none.
+    /// Creates a device and the text with which its journal begins. On `Err`, there is no device.
     fn makes(&mut self) -> Result<(), Exhausted>
         ensures ok { OnOk result (holder_of D.spot self.new ≡ begins_of D.journal
             (holder_of D.spot self.old) (D.journal.begun self.old.command.items)) }
@@ -320,8 +320,8 @@ impl<D: Device> Keeper<D> {
         self.renews(device)
     }
 
-    /// The text is in the file. A holder that forces before each answer keeps it until it is
-    /// forced.
+    /// Records that the text is in the file. A holder that syncs before each response keeps the
+    /// text until it is synced.
     pub(crate) fn has_put(&mut self) -> Result<(), Exhausted>
         ensures ok { OnOk result (holder_of D.spot self.new
             ≡ has_put (holder_of D.spot self.old)) }
@@ -344,7 +344,7 @@ impl<D: Device> Keeper<D> {
         Ok(())
     }
 
-    /// The new file is the journal, and this holder has seen it forced.
+    /// Records that the new file is the journal, and that this holder has seen it synced.
     pub(crate) fn has_named(&mut self, file: u64)
         ensures { holder_of D.spot self.new ≡ has_named (holder_of D.spot self.old) file }
     {

@@ -1,6 +1,6 @@
 -- A device without a state, which answers each command with the command. Its journal has a byte for
--- the head and one for each entry; it is damaged where its first entry is another byte. A command
--- that begins with a zero has no entry, and no bytes are no command.
+-- the head and one for each entry; it is damaged if its first entry is another byte. A command that
+-- begins with a zero has no entry, and the empty text is not a command.
 use Rattle.std.specs.Prelude.{ℕ, zero, suc, ◌==◌, Bool, true, false, cond, List, [], ◌∷◌, length, Option, Some, None}
 use Rattle.tpm_keeping.specs.Journal.{Journal, Spot}
 
@@ -30,12 +30,12 @@ opened_at [] = None
 opened_at (b ∷ []) = Some (nothing, 1)
 opened_at (b ∷ c ∷ text) = cond (c == 101) (Some (nothing, suc (suc (length text)))) None
 
--- where nothing follows, it is the spot that it was
+-- the spot after a text; if the text is empty, the spot is unchanged
 abbrev pub followed_at : Spot → List ℕ → Option (Spot × ℕ)
 followed_at p [] = Some (p, 0)
 followed_at p (b ∷ text) = cond (b == 101) (Some (nothing, suc (length text))) None
 
--- of what is damaged, the head is whole
+-- the undamaged beginning of a damaged text is its head
 abbrev pub salvaged_at : List ℕ → Option (Spot × ℕ)
 salvaged_at [] = None
 salvaged_at (b ∷ text) = Some (nothing, 1)

@@ -1,5 +1,5 @@
-//! Calls of each job, by holders of each word. The letters say what the host did: lock, look (K),
-//! read, put, force, make, name, settle, unlock.
+//! Calls of each job, by holders with each word of force. The letters say what the host did: lock,
+//! look (K), read, put, force, make, name, settle, unlock.
 
 use crate::echo::Echo;
 use crate::folder::Folder;
@@ -13,7 +13,8 @@ const NO_JOURNAL: End = End::Failed(Fault::Absent);
 
 const DAMAGED: End = End::Failed(Fault::Damaged);
 
-/// A call with this command ends so, by just this, and leaves this journal.
+/// Checks that a call with this command ends in this way, after exactly these tasks, and leaves
+/// this journal.
 fn ends<R: Abort>(
     rt: &R,
     folder: &mut Folder,
@@ -30,7 +31,7 @@ fn ends<R: Abort>(
     assert!(rt; folder.journal.as_slice() == journal);
 }
 
-/// A call is done, by just this, and leaves this journal.
+/// Checks that a call is done after exactly these tasks, and leaves this journal.
 fn check<R: Abort>(
     rt: &R,
     folder: &mut Folder,
@@ -42,7 +43,7 @@ fn check<R: Abort>(
     ends(rt, folder, keeper, job, b"command", End::Done, did, journal);
 }
 
-/// The last call has given this response.
+/// Checks that the last call returned this response.
 fn answers<R: Abort>(rt: &R, keeper: &Keeper<Echo>, response: &[u8]) {
     assert!(rt; keeper.response() == response);
 }
@@ -119,8 +120,8 @@ fn without_a_journal_only_begin_is_done(rt: HostRuntime) {
     check(&rt, &mut folder, &mut never, Job::Begin, b"LKMNU", b"h");
 }
 
-// Each holder reads what others added. Only the one that forces before each answer writes again
-// what it has not seen forced, which leaves the file as it was.
+// Each holder reads what others added. Only the holder that syncs before each response writes again
+// what it has not seen synced, which leaves the file unchanged.
 #[test]
 fn holders_of_each_word_take_turns(rt: HostRuntime) {
     let mut folder = Folder::new(rt.alloc());
@@ -201,7 +202,7 @@ fn a_cut_of_a_whole_journal_changes_nothing(rt: HostRuntime) {
     answers(&rt, &always, b"");
 }
 
-// The front that is whole is the head. Only a cut goes on with it, in a new journal.
+// The undamaged beginning is the head. Only a cut continues with it, in a new journal.
 #[test]
 fn a_cut_begins_a_damaged_journal_anew(rt: HostRuntime) {
     let mut folder = Folder::new(rt.alloc());
@@ -227,7 +228,7 @@ fn a_cut_begins_a_damaged_journal_anew(rt: HostRuntime) {
     check(&rt, &mut folder, &mut power, Job::Execute, b"LKPU", b"he");
 }
 
-// What is in memory is the device of other bytes, so it is dropped. The next cut reads the file.
+// The device in memory is that of other bytes, so it is dropped. The next cut reads the file.
 #[test]
 fn a_device_in_memory_is_dropped_before_a_cut(rt: HostRuntime) {
     let mut folder = Folder::new(rt.alloc());
@@ -247,7 +248,7 @@ fn a_device_in_memory_is_dropped_before_a_cut(rt: HostRuntime) {
     check(&rt, &mut folder, &mut never, Job::Cut, b"LKRMNU", b"h");
 }
 
-// No front of a file without bytes is a journal.
+// No prefix of an empty file is a journal.
 #[test]
 fn nothing_is_salvaged_of_an_empty_file(rt: HostRuntime) {
     let mut folder = Folder::new(rt.alloc());
@@ -258,7 +259,7 @@ fn nothing_is_salvaged_of_an_empty_file(rt: HostRuntime) {
     }
 }
 
-// A new journal says how much of the old one its device executed.
+// A new journal reports how much of the old one its device executed.
 #[test]
 fn a_new_journal_follows_a_whole_one(rt: HostRuntime) {
     let mut folder = Folder::new(rt.alloc());

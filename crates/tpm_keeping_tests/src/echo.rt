@@ -7,11 +7,11 @@ ghost use Rattle.tpm_keeping_tests.specs.EchoLaws.{echo_is_a_journal};
 use std::alloc::Global;
 use tpm_keeping::device::{Device, Exhausted};
 
-/// What its journal has for each entry.
+/// The byte of each entry in its journal.
 const ENTRY: u8 = 101;
 
-/// Answers each command with the command. One that begins with a zero has no entry, and no bytes
-/// are no command. A journal whose first entry is another byte is damaged.
+/// Answers each command with the command. A command that begins with a zero has no entry, and the
+/// empty text is not a command. A journal whose first entry is another byte is damaged.
 #[derive(Drop)]
 pub struct Echo;
 

@@ -6,15 +6,15 @@ use tpm_keeping::device::Device;
 use tpm_keeping::holder::{End, Fault, Job};
 use tpm_keeping::keeper::{Ask, Got, Keeper};
 
-/// A call that is longer than any is.
+/// More steps than any call takes.
 const STEPS: u32 = 40;
 
-/// As many bytes as are read at once.
+/// The number of bytes that are read at once.
 const PART: usize = 3;
 
-/// The journal, the new file that has no name yet, how much of the old journal was whole when that
-/// was made, and a letter for each thing that the host did in the last call; an exclamation mark
-/// where the keeper said that it had no memory.
+/// The journal, the new file that has no name yet, how much of the old journal was whole when the
+/// new file was written, and a letter for each task that the host did in the last call; an
+/// exclamation mark means that the keeper had no memory.
 #[derive(Drop)]
 pub struct Folder {
     pub number: u64,
@@ -40,7 +40,7 @@ fn letter(ask: Ask) -> u8 {
 }
 
 impl Folder {
-    /// A folder with nothing in it.
+    /// Creates an empty folder.
     pub fn new(alloc: Global) -> Folder {
         Folder {
             number: 0,
@@ -51,7 +51,7 @@ impl Folder {
         }
     }
 
-    /// Does what a keeper asks for until the call has ended, and returns how it ended.
+    /// Does what a keeper requests until the call has ended, and returns how the call ended.
     pub fn runs<D: Device>(
         &mut self,
         keeper: &mut Keeper<D>,
@@ -73,7 +73,7 @@ impl Folder {
         Ok(End::Failed(Fault::Idle))
     }
 
-    /// Marks that the keeper had no memory.
+    /// Records that the keeper had no memory.
     fn marks(&mut self, went_on: bool) -> Result<(), AllocError> {
         if !went_on {
             self.did.push(b'!')?;
@@ -81,7 +81,8 @@ impl Folder {
         Ok(())
     }
 
-    /// Does one thing, and reports it to the keeper. Returns whether that had memory to go on.
+    /// Does one task, and reports it to the keeper. Returns whether the keeper had memory to
+    /// continue.
     fn does<D: Device>(&mut self, keeper: &mut Keeper<D>, ask: Ask) -> Result<bool, AllocError> {
         match ask {
             Ask::Read(from) => return Ok(self.reads(keeper, from as usize)),

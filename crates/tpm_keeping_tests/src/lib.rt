@@ -1,7 +1,7 @@
 #![tactic(auto)]
 
-//! Tests of the keeper of a device for what no clause says: that each call can be done, and by
-//! which asks it is.
+//! Tests of the keeper of a device for what no clause says: that each call can be done, and which
+//! tasks it requests.
 //!
 //! The crate uses `tpm_keeping`, and no crate uses it.
 

@@ -1,4 +1,4 @@
-//! The reason why a buffer has no line.
+//! Why no line was found for a buffer.
 
 ghost use Rattle.std.specs.Prelude.{◌≡◌};
 
@@ -6,7 +6,7 @@ use std::fmt;
 use tpm_bytes::{Short, SizedFault};
 use tpm_types::Rc;
 
-/// The reason why a buffer has no line.
+/// The reasons why no line is returned for a buffer.
 #[derive(Clone, Copy, PartialEq, Eq)]
 pub enum SpellFault {
     /// No line was found that encodes the buffer.

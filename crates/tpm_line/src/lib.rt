@@ -2,12 +2,12 @@
 
 //! Finds the line in words that encodes the buffer of a command, if there is one.
 //!
-//! [`line::line_of`] and [`line::write_line`] read a buffer according to the shape of its
-//! command, and write a word for each of its parts: handles and entries ([`entry`]), parameters
+//! [`line::line_of`] and [`line::write_line`] read a buffer according to the shape of its command,
+//! and write a word for each of its parts: handles and entries ([`entry`]), parameters
 //! ([`parameter`]), which are numbers ([`number`]), algorithms, bytes in hex ([`word`]) and lists
 //! ([`list`]). Then they assemble the line, and return it only if the result is the same buffer.
-//! So the theorem about the line depends only on `tpm_text`, and the parts that write words have
-//! no contract. Tests show that a line is found for each buffer that some line encodes.
+//! Therefore the theorem about the line depends only on `tpm_text`, and the functions that write
+//! words have no contract. Tests show that a line is found for each buffer that some line encodes.
 
 mod entry;
 pub mod fault;

@@ -1,4 +1,4 @@
-//! The line of a buffer: it is written from the buffer, then assembled and compared with the
+//! The line of a buffer: it is written from the buffer, then assembled again and compared with the
 //! buffer.
 
 ghost use Rattle.std.specs.Prelude.{◌≡◌, IfOk, Ok, OnOk, true};
@@ -19,8 +19,8 @@ use tpm_types_command::Tag;
 /// The largest size of a line in a script.
 pub const LINE_LIMIT: usize = 65_536;
 
-/// Returns a line that encodes this buffer. The error NoLine means that none was found; the
-/// contract does not say when.
+/// Returns a line that encodes this buffer. The error NoLine means that no line was found; the
+/// contract does not say when that happens.
 pub fn line_of(alloc: Global, buffer: &[u8]) -> Result<String, SpellFault>
     ensures { IfOk result (λ line. assembled (string_bytes line) ≡ Ok buffer.now) }
 {

@@ -13,8 +13,8 @@ pub enum Form {
 }
 
 impl Form {
-    /// The form of the number at this position among a command's parameters, if it is shorter
-    /// than eight bytes.
+    /// The form of the number at this position among a command's parameters, if the number has
+    /// fewer than eight bytes.
     pub fn of(code: CommandCode, place: usize) -> Form {
         match code {
             CommandCode::FlushContext | CommandCode::EvictControl => Form::Handle,

@@ -22,8 +22,8 @@ pub fn put_parameters<W: Write>(
     Ok(())
 }
 
-/// Adds a parameter of a kind to the line. If it is a number of at most four bytes, it is written
-/// in this form.
+/// Adds a parameter of a kind to the line. A number of at most four bytes is written in the given
+/// form.
 fn put_parameter<W: Write>(
     kind: ParameterKind,
     form: Form,

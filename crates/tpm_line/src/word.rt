@@ -38,7 +38,7 @@ pub fn hash_word(hash: HashAlg) -> &'static str {
     }
 }
 
-/// Adds the word for a hash algorithm to the line, or the word for none.
+/// Adds the word for a hash algorithm, or `null` for TPM_ALG_NULL, to the line.
 pub fn put_hash<W: Write>(fields: &mut Cursor, line: &mut W) -> Result<(), SpellFault> {
     let word = match read_hash_or_null(fields)? {
         Some(hash) => hash_word(hash),

@@ -80,7 +80,7 @@ enum Sender {
     Third,
 }
 
-/// What the three connections send, taking turns.
+/// The measurements that the three connections send when they take turns.
 const IN_TURN: &[(Sender, Measurement)] = &[
     (Sender::First, Measurement::Extend(1)),
     (Sender::Second, Measurement::Event(3)),
@@ -90,7 +90,7 @@ const IN_TURN: &[(Sender, Measurement)] = &[
     (Sender::Third, Measurement::Extend(5)),
 ];
 
-/// What the three connections send, taking turns in reverse order.
+/// The measurements that the three connections send when they take turns in reverse order.
 const IN_REVERSE_TURN: &[(Sender, Measurement)] = &[
     (Sender::Third, Measurement::Extend(4)),
     (Sender::Second, Measurement::Event(3)),
@@ -100,7 +100,7 @@ const IN_REVERSE_TURN: &[(Sender, Measurement)] = &[
     (Sender::First, Measurement::Event(2)),
 ];
 
-/// What the three connections send, one connection after another.
+/// The measurements that the three connections send, one connection after another.
 const ONE_AFTER_ANOTHER: &[(Sender, Measurement)] = &[
     (Sender::First, Measurement::Extend(1)),
     (Sender::First, Measurement::Event(2)),
@@ -118,7 +118,8 @@ const READ: &[u8] = &[
 /// The number of bytes before the value in the response of TPM2_PCR_Read.
 const BEFORE_VALUE: usize = 30;
 
-/// Feeds what the connections send in an order, and checks what TPM2_PCR_Read then returns.
+/// Feeds the measurements of the connections in an order, and checks the value that TPM2_PCR_Read
+/// then returns.
 fn measure<K: Keep, R: Abort>(
     rt: &R,
     alloc: Global,

@@ -1,4 +1,5 @@
-//! Trials: a test is written once for all types that implement `Keep`, and runs with two of them.
+//! Trials: each test is written once for all types that implement `Keep`, and runs with two of
+//! them.
 
 use std::alloc::Global;
 use std::process::Abort;
@@ -7,7 +8,7 @@ use tpm_lists::{Task, run_over_lists};
 use tpm_record::Keep;
 use tpm_slots::SlotKeep;
 
-/// What a test does with any type that implements `Keep`.
+/// A test with any type that implements `Keep`.
 pub trait Trial {
     fn run<K: Keep, R: Abort>(rt: &R, alloc: Global) -> Result<(), Fail>;
 }

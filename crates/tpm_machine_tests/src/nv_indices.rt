@@ -79,7 +79,7 @@ fn is_read<N: Indices>(indices: &N, handle: Handle, size: u16, bytes: &[u8]) -> 
     }
 }
 
-/// The error when the first byte of an index is read, if any.
+/// The fault when the first byte of an index is read, if there is one.
 fn read_fault<N: Indices>(indices: &N, handle: Handle) -> Option<ReadFault> {
     indices.read(handle, 0, 1).err()
 }
@@ -217,8 +217,8 @@ fn counters<N: Indices>(rt: &impl Abort, mut indices: N) {
     locks(rt, &mut indices);
 }
 
-/// Makes each call on indices in one kind of container. A function that names the kind is slow to
-/// prove, so there are two functions that each name one.
+/// Makes each call on indices in one kind of container. Two functions call this one, each for one
+/// kind, because a function that names a kind is slow to prove.
 fn exercise<N: Indices, R: Abort>(rt: &R, alloc: Global) {
     ordinary(rt, N::new(alloc));
     counters(rt, N::new(alloc));

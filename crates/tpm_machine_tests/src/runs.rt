@@ -1,4 +1,4 @@
-//! What a run reports about each of its events.
+//! The report of a run about each of its events.
 
 use super::comparison::check;
 use super::keeps::{Trial, run_over_both};
@@ -28,10 +28,10 @@ fn events() -> [Event<'static>; 3] {
     ]
 }
 
-/// What a run reports about an event: the length of its response, and its row.
+/// The report of a run about an event: the length of its response, and its row.
 type Told = (usize, Row);
 
-/// What a run reports about these events, in order.
+/// The reports of a run about these events, in order.
 fn told_of<K: Keep>(
     alloc: Global,
     machine: &mut Machine<K>,

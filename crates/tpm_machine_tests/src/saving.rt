@@ -15,7 +15,7 @@ use tpm_record::Keep;
 /// header, and six for the following 351 bytes.
 const WRITES: usize = 7;
 
-/// How a save ended, and what was written.
+/// How a save ended, and the bytes that were written.
 #[derive(Drop)]
 struct Saved {
     outcome: Result<(), SaveFault>,

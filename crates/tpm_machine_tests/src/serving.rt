@@ -31,8 +31,8 @@ const ENOUGH: Limits = Limits {
     values: 3,
 };
 
-/// How a connection ended, what was written, and how many commands were executed. One millisecond
-/// passes on the host's clock before each command.
+/// How a connection ended, the bytes that were written, and the number of commands executed. One
+/// millisecond passes on the host's clock before each command.
 #[derive(Drop)]
 struct End {
     outcome: Result<u64, ServeFault>,

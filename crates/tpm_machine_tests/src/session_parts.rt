@@ -29,11 +29,11 @@ const NONCE_TPM: &[u8] = &[0xbb; 16];
 /// The command code of TPM2_PCR_Event.
 const CODE: u32 = 0x13c;
 
-/// The hash that `command_hash` must return.
+/// The expected result of `command_hash`.
 const COMMAND_HASH: &[u8] = b"\x3c\x31\x76\x2c\x00\x6e\x41\xf9\x21\xdc\x4a\xd8\xac\x22\xff\x90\
     \x93\xac\x6b\xdd\xe5\xf6\xed\x09\xd4\xcc\x24\xef\xf7\x08\x8e\xcb";
 
-/// The hash that `response_hash` must return.
+/// The expected result of `response_hash`.
 const RESPONSE_HASH: &[u8] = b"\xf1\x3a\x65\xc8\x44\x28\xe6\x4a\x87\x2d\x9d\x4d\xe4\x53\xb9\x3f\
     \x44\x0a\x92\x38\x60\x94\x71\x3e\x28\xd1\xa5\x87\x7e\x2d\x7d\x46";
 

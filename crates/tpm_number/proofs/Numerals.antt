@@ -1,4 +1,4 @@
--- The number that digits of a radix encode.
+-- Lemmas about the number that digits of a radix encode.
 use Rattle.std.proofs.Common.{◌≡◌, ℕ, zero, suc, ◌<◌, ◌≤◌, ◌^◌, ◌-◌, ◌≢◌, true, false, List, [], ◌∷◌, length, slice_index, Result, Ok, Err, Some, arith, subst, refl, ap, sym, ◌∙◌}
 use Rattle.std.specs.Bool.{Decides}
 use Rattle.std.specs.Char.{digit_value}

@@ -36,7 +36,7 @@ unfoldable pub number_of : List ℕ → Option ℕ
 number_of token =
     if starts_with nat_eq token (codes "0x") then numeral 16 (drop 2 token) else numeral 10 token
 
--- the number that was read; the fault is Bad if there is none, Range if it exceeds this limit
+-- the number that was read; the fault is Bad if there is no number, Range if it exceeds this limit
 unfoldable pub at_most : ℕ → Option ℕ → Result ℕ TokenFault
 at_most most written = do
   number ← ok_or written Bad

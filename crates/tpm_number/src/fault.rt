@@ -1,6 +1,6 @@
-//! The reason why a token is not the expected one.
+//! Why a token is refused.
 
-/// The reasons why a token is not the expected one.
+/// Why a token is refused.
 #[derive(Clone, Copy, PartialEq, Eq)]
 pub enum TokenFault {
     /// The token is not of the right form.

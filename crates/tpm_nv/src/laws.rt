@@ -1,5 +1,4 @@
-//! Laws that show that NV indices form a map keyed by handle, and that indices in fixed-size
-//! storage need no allocation.
+//! NV indices form a map keyed by handle, and indices in fixed-size storage need no allocation.
 
 ghost use Rattle.std.specs.Prelude.{◌≡◌, false};
 ghost use Rattle.tpm_containers.specs.IsSortedMap.{IsSortedMap};

@@ -1,4 +1,4 @@
--- Checks in sequence: the first one that applies refuses.
+-- Checks in sequence: the first check that applies refuses.
 use Rattle.std.specs.Prelude.{Bool, List, [], ◌∷◌, if◌then◌else◌, Result, Ok, Err}
 use Rattle.std.specs.List.{list_any}
 

@@ -150,7 +150,7 @@ pub fn wrap_named(parent: &Object, name: &Name, sensitive: &Sensitive, iv: &[u8;
     text
 }
 
-/// The protected bytes of a private area, if the integrity value at its front is correct.
+/// The protected bytes of a private area, if the integrity value at its beginning is correct.
 #[tactic(auto, unfolding(crate::specs::PrivateArea::protected_in))]
 fn protected_in<'a>(
     parent: &Object,

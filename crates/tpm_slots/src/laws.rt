@@ -1,4 +1,4 @@
-//! The law that the state in fixed slots never runs out of memory.
+//! A device with its state in fixed slots never runs out of memory.
 
 ghost use Rattle.std.specs.Prelude.{◌≡◌, false};
 
@@ -10,8 +10,9 @@ use tpm_record::{Keep, PersistentObjects};
 use tpm_session::Session;
 use tpm_types::{OBJECT_LIMIT, SESSION_LIMIT};
 
-/// For the state in fixed slots an allocation never fails, neither when it is created nor when it
-/// grows. The same holds for each of its containers. A proof only: it has no effect at run time.
+/// For the state in fixed slots an allocation never fails, neither when the state is created nor
+/// when it grows. The same holds for each of its containers. A proof only: it has no effect at run
+/// time.
 #[inline(always)]
 pub fn fixed_laws()
     ensures never_refused { ⟦<SlotKeep as Keep>⟧.can_refuse ≡ false }

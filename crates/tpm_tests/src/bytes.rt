@@ -63,7 +63,7 @@ fn a_sink_takes_what_fits(rt: HostRuntime) {
     );
 }
 
-/// What a device does at each call.
+/// What a device does when it is called.
 #[derive(Clone, Copy)]
 enum Conduct {
     /// The device reads or writes one byte, if the buffer has space for it.
@@ -83,7 +83,7 @@ impl Conduct {
     }
 }
 
-/// A reader and writer that behaves in each of these ways in turn, and afterwards reads or writes
+/// A reader and writer that behaves in each of these ways in turn, and then reads or writes
 /// nothing.
 #[derive(Drop)]
 struct Device {
@@ -235,7 +235,8 @@ impl Write for CountedDevice {
     }
 }
 
-/// How often a device that behaves in this way is called by a read, by a write, and by a flush.
+/// The number of calls of a device that behaves in this way, for a read, for a write, and for a
+/// flush.
 fn calls_of(conduct: Conduct, bytes: &[u8]) -> [u32; 3] {
     let calls = 0;
     let mut read = Tap::new(CountedDevice { conduct, calls });

@@ -109,8 +109,8 @@ fn bytes_of_the_s_box(rt: HostRuntime) {
     }
 }
 
-// A prefix of a text encrypts to a prefix of its ciphertext, because each block depends only on
-// those before it.
+// The ciphertext of a text's prefix is a prefix of the text's ciphertext, because each block
+// depends only on the blocks before it.
 #[test]
 fn feedback_of_every_length_there_and_back(rt: HostRuntime) {
     let cipher = Aes128::new(&KEY);

@@ -57,7 +57,7 @@ fn has_name(text: &[u8], name: &[u8]) -> bool {
     }
 }
 
-/// The error for a public area without its size, if it is refused.
+/// The error for a public area without its size, if the area is refused.
 fn fault_of(text: &[u8]) -> Option<ResponseCode> {
     match NvPublic::read(&mut Cursor::new(text)) {
         Ok(_) => None,

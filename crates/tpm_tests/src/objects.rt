@@ -43,7 +43,7 @@ fn given_of(text: &[u8]) -> Option<SensitiveCreate> {
     SensitiveCreate::read_sized(&mut Cursor::new(text)).ok()
 }
 
-/// The primary object made from a template and its other input.
+/// The primary object that is made from a template and its other input.
 fn primary_of(template: &[u8], given: &[u8]) -> Option<Object> {
     let (template, given) = (public_of(template)?, given_of(given)?);
     Some(derive_primary(HierarchyHandle::Owner, SEED, &template, &given))
@@ -105,7 +105,7 @@ fn a_primary_object_has_the_name_that_was_computed_outside(rt: HostRuntime) {
     check(&rt, is_named(primary_of(STORAGE, NOTHING), NAME), false);
 }
 
-/// Whether the template is refused, and whether its other input is.
+/// Whether the template is refused, and whether its other input is refused.
 fn faults_of(template: &[u8], given: &[u8]) -> Option<(bool, bool)> {
     let (template, given) = (public_of(template)?, given_of(given)?);
     let is_fixed_wrongly = check_template(&template, false) == Err(TemplateFault::Attributes);

@@ -1,4 +1,4 @@
--- Adding authorization areas to a draft, and putting headers before it.
+-- Lemmas about a draft to which an authorization area is added, and whose header is written last.
 use Rattle.std.proofs.Common.{◌≡◌, ℕ, ◌+◌, ◌-◌, ◌≤◌, Ok, List, ◌++◌, length, take, drop, Option, Some, None, IfSome, subst, refl, sym, ap, ◌∙◌, arith}
 use Rattle.std.specs.Option.{option_map}
 use Rattle.std.specs.Int.{w32, to_be_bytes}
@@ -23,7 +23,8 @@ no_area old = refl
 pub taken_size : (draft : Draft) (size : ℕ) → draft.used ≡ Some size → length (take size draft.bytes) ≡ size
 taken_size draft size e = let small = draft.within size e in length-take-le size draft.bytes (omega (arith, small, draft.capacity))
 
--- If a header overwrites the first ten bytes, the text is the header and the bytes after it.
+-- If a header overwrites the first ten bytes, the text consists of the header and the bytes after
+-- the first ten.
 pub headed : (header bytes : List ℕ) (size : ℕ) → length header ≡ 10 → 10 ≤ size → take size (header ++ drop 10 bytes) ≡ header ++ drop 10 (take size bytes)
 headed header bytes size ten large =
     let whole : length header + (size - 10) ≡ size = omega (arith, ten) in

@@ -1,4 +1,4 @@
--- A line, read part by part.
+-- Lemmas about a line whose parts are read one after another.
 use Rattle.tpm_types.specs.Limits.{buffer_limit}
 use Rattle.std.proofs.Common.{◌≡◌, ℕ, ◌+◌, ◌≤◌, Bool, true, false, cond, List, [], ◌∷◌, ◌++◌, length, drop, Option, Some, None, IfSome, Result, Ok, Err, refl, sym, ap, ◌∙◌, subst, arith, length-append}
 use Rattle.std.specs.Prelude.{nat_le, nat_lt}
@@ -68,8 +68,8 @@ sessions_err (Err other) old new (Err found) fault left e h = ap Err (sym h ∙ 
 
 -- ---- the authorization area
 
--- If an area is written to a draft of its own and then added, the draft is extended by the size of
--- the entries and the entries.
+-- If an area is written to a draft of its own and then added, the other draft is extended by the
+-- size of the entries and the entries.
 area_is : (old area : Option (List ℕ)) (text : List ℕ) → area ≡ grown (Some []) text → with_area old area ≡ grown old (to_be_bytes w32 (length text) ++ text)
 unfolding with_area
 area_is old area text e = by (nat_le (length text) buffer_limit) refl

@@ -15,7 +15,7 @@ use Rattle.tpm_text.proofs.Growing.{grown-grown}
 use Rattle.tpm_number.specs.declared.fault.TokenFault.{TokenFault}
 use Rattle.tpm_number.specs.declared.fault.TokenFault.TheVariants.{Bad}
 
--- the first part of the encoding of a password's entry, before the size of the password
+-- the first part of a password entry's encoding, before the size of the password
 abbrev pub password_front : List ℕ
 password_front = to_be_bytes w32 password_handle.number ++ 0 ∷ 0 ∷ 1 ∷ []
 
@@ -27,7 +27,7 @@ password_text password = by (bytes_in password)
     by (Ok bytes) = refl
     by (Err fault) = refl
 
--- Five pieces are not the entry of a session.
+-- A token with five or more pieces is not the entry of a session.
 five_are_bad : (a b c d : List ℕ) (others : List (List ℕ)) → 0 < length others → session_pieces_of (a ∷ b ∷ c ∷ d ∷ others) ≡ Err Bad
 five_are_bad a b c d [] some = absurd (omega (arith, some))
 five_are_bad a b c d (e ∷ others) some = refl

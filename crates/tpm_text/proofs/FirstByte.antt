@@ -1,4 +1,4 @@
--- The position of the first byte that passes a test.
+-- A search finds the position of the first byte that passes a test.
 use Rattle.std.proofs.Common.{◌≡◌, ℕ, Bool, List, length, slice_index, Option, Some, None, arith}
 use Rattle.std.proofs.lemmas.Bool.{false_from_ne_true}
 use Rattle.std.proofs.lemmas.Grind.{common_steps}
@@ -6,7 +6,7 @@ use Rattle.std.proofs.lemmas.List.Sums.{position_or_len_is}
 use Rattle.std.specs.List.{position, position_or_len}
 use Rattle.memchr.specs.Find.{IsFirstByte}
 
--- If a search found this position, it is the first whose byte passes the test.
+-- If a search found this position, it is that of the first byte that passes the test.
 pub first_place : (test : ℕ → Bool) (bytes : List ℕ) (result : Option ℕ) → IsFirstByte test bytes result
     → result ≡ position test bytes
 first_place test bytes None nowhere =

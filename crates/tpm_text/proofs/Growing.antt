@@ -1,4 +1,4 @@
--- Adding one encoding after another to a draft.
+-- Lemmas about adding one encoding after another to a draft.
 use Rattle.tpm_types.specs.Limits.{buffer_limit}
 use Rattle.std.proofs.Common.{◌≡◌, ℕ, ◌+◌, ◌<◌, ◌≤◌, Bool, true, false, List, ◌++◌, length, Option, Some, None, Result, Ok, Err, refl, sym, ap, ◌∙◌, arith, append_assoc, length-append}
 use Rattle.std.specs.Prelude.{nat_le}
@@ -36,8 +36,7 @@ grown-grown (Some text) a b = by (nat_le (length text + length a) buffer_limit) 
         let long = leb-false _ _ e in
         ap (λ d. grown d b) (spills text a long) ∙ none_grows b ∙ sym (spills text (a ++ b) (omega (arith, long, length-append a b)))
 
--- If the first part of an encoding is written, and then the rest, the whole encoding has been
--- written.
+-- If the first part of an encoding is written, and then the rest, the whole encoding is written.
 pub drafted_behind : {E : Type 0} (front : List ℕ) (rest : Result (List ℕ) E) (old middle : Option (List ℕ)) (result : Result (Unit {0}) E) (new : Option (List ℕ))
     → middle ≡ grown old front → Drafts rest middle result new → Drafts (rest >>= λ bytes. Ok (front ++ bytes)) old result new
 drafted_behind front (Ok bytes) old middle (Ok done) new m h = h ∙ ap (λ d. grown d bytes) m ∙ grown-grown old front bytes
@@ -45,7 +44,7 @@ drafted_behind front (Ok bytes) old middle (Err fault) new m h = absurd h
 drafted_behind front (Err fault) old middle (Ok done) new m h = absurd h
 drafted_behind front (Err fault) old middle (Err found) new m h = h
 
--- If a size is written, and then bytes of that size, a sized buffer has been written.
+-- If a size is written, and then as many bytes, a sized buffer is written.
 pub sized_behind : {E : Type 0} (count : ℕ) (rest : Result (List ℕ) E) (old middle : Option (List ℕ)) (result : Result (Unit {0}) E) (new : Option (List ℕ))
     → ((bytes : List ℕ) → rest ≡ Ok bytes → count ≡ length bytes) → middle ≡ grown old (to_be_bytes w16 count) → Drafts rest middle result new
     → Drafts (rest >>= λ bytes. Ok (sized_text bytes)) old result new
@@ -54,7 +53,7 @@ sized_behind count (Ok bytes) old middle (Err fault) new size m h = absurd h
 sized_behind count (Err fault) old middle (Ok done) new size m h = absurd h
 sized_behind count (Err fault) old middle (Err found) new size m h = h
 
--- If bytes longer than a command may be are added, the draft has no text, whatever was written
+-- If more bytes are added than a command may have, the draft has no text, whatever was written
 -- before.
 pub too_much : (draft : Option (List ℕ)) (bytes : List ℕ) → buffer_limit < length bytes → grown draft bytes ≡ None
 too_much None bytes long = none_grows bytes

@@ -1,4 +1,4 @@
--- The bytes that hex digits encode.
+-- Lemmas about the bytes that hex digits encode.
 use Rattle.tpm_types.specs.Limits.{buffer_limit}
 use Rattle.std.proofs.Common.{◌≡◌, ℕ, ◌+◌, ◌*◌, ◌/◌, ◌<◌, ◌%◌, true, false, List, [], length, Some, None, Result, Ok, Err, refl, arith}
 use Rattle.std.proofs.lemmas.Bool.{lt-leb}
@@ -18,7 +18,7 @@ use Rattle.tpm_number.specs.declared.fault.TokenFault.TheVariants.{Bad}
 pub odd_is_bad : (digits : List ℕ) → length digits % 2 ≡ 1 → IsChecked (hex_in digits) (Err Bad)
 odd_is_bad digits odd = rw (decode_of-odd digits odd) refl
 
--- The decoder refuses a byte that is not a hex digit.
+-- Digits are refused if one of them is not a hex digit.
 decoded_are_digits : (digits : List ℕ) (read : Result (List ℕ) FromHexError) → decode_of digits ≡ read → list_all is_hex_digit digits ≡ false → IsChecked (or_fault read Bad) (Err Bad)
 decoded_are_digits digits (Ok bytes) e other = let all = list_all-from_AllPass is_hex_digit digits (decode_of-ok digits bytes e).1 in absurd cc
 decoded_are_digits digits (Err fault) e other = refl
@@ -32,7 +32,7 @@ digits_are_good digits even all = rw ((decode_of-digits digits (omega (arith, ev
 
 pub ruleset hex_digits = (odd_is_bad, other_is_bad, digits_are_good)
 
--- No digits encode no bytes.
+-- An empty text of digits encodes no bytes.
 pub none_is_good : hex_in [] ≡ Ok []
 unfolding decode_pairs
 none_is_good = refl

@@ -1,4 +1,4 @@
--- Tokens that are read one after another, and the encodings that are written for them.
+-- Lemmas about tokens that are read one after another, and the encodings that are written for them.
 use Rattle.tpm_types.specs.Limits.{buffer_limit}
 use Rattle.std.proofs.Common.{◌≡◌, ℕ, zero, suc, ◌≤◌, true, false, List, [], ◌∷◌, ◌++◌, length, take, Option, Some, None, Result, Ok, Err, refl, sym, ap, ◌∙◌, append-nil, arith}
 use Rattle.std.specs.Option.{ForSome, option_map}
@@ -33,8 +33,8 @@ same_size bytes (Some size) h = fits (take size bytes) [] (let small = h size re
 pub nothing_grows : (draft : Draft) → grown (drafted draft) [] ≡ drafted draft
 nothing_grows draft = same_size draft.bytes draft.used draft.within
 
--- If the first part that was read is written before the others, the encoding of the whole has been
--- written.
+-- If the encoding of the first value is written before those of the other values, the encoding of
+-- all values is written.
 pub laid_behind : {A E : Type 0} (text : A → List ℕ) (front : List ℕ) (join : A → A) → ((x : A) → text (join x) ≡ front ++ text x)
     → (rest : Result (A × List Token) E) (old middle : Option (List ℕ)) (result : Result (Unit {0}) E) (new : Option (List ℕ)) (left : List Token)
     → middle ≡ grown old front → DraftsRead text rest middle result new left → DraftsRead text (rest >>= λ others. Ok (join others.0, others.1)) old result new left

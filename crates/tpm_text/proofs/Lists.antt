@@ -1,4 +1,4 @@
--- Pieces of a token that are read one after another.
+-- Lemmas about the pieces of a token, which are read one after another.
 use Rattle.std.proofs.Common.{◌≡◌, ℕ, List, [], ◌∷◌, Option, Result, Ok, Err, refl, sym, ap, ◌∙◌, append-nil}
 use Rattle.std.specs.List.{flat_map, fold}
 use Rattle.tpm_bytes.specs.Reading.{◌>>=◌}
@@ -60,8 +60,8 @@ elements_last : (element : Element) (draft : Option (List ℕ)) (text piece : Li
 unfolding elements_left elements_text each_in
 elements_last element draft text piece e = ap (λ first. first >>= (λ first. Ok (first ∷ [])) >>= (λ texts. Ok (flat_map (λ text. text) texts)) >>= λ text. Ok (grown draft text)) e ∙ ap (λ l. Ok (grown draft l)) (append-nil text)
 
--- If one more element is written, or a fault occurs, the result for the remaining elements is the
--- same as before.
+-- If the next element is written, the elements after it determine the result; if it is the last,
+-- the result is the draft; if it has a fault, the result is this fault.
 pub put_more : (element : Element) (old new : Option (List ℕ)) (piece : List ℕ) (pieces : List (List ℕ)) (result : Result (Unit {0}) TokenFault) → result ≡ Ok tt → Drafts (element_text element piece) old result new
     → elements_left element old (piece ∷ pieces) ≡ elements_left element new pieces
 put_more element old new piece pieces result e h = by (element_text element piece) refl result e h
@@ -92,7 +92,7 @@ put_stopped element old new piece pieces result fault e h = by (element_text ele
     by (Err other) is (Ok done) e h = absurd h
     by (Err other) is (Err found) e h = elements_stopped element old other piece pieces is ∙ ap Err (sym h ∙ cc)
 
--- The remaining elements determine the result for the whole list.
+-- The result for the remaining elements determines the result for the whole list.
 pub elements_drafted : (element : Element) (old : Option (List ℕ)) (pieces : List (List ℕ)) (result : Result (Unit {0}) TokenFault) (new : Option (List ℕ))
     → elements_left element old pieces ≡ (result >>= λ done. Ok new) → Drafts (elements_text element pieces) old result new
 unfolding elements_left

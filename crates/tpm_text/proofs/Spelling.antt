@@ -58,7 +58,7 @@ octet_below piece octet e =
 
 -- ---- entries
 
--- The numbers of an entry that was read fit their fields; its sizes are not included.
+-- The numbers of an entry that was read fit their fields; the lemma after it covers its sizes.
 abbrev Spells : Entry → Type 0
 Spells entry = (entry.session.number < 2 ^ 32) × (entry.attributes.octet < 2 ^ 8)
 

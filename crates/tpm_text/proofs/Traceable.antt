@@ -1,4 +1,4 @@
--- The row of a step is in the table, and the response to a command contains a header.
+-- The row of every step is in the table, and the response to every command contains a header.
 use Rattle.std.proofs.Common.{◌≡◌, ℕ, ◌≤◌, ◌⊎◌, inl, inr, Bool, true, false, cond, List, [], ◌∷◌, length, Option, Result, Ok, Err, refl, sym, subst, arith}
 use Rattle.tpm_bytes.specs.Reading.{◌>>=◌}
 use Rattle.tpm_types.specs.Rc.{rc_number}
@@ -21,7 +21,7 @@ use Rattle.tpm_step.specs.Step.{Accepted, Stepped, acceptance, accepted, answer_
 use Rattle.tpm_step.specs.declared.refused_command.RefusedCommand.{RefusedCommand}
 use Rattle.tpm_text.specs.Trace.{IsRow, IsTraceable}
 
--- A refusal names a supported command, or none.
+-- A refusal contains the number of a supported command, or 0.
 abbrev Names : {X : Type 0} → Result X RefusedCommand → Type 0
 Names (Ok x) = Unit {0}
 Names (Err e) = (e.code ≡ 0) ⊎ ((code : CommandCode) × (e.code ≡ code_number code))
@@ -50,7 +50,7 @@ named_accepted r buffer locality random =
     named_on (general r buffer) (λ command. in_command command.code (acceptance r command locality random)) (named_general r buffer)
     (λ command. named_in_command command.code (acceptance r command locality random))
 
--- A response contains a header.
+-- A framed response has at least the ten bytes of a header.
 framed_long : (tag code : ℕ) (body : List ℕ) → 10 ≤ length (framed tag code body)
 framed_long tag code body = omega arith
 

@@ -10,7 +10,7 @@ use Rattle.tpm_text.specs.declared.fault.AsmFault.{AsmFault}
 use Rattle.tpm_text.specs.declared.fault.AsmFault.TheVariants.{TooLong}
 use Rattle.tpm_text.specs.declared.draft.Draft.{Draft}
 
--- the bytes of a draft so far; None once there were more than a command may have
+-- the bytes of a draft so far; None if there were more than a command may have
 abbrev pub drafted : Draft → Option (List ℕ)
 drafted draft = option_map (λ size. take size draft.bytes) draft.used
 
@@ -38,7 +38,8 @@ Drafts (Ok text) old (Ok done) new = new ≡ grown old text
 Drafts (Err fault) old (Err found) new = found ≡ fault
 Drafts _ old _ new = ⊥
 
--- The code finished the command of its definition, or failed with the fault of its definition.
+-- The draft contains the whole command that the definition returns, or the call returned the fault
+-- of the definition.
 abbrev pub Finishes : {E : Type 0}
     → Result (List ℕ) E → Result (Unit {0}) E → Option (List ℕ) → Type 0
 Finishes (Ok text) (Ok done) new = new ≡ Some text

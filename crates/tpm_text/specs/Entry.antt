@@ -47,7 +47,7 @@ password_entry password = do
     hmac = bytes;
   })
 
--- the pieces of a session's entry: handle, nonce, attributes, HMAC
+-- the pieces of a token that encodes the entry of a session: handle, nonce, attributes, HMAC
 pub record SessionPieces : Type 0 where
   pub session : List ℕ
   pub nonce : List ℕ
@@ -80,7 +80,7 @@ begins_password token = starts_with nat_eq token (codes "pw:")
 abbrev pub begins_session : List ℕ → Bool
 begins_session token = starts_with nat_eq token (codes "s:")
 
--- whether a token is read as an entry
+-- whether a token begins like an entry: with pw: or s:
 abbrev pub begins_entry : List ℕ → Bool
 begins_entry token = begins_password token || begins_session token
 

@@ -1,4 +1,4 @@
--- The pieces of a session's entry, as the code finds them.
+-- The pieces of a token that encodes the entry of a session, as the code finds them.
 use Rattle.tpm_text.specs.declared.entry.SessionPieces as declared
 use Rattle.tpm_text.specs.Entry.{SessionPieces}
 

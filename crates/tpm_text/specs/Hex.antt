@@ -16,7 +16,7 @@ bytes_in token =
     if is_word (codes "-") token then Ok []
     else (if length token == 0 then Err Bad else hex_in token)
 
--- A check succeeded, and its definition has a value; or it failed with the fault of its
+-- A check succeeded, and its definition returns a value; or it failed with the fault of its
 -- definition.
 abbrev pub IsChecked : {X E : Type 0} → Result X E → Result (Unit {0}) E → Type 0
 IsChecked (Ok x) (Ok done) = Unit {0}

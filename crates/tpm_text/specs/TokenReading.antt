@@ -1,4 +1,4 @@
--- Reads tokens, and writes the encoding of what they say.
+-- The effects of calls that read tokens and write the encodings of their values.
 use Rattle.std.specs.Prelude.{◌≡◌, ℕ, Bool, true, false, List, [], ◌∷◌, Option, Some, None, Result, Ok, Err}
 use Rattle.tpm_types_command.specs.declared.tag.Tag.{Tag}
 use Rattle.tpm_types_command.specs.AuthEntry.{Entry}
@@ -9,15 +9,15 @@ use Rattle.tpm_text.specs.Pieces.{Token}
 use Rattle.tpm_text.specs.declared.fault.AsmFault.{AsmFault}
 use Rattle.tpm_text.specs.declared.fault.AsmFault.TheVariants.{Missing}
 
--- The tokens were read as the definition says. If it returns a value, the value's encoding was
--- written, and the same tokens remain; otherwise its fault was returned.
+-- The tokens were read as the definition says. If the definition returns a value, the encoding of
+-- the value was written, and the same tokens remain; otherwise the definition's fault was returned.
 abbrev pub DraftsRead : {A E : Type 0} → (A → List ℕ) → Result (A × List Token) E
     → Option (List ℕ) → Result (Unit {0}) E → Option (List ℕ) → List Token → Type 0
 DraftsRead text (Ok read) old (Ok done) new left = (new ≡ grown old (text read.0)) × (left ≡ read.1)
 DraftsRead text (Err fault) old (Err found) new left = found ≡ fault
 DraftsRead text _ old _ new left = ⊥
 
--- The first token was taken; or there was none, and the fault says so.
+-- The first token was taken; or there was no token, and the fault is Missing.
 abbrev pub Takes : {X : Type 0} → (X → Token) → List Token → Result X AsmFault → List Token → Type 0
 Takes view old (Ok token) new = old ≡ view token ∷ new
 Takes view old (Err found) new = (old ≡ []) × (found ≡ Missing)
@@ -34,8 +34,8 @@ TakesEntry view old (Some token) new =
     (old ≡ view token ∷ new) × (begins_entry (view token).text ≡ true)
 TakesEntry view old None new = (new ≡ old) × (first_is_entry old ≡ false)
 
--- The tokens were read as the definition says. If it returns a value, that value was returned,
--- and the same tokens remain; otherwise its fault was returned.
+-- The tokens were read as the definition says. If the definition returns a value, the call returned
+-- that value, and the same tokens remain; otherwise it returned the definition's fault.
 abbrev pub ReadsTokens : {X A E : Type 0} → (X → A) → Result (A × List Token) E
     → Result X E → List Token → Type 0
 ReadsTokens view (Ok read) (Ok x) left = (read.0 ≡ view x) × (left ≡ read.1)

@@ -18,7 +18,7 @@ use tpm_types_command::{HEADER_SIZE, Tag};
 #[derive(Drop)]
 pub struct Draft {
     bytes: [u8; BUFFER_LIMIT],
-    /// The number of bytes written; None once there were too many.
+    /// The number of bytes written; None after the command became too long.
     used: Option<usize>,
     ghost capacity: { length bytes ≡ buffer_limit },
     ghost within: { ForSome used (λ size. size ≤ buffer_limit) },
@@ -127,7 +127,7 @@ impl Draft {
         Ok(())
     }
 
-    /// The bytes so far, or an empty slice once there were too many.
+    /// The bytes so far, or an empty slice if the command became too long.
     pub fn as_slice(&self) -> &[u8]
         ensures value { IfSome (drafted self.now) (λ text. result.now ≡ text) }
         ensures small { length result.now ≤ buffer_limit }

@@ -1,5 +1,5 @@
-//! Handles and authorization entries in words. An entry is a password, or a session with nonce,
-//! attributes and HMAC.
+//! Handles and authorization entries in words. An entry is a password, or a session with a nonce,
+//! attributes and an HMAC.
 
 ghost use Rattle.std.specs.Prelude.{◌≡◌};
 ghost use Rattle.tpm_text.specs.Draft.{Drafts, drafted};
@@ -65,7 +65,7 @@ fn octet_in(piece: &[u8]) -> Result<u8, TokenFault>
     Ok(octet[0])
 }
 
-/// The pieces of a session's entry: handle, nonce, attributes, HMAC.
+/// The pieces of a token that encodes the entry of a session: handle, nonce, attributes and HMAC.
 #[derive(Clone, Copy)]
 struct SessionPieces<'a> {
     session: &'a [u8],
@@ -119,7 +119,7 @@ fn put_session(text: &[u8], draft: &mut Draft) -> Result<(), TokenFault>
     draft.put_buffer(pieces.hmac)
 }
 
-/// Whether a token is read as an entry.
+/// Whether a token begins like an entry: with `pw:` or `s:`.
 pub fn begins_entry(token: &[u8]) -> bool
     ensures { result ≡ begins_entry token.now }
 {

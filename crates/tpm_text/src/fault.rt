@@ -18,7 +18,7 @@ pub enum AsmFault {
     Missing,
     /// A number in the token at this column is too large.
     Range { column: usize },
-    /// The command would exceed the size of a buffer, and nothing else is wrong.
+    /// The command would be larger than a buffer, and nothing else is wrong.
     TooLong,
     /// An allocation failed, and nothing is wrong with the line.
     NoMemory,

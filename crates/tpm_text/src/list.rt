@@ -18,7 +18,7 @@ use tpm_mac::HashAlg;
 use tpm_number::{TokenFault, is_word, number_in};
 use tpm_types::{BankSelection, PcrIndex, PcrSelect, hash_number};
 
-/// The hash algorithm before the first colon, and all text after the colon.
+/// Returns the hash algorithm that is named before the first colon, and all text after the colon.
 #[tactic(auto, unfolding(crate::specs::Parameter::hash_and_rest_in))]
 fn hash_and_rest_in(piece: &[u8]) -> Result<(HashAlg, &[u8]), TokenFault>
     ensures { Gives (λ pair. (pair.0, pair.1.now)) (hash_and_rest_in piece.now) result }

@@ -43,7 +43,7 @@ pub struct Token<'a> {
 pub struct Tokens<'a> {
     /// The size of the whole line.
     size: usize,
-    /// The text after the last space that was passed; None after the last token.
+    /// The text after the last space that was passed; None after the last token was taken.
     rest: Option<&'a [u8]>,
     ghost within: { ForSome rest (λ text. length text.now ≤ size) },
     ghost small: { size < 2 ^ 63 },
@@ -52,7 +52,7 @@ pub struct Tokens<'a> {
 impl<'a> Token<'a> {
     ghost use Rattle.tpm_text.specs.Fault.{at_column};
 
-    /// Returns the result of reading the token. If it is a fault, adds the token's column.
+    /// Returns the result of reading the token. A fault becomes a fault at the token's column.
     pub fn told<T>(self, read: Result<T, TokenFault>) -> Result<T, AsmFault>
         ensures { result ≡ at_column self.entry.column read }
     {
@@ -68,7 +68,7 @@ impl<'a> Tokens<'a> {
     ghost use Rattle.tpm_text.specs.Pieces.{TakesFirst, token_of, tokens_of};
     ghost use Rattle.tpm_text.specs.Tokens.{tokens_left};
 
-    /// All tokens of a line. There is at least one, which may be empty.
+    /// All tokens of a line. There is at least one token, which may be empty.
     #[tactic(auto, unfolding(crate::specs::Pieces::tokens_of))]
     pub fn of(line: &'a [u8]) -> Tokens<'a>
         ensures { tokens_left result ≡ tokens_of line.now }

@@ -1,4 +1,5 @@
-//! The trace of an event: one line with the command, its locality, its row and its response code.
+//! The trace of an event: one line with the command, its locality, its row in the table and its
+//! response code.
 
 ghost use Rattle.std.specs.Prelude.{◌≡◌, ℕ, ◌+◌, ◌≤◌, ◌++◌, ◌⊎◌, Bool, length, codes, IfOk};
 ghost use Rattle.std.specs.Fmt.{decimal};

@@ -114,7 +114,7 @@ whole_later grown more all n same size less =
     not_whole grown (λ m own.
     let e = some_is m n (sym (size_longer grown more m own) ∙ ap buffer_size same ∙ size) in omega (arith, e, less))
 
--- a complete buffer is cut off, followed by the buffers after it
+-- the buffer that these bytes complete is cut off first, and then the buffers after it
 ends_here : (done : List (List ℕ)) (grown more all : List ℕ) (n : ℕ) → grown ++ more ≡ all → length grown ≡ n → 6 ≤ n → fold with_byte (uncut (done ++ grown ∷ []) (is_last grown)) more ≡ fold with_byte (uncut (done ++ take n all ∷ []) (is_last all)) (drop n all)
 ends_here done grown more all n same here six =
     let front : take n all ≡ grown = rw (← here, ← same) (take-append_seam grown more) in
@@ -122,7 +122,7 @@ ends_here done grown more all n same here six =
     let last : is_last all ≡ is_last grown = rw (← same) (last_shorter grown more (omega (arith, here, six))) in
     rw (front, behind, last) refl
 
--- bytes that complete a buffer add this buffer to the cut, followed by the buffers after it
+-- bytes that complete a buffer add to the cut this buffer and the buffers after it
 completed : (done : List (List ℕ)) (rest more all : List ℕ) (n : ℕ) → rest ++ more ≡ all → buffer_size all ≡ Some n → length rest < n → n ≤ length all → fold with_byte (begun done rest) more ≡ fold with_byte (uncut (done ++ take n all ∷ []) (is_last all)) (drop n all)
 completed done rest [] all n is size less fits = absurd (omega (arith, ap length is, length-append rest []))
 completed done rest (byte ∷ more) all n is size less fits =
@@ -154,7 +154,7 @@ byte_stays c byte = by c.ended
 
 -- ---- the next buffer of a stream
 
--- cutting a stream cuts off its next buffer, if the buffer is complete
+-- if the next buffer is complete, cutting the stream cuts off this buffer first
 next_if : (done : List (List ℕ)) (taken : List ℕ) (n : ℕ) (c : Cut) → buffer_size taken ≡ Some n → cut_within n (is_last taken) taken ≡ Some c → cut_with done (record { taken = taken; ended = false }) ≡ cut_with (done ++ c.buffer ∷ []) c.after
 next_if done taken n c size is = by (nat_le n (length taken)) refl is
   where
@@ -249,7 +249,8 @@ next_shorter s c is = by s.ended s.taken (buffer_size s.taken) refl is
 
 -- ---- streams that continue
 
--- The cut of a stream with more bytes continues the cut of the stream.
+-- Cutting a stream and then adding bytes to its cut has the same result as cutting the stream with
+-- these bytes.
 pub cut_fed : (done : List (List ℕ)) (s : Stream) (bytes : List ℕ) → fold with_byte (cut_with done s) bytes ≡ cut_with done (fed s bytes)
 cut_fed done s bytes = sym (fold-append with_byte (uncut done s.ended) s.taken bytes)
 

@@ -123,7 +123,7 @@ ends_so g held mid holds before after reader cut asked at first more asking left
 ends_so g held mid holds before after reader cut asked at first more asking left fault.Full is asks written f = absurd f
 ends_so g held mid holds before after reader cut asked at first more asking left fault.Read is asks written f = absurd f
 
--- ---- what a witness is notified of
+-- ---- the notifications of a witness
 
 pub notes_one : {S : Type 0} (notes : S → Execution → S → Type 0) (old mid new : S) (executions : List Execution) (one : Execution) → NotesEach notes old executions mid → notes mid one new → NotesEach notes old (executions ++ one ∷ []) new
 notes_one notes old mid new executions one told also = FoldsTo-push notes old executions mid one new told also

@@ -1,4 +1,4 @@
--- The history of a machine after turns of connections.
+-- Lemmas about the history of a machine after turns of connections.
 use Rattle.std.proofs.Common.{◌≡◌, ℕ, Bool, Option, Some, None, Result, Ok, Err, sym, subst}
 use Rattle.tpm_containers.specs.Slots.{at_place}
 use Rattle.tpm_step.specs.Step.{outcome_step}

@@ -1,5 +1,5 @@
--- The machine and the connections after a schedule of calls: one lemma for each call, and then all
--- calls.
+-- The state of the machine and the connections after a schedule of calls: one lemma for each call,
+-- and then one for all calls.
 use Rattle.std.proofs.Common.{◌≡◌, ◌≢◌, ℕ, zero, suc, ◌+◌, ◌<◌, Bool, true, false, List, [], ◌∷◌, ◌++◌, length, map, take, Option, Some, None, Result, Ok, Err, slice_set, refl, sym, ap, ◌∙◌, subst, append_assoc, get_or, length-append, inl, inr}
 use Rattle.std.specs.Prelude.{◌⊎◌, if◌then◌else◌}
 use Rattle.std.specs.List.{AllZip, FoldsTo}
@@ -29,7 +29,7 @@ use Rattle.tpm_wire.specs.declared.turn.Turn.TheVariants.{Answer, Ended, Wants}
 use Rattle.tpm_wire.proofs.Cutting.{buffers_stay, cut_next, read_more}
 use Rattle.tpm_wire.proofs.Folds.{folds_on}
 
--- There are equally many lives and streams, and each connection is served.
+-- The lists of lives and of streams have the same size, and each connection is served.
 record Serve (streams : List (Option Stream)) (lives : List (Option Life)) : Type 0 where
   pub many : length lives ≡ length streams
   pub each : (number : ℕ) → IsServed (at_place streams number) (at_place lives number)
@@ -56,7 +56,7 @@ set_served streams lives n stream life so below here = record {
         let l = at_set-other lives n number life apart in
         subst (λ (x : Option Stream). IsServed x (at_place (slice_set lives n life) number)) (sym s) (subst (λ (y : Option Life). IsServed (at_place streams number) y) (sym l) (so.each number))
 
--- a served connection with this stream has a life
+-- if a connection with this stream is served, it has a life
 life_of : (stream : Stream) (life : Option Life) → IsServed (Some stream) life → (l : Life) × (life ≡ Some l) × IsServed (Some stream) (Some l)
 life_of stream None served = absurd served
 life_of stream (Some l) served = (l, refl, served)
@@ -69,7 +69,7 @@ abbrev Happens : Bool → Record → Event → Record → Type 0
 Happens can old (Executed plain_event outcome) new = Executes can old plain_event (outcome_step new outcome)
 Happens can old PowerCycled new = new ≡ cycled old
 
--- A call led the machine through these events, and each connection is served after it.
+-- A call led the machine through these events, and each connection is served after the call.
 record Led (can : Bool) (old new : Wire) (lives : List (Option Life)) (events : List Event) : Type 0 where
   pub machine : FoldsTo (Happens can) old.machine events new.machine
   pub served : Serve new.streams lives
@@ -265,7 +265,8 @@ happens_run r new (Executed plain_event outcome ∷ events) run =
 happens_run r new (PowerCycled ∷ events) run =
     happens_run run.0 new events run.2 ∙ ap (λ (m : Record). after_all m (map plain_event_of events)) run.1
 
--- If no allocation can fail, the events of a schedule are a run.
+-- If no allocation can fail, the machine has the record to which a run of the schedule's events
+-- leads.
 pub schedules_run : SchedulesAreRuns
 schedules_run r calls new run =
     happens_run r new.machine (events_in (free 8) calls) (led_anew false r calls new run).machine

@@ -1,4 +1,4 @@
--- The pieces in which a stream is read.
+-- Lemmas about the pieces in which a stream is read.
 use Rattle.tpm_types.specs.Limits.{buffer_limit}
 use Rattle.std.proofs.Common.{◌≡◌, ℕ, ◌+◌, ◌<◌, ◌≤◌, List, [], ◌∷◌, ◌++◌, length, None, false, refl, sym, ap, subst, ◌∙◌, append-nil, append_assoc, length-append, arith}
 use Rattle.std.proofs.lemmas.Fn.{FoldsTo-push}
@@ -28,7 +28,8 @@ one_piece done more pieces read bytes s run is none lives some fits =
     FoldsTo-push (ReadsPiece (done ++ more)) [] pieces read bytes (read ++ bytes) (pieces_stay done more [] pieces read run)
     (refl, some, omega (arith, rest, fits, length-append s.taken bytes), ap (λ (c : Cutting). c.ended) whole ∙ lives, first_still _ done more first)
 
--- Another piece can be read, and more buffers executed after it.
+-- After one more piece is read and more buffers are executed, the pieces read so far still meet
+-- `ReadsPiece`.
 pub piece_more : (first more : List Execution) (pieces : List (List ℕ)) (read bytes : List ℕ) (s : Stream) → FoldsTo (ReadsPiece (buffers_of first)) [] pieces read → cut_of read ≡ cut_with (buffers_of first) s → next_of s ≡ None → s.ended ≡ false → 0 < length bytes → length (fed s bytes).taken ≤ buffer_limit → FoldsTo (ReadsPiece (buffers_of (first ++ more))) [] (pieces ++ bytes ∷ []) (read ++ bytes)
 piece_more first more pieces read bytes s run is none lives some fits =
     subst (λ (done : List (List ℕ)). FoldsTo (ReadsPiece done) [] (pieces ++ bytes ∷ []) (read ++ bytes)) (sym (buffers_more first more))

@@ -48,7 +48,7 @@ Schedules can old calls new = FoldsTo (Does can) old calls new
 
 -- ---- what follows from the calls and their results only
 
--- the life of a connection since it was opened: all bytes that it received, and all outcomes that
+-- the life of a connection: all bytes that it received since it was opened, and all outcomes that
 -- its turns returned, in order
 pub record Life : Type 0 where
   pub bytes : List ℕ
@@ -62,7 +62,7 @@ abbrev pub with_life : List (Option Life) → ℕ → (Life → Life) → List (
 with_life lives number change = slice_set lives number (option_map change (at_place lives number))
 
 -- the lives of the open connections, by number, after a call; a call that is refused, takes no
--- bytes or waits leaves them unchanged
+-- bytes or finds no complete buffer leaves them unchanged
 abbrev pub lives_after : List (Option Life) → Call → List (Option Life)
 lives_after lives (Opening (Ok connection)) = slice_set lives (number_of connection) (Some new_life)
 lives_after lives (Feeding connection piece (Ok count)) =
@@ -77,7 +77,7 @@ abbrev pub lives_after_all : List (Option Life) → List Call → List (Option L
 lives_after_all lives [] = lives
 lives_after_all lives (call ∷ calls) = lives_after_all (lives_after lives call) calls
 
--- the connection's buffer that is executed next: the first buffer of its cut without an answer
+-- the buffer that the connection executes next: the first buffer of its cut that has no answer yet
 abbrev pub buffer_due : Life → List ℕ
 buffer_due l = unwrap_or (slice_get (cut_of l.bytes).buffers (length l.answers)) []
 
@@ -102,10 +102,10 @@ abbrev pub events_in : List (Option Life) → List Call → List Event
 events_in lives [] = []
 events_in lives (call ∷ calls) = events_of lives call ++ events_in (lives_after lives call) calls
 
--- ---- the laws of schedules
+-- ---- what holds for every schedule
 
--- An execution belongs to an event: it executed the event's buffer with the event's outcome, or
--- both are power cycles.
+-- An execution belongs to an event if it executed the event's buffer with the event's outcome, or
+-- if both are power cycles.
 abbrev pub IsOf : Event → Execution → Type 0
 IsOf (Executed plain_event outcome) one =
     (one.event ≡ plain_event) × (one.seen ≡ outcome_step one.seen.after outcome)
@@ -137,7 +137,8 @@ IsServed (Some s) (Some l) =
 IsServed None (Some l) = ⊥
 IsServed (Some s) None = ⊥
 
--- After every schedule, each connection is served up to its last answer.
+-- After every schedule, each connection has executed its buffers in order, one for each of its
+-- answers.
 abbrev pub SchedulesAreServed : Type 0
 SchedulesAreServed = (can : Bool) (r : Record) (calls : List Call) (new : Wire)
     → Schedules can (new_wire r) calls new → (number : ℕ)

@@ -20,7 +20,7 @@ use Rattle.tpm_wire.specs.declared.fault.ServeFault.{ServeFault}
 use Rattle.tpm_wire.specs.declared.fault.ServeFault.TheVariants as fault
 use Rattle.tpm_wire.specs.declared.host.Host.{Host}
 
--- ---- what is executed
+-- ---- the buffers that are executed
 
 -- the buffer of an event; a power cycle and a placed object have none
 abbrev pub buffer_in : PlainEvent → List ℕ
@@ -36,7 +36,7 @@ buffers_of executions = map (λ (one : Execution). buffer_in one.event) executio
 abbrev pub responses_of : List Execution → List ℕ
 responses_of executions = flat_map (λ (one : Execution). one.seen.response) executions
 
--- ---- what the host is asked for
+-- ---- requests to the host
 
 -- a closure that returns the host's values for a command
 abbrev pub Asking : Type 0 → Type 1
@@ -99,8 +99,9 @@ HoldsLastBack held holds executions =
     (answered : List Execution) × (last : Execution) × (executions ≡ answered ++ last ∷ [])
     × Appends held holds (responses_of answered)
 
--- These executions executed all complete buffers, and their responses were written, with this
--- result.
+-- The result of executing the complete buffers of a stream. On success, all of them were executed,
+-- and all responses were written. If the writer or the witness failed, it failed for the last
+-- execution. If the host failed, the next buffer was not executed.
 abbrev pub Finishes : {F : Type 0} → Asking F → Option (List ℕ) → Option (List ℕ)
     → Marks → Marks → F → List Execution → F → Stream → Result ℕ ServeFault → Type 0
 Finishes g held holds before after asked executions asking left (Ok count) =
@@ -115,7 +116,7 @@ Finishes g held holds before after asked executions asking left (Err fault.Host)
     × Appends held holds (responses_of executions) × (after ≡ before)
 Finishes g held holds before after asked executions asking left (Err e) = ⊥
 
--- ---- what is read
+-- ---- the bytes that are read
 
 -- The first list of buffers is a prefix of the second.
 abbrev pub AreFirst : List (List ℕ) → List (List ℕ) → Type 0
@@ -154,11 +155,14 @@ ReadsNoMore reader cut =
 
 -- How serving ended.
 -- - The reader or the stream ended: all buffers were executed and all responses were written.
--- - The reader failed, or reached the limit on reads that return bytes: the same.
--- - The writer failed: some buffers were executed, the last one without its whole response.
--- - The witness failed: some buffers were executed, the last one without its response.
--- - The host returned a fault: the buffers before the next one, which is whole, were executed,
---   with their responses.
+-- - The reader failed, or reached the limit on reads that return bytes: likewise, all buffers were
+--   executed and all responses were written.
+-- - The writer failed: some buffers were executed, and the response of the last one was not written
+--   completely.
+-- - The witness failed: some buffers were executed, and the response of the last one was not
+--   written.
+-- - The host returned a fault: the buffers before the next one, which is complete, were executed,
+--   and their responses were written.
 abbrev pub Ends : {F : Type 0} → Asking F → Option (List ℕ) → Option (List ℕ)
     → Marks → Marks → Cutting → F → List Execution → F → Result ℕ ServeFault → Type 0
 Ends g held holds reader writer cut asked executions asking (Ok count) =
@@ -199,7 +203,7 @@ pub record Serves {F : Type 0} (g : Asking F) (can : Bool) (had has held holds :
         → StretchFollows can old executions new history
     pub ends : Ends g held holds reader writer (cut_of read) asked executions asking result
 
--- ---- what a witness is notified of
+-- ---- the notifications of a witness
 
 -- A witness was notified of each of these executions, in order.
 abbrev pub NotesEach : {S : Type 0} → (S → Execution → S → Type 0) → S → List Execution → S → Type 0

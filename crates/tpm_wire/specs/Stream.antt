@@ -18,8 +18,8 @@ command_size bytes = None
 abbrev pub is_size : ℕ → Bool
 is_size size = nat_le 10 size && nat_le size buffer_limit
 
--- the size of a buffer with this commandSize: commandSize itself, or, if no buffer can have that
--- size, 6, which is the offset of the end of commandSize
+-- the size of a buffer with this commandSize: commandSize itself, or 6 (the offset of the end of
+-- commandSize) if no buffer can have that size
 abbrev pub size_by : ℕ → ℕ
 size_by size = if is_size size then size else 6
 
@@ -92,14 +92,14 @@ pub record Cut : Type 0 where
   pub buffer : List ℕ
   pub after : Stream
 
--- cuts `size` bytes off the front, as a buffer that may be the last
+-- cuts off the first `size` bytes as a buffer, which may be the last one
 abbrev pub cut_at : ℕ → Bool → List ℕ → Cut
 cut_at size last bytes = record {
   buffer = take size bytes;
   after = record { taken = drop size bytes; ended = last };
 }
 
--- cuts `size` bytes off the front, as a buffer, if there are enough
+-- cuts off the first `size` bytes as a buffer, if there are enough
 abbrev pub cut_within : ℕ → Bool → List ℕ → Option Cut
 cut_within size last bytes =
     if nat_le size (length bytes) then Some (cut_at size last bytes) else None
@@ -110,7 +110,8 @@ next_of s =
     if s.ended then None
     else option_and_then (λ size. cut_within size (is_last s.taken) s.taken) (buffer_size s.taken)
 
--- The front of a stream describes its next buffer, or there is no next buffer.
+-- The size is that of the stream's next buffer, and `last` says whether this buffer is the last
+-- one; or there is no next buffer.
 abbrev pub IsFront : Stream → Option Front → Type 0
 IsFront s None = next_of s ≡ None
 IsFront s (Some f) = (f.size ≤ length s.taken) × (next_of s ≡ Some (cut_at f.size f.last s.taken))

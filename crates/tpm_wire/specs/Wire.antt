@@ -26,8 +26,7 @@ pub record Wire : Type 0 where
   pub machine : Record
   pub streams : List (Option Stream)
 
--- the machine and the connections of a `Mux`; `record_of` returns the record of its machine's
--- state
+-- the record and the streams of a `Mux`; `record_of` returns the record of its machine's state
 abbrev pub wire_of : {K S O P N : Type 0} → (K → Record) → Mux K S O P N → Wire
 wire_of record_of mux = record {
   machine = state_of record_of mux.machine;

@@ -1,5 +1,5 @@
-//! A connection: it stores the bytes received but not yet executed, and returns them buffer by
-//! buffer.
+//! A connection: it stores the bytes that it received and that are not yet executed, and returns
+//! them buffer by buffer.
 
 ghost use Rattle.tpm_types.specs.Limits.{buffer_limit};
 ghost use Rattle.std.specs.Prelude.{◌≡◌, ◌+◌, ◌≤◌, drop, false, length, take};
@@ -12,8 +12,8 @@ use std::marker::Model;
 use tpm_bytes::append;
 use tpm_types::BUFFER_LIMIT;
 
-/// The bytes that a connection has received but not yet executed, and whether it has ended: no
-/// more buffers follow.
+/// The bytes that a connection has received and that are not yet executed, and whether it has
+/// ended: no more buffers follow.
 #[derive(Drop)]
 pub struct Connection {
     taken: ArrayVec<u8, BUFFER_LIMIT>,
@@ -53,7 +53,7 @@ impl Connection {
         self.taken.remaining_capacity()
     }
 
-    /// Takes as many bytes of the piece as fit, and returns their number.
+    /// Takes as many bytes of the piece as fit into the connection, and returns their number.
     pub fn feed(&mut self, piece: &[u8]) -> usize
         ensures count { result ≡ fitting self.old (length piece.now) }
         ensures after { self.new
@@ -75,14 +75,14 @@ impl Connection {
         front_of(self.taken.as_slice())
     }
 
-    /// The bytes that are not yet executed.
+    /// The received bytes that are not yet executed.
     pub fn bytes(&self) -> &[u8]
         ensures { result.now ≡ self.now.taken }
     {
         self.taken.as_slice()
     }
 
-    /// Removes the buffer at the front, and moves the later bytes to the front.
+    /// Removes the next buffer, and moves the later bytes to the beginning.
     pub fn pass(&mut self, front: Front)
         requires { front.size ≤ length self.old.taken }
         ensures { self.new ≡ (cut_at front.size front.last self.old.taken).after }
@@ -92,7 +92,7 @@ impl Connection {
     }
 }
 
-/// Removes `count` bytes from the front, and moves the remaining bytes to the front.
+/// Removes the first `count` bytes, and moves the remaining bytes to the beginning.
 fn remove_front(bytes: &mut ArrayVec<u8, BUFFER_LIMIT>, count: usize)
     requires { count ≤ array_vec_len bytes.old }
     ensures { bytes.new.items ≡ drop count bytes.old.items }

@@ -11,15 +11,14 @@ const HEADER_SIZE: usize = 10;
 /// The offset of the end of commandSize in a command.
 const SIZE_END: usize = 6;
 
-/// The size of a connection's next buffer, which is at the front of its bytes, and whether this
-/// buffer is the last one.
+/// The size of a connection's next buffer, and whether this buffer is the last one.
 #[derive(Clone, Copy)]
 pub struct Front {
     pub size: usize,
     pub last: bool,
 }
 
-/// Returns the size of the buffer at the front of these bytes, and whether it is the last one, if
+/// Returns the size of the buffer with which these bytes begin, and whether it is the last one, if
 /// the buffer is complete.
 #[tactic(auto, unfolding(crate::specs::Stream::command_size))]
 pub fn front_of(bytes: &[u8]) -> Option<Front>

@@ -180,7 +180,7 @@ fn waiting(connection: &Connection) -> Turn
     }
 }
 
-/// Executes the buffer at the front of a connection in place, notifies a witness, and removes the
+/// Executes the next buffer of a connection where it is stored, notifies a witness, and removes the
 /// buffer.
 pub(crate) fn execute_front<K: Keep, S: Witness>(
     machine: &mut Machine<K>,

@@ -30,10 +30,9 @@ use tpm_types::BUFFER_LIMIT;
 /// The limit on a connection's reads that return bytes.
 const READS: u32 = 1_048_576;
 
-/// Serves one connection: reads buffers, executes each with the host's values once it is
-/// complete, writes the responses, and returns their number. During the call, the connection
-/// counts towards the limit in addition to those of the mux; it is closed at the end in every
-/// case.
+/// Serves one connection: reads buffers, executes each complete buffer with the host's values,
+/// writes the responses, and returns their number. During the call, the connection counts towards
+/// the limit in addition to those of the mux; it is closed at the end in every case.
 pub fn serve<K: Keep, R: Read, W: Write, H: FnMut() -> Result<Host, HostFault>>(
     mux: &mut Mux<K>,
     reader: &mut Tap<R>,
@@ -177,8 +176,7 @@ fn answer_whole<K: Keep, W: Write, H: FnMut() -> Result<Host, HostFault>, S: Wit
     Ok(answered)
 }
 
-/// Executes the buffer at the front of a connection, notifies a witness, and then writes the
-/// response.
+/// Executes the next buffer of a connection, notifies a witness, and then writes the response.
 fn answer_front<K: Keep, W: Write, S: Witness>(
     machine: &mut Machine<K>,
     connection: &mut Connection,

@@ -31,18 +31,18 @@ use Rattle.tpmsim.specs.declared.kept.stop.PlayFault.TheVariants as play
 use Rattle.tpmsim_script.specs.declared.fault.ScriptFault.{ScriptFault}
 use Rattle.tpmsim_script.specs.declared.fault.ScriptFault.TheVariants.{Line, Read, TooManyLines, Write, Save, NoMemory}
 
--- the cause that concerns this, without an error of the system's
+-- the cause that concerns a subject, without a system error
 abbrev pub alone : Subject → Cause
 alone subject = record { subject = subject; error = None }
 
--- a fault with the number of an error of the system's, if it has a cause
+-- a fault with the number of a system error, if the fault has a cause
 abbrev pub with_cause : Fault → Error → Fault
 with_cause (File cause) error = File (with_error cause error)
 with_cause (Socket cause) error = Socket (with_error cause error)
 with_cause (Entropy cause) error = Entropy (with_error cause error)
 with_cause fault error = fault
 
--- the fault Memory if an error is of that kind, and otherwise the other fault
+-- the fault Memory if an error is of the kind OutOfMemory, and otherwise the given fault
 abbrev pub fault_of_kind : Fault → ErrorKind → Fault
 fault_of_kind otherwise OutOfMemory = Memory
 fault_of_kind otherwise _ = otherwise
@@ -50,12 +50,13 @@ fault_of_kind otherwise _ = otherwise
 abbrev pub fault_or : Fault → Error → Fault
 fault_or otherwise error = fault_of_kind (with_cause otherwise error) (error_kind error)
 
--- what was given, and that fault if it is an error
+-- the value of a result; if it is an error, the given fault with the number of the error, or Memory
 abbrev pub given_or : {A : Type 0} → Fault → Result A Error → Result A Fault
 given_or otherwise (Ok value) = Ok value
 given_or otherwise (Err error) = Err (fault_or otherwise error)
 
--- the fault of words that are refused: they are not the program's, or memory ran out
+-- the fault of words that are refused: they are not a command line of the program, or memory ran
+-- out
 abbrev pub fault_of_arguments : ArgumentFault → Fault
 fault_of_arguments words.Usage = Usage
 fault_of_arguments words.NoMemory = Memory
@@ -68,7 +69,7 @@ fault_of Write = File (alone subject.Output)
 fault_of Save = File (alone subject.Image)
 fault_of NoMemory = Memory
 
--- the fault of a line that was not assembled: memory ran out, or it encodes no command
+-- the fault of a line that was not assembled: memory ran out, or the line does not encode a command
 abbrev pub fault_of_line : AsmFault → Fault
 fault_of_line line.NoMemory = Memory
 fault_of_line fault = Asm fault
@@ -91,8 +92,8 @@ abbrev pub fault_of_play : PlayFault → Fault
 fault_of_play (play.Script fault) = fault_of fault
 fault_of_play (play.Kept fault) = Kept fault
 
--- the exit status: 2 if what was asked for makes no sense, 3 if a file, a socket, a stream or
--- memory refused it, 4 if a file that should be an image, a state text or a journal is not
+-- the exit status: 2 if the request makes no sense, 3 if a file, a socket, a stream or memory
+-- caused the failure, 4 if a file that should be an image, a state text or a journal is not
 abbrev pub status_of : Fault → ℕ
 status_of Usage = 2
 status_of (ScriptLine number) = 2
@@ -135,7 +136,7 @@ state_fault_text state.Length = codes "Length"
 state_fault_text state.Digest = codes "Digest"
 state_fault_text state.Body = codes "Body"
 
--- what the fault of a journal says of it
+-- the text of a journal's fault
 abbrev pub journal_fault_text : JournalFault → List ℕ
 journal_fault_text journal.IsNoJournal = codes "journal is no journal of a device"
 journal_fault_text journal.HoldsNoImage = codes "journal holds an image that this program does not open"
@@ -144,7 +145,7 @@ journal_fault_text (journal.IsDamaged line) = codes "journal line " ++ decimal l
 journal_fault_text (journal.WasAnsweredOtherwise line) =
     codes "journal line " ++ decimal line ++ codes " was answered otherwise"
 
--- what follows the program's name on standard error
+-- the message on standard error, after the program's name
 abbrev pub fault_text : Fault → List ℕ
 fault_text Usage = codes "usage"
 fault_text (ScriptLine number) = codes "script line " ++ decimal number

@@ -1,12 +1,12 @@
--- What is checked of a text before a device is replaced by its own.
+-- The check of a state text, before its device replaces another one.
 use Rattle.std.specs.Prelude.{◌≡◌, List, ℕ, Result, Ok, Err}
 use Rattle.tpm_state_text.specs.Body.{WholeState}
 use Rattle.tpm_state_text.specs.State.{state_of_text}
 use Rattle.tpmsim.specs.declared.fault.Fault.{Fault}
 use Rattle.tpmsim.specs.declared.fault.Fault.TheVariants.{State}
 
--- A text is the state text of a device; or this is its first fault; or another fault is the
--- system's.
+-- A text is the state text of a device; or the result is the first fault of the text; or it is
+-- another fault, which the system caused.
 abbrev pub IsChecked : List ℕ → Result (Unit {0}) Fault → Type 0
 IsChecked text (Ok done) = (state : WholeState) × (state_of_text text ≡ Ok state)
 IsChecked text (Err (State fault)) = state_of_text text ≡ Err fault

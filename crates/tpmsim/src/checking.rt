@@ -1,4 +1,4 @@
-//! How the program checks a script, which it reads and does not run.
+//! Checks a script, which the program reads without running it.
 
 use crate::fault::Fault;
 use std::io::Read;
@@ -6,8 +6,8 @@ use std::{fs, io};
 use tpmsim_image::Subject;
 use tpmsim_script::report_of;
 
-/// Prints what is wrong with each bad line of a script, from a file or from standard input, and
-/// ends as a run of the script would.
+/// Prints the faults of each bad line of a script, from a file or from standard input, and ends as
+/// a run of the script would.
 pub fn check_script(rt: &HostRuntime, script: &str) -> Result<(), Fault> {
     let text = Fault::file(Subject::Script).unless(read(rt, script))?;
     let report = report_of(rt.alloc(), text.as_slice())?;

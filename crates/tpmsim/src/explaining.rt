@@ -1,22 +1,22 @@
-//! What the program says about a fault if the environment asks for it: the path that the fault
-//! concerns, and the system's reason. The line of the fault itself stays as it is.
+//! Explains a fault if the environment requests it: prints the path that the fault concerns, and
+//! the system's reason. The line of the fault itself does not change.
 
 use crate::fault::Fault;
 use std::{env, io};
 use tpmsim_arguments::{Arguments, Place};
 use tpmsim_image::{Cause, Subject};
 
-/// The variable of the environment that asks for a second line, if it is 1.
+/// The environment variable that requests a second line, if it is 1.
 const VARIABLE: &str = "TPMSIM_VERBOSE";
 
-/// A path, in two pieces.
+/// A path in two parts.
 #[derive(Clone, Copy)]
 struct Path<'a> {
     front: &'a str,
     back: &'static str,
 }
 
-/// Prints the path that a fault concerns, and the system's reason, if the environment asks for it.
+/// Prints the path that a fault concerns, and the system's reason, if the environment requests it.
 pub(crate) fn explain(rt: &HostRuntime, arguments: &Arguments<'_>, fault: Fault) {
     if !is_asked(rt) {
         return;
@@ -35,7 +35,7 @@ pub(crate) fn explain(rt: &HostRuntime, arguments: &Arguments<'_>, fault: Fault)
     }
 }
 
-/// Whether the environment asks for a second line.
+/// Whether the environment requests a second line.
 fn is_asked(rt: &HostRuntime) -> bool {
     match env::var(rt, VARIABLE) {
         Ok(value) => value.as_str() == "1",
@@ -43,7 +43,7 @@ fn is_asked(rt: &HostRuntime) -> bool {
     }
 }
 
-/// Prints a path, and what the system says of an error of this number.
+/// Prints a path, and the system's text for the error with this number.
 fn print(rt: &HostRuntime, path: Path<'_>, error: Option<i32>) {
     let Path { front, back } = path;
     let _ = match error {
@@ -67,7 +67,7 @@ fn cause_of(fault: Fault) -> Option<Cause> {
     }
 }
 
-/// The path of what a fault concerns, by the words of the command line.
+/// Returns the path of the file that a fault concerns, from the words of the command line.
 fn path_of<'a>(arguments: &Arguments<'a>, subject: Subject) -> Option<Path<'a>> {
     let back = match subject {
         Subject::NewImage => ".new",
@@ -78,7 +78,7 @@ fn path_of<'a>(arguments: &Arguments<'a>, subject: Subject) -> Option<Path<'a>> 
     Some(Path { front, back })
 }
 
-/// The path of what a fault concerns, without the end that the program adds.
+/// Returns the path of the file that a fault concerns, without the suffix that the program adds.
 fn front_of<'a>(arguments: &Arguments<'a>, subject: Subject) -> Option<&'a str> {
     match subject {
         Subject::Image | Subject::NewImage | Subject::ImageLock => image_of(arguments),
@@ -90,7 +90,7 @@ fn front_of<'a>(arguments: &Arguments<'a>, subject: Subject) -> Option<&'a str> 
     }
 }
 
-/// The place of the device of a run or of a service.
+/// Returns the place of the device of a run or of a service.
 fn place_of<'a>(arguments: &Arguments<'a>) -> Option<Place<'a>> {
     match arguments {
         Arguments::Serve(service) => Some(service.place),
@@ -109,7 +109,7 @@ fn image_of<'a>(arguments: &Arguments<'a>) -> Option<&'a str> {
     }
 }
 
-/// The folder of the device's state.
+/// Returns the folder of the device's state.
 fn folder_of<'a>(arguments: &Arguments<'a>) -> Option<&'a str> {
     match arguments {
         Arguments::Power { state, .. }
@@ -151,7 +151,7 @@ fn script_of<'a>(arguments: &Arguments<'a>) -> Option<&'a str> {
     }
 }
 
-/// The name of a script's file.
+/// Returns the name of a script's file.
 fn named<'a>(script: &'a str) -> &'a str {
     if script == "-" {
         "standard input"
@@ -160,7 +160,7 @@ fn named<'a>(script: &'a str) -> &'a str {
     }
 }
 
-/// The file that is read by `restore` or `replay`.
+/// Returns the file that `restore` or `replay` reads.
 fn operand_of<'a>(arguments: &Arguments<'a>) -> Option<&'a str> {
     match arguments {
         Arguments::Restore { text, .. } => Some(*text),

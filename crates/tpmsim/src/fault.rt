@@ -1,4 +1,4 @@
-//! Why the program fails: what it says on standard error, and its exit status.
+//! Why the program fails: its message on standard error, and its exit status.
 
 ghost use Rattle.std.specs.Prelude.{◌≡◌, if◌then◌else◌};
 ghost use Rattle.tpmsim_folder.specs.Fault.{is_of_contents};
@@ -17,17 +17,17 @@ use tpmsim_folder::KeptFault;
 use tpmsim_image::{Cause, DeviceFault, Subject};
 use tpmsim_script::ScriptFault;
 
-/// Why the program failed. The fault prints as the line on standard error says it; a cause is in no
-/// line of its own, and [`crate::explaining`] prints it on request.
+/// Why the program failed. `Display` writes the line for standard error. That line does not contain
+/// a cause, which [`crate::explaining`] prints on request.
 #[derive(Clone, Copy, PartialEq, Eq)]
 pub enum Fault {
     /// The command line is not one of the program's.
     Usage,
-    /// The line of this number, from 1, is not one that a script may have.
+    /// The line with this number, counted from 1, is not allowed in a script.
     ScriptLine(u32),
-    /// The line to be assembled encodes no command.
+    /// The line to be assembled does not encode a command.
     Asm(AsmFault),
-    /// There is no line that encodes the buffer.
+    /// No line encodes the buffer.
     NoLine,
     /// The file of the image does not contain an image.
     Image(ImageFault),
@@ -35,29 +35,29 @@ pub enum Fault {
     State(StateFault),
     /// A file, or standard input or output, could not be opened, read or written.
     File(Cause),
-    /// The socket could not be made, or could not take a connection.
+    /// The socket could not be created, or could not accept a connection.
     Socket(Cause),
     /// The file of random bytes could not be opened, or has too few bytes left.
     Entropy(Cause),
     Memory,
-    /// The device in a folder did not do what was asked for.
+    /// A task of the device in a folder failed.
     Kept(KeptFault),
-    /// A journal was not executed again to its end.
+    /// A journal could not be executed again to its end.
     Journal(JournalFault),
 }
 
-/// Why a journal was not executed again to its end. Its lines have numbers from 1.
+/// Why a journal could not be executed again to its end. Its lines are numbered from 1.
 #[derive(Clone, Copy, PartialEq, Eq)]
 pub enum JournalFault {
-    /// It does not begin with a head.
+    /// The journal does not begin with a head.
     IsNoJournal,
-    /// The head's image is not one of this version of the program.
+    /// The head's image is not an image of this version of the program.
     HoldsNoImage,
-    /// The head's state text is not one of this version of the program.
+    /// The head's state text is not a state text of this version of the program.
     HoldsNoState,
     /// The entry that begins at this line is damaged.
     IsDamaged(u64),
-    /// The entry that begins at this line was answered otherwise than it is now.
+    /// The recorded response to the entry that begins at this line differs from the present one.
     WasAnsweredOtherwise(u64),
 }
 
@@ -66,15 +66,15 @@ impl Fault {
     ghost use Rattle.tpmsim.specs.Fault.{status_of, with_cause};
     ghost use Rattle.tpmsim.specs.declared.fault.Fault.TheVariants.{File};
 
-    /// The fault of a file or a stream. No error of the system's is known.
+    /// Returns the fault of a file or a stream, without a system error.
     pub fn file(subject: Subject) -> Fault
         ensures { result ≡ File (alone subject) }
     {
         Fault::File(subject.alone())
     }
 
-    /// What was given. If it is an error: `Memory` if memory ran out, and otherwise this fault,
-    /// with the number of the error.
+    /// Returns the value of the result. If the result is an error, returns `Memory` if memory ran
+    /// out, and otherwise this fault with the number of the error.
     pub fn unless<T>(self, given: io::Result<T>) -> Result<T, Fault>
         ensures { result ≡ given_or self given }
     {
@@ -84,7 +84,8 @@ impl Fault {
         }
     }
 
-    /// `Memory` if memory ran out, and otherwise `otherwise`, with the number of the error.
+    /// Returns `Memory` if memory ran out, and otherwise the fault `otherwise` with the number of
+    /// the error.
     fn of_io(error: io::Error, otherwise: Fault) -> Fault
         ensures { result ≡ fault_or otherwise error }
     {
@@ -94,7 +95,7 @@ impl Fault {
         }
     }
 
-    /// The same fault with the number of an error of the system's, if it has a cause.
+    /// Returns the same fault with the number of a system error, if the fault has a cause.
     fn with(self, error: &io::Error) -> Fault
         ensures { result ≡ with_cause self error.now }
     {
@@ -106,8 +107,8 @@ impl Fault {
         }
     }
 
-    /// The exit status: 2 if what was asked for makes no sense, 3 if a file, a socket, a stream or
-    /// memory refused it, 4 if a file that should be an image or a journal is not.
+    /// Returns the exit status: 2 if the request makes no sense, 3 if a file, a socket, a stream or
+    /// memory caused the failure, 4 if a file that should be an image or a journal is not.
     pub fn status(self) -> u8
         ensures { result ≡ status_of self }
     {
@@ -298,7 +299,8 @@ impl From<ArgumentFault> for Fault {
     }
 }
 
-/// The exit status of a fault of a kept device: 4 if its journal is not one that the program takes.
+/// Returns the exit status of a fault of a kept device: 4 if the program does not accept the
+/// contents of its journal, otherwise 3.
 fn kept_status(fault: KeptFault) -> u8
     ensures { result ≡ (if is_of_contents fault.said then 4 else 3) }
 {

@@ -1,12 +1,12 @@
-//! A device that is kept in a folder: its journal has the device as it began there, and each
-//! command that was answered since. tpm_keeping decides what is done in the folder when, and proves
-//! that the device is the one that executed the answered commands, whatever is killed, fails or
-//! crashes.
+//! A device that is kept in a folder. Its journal contains the device as it began there, and each
+//! command that was answered since. tpm_keeping decides what is done in the folder at each step,
+//! and proves that the device is the one that executed the answered commands, whatever is killed,
+//! fails or crashes.
 //!
-//! [`Kept`] is a kept device: it does in the folder what the keeper asks for. Several processes may
+//! [`Kept`] is a kept device: it does in the folder what the keeper requests. Several processes can
 //! hold one at the same time. [`playing`] plays a script on it, and [`serving`] serves it on a
-//! connection. [`answer`] reads the keeper's responses. The folder, its lock and what faults say of
-//! it are in tpmsim_folder.
+//! connection. [`answer`] reads the keeper's responses. The folder, its lock and their faults are
+//! in tpmsim_folder.
 
 mod answer;
 mod keeping;

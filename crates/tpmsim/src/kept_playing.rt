@@ -1,4 +1,4 @@
-//! What the program does with a device that is kept in a folder.
+//! Runs scripts and power cycles on a device that is kept in a folder, and prints its history.
 
 use crate::fault::Fault;
 use crate::kept::{Kept, play, said_of_following, said_of_opening};
@@ -14,8 +14,8 @@ use tpmsim_folder::{Place, Said};
 use tpmsim_image::{Entropy, Subject};
 use tpmsim_script::first_bytes;
 
-/// Cycles the power of the device in a folder, where `past` finished journals stay; with `cuts`
-/// also if its journal is damaged.
+/// Power-cycles the device in a folder, where `past` finished journals stay; with `cuts`, also if
+/// its journal is damaged.
 pub fn cycle_power(rt: &HostRuntime, folder: &str, cuts: bool, past: u32) -> Result<(), Fault> {
     let mut kept = open_there(rt, folder, past)?;
     if cuts {
@@ -24,7 +24,7 @@ pub fn cycle_power(rt: &HostRuntime, folder: &str, cuts: bool, past: u32) -> Res
     Ok(kept.cycle_power()?)
 }
 
-/// Prints what happened to the device in a folder since its journal began, as a script.
+/// Prints the history of the device in a folder since its journal began, as a script.
 pub fn print_script(rt: &HostRuntime, folder: &str) -> Result<(), Fault> {
     let mut kept = open_there(rt, folder, 0)?;
     print_journal(rt, kept.journal()?)
@@ -69,7 +69,8 @@ pub fn play_script(
     play_text(rt, &mut Tap::new(file), trace, folder, past, entropy)
 }
 
-/// Plays the script that a reader gives on the device in a folder, a new one if none is there.
+/// Plays the script from a reader on the device in a folder, or on a new device if the folder
+/// contains none.
 fn play_text<R: Read>(
     rt: &HostRuntime,
     reader: &mut Tap<R>,
@@ -83,8 +84,8 @@ fn play_text<R: Read>(
     play_on(rt, &mut kept, reader, trace)
 }
 
-/// Begins a new device if none is in the folder, with the first random bytes of a file, or else
-/// with the bytes 00 to ff.
+/// Begins a new device if the folder contains none, with the first random bytes of a file, or with
+/// the bytes 00 to ff if no file is given.
 fn begin_missing(
     rt: &HostRuntime,
     kept: &mut Kept<'_>,
@@ -97,7 +98,7 @@ fn begin_missing(
     Ok(kept.manufacture(&random)?)
 }
 
-/// Plays the script that a reader gives on a device.
+/// Plays the script from a reader on a device.
 fn play_on<R: Read>(
     rt: &HostRuntime,
     kept: &mut Kept<'_>,
@@ -108,7 +109,7 @@ fn play_on<R: Read>(
     Ok(play(rt.alloc(), kept, reader, output, trace)?)
 }
 
-/// The device in a folder, which has to be there. `past` finished journals stay there.
+/// Opens the device in a folder, which must exist. `past` finished journals stay there.
 pub fn open_there<'a>(rt: &'a HostRuntime, folder: &str, past: u32) -> Result<Kept<'a>, Fault> {
     let kept = Kept::at(rt, folder, false, Force::Power, past)?;
     if kept.is_there()? {

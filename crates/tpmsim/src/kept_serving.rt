@@ -1,5 +1,5 @@
-//! How the program serves a device that is kept in a folder, one connection after another. Between
-//! two commands of a connection other processes may have theirs.
+//! Serves a device that is kept in a folder, one connection after another. Between two commands of
+//! a connection, other processes may execute commands on the device.
 
 use crate::fault::Fault;
 use crate::kept::{Kept, RandomBytes, ServeFault, Terms, serve};
@@ -8,7 +8,7 @@ use tpm_keeping::holder::Force;
 use tpmsim_arguments::Service;
 use tpmsim_image::{Entropy, Socket, Subject, bind};
 
-/// The random bytes of a served device, which are those of a file.
+/// The random bytes of a served device, which come from a file.
 #[derive(Drop)]
 struct FileBytes {
     entropy: Entropy,
@@ -23,8 +23,9 @@ impl RandomBytes for FileBytes {
     }
 }
 
-/// Serves the device in a folder, where `past` finished journals stay, on a socket; a new device if
-/// none is there. Removes the socket's file in the end, if it is still at its path.
+/// Serves the device in a folder, where `past` finished journals stay, on a socket; begins a new
+/// device if the folder contains none. At the end, removes the socket's file, if it is still at its
+/// path.
 pub fn serve_kept(
     rt: &HostRuntime,
     service: &Service,
@@ -50,7 +51,8 @@ fn serve_with(
     served
 }
 
-/// Opens the device in the folder. If none is there a new one begins, with the next random bytes.
+/// Opens the device in the folder. If the folder contains none, begins a new device with the next
+/// random bytes.
 fn open_or_begin(kept: &mut Kept<'_>, entropy: &mut Entropy) -> Result<(), Fault> {
     if !kept.is_there()? {
         let random = Fault::Entropy(Subject::Entropy.alone()).unless(entropy.random())?;
@@ -59,7 +61,8 @@ fn open_or_begin(kept: &mut Kept<'_>, entropy: &mut Entropy) -> Result<(), Fault
     Ok(kept.open()?)
 }
 
-/// When the disk is forced: before each response too, if the device is to be saved then.
+/// Returns the word of force: the journal is synced before each response if the device has to be
+/// saved then.
 fn force_of(service: &Service) -> Force {
     if service.saves_each {
         Force::Always
@@ -68,8 +71,8 @@ fn force_of(service: &Service) -> Force {
     }
 }
 
-/// Serves as many connections as are asked for, one after another. A client that fails ends its own
-/// connection alone.
+/// Serves the requested number of connections, one after another. If a client fails, only its own
+/// connection ends.
 fn serve_connections(
     rt: &HostRuntime,
     service: &Service,

@@ -1,26 +1,26 @@
 #![tactic(auto)]
 
 //! A TPM 2.0 simulator. It runs scripts of commands, `tpmsim run`, and checks them, `check`. It
-//! assembles commands from words, `asm`, and finds the words of a command, `line`. It prints how
-//! commands are said in words, `lines`, and what a response code says, `code`. It serves a device
-//! on a socket, `serve`.
+//! assembles commands from words, `asm`, and finds the words of a command, `line`. It prints the
+//! forms of commands in words, `lines`, and the meaning of a response code, `code`. It serves a
+//! device on a socket, `serve`.
 //!
-//! A device is kept in an image, or in a folder with its state. `power` cycles the power of a
-//! device in a folder, `snapshot` and `restore` write and read its state text, and `script` prints
-//! what happened to it. `replay` executes again what was recorded.
+//! A device is kept in an image, or in a folder with its state. `power` power-cycles a device in a
+//! folder, `snapshot` and `restore` write and read its state text, and `script` prints its history.
+//! `replay` executes again the commands that were recorded.
 //!
-//! Standard output has what was asked for: for `run` each response in hex on a line of its own,
-//! with `--trace` after a line that traces the command; for `check` a line for each bad line. A run
-//! that fails says why in one line on standard error, and its exit status says which kind of fault
-//! it is ([`fault`]). A second line has the path and the system's reason, if the environment asks
-//! for it ([`explaining`]).
+//! The results are on standard output: for `run` each response in hex on a line of its own, with
+//! `--trace` after a line that traces the command; for `check` a line for each bad line. A run that
+//! fails prints one line with the reason on standard error, and its exit status says which kind of
+//! fault it is ([`fault`]). If the environment requests it, a second line contains the path and the
+//! system's reason ([`explaining`]).
 //!
-//! The program uses tpmsim_arguments for its words, tpmsim_script for scripts and their check,
-//! `tpm_text` and `tpm_line` for lines, and `tpm_help` for what it prints about these. It uses
-//! tpmsim_image for a device in an image; tpm_keeping, tpm_kept_device and tpmsim_folder for one in
-//! a folder ([`kept`]); and tpm_journal for what happened to it. All that touches files, sockets
-//! and clocks is here, in tpmsim_image or in tpmsim_folder. What the device answers is proved in
-//! the crates below.
+//! The program uses tpmsim_arguments for the command line, tpmsim_script for scripts and their
+//! check, `tpm_text` and `tpm_line` for lines, and `tpm_help` for their forms and examples. It uses
+//! tpmsim_image for a device in an image; tpm_keeping, tpm_kept_device and tpmsim_folder for a
+//! device in a folder ([`kept`]); and tpm_journal for the history of that device. Only this crate,
+//! tpmsim_image and tpmsim_folder access files, sockets and clocks. The responses of the device are
+//! proved in the crates below.
 
 mod checking;
 mod explaining;
@@ -54,7 +54,7 @@ fn main(rt: HostRuntime) -> ExitCode {
     }
 }
 
-/// Does what the words of the command line ask for. Each fault is reported.
+/// Executes the command line, and reports each fault.
 fn try_main(rt: &HostRuntime) -> Result<(), Fault> {
     let words = match words_of(rt) {
         Ok(words) => words,
@@ -74,18 +74,18 @@ fn try_main(rt: &HostRuntime) -> Result<(), Fault> {
     }
 }
 
-/// The words of the command line.
+/// Returns the words of the command line.
 fn words_of(rt: &HostRuntime) -> Result<Vec<String>, Fault> {
     Ok(Fault::Usage.unless(env::args(rt))?.collect(rt.alloc())?)
 }
 
-/// Prints the line of a fault, which is the result.
+/// Prints the line of a fault, and returns the fault.
 fn report(rt: &HostRuntime, fault: Fault) -> Result<(), Fault> {
     let _ = eprintln!(rt; "tpmsim: {fault}");
     Err(fault)
 }
 
-/// Does what the command line asks for.
+/// Executes a request of the command line.
 fn perform(rt: &HostRuntime, arguments: &Arguments<'_>) -> Result<(), Fault> {
     match arguments {
         Arguments::Run {

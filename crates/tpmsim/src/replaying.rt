@@ -1,4 +1,4 @@
-//! How the program executes a journal or a log again, and prints what was answered.
+//! Executes a journal or a log again, and prints the responses.
 
 use crate::fault::{Fault, JournalFault};
 use std::fs;
@@ -9,11 +9,11 @@ use tpm_slots::SlotKeep;
 use tpm_step::Outcome;
 use tpmsim_image::Subject;
 
-/// How many lines an entry has.
+/// The number of lines in an entry.
 const ENTRY_LINES: u64 = 5;
 
-/// Prints the trace and the response of each command that a journal recorded, which are those that
-/// were answered then. If they are not, the fault names the line of the journal.
+/// Prints the trace and the response of each command that a journal recorded. The responses must
+/// equal the recorded ones; if one does not, the fault contains the line of the journal.
 pub fn replay_journal(rt: &HostRuntime, path: &str) -> Result<(), Fault> {
     let text = Fault::file(Subject::Journal).unless(fs::read(rt, path))?;
     let mut machine: Machine<SlotKeep> = Machine::manufacture(rt.alloc(), &[0; 256])?;
@@ -31,7 +31,7 @@ pub fn replay_journal(rt: &HostRuntime, path: &str) -> Result<(), Fault> {
     }
 }
 
-/// The fault of a journal that was not executed to its end.
+/// Returns the fault of a journal that could not be executed to its end.
 fn fault_of(fault: RetellFault, text: &[u8]) -> Fault {
     match fault {
         RetellFault::Open(OpenFault::Image(_)) => Fault::Journal(JournalFault::HoldsNoImage),
@@ -51,7 +51,7 @@ fn fault_of(fault: RetellFault, text: &[u8]) -> Fault {
     }
 }
 
-/// The number, from 1, of the line that begins at a place of a text.
+/// Returns the number, counted from 1, of the line that begins at an offset of a text.
 fn line_at(text: &[u8], place: usize) -> u64 {
     let mut line: u64 = 1;
     for byte in text.get(..place).unwrap_or(text) {

@@ -1,4 +1,5 @@
-//! How the program writes the state text of a device in a folder, and puts the device of one there.
+//! Writes the state text of a device in a folder, and replaces the device in a folder with that of
+//! a state text.
 
 ghost use Rattle.tpmsim.specs.Restoring.{IsChecked};
 
@@ -22,9 +23,9 @@ pub fn print_snapshot(rt: &HostRuntime, folder: &str) -> Result<(), Fault> {
     Fault::file(Subject::Output).unless(rt.stdout().write_all(text))
 }
 
-/// Replaces the device in a folder by the device of a state text in a file, or begins it if there
-/// is none. `past` finished journals stay in the folder. A text that is refused leaves the folder
-/// as it was.
+/// Replaces the device in a folder with the device of a state text in a file, or begins the device
+/// if there is none. `past` finished journals stay in the folder. A text that is refused leaves the
+/// folder unchanged.
 pub fn restore_snapshot(
     rt: &HostRuntime,
     folder: &str,

@@ -1,4 +1,4 @@
-//! How the program runs a script, on a device that is kept in a file, or on one that nobody keeps.
+//! Runs a script on a device that is kept in a file, or on a device that is not kept.
 
 use crate::fault::Fault;
 use std::fs;
@@ -9,7 +9,7 @@ use tpm_slots::SlotKeep;
 use tpmsim_image::{Entropy, ImageFile, ImageSaver, Subject};
 use tpmsim_script::{new_machine, run_device, run_script};
 
-/// Runs a script, from a file or from standard input, on a new device that nobody keeps.
+/// Runs a script, from a file or from standard input, on a new device that is not kept.
 pub fn run_alone(rt: &HostRuntime, script: &str, trace: bool) -> Result<(), Fault> {
     if script == "-" {
         return run_new(rt, &mut Tap::new(rt.stdin()), trace);
@@ -18,14 +18,14 @@ pub fn run_alone(rt: &HostRuntime, script: &str, trace: bool) -> Result<(), Faul
     run_new(rt, &mut Tap::new(file), trace)
 }
 
-/// Runs the script that a reader gives on a new device that nobody keeps.
+/// Runs the script from a reader on a new device that is not kept.
 fn run_new<R: Read>(rt: &HostRuntime, reader: &mut Tap<R>, trace: bool) -> Result<(), Fault> {
     let output = &mut Tap::new(rt.stdout());
     Ok(run_script::<SlotKeep, _, _>(rt.alloc(), reader, output, trace)?)
 }
 
-/// Runs the script on the device whose image is in a file, or on a new one if there is no such
-/// file, and saves the device there on the way and in the end.
+/// Runs the script on the device whose image is in a file, or on a new device if there is no such
+/// file, and saves the device there during the run and at its end.
 pub fn run_kept(
     rt: &HostRuntime,
     script: &str,
@@ -46,7 +46,7 @@ pub fn run_kept(
     }
 }
 
-/// A device to run a script on.
+/// A device for a script.
 #[derive(Drop)]
 struct Device {
     machine: Machine<SlotKeep>,
@@ -54,8 +54,8 @@ struct Device {
     was_kept: bool,
 }
 
-/// The device whose image is in a file, or a new one if there is no such file. A file of random
-/// bytes is opened for either.
+/// Returns the device whose image is in a file, or a new device if there is no such file. If a file
+/// of random bytes is given, it is opened in both cases.
 fn device_of(
     rt: &HostRuntime,
     file: &ImageFile<'_>,
@@ -70,7 +70,7 @@ fn device_of(
     }
 }
 
-/// A device whose image was in a file, once the file of random bytes was opened.
+/// Returns a device whose image was in a file, after the file of random bytes was opened.
 fn with_entropy(
     rt: &HostRuntime,
     machine: Machine<SlotKeep>,
@@ -85,8 +85,8 @@ fn with_entropy(
     })
 }
 
-/// A new device, manufactured with the first random bytes of a file, or else with the bytes 00 to
-/// ff.
+/// Returns a new device, manufactured with the first random bytes of a file, or with the bytes 00
+/// to ff if no file is given.
 fn manufacture(rt: &HostRuntime, entropy: Option<&str>) -> Result<Machine<SlotKeep>, Fault> {
     match entropy {
         Some(path) => {
@@ -112,7 +112,7 @@ fn play<S: Saver>(
     play_text(rt, machine, saver, &mut Tap::new(file), trace)
 }
 
-/// Plays the script that a reader gives on a device.
+/// Plays the script from a reader on a device.
 fn play_text<S: Saver, R: Read>(
     rt: &HostRuntime,
     machine: Machine<SlotKeep>,

@@ -1,4 +1,4 @@
-//! What the program prints about commands, in hex and in words, and about response codes.
+//! Prints commands, in hex and in words, and the meaning of response codes.
 
 use crate::fault::Fault;
 use hex::FromHexError;
@@ -15,14 +15,14 @@ pub fn print_assembled(rt: &HostRuntime, line: &str) -> Result<(), Fault> {
     Fault::file(Subject::Output).unless(println!(rt; "{text}"))
 }
 
-/// Prints the line in words that encodes the command of these hex digits.
+/// Prints the line in words that encodes the command with these hex digits.
 pub fn print_spelled(rt: &HostRuntime, digits: &str) -> Result<(), Fault> {
     let buffer = buffer_of(rt, digits)?;
     let text = line_of(rt.alloc(), buffer.as_slice())?;
     Fault::file(Subject::Output).unless(println!(rt; "{text}"))
 }
 
-/// The buffer that hex digits of either case write.
+/// Returns the buffer that hex digits of either case encode.
 fn buffer_of(rt: &HostRuntime, digits: &str) -> Result<Vec<u8>, Fault> {
     match hex::decode(rt.alloc(), digits) {
         Ok(buffer) => Ok(buffer),
@@ -31,8 +31,8 @@ fn buffer_of(rt: &HostRuntime, digits: &str) -> Result<Vec<u8>, Fault> {
     }
 }
 
-/// Prints how a command is said in words, and an example of it; of each command where no name is
-/// given. A name of no command is bad usage.
+/// Prints the form of a command in words, and an example; without a name, those of each command. A
+/// name that is not the name of a command is a usage fault.
 pub fn print_forms(rt: &HostRuntime, name: Option<&str>) -> Result<(), Fault> {
     match name {
         Some(name) => {
@@ -50,7 +50,7 @@ fn print_all_forms(rt: &HostRuntime) -> Result<(), Fault> {
     Ok(())
 }
 
-/// Prints the form of a command, and on the next line, set in, its example.
+/// Prints the form of a command, and on the next line, indented, its example.
 fn print_form(rt: &HostRuntime, code: CommandCode) -> Result<(), Fault> {
     let form = form_of(rt.alloc(), code)?;
     let name = code.name();
@@ -59,8 +59,8 @@ fn print_form(rt: &HostRuntime, code: CommandCode) -> Result<(), Fault> {
     Fault::file(Subject::Output).unless(println!(rt; "{form}\n    {name}{space}{example}"))
 }
 
-/// Prints the name of the response code that hex digits write, and its place. A number that is no
-/// response code is bad usage.
+/// Prints the name of the response code with these hex digits, and the place that it identifies. A
+/// number that is not a response code is a usage fault.
 pub fn print_code(rt: &HostRuntime, digits: &str) -> Result<(), Fault> {
     let number = hex_number(digits.as_bytes()).ok_or(Fault::Usage)?;
     let meaning = meaning_of(number).ok_or(Fault::Usage)?;

@@ -1,4 +1,4 @@
--- The answer to a command line, from what clap finds in its words.
+-- The result of parsing a command line, from what clap finds in its words.
 use Rattle.std.proofs.Common.{◌≡◌, ◌≢◌, ◌⊎◌, ◌∙◌, ℕ, ap, inl, inr, refl, sym, true, false, Bool, codes, List, Option, Some, None, Result, Ok, Err, ok_or, option_and_then, option_map, if◌then◌else◌}
 use Rattle.std.specs.Str.{bytes_eq}
 use Rattle.clap.specs.Words.{IsAmong, Row, Text, fault_of, first_of, is_simple, is_simple_and_free, subcommand_of}
@@ -15,7 +15,7 @@ use Rattle.tpmsim_arguments.specs.declared.arguments.Arguments.TheVariants as ar
 use Rattle.tpmsim_arguments.specs.declared.fault.ArgumentFault.{ArgumentFault}
 use Rattle.tpmsim_arguments.specs.declared.fault.ArgumentFault.TheVariants.{Usage, NoMemory}
 
--- clap gives the matches of the program's command line as a function of the words
+-- clap's matches of the program's command line are a function of the words
 pub program_is_simple : is_simple program ≡ true
 unfolding clap_on_literals
 program_is_simple = refl
@@ -32,14 +32,14 @@ not_found : {X : Type 0} (found : Option X) → ok_or found Usage ≡ Err Usage 
 not_found None e = refl
 not_found (Some y) e = absurd cc
 
--- no command line that clap takes asks for a text of clap's
+-- no command line that clap accepts requests one of clap's texts
 no_run : (kind : ErrorKind) (trace : Bool) (script : Option Text) (storage : Option (Option Stored))
     → option_and_then (λ s. option_and_then (λ kept. Some (run s trace kept)) storage) script ≡ Some (tell kind) → ⊥
 no_run kind trace None storage e = cc
 no_run kind trace (Some s) None e = cc
 no_run kind trace (Some s) (Some kept) e = cc
 
--- a choice of two wishes is not this one if neither of them is
+-- if neither of two options is this request, a choice between them is not this request
 otherwise : {A : Type 0} (wish : A) (here : Bool) (this other : Option A) → (this ≡ Some wish → ⊥) → (other ≡ Some wish → ⊥)
     → (if here then this else other) ≡ Some wish → ⊥
 otherwise wish true this other one two e = one e
@@ -113,7 +113,8 @@ none_tells kind (Some command) e =
     (otherwise (tell kind) (bytes_eq command.0 (codes "script")) _ _ (no_script kind (first_of (codes "state") rows))
     (otherwise (tell kind) (bytes_eq command.0 (codes "replay")) _ _ (no_replay kind (first_of (codes "journal") rows)) (unknown kind)))))))))))) e
 
--- the answer if clap takes the words and the program reads its matches
+-- if clap accepts the words and the program reads clap's matches, the result is the one that
+-- `Answers` requires
 pub taken : (words : List Text) (r : Result Arguments ArgumentFault) → AreTaken words
     → Gives asked (ok_or (asked_by words) Usage) r → Answers words r
 taken words (Ok (arguments.Run script trace storage)) right e = (right, found_is _ _ e)
@@ -132,7 +133,8 @@ taken words (Ok (arguments.Tell error)) right e = absurd (none_tells _ (subcomma
 taken words (Err Usage) right e = inr (right, not_found _ e)
 taken words (Err NoMemory) right e = tt
 
--- the answer if clap refuses the words, and not for help or the version
+-- if clap refuses the words, and not for help or the version, the result is the one that `Answers`
+-- requires
 pub refused : (words : List Text) (kind : ErrorKind) (fault : ArgumentFault) → fault ≡ fault_of_words kind
     → (kind ≡ OutOfMemory) ⊎ IsAmong kind (fault_of program words) → kind ≢ DisplayHelp → kind ≢ DisplayVersion
     → Answers words (Err fault)
@@ -143,7 +145,7 @@ refused words kind Usage is (inl out) help version =
 refused words kind Usage is (inr among) help version =
     inl (kind, among, λ wish. elim wish [ inl h ↦ help h | inr v ↦ version v ])
 
--- a kind of error that is not neither help nor the version is one of the two
+-- if it is false that a kind of error is neither help nor the version, the kind is one of these two
 is_wish : (kind : ErrorKind) → ((kind ≢ DisplayHelp) × (kind ≢ DisplayVersion) → ⊥) → IsTold kind
 is_wish DisplayHelp never = inl refl
 is_wish DisplayVersion never = inr refl
@@ -163,7 +165,8 @@ is_wish Io never = absurd (never (λ e. cc, λ e. cc))
 is_wish Format never = absurd (never (λ e. cc, λ e. cc))
 is_wish OutOfMemory never = absurd (never (λ e. cc, λ e. cc))
 
--- the answer if clap refuses the words because the user asked for help or the version
+-- if clap refuses the words because the user requested help or the version, the result is the one
+-- that `Answers` requires
 pub told : (words : List Text) (kind : ErrorKind) → (kind ≡ OutOfMemory) ⊎ IsAmong kind (fault_of program words)
     → ((kind ≢ DisplayHelp) × (kind ≢ DisplayVersion) → ⊥) → IsAmong kind (fault_of program words) × IsTold kind
 told words kind (inr among) never = (among, is_wish kind never)

@@ -1,4 +1,4 @@
--- The arguments and subcommands of a command after one is added.
+-- Lemmas about the arguments and subcommands of a command after one is added.
 use Rattle.std.proofs.Common.{◌≡◌, ◌∙◌, ap, ap₂, refl, true, false, not, ◌&&◌, Bool, Result, Ok, Err}
 use Rattle.std.specs.Prelude.{IfOk, IsOkAnd}
 use Rattle.std.proofs.lemmas.Result.{IfOk-weaker}

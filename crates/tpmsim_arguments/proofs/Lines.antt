@@ -10,7 +10,7 @@ use Rattle.tpmsim_arguments.specs.Answers.{AreTaken}
 use Rattle.tpmsim_arguments.specs.Invocation.{Invocation, Kept, asked_by, assemble, check, completes_by, cycle_power, forms, in_image, in_state, log_by, name_code, past_by, replay, restore, retell, run, serve, snapshot, spell}
 use Rattle.tpmsim_arguments.specs.Lines.{AskFor, AskForDevice, AskForFolder, AskForNothing, AskForSavedDevice, AskForService, IsScript, asm_line, begins_with_hyphen, check_line, code_line, complete_line, cut_line, form_line, forms_line, incomplete_line, joined_line, keeping_line, line_line, logging_line, played_line, power_line, replay_line, restore_line, saving_line, script_line, short_line, snapshot_line, state_line}
 
--- a word that begins with no hyphen is not the name of an argument
+-- a word that does not begin with a hyphen is not the name of an argument
 no_hyphen : (word : Text) → begins_with_hyphen word ≡ false → strip_byte 45 word ≡ None
 no_hyphen [] e = refl
 no_hyphen (byte ∷ rest) e = rw e refl
@@ -58,11 +58,11 @@ pub damage_is_cut : (name state : Text) → begins_with_hyphen state ≡ false �
 unfolding clap_on_literals
 damage_is_cut name state e = rw (no_end state e, no_long state e, no_short state e) (refl, refl)
 
--- a number of journals that is not too large is taken
+-- a number of journals of at most 99 is accepted
 past_is : (keep : Text) (past : ℕ) → decimal_of keep ≡ Some past → past ≤ 99 → past_by (Some keep) ≡ Some past
 past_is keep past e small = rw (e, le-leb past 99 small) refl
 
--- what the words of a power cycle with this number of journals ask for
+-- the request of the words of a power cycle with this number of journals
 abbrev with_past : (state : Text) → Option ℕ → Option Invocation
 with_past state past = option_and_then (λ count. Some (cycle_power state false count)) past
 
@@ -101,7 +101,7 @@ state_is_played name state = (refl, refl)
 locality_is : (number : ℕ) → number ≤ 4 → locality_of number ≡ Some number
 locality_is number small = rw (le-leb number 4 small) refl
 
--- what the words of a service with these numbers ask for, if both are numbers
+-- the request of the words of a service with these numbers, if both are numbers
 abbrev pub with_numbers : (socket : Text) → Kept → (log : Option Text) → (entropy : Text) → Option ℕ → Option ℕ → Bool → Option Invocation
 with_numbers socket place log entropy locality connections saves = option_map serve (option_and_then (λ l. option_and_then (λ c.
     Some (record { socket = socket; place = place; log = log; entropy = entropy; locality = l; connections = c; saves_each = saves; completes = false }))
@@ -176,7 +176,7 @@ pub folder_is_served : (name socket state : Text) → AskForFolder (short_line n
 unfolding clap_on_literals
 folder_is_served name socket state = (refl, refl)
 
--- what the words of a completed service with this number of journals ask for
+-- the request of the words of a service with the completing layer and this number of journals
 abbrev completed : (socket state : Text) → Option ℕ → Option Invocation
 completed socket state past = option_map serve (option_and_then (λ place. option_and_then (λ log. option_and_then (λ completes.
     Some (record { socket = socket; place = place; log = log; entropy = codes "/dev/urandom"; locality = 0; connections = None; saves_each = false; completes = completes }))

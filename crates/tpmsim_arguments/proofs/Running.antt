@@ -12,7 +12,7 @@ use Rattle.tpmsim_arguments.specs.Lines.{AskFor, IsScript, begins_with_hyphen, k
 use Rattle.tpmsim_arguments.proofs.Lines.{no_end, no_long, no_short}
 use Rattle.tpmsim_arguments.proofs.Settings.{begun, level, none, step, stopped_at, stopped_fault, stopped_walk, top, top_end, top_names}
 
--- a word that begins with no hyphen goes to the argument in the first place
+-- a word that does not begin with a hyphen becomes the first positional argument
 plain_walked : (c : List Rule) (h : Held) (word : Text) → begins_with_hyphen word ≡ false
     → walked c [] (walk_from h) word ≡ to_positional c (arg_by_index c 1) word (walk_from h) h
 unfolding walked
@@ -45,7 +45,7 @@ run_fault : (rest : List Text) → walk_fault top top_names (walk_from nothing_h
 run_fault rest = step top top_names (walk_from nothing_held) (stopped_at (codes "run") []) (codes "run") rest run_turn run_met
     ∙ stopped_fault top top_names (codes "run") [] rest
 
--- what a command line of `run` asks for if the walk over its words ends so
+-- the request of a command line of `run`, if the walk over its words ends in this state
 is_asked : (name : Text) (rest : List Text) (end : Walk) (asked : Invocation)
     → (walk run_shape.rules [] nothing_held rest ≡ end) × (walk_fault run_shape [] begun rest ≡ [])
     → or_else (settle_fault run_shape.rules run_shape.args_override_self end.held)
@@ -66,11 +66,11 @@ is_asked name rest end asked w r a =
 
 -- ---- the script, after what is given before it
 
--- the walk that ends with a script
+-- the state of the walk after a script
 abbrev with_script : Held → Text → Walk
 with_script h script = to_positional run_shape.rules (arg_by_index run_shape.rules 1) script (walk_from h) h
 
--- these words are taken, and the walk over them ends so
+-- these words are accepted, and the walk over them ends in this state
 abbrev LeadsTo : Walk → List Text → Walk → Type 0
 LeadsTo w words end = (fold R w words ≡ end) × (walk_fault run_shape [] w words ≡ [])
 
@@ -149,7 +149,7 @@ entropy_turn : (image entropy : Text) → turn_fault run_shape [] (walk_from (im
 unfolding clap_on_literals
 entropy_turn image entropy = refl
 
--- a run with its trace on the device of an image
+-- the request of a run with its trace on the device of an image
 abbrev run_kept : (image entropy script : Text) → Invocation
 run_kept image entropy script = run script true (Some (record { place = in_image image; entropy = Some entropy }))
 

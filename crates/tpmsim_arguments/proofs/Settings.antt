@@ -52,7 +52,7 @@ level s names words sub below w f e b r = rw (f, e, b) r
 
 -- ---- the words before the settings
 
--- a walk that has met a subcommand keeps the words after it
+-- a walk that has reached a subcommand keeps the words after it
 abbrev pub stopped_at : Text → List Text → Walk
 stopped_at name words = record (walk_from nothing_held) { stopped = Some (name, words) }
 
@@ -171,7 +171,7 @@ given₅ s i e l n p = value_walked serve_shape.rules (rows₄ s i e l) (codes "
 abbrev ended : (s i e l n : Text) → Walk
 ended s i e l n = walk_at (rows₄ s i e l) (codes "connections") (n ∷ []) idle
 
--- one word less is left for the walk
+-- after the walk reads one word, one word fewer remains
 ahead : (w v : Walk) (word : Text) (rest : List Text) → W w word ≡ v → fold W w (word ∷ rest) ≡ fold W v rest
 ahead w v word rest e = ap (λ x. fold W x rest) e
 

@@ -1,4 +1,4 @@
--- The answers to a command line.
+-- The result of parsing a command line.
 use Rattle.std.specs.Prelude.{◌≡◌, ◌⊎◌, List, [], Some, None, Result, Ok, Err}
 use Rattle.clap.specs.Words.{IsAmong, Text, fault_of, kind_of}
 use Rattle.clap.specs.declared.error.kind.ErrorKind.{ErrorKind}
@@ -10,11 +10,11 @@ use Rattle.tpmsim_arguments.specs.declared.arguments.Arguments.TheVariants.{Tell
 use Rattle.tpmsim_arguments.specs.declared.fault.ArgumentFault.{ArgumentFault}
 use Rattle.tpmsim_arguments.specs.declared.fault.ArgumentFault.TheVariants.{Usage, NoMemory}
 
--- clap finds no fault with these words.
+-- clap accepts these words.
 abbrev pub AreTaken : List Text → Type 0
 AreTaken words = fault_of program words ≡ []
 
--- The user asked for a text of clap's, help or the version: clap's error is not a mistake.
+-- The user requested a text of clap's, help or the version: clap's error is not a mistake.
 abbrev pub IsTold : ErrorKind → Type 0
 IsTold kind = (kind ≡ DisplayHelp) ⊎ (kind ≡ DisplayVersion)
 
@@ -22,8 +22,8 @@ abbrev pub HaveMistake : List Text → Type 0
 HaveMistake words =
     (kind : ErrorKind) × IsAmong kind (fault_of program words) × (IsTold kind → ⊥)
 
--- The answer is what the words ask for, or clap's text if the words ask for one. The answer is
--- Usage if the words have a mistake, or ask for nothing, as with a locality above 4.
+-- The result is the request of the words, or clap's text if the words request one. The result is
+-- Usage if the words have a mistake, or no request, such as a locality above 4.
 abbrev pub Answers : List Text → Result Arguments ArgumentFault → Type 0
 Answers words (Ok (Tell error)) =
     IsAmong (kind_of error) (fault_of program words) × IsTold (kind_of error)

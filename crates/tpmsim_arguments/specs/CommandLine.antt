@@ -1,4 +1,4 @@
--- The program's command line, in the words of clap.
+-- The program's command line, as clap's types define it.
 use Rattle.std.specs.Prelude.{List, [], ◌∷◌, Some, false, true, codes, fold}
 use Rattle.clap.specs.Words.{App, Rule, Shape, Text, new_rule, with_subcommand}
 use Rattle.clap.specs.Simple.{new_shape}
@@ -8,7 +8,7 @@ use Rattle.clap.specs.declared.builder.action.ArgAction.TheVariants.{Set, SetTru
 abbrev pub flag : Text → Rule
 flag name = record (new_rule name) { long = Some name; action = Some SetTrue }
 
--- the rule of a value in its place, which has to be given
+-- the rule of a positional argument, which is required
 abbrev pub operand : Text → Rule
 operand name = record (new_rule name) {
   action = Some Set;
@@ -16,7 +16,7 @@ operand name = record (new_rule name) {
   required = true;
 }
 
--- the rule of --NAME with a value, which has to be given
+-- the rule of --NAME with a value, which is required
 abbrev pub setting : Text → Rule
 setting name = record (operand name) { long = Some name }
 
@@ -28,7 +28,7 @@ choice name = record (setting name) { required = false }
 abbrev pub with_arguments : Text → List Rule → Shape
 with_arguments name rules = record (new_shape name) { rules = rules }
 
--- the rule of a value in its place, which may be left out
+-- the rule of a positional argument, which may be left out
 abbrev pub optional_operand : Text → Rule
 optional_operand name = record (operand name) { required = false }
 
@@ -88,7 +88,7 @@ script_command = with_arguments (codes "script") (operand (codes "state") ∷ []
 abbrev pub replay_command : Shape
 replay_command = with_arguments (codes "replay") (operand (codes "journal") ∷ [])
 
--- the program, which has a version, and needs one of its commands
+-- the program, which has a version, and requires one of its commands
 abbrev pub bare_program : App
 bare_program = record {
   top = record (new_shape (codes "tpmsim")) { has_version = true; subcommand_required = true };

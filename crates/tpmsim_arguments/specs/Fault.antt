@@ -4,8 +4,8 @@ use Rattle.clap.specs.declared.error.kind.ErrorKind.TheVariants as refused
 use Rattle.tpmsim_arguments.specs.declared.fault.ArgumentFault.{ArgumentFault}
 use Rattle.tpmsim_arguments.specs.declared.fault.ArgumentFault.TheVariants.{Usage, NoMemory}
 
--- the fault of words that clap refuses for this reason: memory ran out, or they are not the
--- program's
+-- the fault of words that clap refuses for this reason: memory ran out, or the words are not one of
+-- the program's command lines
 abbrev pub fault_of_words : clap.ErrorKind → ArgumentFault
 fault_of_words refused.OutOfMemory = NoMemory
 fault_of_words _ = Usage

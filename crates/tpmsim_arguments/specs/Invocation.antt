@@ -1,4 +1,4 @@
--- What a command line asks for, by what clap finds in its words.
+-- The request of a command line, from what clap finds in its words.
 use Rattle.std.specs.Prelude.{ℕ, Bool, false, List, Option, Some, None, codes, nat_le, if◌then◌else◌}
 use Rattle.std.specs.Prelude.{option_and_then, option_map}
 use Rattle.std.specs.Option.{option_map_or}
@@ -21,7 +21,8 @@ pub data Kept : Type 0 where
   in_image : Text → Kept
   in_state : Text → (past : ℕ) → Kept
 
--- the paths and numbers with which a device is served: None connections are connections without end
+-- the paths and numbers with which a device is served; if `connections` is None, there is no limit
+-- on the number of connections
 pub record Served : Type 0 where
   pub socket : Text
   pub place : Kept
@@ -32,20 +33,19 @@ pub record Served : Type 0 where
   pub saves_each : Bool
   pub completes : Bool
 
--- the files of a device that a script is played on: where it is kept, and the file of the random
--- bytes that a new one is made of
+-- the files of a device on which a script is played: where the device is kept, and the file of the
+-- random bytes that make a new device
 pub record Stored : Type 0 where
   pub place : Kept
   pub entropy : Option Text
 
--- what a command line asks for: to run a script, with its trace or without, on a device that is
--- kept or on one that is not; to check the lines of a script; to print the buffer of a line; to
--- print the line of a buffer; to print how the command of a name is said in words, or how each
--- command is; to print what a response code says; to serve a device; to cycle the power of the
--- device in a folder, with what follows damage dropped or not; to print its state text; to replace
--- it by the device of a state text; to print what happened to it as a script; to execute what a
--- journal recorded again; to print a text of clap's, its help or the version. A number `past` is
--- how many finished journals stay in the folder.
+-- the request of a command line: run a script, with or without its trace, on a device that is or is
+-- not kept; check the lines of a script; print the buffer of a line; print the line of a buffer;
+-- print the form in words of one command or of all; print the meaning of a response code; serve a
+-- device; power-cycle the device in a folder, with or without dropping the journal after damage;
+-- print the device's state text; replace the device by the device of a state text; print the
+-- device's history as a script; execute again the commands that a journal recorded; print clap's
+-- help or the version. `past` is the number of finished journals that stay in the folder
 pub data Invocation : Type 0 where
   run : Text → Bool → Option Stored → Invocation
   check : Text → Invocation
@@ -61,9 +61,9 @@ pub data Invocation : Type 0 where
   replay : Text → Invocation
   tell : ErrorKind → Invocation
 
--- ---- what words ask for
+-- ---- the requests of words
 
--- whether a flag was given: clap finds "true" for it then, and otherwise "false"
+-- whether a flag was given: if so, clap's text for it is "true", and otherwise "false"
 abbrev pub is_set : Text → List Row → Bool
 is_set flag rows =
     option_map_or (λ text. bytes_eq text (codes "true")) (first_of flag rows) false
@@ -72,11 +72,11 @@ infixl 10 ◌>>=◌
 abbrev pub ◌>>=◌ : {A B : Type 0} → Option A → (A → Option B) → Option B
 found >>= next = option_and_then next found
 
--- how many finished journals stay in the folder of a device: at most 99
+-- the number of finished journals that stay in the folder of a device: at most 99
 abbrev pub past_of : ℕ → Option ℕ
 past_of number = if nat_le number 99 then Some number else None
 
--- the same number, which decimal digits give, or else 0
+-- the number of finished journals in decimal digits; 0 without digits
 abbrev pub past_by : (keep : Option Text) → Option ℕ
 past_by None = Some 0
 past_by (Some digits) = decimal_of digits >>= past_of
@@ -84,7 +84,8 @@ past_by (Some digits) = decimal_of digits >>= past_of
 abbrev pub past_in : List Row → Option ℕ
 past_in rows = past_by (first_of (codes "keep") rows)
 
--- where a device is kept: either an image or a folder is given, and journals stay in a folder alone
+-- where a device is kept: either an image or a folder is given, and only a folder can have a number
+-- of journals
 abbrev pub place_by : (image state keep : Option Text) → Option Kept
 place_by (Some image) None None = Some (in_image image)
 place_by (Some image) None (Some keep) = None
@@ -96,28 +97,28 @@ abbrev pub place_in : List Row → Option Kept
 place_in rows = place_by (first_of (codes "image") rows) (first_of (codes "state") rows)
     (first_of (codes "keep") rows)
 
--- the log of a device that is kept in this place: only a device in an image can have one
+-- the log of a device that is kept in this place: only a device in an image can have a log
 abbrev pub log_by : Kept → (log : Option Text) → Option (Option Text)
 log_by place None = Some None
 log_by (in_image image) (Some log) = Some (Some log)
 log_by (in_state state past) (Some log) = None
 
--- whether the completing layer is on: only a device in a folder can have it
+-- whether the completing layer is on: only a device in a folder can have the layer
 abbrev pub completes_by : Kept → Bool → Option Bool
 completes_by (in_image image) completes = if completes then None else Some false
 completes_by (in_state state past) completes = Some completes
 
--- the file of random bytes, which is the system's unless another one is given
+-- the file of random bytes: the system's file, unless another one is given
 abbrev pub entropy_by : Option Text → Text
 entropy_by None = codes "/dev/urandom"
 entropy_by (Some path) = path
 
--- the locality that decimal digits give, or else 0
+-- the locality in decimal digits; 0 without digits
 abbrev pub locality_by : Option Text → Option ℕ
 locality_by None = Some 0
 locality_by (Some digits) = decimal_of digits >>= locality_of
 
--- the number of connections that decimal digits give, or else no end of them
+-- the number of connections in decimal digits; None, which means no limit, without digits
 abbrev pub connections_by : Option Text → Option (Option ℕ)
 connections_by None = Some None
 connections_by (Some digits) = option_map (λ count. Some count) (decimal_of digits)
@@ -141,8 +142,8 @@ service_in rows = do
     completes = completes;
   })
 
--- the files of a device that is kept, or none if it is not kept; without a place, a file of random
--- bytes and a number of journals are refused
+-- the files of a device that is kept, or none if it is not kept; without an image or a folder, a
+-- file of random bytes and a number of journals are refused
 abbrev pub stored_by : (image state keep entropy : Option Text) → Option (Option Stored)
 stored_by None None None None = Some None
 stored_by image state keep entropy = option_map
@@ -152,7 +153,7 @@ abbrev pub storage_in : List Row → Option (Option Stored)
 storage_in rows = stored_by (first_of (codes "image") rows) (first_of (codes "state") rows)
     (first_of (codes "keep") rows) (first_of (codes "entropy") rows)
 
--- the script that is given, or standard input on a device with its state in a folder
+-- the script that is given; without one, standard input if the device's state is in a folder
 abbrev pub script_by : (script state : Option Text) → Option Text
 script_by (Some script) state = Some script
 script_by None (Some state) = Some (codes "-")
@@ -180,7 +181,7 @@ restore_in rows = do
   past ← past_in rows
   Some (restore state text past)
 
--- what a command of this name asks for, with these matches of clap's
+-- the request of the command with this name, from clap's matches
 abbrev pub asked_of : Text → List Row → Option Invocation
 asked_of name rows = if bytes_eq name (codes "run") then run_in rows
     else (if bytes_eq name (codes "check") then option_map check (first_of (codes "script") rows)
@@ -199,11 +200,11 @@ asked_of name rows = if bytes_eq name (codes "run") then run_in rows
 abbrev pub asked_in : Option (Text × List Row) → Option Invocation
 asked_in = option_and_then (λ command. asked_of command.0 command.1)
 
--- what these words ask for, of which the first is the program's name
+-- the request of these words, the first of which is the program's name
 abbrev pub asked_by : List Text → Option Invocation
 asked_by words = asked_in (subcommand_of program words)
 
--- ---- what the code gives for words
+-- ---- the values of the code, as the definitions see them
 
 abbrev pub kept : Place → Kept
 kept (place.Image path) = in_image path.now

@@ -7,7 +7,7 @@ use Rattle.tpm_number.specs.Number.{decimal_of}
 use Rattle.tpmsim_arguments.specs.Answers.{AreTaken}
 use Rattle.tpmsim_arguments.specs.Invocation.{Invocation, Kept, asked_by, in_image, in_state, serve}
 
--- clap takes these words, and this is what they ask for.
+-- clap accepts these words, and this is their request.
 abbrev pub AskFor : List Text → Invocation → Type 0
 AskFor words asked = AreTaken words × (asked_by words ≡ Some asked)
 
@@ -19,8 +19,8 @@ begins_with_hyphen (byte ∷ rest) = byte == 45
 abbrev pub NoneBeginsWithHyphen : List Text → Type 0
 NoneBeginsWithHyphen = AllByRecursion (λ word. begins_with_hyphen word ≡ false)
 
--- A word that can name a script: it begins with no hyphen, or is a hyphen alone, which stands for
--- standard input.
+-- A word that can name a script: it does not begin with a hyphen, or is a single hyphen, which
+-- stands for standard input.
 abbrev pub IsScript : Text → Type 0
 IsScript script = (begins_with_hyphen script ≡ false) ⊎ (script ≡ codes "-")
 
@@ -107,7 +107,7 @@ joined_line name socket image entropy locality connections = name ∷ codes "ser
     ∷ (codes "--entropy=" ++ entropy) ∷ (codes "--locality=" ++ locality)
     ∷ (codes "--connections=" ++ connections) ∷ []
 
--- the command line of serve with --save-each in front of the other arguments
+-- the command line of serve with --save-each before the other arguments
 abbrev pub saving_line : (name socket image entropy locality connections : Text) → List Text
 saving_line name socket image entropy locality connections = name ∷ codes "serve"
     ∷ codes "--save-each" ∷ (codes "--socket=" ++ socket) ∷ (codes "--image=" ++ image)
@@ -143,7 +143,7 @@ state_line name socket state entropy locality connections = name ∷ codes "serv
     ∷ (codes "--entropy=" ++ entropy) ∷ (codes "--locality=" ++ locality)
     ∷ (codes "--connections=" ++ connections) ∷ []
 
--- These words ask for the service of a device that is kept in this place, with these paths, and
+-- These words request the service of a device that is kept in this place, with these paths, and
 -- with these numbers if the words are numbers. `saves_each` says whether the device is saved before
 -- each response.
 abbrev pub AskForService : (words : List Text) (socket : Text) (place : Kept) (log : Option Text)
@@ -161,13 +161,13 @@ AskForService words socket place log entropy locality connections saves_each = (
       completes = false;
     }))
 
--- Clap takes these words, and they ask for nothing that the program does.
+-- clap accepts these words, but the program has no such request.
 abbrev pub AskForNothing : List Text → Type 0
 AskForNothing words = AreTaken words × (asked_by words ≡ None)
 
--- These words ask for the service of a device in this folder, where this many finished journals
--- stay, with the system's random bytes, from locality 0, and without end. `completes` says whether
--- the completing layer is on.
+-- These words request the service of a device in this folder, where this many finished journals
+-- stay, with the system's random bytes, locality 0, and no limit on connections. `completes` says
+-- whether the completing layer is on.
 abbrev pub AskForFolder : (words : List Text) (socket state : Text) (past : ℕ) (completes : Bool)
     → Type 0
 AskForFolder words socket state past completes = AskFor words (serve (record {
@@ -181,13 +181,14 @@ AskForFolder words socket state past completes = AskFor words (serve (record {
   completes = completes;
 }))
 
--- These words ask for a device with an image, which is not saved before each response.
+-- These words request the service of a device with an image, which is not saved before each
+-- response.
 abbrev pub AskForDevice : (words : List Text) (socket image entropy locality connections : Text)
     → Type 0
 AskForDevice words socket image entropy locality connections =
     AskForService words socket (in_image image) None entropy locality connections false
 
--- These words ask for a device with an image, which is saved before each response.
+-- These words request the service of a device with an image, which is saved before each response.
 abbrev pub AskForSavedDevice : (words : List Text)
     (socket image entropy locality connections : Text) → Type 0
 AskForSavedDevice words socket image entropy locality connections =

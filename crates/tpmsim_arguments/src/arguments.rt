@@ -1,4 +1,4 @@
-//! What the words of a command line ask for.
+//! The request of a command line, from its words.
 
 ghost use Rattle.std.specs.Prelude.{◌≡◌, codes, map, ok_or, option_map};
 ghost use Rattle.clap.specs.Words.{first_of, found_of, rows_of, subcommand_rows_of};
@@ -24,72 +24,73 @@ use std::convert::AsStr;
 use tpm_number::{decimal, locality};
 use tpm_types::Locality;
 
-/// What the command line asks for.
+/// The request of a command line.
 #[derive(Drop)]
 pub enum Arguments<'a> {
-    /// To run the script in this file, or on standard input if the word is `-`; to print the
-    /// trace of each event; and to keep the device in these files, or nowhere.
+    /// Run the script in this file, or on standard input if the word is `-`. `trace` says whether
+    /// to print the trace of each event, and `storage` says in which files the device is kept, if
+    /// in any.
     Run {
         script: &'a str,
         trace: bool,
         storage: Option<Storage<'a>>,
     },
-    /// To print what is wrong with the lines of the script in this file, or on standard input if
-    /// the word is `-`.
+    /// Print the faults in the lines of the script in this file, or on standard input if the word
+    /// is `-`.
     Check {
         script: &'a str,
     },
-    /// To print the buffer of the command that this line encodes.
+    /// Print the buffer of the command that this line encodes.
     Assemble {
         line: &'a str,
     },
-    /// To print the line that encodes the buffer with these hex digits.
+    /// Print the line that encodes the buffer with these hex digits.
     Spell {
         digits: &'a str,
     },
-    /// To print how the command of this name is said in words, or how each command is.
+    /// Print the form of the command with this name in words, or the forms of all commands.
     Forms {
         name: Option<&'a str>,
     },
-    /// To print what the response code says that these hex digits write.
+    /// Print the meaning of the response code with these hex digits.
     Code {
         digits: &'a str,
     },
-    /// To serve a device on a socket, with these settings.
+    /// Serve a device on a socket, with these settings.
     Serve(Service<'a>),
-    /// To cycle the power of the device whose state is in this folder; with `cuts`, also if its
-    /// journal is damaged, from the last whole record before the damage. `past` is how many
-    /// finished journals stay in the folder.
+    /// Power-cycle the device whose state is in this folder. With `cuts`, a damaged journal is
+    /// accepted, and the device is opened from the last whole record before the damage. `past` is
+    /// the number of finished journals that stay in the folder.
     Power {
         state: &'a str,
         cuts: bool,
         past: u32,
     },
-    /// To print the state text of the device whose state is in this folder.
+    /// Print the state text of the device whose state is in this folder.
     Snapshot {
         state: &'a str,
     },
-    /// To replace the device whose state is in this folder, or to begin one there: by the device of
-    /// the state text in this file. `past` is how many finished journals stay in the folder.
+    /// Replace the device whose state is in this folder, or begin one there, with the device of the
+    /// state text in this file. `past` is the number of finished journals that stay in the folder.
     Restore {
         state: &'a str,
         text: &'a str,
         past: u32,
     },
-    /// To print what happened to the device whose state is in this folder, as a script.
+    /// Print the history of the device whose state is in this folder, as a script.
     Retell {
         state: &'a str,
     },
-    /// To execute what this journal or log recorded again, and to print what was answered.
+    /// Execute again the commands that this journal or log recorded, and print the responses.
     Replay {
         journal: &'a str,
     },
-    /// To print the program's help or its version, which clap returns instead of matches.
+    /// Print the program's help or its version, which clap returns instead of matches.
     Tell(clap::Error),
 }
 
 impl<'a> Arguments<'a> {
-    /// Reads the words of a command line, of which the first is the program's name.
+    /// Parses the words of a command line. The first word is the program's name.
     pub fn parse<S: AsStr>(alloc: Global, words: &'a [S]) -> Result<Arguments<'a>, ArgumentFault>
         ensures { Answers (map S.text words.entry.now) result }
     {
@@ -100,7 +101,7 @@ impl<'a> Arguments<'a> {
         }
     }
 
-    /// What the matches of a command line ask for.
+    /// Returns the request of a command line, from clap's matches.
     fn of_matches(matches: &ArgMatches<'a>) -> Result<Arguments<'a>, ArgumentFault>
         ensures { Gives asked (ok_or (asked_in (subcommand_rows_of matches.now)) Usage) result }
     {
@@ -110,7 +111,7 @@ impl<'a> Arguments<'a> {
         Arguments::of_command(name, options).ok_or(ArgumentFault::Usage)
     }
 
-    /// What a command of this name asks for.
+    /// Returns the request of the command with this name, from clap's matches.
     fn of_command(name: &str, options: &ArgMatches<'a>) -> Option<Arguments<'a>>
         ensures { option_map asked result ≡ asked_of name.now (rows_of (found_of options.now)) }
     {
@@ -164,8 +165,8 @@ fn value<'a>(options: &ArgMatches<'a>, name: &str) -> Option<&'a str>
     options.get_str(name)
 }
 
-/// Whether a flag was given. If it was, its text in clap is "true", and otherwise "false". clap's
-/// `get_flag` promises nothing about other texts.
+/// Whether a flag was given. If it was, its text in clap is "true", and otherwise "false". The
+/// contract of clap's `get_flag` covers no other texts.
 fn is_set(options: &ArgMatches<'_>, flag: &str) -> bool
     ensures { result ≡ is_set flag.now (rows_of (found_of options.now)) }
 {
@@ -175,7 +176,7 @@ fn is_set(options: &ArgMatches<'_>, flag: &str) -> bool
     }
 }
 
-/// What the matches of `run` ask for.
+/// Returns the request of `run`, from its matches.
 fn run_of<'a>(options: &ArgMatches<'a>) -> Option<Arguments<'a>>
     ensures { option_map asked result ≡ run_in (rows_of (found_of options.now)) }
 {
@@ -186,8 +187,8 @@ fn run_of<'a>(options: &ArgMatches<'a>) -> Option<Arguments<'a>>
     })
 }
 
-/// The script that the matches of `run` name. A device with its state in a folder plays standard
-/// input if they name none.
+/// Returns the script that the matches of `run` name. If they name none, a device with its state in
+/// a folder plays standard input.
 fn script_of<'a>(options: &ArgMatches<'a>) -> Option<&'a str>
     ensures { option_map (λ text. text.now) result ≡ script_in (rows_of (found_of options.now)) }
 {
@@ -198,7 +199,7 @@ fn script_of<'a>(options: &ArgMatches<'a>) -> Option<&'a str>
     }
 }
 
-/// What the matches of `power` ask for.
+/// Returns the request of `power`, from its matches.
 fn power_of<'a>(options: &ArgMatches<'a>) -> Option<Arguments<'a>>
     ensures { option_map asked result ≡ power_in (rows_of (found_of options.now)) }
 {
@@ -209,7 +210,7 @@ fn power_of<'a>(options: &ArgMatches<'a>) -> Option<Arguments<'a>>
     })
 }
 
-/// What the matches of `restore` ask for.
+/// Returns the request of `restore`, from its matches.
 fn restore_of<'a>(options: &ArgMatches<'a>) -> Option<Arguments<'a>>
     ensures { option_map asked result ≡ restore_in (rows_of (found_of options.now)) }
 {
@@ -220,8 +221,8 @@ fn restore_of<'a>(options: &ArgMatches<'a>) -> Option<Arguments<'a>>
     })
 }
 
-/// Where the matches of `run` keep the device, which may be nowhere. Without a place, a file of
-/// random bytes and a number of journals are refused.
+/// Returns where the matches of `run` keep the device, which may be nowhere. If they give neither
+/// an image nor a folder, a file of random bytes and a number of journals are refused.
 fn storage_of<'a>(options: &ArgMatches<'a>) -> Option<Option<Storage<'a>>>
     ensures { option_map (option_map stored) result ≡ storage_in (rows_of (found_of options.now)) }
 {
@@ -241,8 +242,8 @@ fn storage_of<'a>(options: &ArgMatches<'a>) -> Option<Option<Storage<'a>>>
     }
 }
 
-/// The place that is given either as an image or as the folder of a state, in which this many
-/// finished journals stay.
+/// Returns the place of the device: an image or a folder of a state, exactly one of which must be
+/// given. The number of finished journals applies only to a folder.
 fn place_by<'a>(
     image: Option<&'a str>,
     state: Option<&'a str>,
@@ -262,7 +263,8 @@ fn place_by<'a>(
     }
 }
 
-/// How many finished journals stay in a folder, by the digits of `--keep`: none without them.
+/// Returns the number of finished journals that stay in a folder, from the digits of `--keep`; 0
+/// without them.
 fn past_by(keep: Option<&str>) -> Option<u32>
     ensures { result ≡ past_by (option_map (λ text. text.now) keep.entry) }
 {
@@ -279,7 +281,7 @@ fn past_of(number: u32) -> Option<u32>
     if number <= 99 { Some(number) } else { None }
 }
 
-/// The place in which the matches of `serve` keep the device.
+/// Returns the place where the matches of `serve` keep the device.
 fn place_of<'a>(options: &ArgMatches<'a>) -> Option<Place<'a>>
     ensures { option_map kept result ≡ place_in (rows_of (found_of options.now)) }
 {
@@ -290,7 +292,8 @@ fn place_of<'a>(options: &ArgMatches<'a>) -> Option<Place<'a>>
     )
 }
 
-/// The log of a device in this place, if one is asked for. Only a device in an image can have one.
+/// Returns the log of a device in this place, if one is requested. Only a device in an image can
+/// have a log.
 fn log_by<'a>(place: Place<'_>, log: Option<&'a str>) -> Option<Option<&'a str>>
     ensures { option_map (option_map (λ text. text.now)) result
         ≡ log_by (kept place.entry) (option_map (λ text. text.now) log.entry) }
@@ -302,7 +305,7 @@ fn log_by<'a>(place: Place<'_>, log: Option<&'a str>) -> Option<Option<&'a str>>
     }
 }
 
-/// Whether the completing layer is on. Only a device in a folder can have it.
+/// Returns whether the completing layer is on. Only a device in a folder can have the layer.
 fn completes_by(place: Place<'_>, completes: bool) -> Option<bool>
     ensures { result ≡ completes_by (kept place.entry) completes }
 {
@@ -313,7 +316,7 @@ fn completes_by(place: Place<'_>, completes: bool) -> Option<bool>
     }
 }
 
-/// The file of random bytes: the system's, unless another one is given.
+/// Returns the path of the file of random bytes: the system's file, unless another one is given.
 fn entropy_by<'a>(path: Option<&'a str>) -> &'a str
     ensures { result.now ≡ entropy_by (option_map (λ text. text.now) path.entry) }
 {
@@ -323,7 +326,7 @@ fn entropy_by<'a>(path: Option<&'a str>) -> &'a str
     }
 }
 
-/// The locality of these digits, or 0 without them.
+/// Returns the locality with these decimal digits, or 0 without digits.
 fn locality_by(digits: Option<&str>) -> Option<Locality>
     ensures { option_map locality_number result
         ≡ locality_by (option_map (λ text. text.now) digits.entry) }
@@ -334,7 +337,8 @@ fn locality_by(digits: Option<&str>) -> Option<Locality>
     }
 }
 
-/// The number of connections of these digits. Without digits it is None, for no end of them.
+/// Returns the number of connections from these decimal digits. Without digits it is None, which
+/// means no limit.
 fn connections_by(digits: Option<&str>) -> Option<Option<u32>>
     ensures { result ≡ connections_by (option_map (λ text. text.now) digits.entry) }
 {
@@ -344,7 +348,7 @@ fn connections_by(digits: Option<&str>) -> Option<Option<u32>>
     }
 }
 
-/// What the matches of `serve` ask for.
+/// Returns the request of `serve`, from its matches.
 fn service_of<'a>(options: &ArgMatches<'a>) -> Option<Service<'a>>
     ensures { option_map served result ≡ service_in (rows_of (found_of options.now)) }
 {

@@ -1,4 +1,5 @@
-//! The command line in the words of clap: the program's subcommands, with their options and helps.
+//! The command line as clap's types define it: the program's subcommands, with their options and
+//! helps.
 
 ghost use Rattle.std.specs.Prelude.{◌≡◌, ◌∷◌, [], codes, false, IfOk, IsOkAnd};
 ghost use Rattle.clap.specs.Words.{AddsSubcommand, app_of, new_app, rule_of, shape_of};
@@ -13,7 +14,7 @@ ghost use Rattle.tpmsim_arguments.specs.CommandLine.{with_arguments};
 use clap::{Arg, ArgAction, Command};
 use std::alloc::{AllocError, Global};
 
-/// The program, without its commands.
+/// The program without its commands.
 fn program_without_commands<'a>(alloc: Global) -> Command<'a>
     ensures { app_of result ≡ bare_program }
 {
@@ -23,7 +24,7 @@ fn program_without_commands<'a>(alloc: Global) -> Command<'a>
         .subcommand_required(true)
 }
 
-/// The program, with its commands in the order in which the help lists them.
+/// The program with its commands, in the order in which the help lists them.
 pub fn command<'a>(alloc: Global) -> Result<Command<'a>, AllocError>
     ensures { IfOk result (λ command. app_of command ≡ program) }
 {
@@ -41,7 +42,7 @@ pub fn command<'a>(alloc: Global) -> Result<Command<'a>, AllocError>
     with_command(program, replay_command(alloc))
 }
 
-/// The program with one command more, if both could be made.
+/// Adds a command to the program, if both could be allocated.
 fn with_command<'a>(
     program: Result<Command<'a>, AllocError>,
     command: Result<Command<'a>, AllocError>,
@@ -52,7 +53,7 @@ fn with_command<'a>(
     program?.subcommand(command?)
 }
 
-/// The command `run`, with its help around its options, and without the options.
+/// The command `run` without its options. Its help has a text before and after that of the options.
 fn run_without_options<'a>(alloc: Global) -> Command<'a>
     ensures { app_of result ≡ new_app (codes "run") }
 {
@@ -94,7 +95,7 @@ fn flag<'a>(alloc: Global, name: &'a str, help: &'a str) -> Arg<'a>
         .help(help)
 }
 
-/// A value in its place, which has to be given.
+/// A positional argument, which is required.
 fn operand<'a>(alloc: Global, name: &'a str, value: &'a str, help: &'a str) -> Arg<'a>
     ensures rule { rule_of result ≡ operand name.entry.now }
     ensures local { result.global ≡ false }
@@ -106,7 +107,7 @@ fn operand<'a>(alloc: Global, name: &'a str, value: &'a str, help: &'a str) -> A
         .help(help)
 }
 
-/// A value in its place, which may be left out.
+/// A positional argument, which may be left out.
 fn optional_operand<'a>(alloc: Global, name: &'a str, value: &'a str, help: &'a str) -> Arg<'a>
     ensures rule { rule_of result ≡ optional_operand name.entry.now }
     ensures local { result.global ≡ false }
@@ -237,7 +238,8 @@ fn code_command<'a>(alloc: Global) -> Result<Command<'a>, AllocError>
     )
 }
 
-/// The command `serve`, with its help around its options, and without the options.
+/// The command `serve` without its options. Its help has a text before and after that of the
+/// options.
 fn serve_without_options<'a>(alloc: Global) -> Command<'a>
     ensures { app_of result ≡ new_app (codes "serve") }
 {
@@ -290,7 +292,7 @@ fn serve_command<'a>(alloc: Global) -> Result<Command<'a>, AllocError>
         .arg(flag(alloc, "save-each", SAVE_EACH))
 }
 
-/// An option that has a value, and has to be given.
+/// An option that has a value, and is required.
 fn setting<'a>(alloc: Global, name: &'a str, value: &'a str, help: &'a str) -> Arg<'a>
     ensures rule { rule_of result ≡ setting name.entry.now }
     ensures local { result.global ≡ false }

@@ -1,12 +1,13 @@
 #![tactic(auto)]
 
-//! The command line of the simulator: its subcommands and their options ([`command_line`]), what
-//! its words ask for ([`arguments`]), with which settings a device is served on a socket
-//! ([`service`]), where the device of a script is kept ([`storage`], [`place`]), and why words are
-//! refused ([`fault`]).
+//! The command line of the simulator: its subcommands and their options ([`command_line`]), the
+//! request of a command line ([`arguments`]), the settings with which a device is served on a
+//! socket ([`service`]), where the device of a script is kept ([`storage`], [`place`]), and why
+//! words are refused ([`fault`]).
 //!
-//! The crate uses `clap`, which matches the words, and opens no file. `specs/` defines what words
-//! ask for; [`laws`] says that the lines that people write ask for what they say.
+//! The crate uses `clap`, which matches the words, and opens no file. `specs/` defines the request
+//! of each command line; [`laws`] says that the command lines that people write have the expected
+//! requests.
 
 pub mod arguments;
 mod command_line;

@@ -5,7 +5,7 @@
 pub enum Place<'a> {
     /// The path of the file that holds the device's image.
     Image(&'a str),
-    /// The path of the folder that holds the device's state, and how many finished journals stay
-    /// there.
+    /// The path of the folder that holds the device's state, and the number of finished journals
+    /// that stay there.
     State { folder: &'a str, past: u32 },
 }

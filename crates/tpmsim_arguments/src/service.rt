@@ -1,5 +1,5 @@
-//! The settings with which a device is served on a socket: its files, the locality, how many
-//! connections, when it is saved, and whether the completing layer is on.
+//! The settings with which a device is served on a socket: its files, the locality, the number of
+//! connections, when the device is saved, and whether the completing layer is on.
 
 ghost use Rattle.std.specs.Prelude.{◌≡◌, ◌-◌, ◌^◌};
 ghost use Rattle.std.specs.Option.{option_map_or};
@@ -14,23 +14,25 @@ pub struct Service<'a> {
     pub socket: &'a str,
     /// Where the device is kept between two runs.
     pub place: Place<'a>,
-    /// The path of the file to which the log is written, if one is.
+    /// The path of the file to which the log is written, if there is a log.
     pub log: Option<&'a str>,
     /// The path of the file that random bytes are read from.
     pub entropy: &'a str,
     /// The locality of all commands.
     pub locality: Locality,
-    /// How many connections are served before the program ends; with None, it does not end.
+    /// The number of connections that are served before the program ends; with None, the program
+    /// does not end.
     pub connections: Option<u32>,
     /// Whether the device is saved before each response, and not only after each connection.
     pub saves_each: bool,
-    /// Whether the completing layer answers what the device lacks. It needs a device in a folder.
+    /// Whether the completing layer answers what the device lacks. The layer needs a device in a
+    /// folder.
     pub completes: bool,
 }
 
 impl Service<'_> {
-    /// How many connections are served before the program ends. Without a number this is 2^64 - 1,
-    /// which no run reaches.
+    /// Returns the number of connections that are served before the program ends. If no number is
+    /// set, it is 2^64 - 1, which no run reaches.
     pub fn connection_limit(&self) -> u64
         ensures { result ≡ option_map_or (λ count. count) self.now.connections (2 ^ 64 - 1) }
     {

@@ -1,4 +1,4 @@
--- What the faults of a kept device say.
+-- The texts of the faults of a kept device.
 use Rattle.std.specs.Prelude.{Bool, true, false, List, ℕ, ◌++◌, codes}
 use Rattle.tpm_keeping.specs.Sentence.{sentence}
 use Rattle.tpm_keeping.specs.declared.holder.Fault.TheVariants.{Damaged}
@@ -8,7 +8,7 @@ use Rattle.tpmsim_folder.specs.declared.fault.Place.TheVariants as place
 use Rattle.tpmsim_folder.specs.declared.fault.Said.{Said}
 use Rattle.tpmsim_folder.specs.declared.fault.Said.TheVariants as said
 
--- what follows the folder's path in the path of a place
+-- the part of a place's path that follows the folder's path
 abbrev pub place_file : Place → List ℕ
 place_file place.Folder = codes ""
 place_file place.Journal = codes "/journal"
@@ -44,12 +44,12 @@ said_text said.WasAnsweredOtherwise =
     codes "was written by a program that answers otherwise than this one, and stays as it is"
 said_text (said.Keeper fault) = sentence fault
 
--- the text of a fault, in which the folder is called state; the system's error is not in it
+-- the text of a fault, in which the folder is called state; it does not contain the system's error
 abbrev pub kept_fault_text : KeptFault → List ℕ
 kept_fault_text fault =
     codes "state" ++ place_file fault.place ++ codes " " ++ said_text fault.said
 
--- whether a journal's contents are at fault, and not the system
+-- whether a fault is in a journal's contents, and not in the system
 abbrev pub is_of_contents : Said → Bool
 is_of_contents said.IsNoJournal = true
 is_of_contents said.HoldsNoImage = true

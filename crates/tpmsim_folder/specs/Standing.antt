@@ -1,5 +1,5 @@
--- What may be at a path of a kept device: a regular file or a folder of the user who runs the
--- process, and no link.
+-- Which files may be at a path of a kept device: a regular file or a folder of the user who runs
+-- the process, and no link.
 use Rattle.std.specs.Prelude.{ℕ, ◌==◌, if◌then◌else◌, Option, Some, None}
 use Rattle.std.specs.Fs.{IsDir, IsFile, IsSymlink}
 use Rattle.std.specs.declared.fs.attrs.FileType.{FileType}
@@ -15,18 +15,18 @@ IsOfKind File t = IsFile t
 IsOfKind Folder t = IsDir t
 IsOfKind Other t = (IsSymlink t → ⊥) × (IsFile t → ⊥) × (IsDir t → ⊥)
 
--- what a fault says if the owner is not the user
+-- the fault of a file whose owner is not the user
 abbrev pub owner_fault : (owner user : ℕ) → Option Said
 owner_fault owner user = if owner == user then None else Some IsOfAnother
 
--- what a fault says of what is not a regular file of the user
+-- the fault of a file that is not a regular file of the user
 abbrev pub file_fault : Kind → (owner user : ℕ) → Option Said
 file_fault Link owner user = Some IsLink
 file_fault File owner user = owner_fault owner user
 file_fault Folder owner user = Some IsNoFile
 file_fault Other owner user = Some IsNoFile
 
--- what a fault says of what is not a folder of the user
+-- the fault of a file that is not a folder of the user
 abbrev pub folder_fault : Kind → (owner user : ℕ) → Option Said
 folder_fault Link owner user = Some IsLink
 folder_fault Folder owner user = owner_fault owner user

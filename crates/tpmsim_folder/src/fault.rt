@@ -1,4 +1,5 @@
-//! The faults of a kept device: the place that a fault concerns, and what it says of it.
+//! The faults of a kept device: each concerns a place in the device's folder, and says what is
+//! wrong with it.
 
 ghost use Rattle.std.specs.Prelude.{◌≡◌, None};
 ghost use Rattle.tpm_keeping.specs.declared.holder.Fault.TheVariants.{Memory};
@@ -14,14 +15,14 @@ use tpm_keeping::holder::Fault;
 pub enum Place {
     Folder,
     Journal,
-    /// The new journal, which is to take the old one's place.
+    /// The new journal, which is to replace the old one.
     NewJournal,
-    /// The last finished journal that stays in the folder.
+    /// The latest of the finished journals that stay in the folder.
     LastJournal,
     Lock,
 }
 
-/// What a fault says of its place.
+/// What is wrong with the place that a fault concerns.
 #[derive(Clone, Copy, PartialEq, Eq)]
 pub enum Said {
     IsLink,
@@ -46,26 +47,26 @@ pub enum Said {
     WantsRandom,
     /// The journal does not begin with a head.
     IsNoJournal,
-    /// The head's image is not one of this version of the program.
+    /// The head's image is not an image of this version of the program.
     HoldsNoImage,
-    /// The head's state text is not one of this version of the program.
+    /// The head's state text is not a state text of this version of the program.
     HoldsNoState,
     WasAnsweredOtherwise,
-    /// This fault of the keeper.
+    /// The keeper has this fault.
     Keeper(Fault),
 }
 
-/// Why a kept device did not do what was asked for.
+/// Why a task of a kept device failed.
 #[derive(Clone, Copy, PartialEq, Eq)]
 pub struct KeptFault {
     pub place: Place,
     pub said: Said,
-    /// The number of the system's error, if the fault is one of the system's.
+    /// The number of the system's error, if the system reported one.
     pub error: Option<i32>,
 }
 
 impl Place {
-    /// What follows the folder's path in the path of the place.
+    /// Returns the part of the place's path that follows the folder's path.
     pub fn file(self) -> &'static str
         ensures { result.now ≡ place_file self }
     {
@@ -78,7 +79,7 @@ impl Place {
         }
     }
 
-    /// The fault that says this of the place. It is not one of the system's.
+    /// Returns the fault that says this about the place, without a system error.
     pub fn that(self, said: Said) -> KeptFault
         ensures { result ≡ record { place = self; said = said; error = None } }
     {
@@ -91,14 +92,14 @@ impl Place {
 }
 
 impl Said {
-    /// Memory was refused.
+    /// An allocation failed.
     pub fn memory() -> Said
         ensures { result ≡ Keeper Memory }
     {
         Said::Keeper(Fault::Memory)
     }
 
-    /// The words of the message.
+    /// Returns the words of the message.
     pub fn words(self) -> &'static str
         ensures { result.now ≡ said_text self }
     {
@@ -133,7 +134,7 @@ impl Said {
         }
     }
 
-    /// Whether the journal's contents are at fault, and not the system.
+    /// Whether the fault is in the journal's contents, and not in the system.
     pub fn is_of_contents(self) -> bool
         ensures { result ≡ is_of_contents self }
     {

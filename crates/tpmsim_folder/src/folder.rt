@@ -1,5 +1,5 @@
-//! The folder of a kept device, and what may be in it. Only files and folders of the user who runs
-//! the process are opened, and no link is followed.
+//! The folder of a kept device, and the files that it may contain. Only files and folders of the
+//! user who runs the process are opened, and no link is followed.
 
 use crate::fault::{KeptFault, Place, Said};
 use crate::standing::{file_fault, folder_fault, kind_of};
@@ -8,13 +8,13 @@ use std::io::ErrorKind;
 use std::os::unix::fs::{DirBuilderExt, MetadataExt, OpenOptionsExt, PermissionsExt};
 use std::{fs, io};
 
-/// The permissions of a file that is made here, whatever the umask is.
+/// The permissions of a file that is created here, whatever the umask is.
 const FILE_MODE: u32 = 0o600;
 
-/// The permissions of a folder that is made here.
+/// The permissions of a folder that is created here.
 const FOLDER_MODE: u32 = 0o700;
 
-/// What distinguishes a file from all others: its device and its inode.
+/// The identity of a file, which distinguishes it from all others: its device and its inode.
 #[derive(Clone, Copy, PartialEq, Eq)]
 pub struct Identity {
     device: u64,
@@ -46,14 +46,14 @@ pub struct Folder {
     lock: String,
     /// The user who runs the process.
     user: u32,
-    /// Whether this process made the folder.
+    /// Whether this process created the folder.
     was_made: bool,
-    /// Whether this process has forced the folder's own name to the disk.
+    /// Whether this process has synced the folder's own name to the disk.
     is_named: bool,
 }
 
 impl Folder {
-    /// Opens the folder at a path, or makes it if it is missing and `makes` is true.
+    /// Opens the folder at a path. If the folder is missing and `makes` is true, creates it.
     pub fn open(rt: &HostRuntime, path: &str, makes: bool) -> Result<Folder, KeptFault> {
         let user = user_of(rt)?;
         let was_made = makes && make(rt, without_slashes(path))?;
@@ -73,7 +73,7 @@ impl Folder {
         }
     }
 
-    /// The path of a place.
+    /// Returns the path of a place.
     pub fn path(&self, place: Place) -> &str {
         match place {
             Place::Folder => self.path.as_str(),
@@ -84,7 +84,7 @@ impl Folder {
         }
     }
 
-    /// The metadata of the user's regular file at a place; None if nothing is there.
+    /// Returns the metadata of the user's regular file at a place; None if there is no file.
     pub fn look(&self, rt: &HostRuntime, place: Place) -> Result<Option<Metadata>, KeptFault> {
         match fs::symlink_metadata(rt, self.path(place)) {
             Ok(metadata) => match self.fault_at(place, &metadata) {
@@ -96,7 +96,7 @@ impl Folder {
         }
     }
 
-    /// Why what is at a place is not a regular file of the user, if it is not.
+    /// Returns why the file at a place is not a regular file of the user, if it is not.
     fn fault_at(&self, place: Place, metadata: &Metadata) -> Option<KeptFault> {
         match file_fault(kind_of(metadata), metadata.uid(), self.user) {
             Some(said) => Some(place.that(said)),
@@ -104,8 +104,8 @@ impl Folder {
         }
     }
 
-    /// Opens an existing file, to be read and written. The file is not used if another one, perhaps
-    /// a link, was put in its place meanwhile.
+    /// Opens an existing file for reading and writing. If another file, perhaps a link, has
+    /// replaced it meanwhile, the call fails.
     pub fn open_file(&self, rt: &HostRuntime, place: Place) -> Result<OpenedFile, KeptFault> {
         let Some(looked) = self.look(rt, place)? else {
             return Err(place.that(Said::IsNotThere));
@@ -124,7 +124,7 @@ impl Folder {
         }
     }
 
-    /// Makes a new file, which only its owner may use.
+    /// Creates a new file that only its owner can use.
     pub fn make_file(&self, rt: &HostRuntime, place: Place) -> Result<File, KeptFault> {
         let file = match create(rt, self.path(place)) {
             Ok(file) => file,
@@ -136,8 +136,9 @@ impl Folder {
         }
     }
 
-    /// Forces the names of the folder's files to the disk, and at first the folder's own name too.
-    /// Whoever made the folder or its files may have been killed before that.
+    /// Syncs the names of the folder's files to the disk, and the first time also the folder's own
+    /// name. The process that created the folder or its files may have been killed before it synced
+    /// them.
     pub fn force(&mut self, rt: &HostRuntime) -> Result<(), KeptFault> {
         match self.force_names(rt) {
             Ok(()) => Ok(()),
@@ -155,7 +156,7 @@ impl Folder {
     }
 }
 
-/// The fault of an error: memory ran out, or else this is said of the place.
+/// Returns the fault of an error: memory ran out, or else the given fault of the place.
 pub fn fault_of(error: &io::Error, place: Place, said: Said) -> KeptFault {
     let said = match error.kind() {
         ErrorKind::OutOfMemory => Said::memory(),
@@ -168,13 +169,13 @@ pub fn fault_of(error: &io::Error, place: Place, said: Said) -> KeptFault {
     }
 }
 
-/// A path without the slashes at its end, since a link before a slash would be followed.
+/// Returns a path without the slashes at its end, since a link before a slash would be followed.
 fn without_slashes(path: &str) -> &str {
     let front = path.trim_end_matches('/');
     if front.is_empty() { path } else { front }
 }
 
-/// The user who runs the process, who owns the process's own folder in Linux's /proc.
+/// Returns the user who runs the process. This user owns the process's own folder in Linux's /proc.
 fn user_of(rt: &HostRuntime) -> Result<u32, KeptFault> {
     match fs::metadata(rt, "/proc/self") {
         Ok(metadata) => Ok(metadata.uid()),
@@ -182,8 +183,8 @@ fn user_of(rt: &HostRuntime) -> Result<u32, KeptFault> {
     }
 }
 
-/// Makes the folder if it is missing, gives it its permissions, whatever the umask is, and says
-/// whether it did.
+/// Creates the folder if it is missing, and sets its permissions, whatever the umask is. Returns
+/// whether it created the folder.
 fn make(rt: &HostRuntime, path: &str) -> Result<bool, KeptFault> {
     match DirBuilder::new().mode(FOLDER_MODE).create(rt, path) {
         Ok(()) => match fs::set_permissions(rt, path, Permissions::from_mode(FOLDER_MODE)) {
@@ -195,7 +196,7 @@ fn make(rt: &HostRuntime, path: &str) -> Result<bool, KeptFault> {
     }
 }
 
-/// The paths of a folder.
+/// Returns the paths of a folder.
 fn paths_of(rt: &HostRuntime, path: &str, user: u32, was_made: bool) -> io::Result<Folder> {
     Ok(Folder {
         path: String::from_str(rt.alloc(), path)?,
@@ -222,8 +223,8 @@ fn create(rt: &HostRuntime, path: &str) -> io::Result<File> {
         .open(rt, path)
 }
 
-/// Forces the folder above this one to the disk. One that the user may not read is left alone,
-/// unless this process made the folder.
+/// Syncs the parent of this folder to the disk. If the user may not read the parent, nothing is
+/// done, unless this process created the folder.
 fn force_above(rt: &HostRuntime, path: &str, was_made: bool) -> io::Result<()> {
     let above = format!(in rt.alloc(); "{path}/..")?;
     match fs::open(rt, above.as_str()) {

@@ -1,5 +1,5 @@
-//! The tasks of the host of a keeper in a folder. Each is a function, and returns an error unless
-//! all of it was done.
+//! The tasks of a keeper's host, in a folder. Each task is a function, which returns an error
+//! unless the whole task was done.
 
 use crate::fault::{KeptFault, Place, Said};
 use crate::folder::{Folder, OpenedFile, fault_of, identity_of};
@@ -17,19 +17,21 @@ pub struct Host<'a> {
     rt: &'a HostRuntime,
     folder: Folder,
     lock: Lock,
-    /// The journal. It stays open while its number is used, so that no other file has its inode.
+    /// The journal. It stays open while its number is in use, so that no other file can have its
+    /// inode.
     journal: Option<OpenedFile>,
-    /// The journal's number: how many files were the journal so far.
+    /// The journal's number: the number of files that have been the journal so far.
     number: u64,
     /// The new journal, which has no name yet.
     fresh: Option<OpenedFile>,
-    /// How many finished journals stay in the folder.
+    /// The number of finished journals that stay in the folder.
     past: u32,
 }
 
 impl<'a> Host<'a> {
-    /// The host of the folder at a path. It makes the folder if it is missing and `makes` is true.
-    /// No file in it is opened yet. At each new journal, `past` finished ones stay at most.
+    /// Returns the host for the folder at a path. If the folder is missing and `makes` is true,
+    /// creates it. Opens no file in the folder yet. At each new journal, at most `past` finished
+    /// ones stay.
     pub fn at(
         rt: &'a HostRuntime,
         path: &str,
@@ -47,7 +49,7 @@ impl<'a> Host<'a> {
         })
     }
 
-    /// Whether a journal is in the folder.
+    /// Whether the folder contains a journal.
     pub fn is_there(&self) -> Result<bool, KeptFault> {
         Ok(self.folder.look(self.rt, Place::Journal)?.is_some())
     }
@@ -62,8 +64,8 @@ impl<'a> Host<'a> {
         self.lock.give();
     }
 
-    /// Opens the file that is named journal, unless it is the one that is open, and returns its
-    /// number and its size.
+    /// Opens the file that is named journal, unless it is already open, and returns its number and
+    /// its size.
     pub fn look(&mut self) -> Result<Got<'static>, KeptFault> {
         let Some(metadata) = self.folder.look(self.rt, Place::Journal)? else {
             return Ok(Got::Gone);
@@ -78,7 +80,7 @@ impl<'a> Host<'a> {
         })
     }
 
-    /// Whether the journal that is open is the file with this metadata.
+    /// Whether the open journal is the file with this metadata.
     fn is_open(&self, metadata: &Metadata) -> bool {
         match &self.journal {
             Some(opened) => opened.identity == identity_of(metadata),
@@ -86,13 +88,13 @@ impl<'a> Host<'a> {
         }
     }
 
-    /// Another file is the journal, and has another number.
+    /// Records that another file is the journal, with a new number.
     fn follow(&mut self, opened: OpenedFile) {
         self.journal = Some(opened);
         self.number = self.number.saturating_add(1);
     }
 
-    /// The journal that is open.
+    /// Returns the open journal.
     fn opened(&self) -> Result<&OpenedFile, KeptFault> {
         match &self.journal {
             Some(opened) => Ok(opened),
@@ -100,7 +102,7 @@ impl<'a> Host<'a> {
         }
     }
 
-    /// The size of the journal, in bytes.
+    /// Returns the size of the journal, in bytes.
     pub fn size(&self) -> Result<u64, KeptFault> {
         match self.opened()?.file.metadata() {
             Ok(metadata) => Ok(metadata.len()),
@@ -108,7 +110,7 @@ impl<'a> Host<'a> {
         }
     }
 
-    /// The bytes of the journal from this offset on.
+    /// Returns the bytes of the journal from this offset on.
     pub fn read(&self, from: u64) -> Result<Vec<u8>, KeptFault> {
         let count = self.size()?.saturating_sub(from);
         let Ok(mut bytes) = vec![in self.rt.alloc(); 0u8; count as usize] else {
@@ -123,7 +125,7 @@ impl<'a> Host<'a> {
         }
     }
 
-    /// Cuts the journal to this size if it has more bytes, and returns how many were dropped.
+    /// Truncates the journal to this size if it is larger, and returns the number of bytes dropped.
     pub fn cut(&self, size: u64) -> Result<u64, KeptFault> {
         let lost = self.size()?.saturating_sub(size);
         if lost == 0 {
@@ -143,7 +145,7 @@ impl<'a> Host<'a> {
         }
     }
 
-    /// Forces the journal to the disk.
+    /// Syncs the journal to the disk.
     pub fn force(&self) -> Result<(), KeptFault> {
         match self.opened()?.file.sync_data() {
             Ok(()) => Ok(()),
@@ -151,8 +153,8 @@ impl<'a> Host<'a> {
         }
     }
 
-    /// Makes a new journal of this text, and forces it to the disk. One that a killed process left
-    /// is removed first, and this one if it cannot be made whole.
+    /// Creates a new journal with this text, and syncs it to the disk. A new journal that a killed
+    /// process left is removed first; if writing fails, this one is removed too.
     pub fn make(&mut self, text: &[u8]) -> Result<(), KeptFault> {
         if self.folder.look(self.rt, Place::NewJournal)?.is_some() {
             self.remove_new();
@@ -187,8 +189,8 @@ impl<'a> Host<'a> {
         let _ = fs::remove_file(self.rt, self.folder.path(Place::NewJournal));
     }
 
-    /// Names the new journal `journal`, and returns its number. The old one stays as journal.1 if
-    /// finished journals are to stay. If that fails, the new file is removed.
+    /// Renames the new journal to `journal`, and returns its number. The old one stays as journal.1
+    /// if finished journals are to stay. If renaming fails, the new file is removed.
     pub fn name(&mut self) -> Result<u64, KeptFault> {
         let Some(fresh) = self.fresh.take() else {
             return Err(Place::NewJournal.that(Said::IsNotThere));
@@ -218,7 +220,7 @@ impl<'a> Host<'a> {
         }
     }
 
-    /// Forces the folder to the disk.
+    /// Syncs the folder to the disk.
     pub fn settle(&mut self) -> Result<(), KeptFault> {
         self.folder.force(self.rt)
     }

@@ -3,7 +3,7 @@
 use crate::fault::{KeptFault, Place, Said};
 use crate::folder::{Folder, OpenedFile, fault_of, identity_of};
 
-/// How often the lock's file is opened again if another file has taken its path.
+/// The number of times that the lock's file is opened again if another file has replaced it.
 const TRIES: u8 = 100;
 
 /// The lock's file, if it is open.
@@ -18,8 +18,8 @@ impl Lock {
         Lock { opened: None }
     }
 
-    /// Waits until no other process holds the lock, and takes it. The locked file is the one that
-    /// is at the path then.
+    /// Waits until no other process holds the lock, and takes it. The locked file is the file that
+    /// is then at the lock's path.
     pub fn take(&mut self, rt: &HostRuntime, folder: &Folder) -> Result<(), KeptFault> {
         for _ in 0..TRIES {
             let opened = match self.opened.take() {
@@ -47,7 +47,7 @@ impl Lock {
     }
 }
 
-/// Opens the lock's file, and makes it if it is missing. Another process may make it at the same
+/// Opens the lock's file. If it is missing, creates it; another process may create it at the same
 /// time.
 fn open(rt: &HostRuntime, folder: &Folder) -> Result<OpenedFile, KeptFault> {
     if folder.look(rt, Place::Lock)?.is_none() {
@@ -61,7 +61,7 @@ fn open(rt: &HostRuntime, folder: &Folder) -> Result<OpenedFile, KeptFault> {
     folder.open_file(rt, Place::Lock)
 }
 
-/// Whether the open file is the one at the lock's path.
+/// Whether the open file is still the file at the lock's path.
 fn stands(rt: &HostRuntime, folder: &Folder, opened: &OpenedFile) -> Result<bool, KeptFault> {
     match folder.look(rt, Place::Lock)? {
         Some(metadata) => Ok(identity_of(&metadata) == opened.identity),

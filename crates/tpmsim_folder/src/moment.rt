@@ -1,10 +1,10 @@
-//! The moment at which a command comes, and the number of a start.
+//! The time at which a command arrives, and a random number for each start of a completing layer.
 
 use crate::fault::{KeptFault, Place, Said};
 use std::random::RandomSource;
 use std::time::{Clock, SystemTime};
 
-/// The host's clock, in milliseconds.
+/// Returns the time of the host's clock, in milliseconds.
 pub fn clock_of(clock: &impl Clock) -> Result<u64, KeptFault> {
     let Ok(now) = SystemTime::now(clock) else {
         return Err(Place::Journal.that(Said::WantsClock));
@@ -18,8 +18,8 @@ pub fn clock_of(clock: &impl Clock) -> Result<u64, KeptFault> {
     }
 }
 
-/// A number for the start of a completing layer, of random bytes of the system: no start had it
-/// before.
+/// Returns a number for the start of a completing layer, from random bytes of the system; no
+/// earlier start had this number.
 pub fn start_of(random: &impl RandomSource) -> Result<u64, KeptFault> {
     let mut bytes = [0; 8];
     match random.fill_bytes(&mut bytes) {

@@ -1,13 +1,13 @@
-//! The finished journals that stay in the folder: journal.1 is the last one, journal.2 the one
-//! before it.
+//! The finished journals that stay in the folder: journal.1 is the latest, journal.2 the one before
+//! it.
 
 use crate::fault::{KeptFault, Place, Said};
 use crate::folder::{Folder, fault_of, identity_of};
 use std::io::ErrorKind;
 use std::{fs, io};
 
-/// Links the journal, which is about to lose its name, as journal.1. Before that, the journals
-/// before the first free number each get the next number. So at most `count` stay.
+/// Links the journal, which is about to be replaced, as journal.1. Before that, each journal below
+/// the first free number is renamed to the next number. So at most `count` journals stay.
 pub(crate) fn keep_past(rt: &HostRuntime, folder: &Folder, count: u32) -> Result<(), KeptFault> {
     if count == 0 || !is_unlinked(rt, folder)? {
         return Ok(());
@@ -27,8 +27,8 @@ pub(crate) fn keep_past(rt: &HostRuntime, folder: &Folder, count: u32) -> Result
     }
 }
 
-/// Whether there is a journal that is not journal.1 too. A process may have been killed after it
-/// linked the journal.
+/// Whether there is a journal that is not yet linked as journal.1. A process may have been killed
+/// after it linked the journal.
 fn is_unlinked(rt: &HostRuntime, folder: &Folder) -> Result<bool, KeptFault> {
     let Some(journal) = folder.look(rt, Place::Journal)? else {
         return Ok(false);
@@ -39,8 +39,9 @@ fn is_unlinked(rt: &HostRuntime, folder: &Folder) -> Result<bool, KeptFault> {
     }
 }
 
-/// Gives the journals before the first free number the next one, so that there is no journal.1. A
-/// process that was killed meanwhile leaves a free number, and then no further journal is lost.
+/// Renames each journal below the first free number to the next number, so that there is no
+/// journal.1. If a process was killed during the renaming, one number is free, and no further
+/// journal is lost.
 fn move_on(rt: &HostRuntime, folder: &str, count: u32) -> io::Result<()> {
     if count == 1 {
         return remove_last(rt, folder);
@@ -64,7 +65,7 @@ fn remove_last(rt: &HostRuntime, folder: &str) -> io::Result<()> {
     }
 }
 
-/// The first number without a journal, or `count` if there is none below it.
+/// Returns the lowest number without a journal, or `count` if there is none below it.
 fn free_number(rt: &HostRuntime, folder: &str, count: u32) -> io::Result<u32> {
     for number in 1..count {
         let path = past_path(rt, folder, number)?;
@@ -76,7 +77,7 @@ fn free_number(rt: &HostRuntime, folder: &str, count: u32) -> io::Result<u32> {
     Ok(count)
 }
 
-/// The path of the finished journal of this number.
+/// Returns the path of the finished journal with this number.
 fn past_path(rt: &HostRuntime, folder: &str, number: u32) -> io::Result<String> {
     Ok(format!(in rt.alloc(); "{folder}/journal.{number}")?)
 }

@@ -16,7 +16,8 @@ pub enum Kind {
     Other,
 }
 
-/// The kind of the file with this metadata, which is that of a link itself and not of its target.
+/// Returns the kind of the file with this metadata. For a link it is the kind of the link, not that
+/// of its target.
 pub fn kind_of(metadata: &Metadata) -> Kind
     ensures { IsOfKind result (file_type metadata.now) }
 {
@@ -32,7 +33,7 @@ pub fn kind_of(metadata: &Metadata) -> Kind
     }
 }
 
-/// Why a file at a path is not a regular file of this user, if it is not.
+/// Returns why a file at a path is not a regular file of this user, if it is not.
 pub fn file_fault(kind: Kind, owner: u32, user: u32) -> Option<Said>
     ensures { result ≡ file_fault kind owner user }
 {
@@ -43,7 +44,7 @@ pub fn file_fault(kind: Kind, owner: u32, user: u32) -> Option<Said>
     }
 }
 
-/// Why a file at a path is not a folder of this user, if it is not.
+/// Returns why a file at a path is not a folder of this user, if it is not.
 pub fn folder_fault(kind: Kind, owner: u32, user: u32) -> Option<Said>
     ensures { result ≡ folder_fault kind owner user }
 {
@@ -54,7 +55,7 @@ pub fn folder_fault(kind: Kind, owner: u32, user: u32) -> Option<Said>
     }
 }
 
-/// What a fault says if the owner is not the user.
+/// Returns the fault of a file whose owner is not the user.
 fn owner_fault(owner: u32, user: u32) -> Option<Said>
     ensures { result ≡ owner_fault owner user }
 {

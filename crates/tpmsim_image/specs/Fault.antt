@@ -10,18 +10,18 @@ use Rattle.tpmsim_image.specs.declared.fault.DeviceFault.{DeviceFault}
 use Rattle.tpmsim_image.specs.declared.fault.DeviceFault.TheVariants.{Entropy, File, Image, Memory, Socket}
 use Rattle.tpmsim_image.specs.declared.fault.Cause.{Cause}
 
--- a cause with the number of an error of the system's
+-- a cause with the number of a system error
 abbrev pub with_error : Cause → Error → Cause
 with_error cause error = record cause { error = raw_os_error error }
 
--- a fault with the number of an error of the system's, if it has a cause
+-- a fault with the number of a system error, if the fault has a cause
 abbrev pub with_cause : DeviceFault → Error → DeviceFault
 with_cause (File cause) error = File (with_error cause error)
 with_cause (Socket cause) error = Socket (with_error cause error)
 with_cause (Entropy cause) error = Entropy (with_error cause error)
 with_cause fault error = fault
 
--- the fault Memory if an error is of that kind, and otherwise the other fault
+-- the fault Memory if an error is of the kind OutOfMemory, and otherwise the given fault
 abbrev pub fault_of_kind : DeviceFault → ErrorKind → DeviceFault
 fault_of_kind otherwise OutOfMemory = Memory
 fault_of_kind otherwise _ = otherwise
@@ -29,12 +29,12 @@ fault_of_kind otherwise _ = otherwise
 abbrev pub fault_or : DeviceFault → Error → DeviceFault
 fault_or otherwise error = fault_of_kind (with_cause otherwise error) (error_kind error)
 
--- what was given, and that fault if it is an error
+-- the value of a result; if it is an error, the given fault with the number of the error, or Memory
 abbrev pub given_or : {A : Type 0} → DeviceFault → Result A Error → Result A DeviceFault
 given_or otherwise (Ok value) = Ok value
 given_or otherwise (Err error) = Err (fault_or otherwise error)
 
--- the fault of a file that was not opened as an image: memory ran out, or it is not an image
+-- the fault of a file that was not opened as an image: memory ran out, or the file is not an image
 abbrev pub fault_of_image : ImageFault → DeviceFault
 fault_of_image image.NoMemory = Memory
 fault_of_image fault = Image fault

@@ -1,12 +1,12 @@
--- The saver of an image, after it got a device.
+-- The state of the saver of an image, after a device was passed to it.
 use Rattle.std.specs.Prelude.{Some, if◌then◌else◌}
 use Rattle.std.specs.Str.{bytes_eq}
 use Rattle.tpm_image_text.specs.KeptText.{kept_text}
 use Rattle.tpm_record.specs.Record.{Record}
 use Rattle.tpmsim_image.specs.declared.image_saver.ImageSaver.{ImageSaver}
 
--- a saver after a device of which the clock alone may be unsaved: it was written if more than its
--- clock changed
+-- a saver that was notified that its device may have changed: if more than the device's clock
+-- changed, the device was written
 abbrev pub changed : ImageSaver → Record → ImageSaver
 changed old r = record old {
   kept = kept_text r;

@@ -1,8 +1,8 @@
 -- The elapsed time that commands get.
 use Rattle.std.specs.Prelude.{ℕ, ◌-◌, ◌/◌, Option, Some, min, max, unwrap_or}
 
--- the state of a stopwatch: when the first command came, in nanoseconds of the host's clock, and
--- how many of the milliseconds since then were passed to commands or dropped
+-- the state of a stopwatch: the arrival time of the first command, in nanoseconds of the host's
+-- clock, and the number of milliseconds since then that were passed to commands or dropped
 pub record StopwatchState : Type 0 where
   pub first : Option ℕ
   pub passed : ℕ
@@ -11,8 +11,8 @@ pub record StopwatchState : Type 0 where
 abbrev pub since_first : (now : ℕ) → StopwatchState → ℕ
 since_first now s = (now - unwrap_or s.first now) / 1_000_000
 
--- the elapsed time of a command that comes at this time: all milliseconds that were neither passed
--- to a command nor dropped, up to the largest number of 32 bits
+-- the elapsed time of a command that arrives at this time: all milliseconds that were neither
+-- passed to a command nor dropped, at most 2^32 - 1
 abbrev pub told : (now : ℕ) → StopwatchState → ℕ
 told now s = min (since_first now s - s.passed) 0xffff_ffff
 

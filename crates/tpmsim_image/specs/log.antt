@@ -1,3 +1,3 @@
--- What is said of the log of a device.
+-- The log of a device.
 pub mod Executed
 pub mod Log

@@ -1,5 +1,5 @@
 //! The reader of a connection. Connections are served one at a time, so a second client has to
-//! wait. The first time that one waits, the program says so.
+//! wait. The first time that a client waits, the program prints a message.
 
 use crate::socket::Socket;
 use std::io;
@@ -7,10 +7,11 @@ use std::io::{ErrorKind, Read};
 use std::os::unix::net::UnixStream;
 use std::time::Duration;
 
-/// A client that has sent nothing for so many seconds may keep another one waiting.
+/// A client is called silent after this many seconds in which it sent nothing.
 const SILENCE_SECONDS: u64 = 3;
 
-/// The reader of a connection. While its client sends nothing, it looks for another client.
+/// The reader of a connection. While the connection's client is silent, the reader looks for
+/// another client that waits.
 #[derive(Drop)]
 pub struct Attended<'a> {
     rt: &'a HostRuntime,
@@ -19,8 +20,8 @@ pub struct Attended<'a> {
 }
 
 impl<'a> Attended<'a> {
-    /// The reader of a connection to this socket. Once a client was seen to wait, it looks for
-    /// none.
+    /// Creates the reader of a connection to this socket. After one client was seen to wait, the
+    /// reader looks for no others.
     pub(crate) fn new(
         rt: &'a HostRuntime,
         stream: &'a UnixStream,
@@ -33,7 +34,7 @@ impl<'a> Attended<'a> {
         Attended { rt, stream, socket }
     }
 
-    /// Looks for a client that waits, and reports it. After that, reads wait without end.
+    /// Looks for a client that waits, and reports it. After the report, reads have no time limit.
     fn look(&mut self) {
         if self.socket.has_seen() || !self.socket.sees_client() {
             return;

@@ -1,4 +1,4 @@
-//! The saving of a served device's image before each response, where that is asked for.
+//! Saves a served device's image before each response, if that is requested.
 
 ghost use Rattle.std.specs.Prelude.{◌≡◌, is_some, true};
 

@@ -1,4 +1,5 @@
-//! Random bytes that are read, from a file for a served device, and a new device of them.
+//! Random bytes that are read from a file for a served device, and new devices that are
+//! manufactured with such bytes.
 
 ghost use Rattle.std.specs.Prelude.{◌≡◌, IfOk, ℕ, List};
 ghost use Rattle.std.specs.Io.KnownBytes.{Consumes};
@@ -13,7 +14,7 @@ use std::{fs, io};
 use tpm_machine::Machine;
 use tpm_slots::SlotKeep;
 
-/// How many random bytes are read at once: those of sixteen commands.
+/// The number of random bytes that are read at once: the bytes for sixteen commands.
 const READ_SIZE: usize = 16 * 256;
 
 /// A reader of random bytes.
@@ -38,7 +39,7 @@ impl RandomReader<BufReader<File>> {
 }
 
 impl<R: Read> RandomReader<R> {
-    /// The next 256 bytes of the reader.
+    /// Returns the next 256 bytes of the reader.
     pub fn random(&mut self) -> io::Result<[u8; 256]>
         ensures { IfOk result (λ random. Consumes (R.remaining self.old.reader)
             (R.remaining self.new.reader) random) }
@@ -48,7 +49,7 @@ impl<R: Read> RandomReader<R> {
         Ok(random)
     }
 
-    /// A new device, manufactured with the next 256 bytes of the reader.
+    /// Returns a new device, manufactured with the next 256 bytes of the reader.
     pub fn manufacture(&mut self, rt: &HostRuntime) -> Result<Machine<SlotKeep>, DeviceFault>
         ensures { IfOk result (λ machine. (random : List ℕ)
             × Consumes (R.remaining self.old.reader) (R.remaining self.new.reader) random
@@ -60,7 +61,7 @@ impl<R: Read> RandomReader<R> {
     }
 }
 
-/// Opens the file at a path, if it has bytes to read: a folder can be opened, and never read.
+/// Opens the file at a path, if it can be read: a folder can be opened, but not read.
 fn open_bytes(rt: &HostRuntime, path: &str) -> io::Result<File> {
     let file = fs::open(rt, path)?;
     if file.metadata()?.is_dir() {

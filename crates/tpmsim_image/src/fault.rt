@@ -13,7 +13,7 @@ use tpm_image::ImageFault;
 #[derive(Clone, Copy, PartialEq, Eq)]
 pub enum Subject {
     Image,
-    /// The new image, which is to take the old one's place.
+    /// The new image, which is to replace the old one.
     NewImage,
     ImageLock,
     Log,
@@ -26,7 +26,7 @@ pub enum Subject {
 }
 
 impl Subject {
-    /// The cause that concerns this. No error of the system's is known.
+    /// Returns a cause that concerns this subject, without an error of the system.
     pub fn alone(self) -> Cause
         ensures { result ≡ record { subject = self; error = None } }
     {
@@ -37,7 +37,7 @@ impl Subject {
     }
 }
 
-/// What a fault concerns, and the number of the system's error, if that is known.
+/// The subject of a fault, and the number of the system's error, if that is known.
 #[derive(Clone, Copy, PartialEq, Eq)]
 pub struct Cause {
     pub subject: Subject,
@@ -45,7 +45,7 @@ pub struct Cause {
 }
 
 impl Cause {
-    /// The same cause with the number of an error of the system's.
+    /// Returns the same cause with the number of a system error.
     pub fn with(self, error: &io::Error) -> Cause
         ensures { result ≡ record self { error = raw_os_error error.now } }
     {
@@ -63,7 +63,7 @@ pub enum DeviceFault {
     Image(ImageFault),
     /// A file could not be opened, read or written.
     File(Cause),
-    /// The socket could not be made, or could not take a connection.
+    /// The socket could not be created, or could not accept a connection.
     Socket(Cause),
     /// The file of random bytes could not be opened, or has too few bytes left.
     Entropy(Cause),
@@ -73,8 +73,8 @@ pub enum DeviceFault {
 impl DeviceFault {
     ghost use Rattle.tpmsim_image.specs.Fault.{fault_or, given_or, with_cause};
 
-    /// What was given. If it is an error: `Memory` if memory ran out, and otherwise this fault,
-    /// with the number of the error.
+    /// Returns the value of the result. If the result is an error, returns `Memory` if memory ran
+    /// out, and otherwise this fault with the number of the error.
     pub(crate) fn unless<T>(self, given: io::Result<T>) -> Result<T, DeviceFault>
         ensures { result ≡ given_or self given }
     {
@@ -84,7 +84,8 @@ impl DeviceFault {
         }
     }
 
-    /// `Memory` if memory ran out, and otherwise `otherwise`, with the number of the error.
+    /// Returns `Memory` if memory ran out, and otherwise the fault `otherwise` with the number of
+    /// the error.
     pub(crate) fn of_io(error: io::Error, otherwise: DeviceFault) -> DeviceFault
         ensures { result ≡ fault_or otherwise error }
     {
@@ -94,7 +95,7 @@ impl DeviceFault {
         }
     }
 
-    /// The same fault with the number of an error of the system's, if it has a cause.
+    /// Returns the same fault with the number of a system error, if the fault has a cause.
     fn with(self, error: &io::Error) -> DeviceFault
         ensures { result ≡ with_cause self error.now }
     {

@@ -1,5 +1,5 @@
-//! The file with the device's image: it is locked and opened at the start, and put in place as a
-//! whole at each save, so that a fault leaves the old one.
+//! The file with the device's image. It is locked and opened at the start, and each save replaces
+//! it as a whole, so that a failed save leaves the old image.
 
 use crate::fault::{DeviceFault, Subject};
 use crate::folder::folder_of;
@@ -14,8 +14,8 @@ use tpm_machine::Machine;
 use tpm_record::Keep;
 use tpm_slots::SlotKeep;
 
-/// The file of an image, which no other run has while this value is there. It has the paths that a
-/// save needs, so a save needs no memory. So a served device is not lost if memory runs out.
+/// The file of an image, which no other run can use while this value exists. It contains the paths
+/// for a save, so a save allocates no memory, and a served device is not lost if memory runs out.
 #[derive(Drop)]
 pub struct ImageFile<'a> {
     path: &'a str,
@@ -26,9 +26,9 @@ pub struct ImageFile<'a> {
 }
 
 impl<'a> ImageFile<'a> {
-    /// Takes the file at this path, whether there is one or not. The lock is on another file in the
-    /// same folder, since each save puts another file in its place. If another run has it, nothing
-    /// is touched.
+    /// Locks the file at this path, whether the file exists or not. The locked file is another one
+    /// in the same folder, since each save replaces the file of the image. If another run holds the
+    /// lock, the call fails and changes nothing.
     pub fn take(rt: &HostRuntime, path: &'a str) -> Result<ImageFile<'a>, DeviceFault> {
         let folder = folder_of(path);
         let new = format!(in rt.alloc(); "{path}.new")?;
@@ -43,7 +43,7 @@ impl<'a> ImageFile<'a> {
         })
     }
 
-    /// The device whose image is in the file; None if there is no file.
+    /// Returns the device whose image is in the file; None if there is no file.
     pub fn open(&self, rt: &HostRuntime) -> Result<Option<Machine<SlotKeep>>, DeviceFault> {
         match fs::read(rt, self.path) {
             Ok(image) => Ok(Some(open(rt.alloc(), image.as_slice())?)),
@@ -55,9 +55,9 @@ impl<'a> ImageFile<'a> {
         }
     }
 
-    /// Writes the image of a device to the new file, forces that file to the disk, and replaces the
-    /// old one by it; then the folder is forced to the disk too. If a fault comes before that, the
-    /// old image stays.
+    /// Writes the image of a device to the new file, syncs that file to the disk, and replaces the
+    /// old file with it; then syncs the folder. If a fault occurs before the replacement, the old
+    /// image stays.
     pub fn save<K: Keep>(&self, rt: &HostRuntime, machine: &Machine<K>) -> Result<(), DeviceFault> {
         write_image(rt, self.new.as_str(), machine)?;
         let placed = put_in_place(rt, self.new.as_str(), self.path, self.folder.as_str());
@@ -65,8 +65,8 @@ impl<'a> ImageFile<'a> {
     }
 }
 
-/// Takes the lock of an image, if its path may have one. Only a regular file is opened: a pipe
-/// would wait for its writer.
+/// Takes the lock of an image, if its path can be that of an image. The image must be a regular
+/// file, since opening a pipe would wait for its writer.
 fn lock_image(rt: &HostRuntime, path: &str, lock: &str) -> io::Result<ImageLock> {
     match fs::metadata(rt, path) {
         Ok(metadata) if !metadata.is_file() => return Err(io::Error::from(ErrorKind::InvalidInput)),
@@ -78,7 +78,7 @@ fn lock_image(rt: &HostRuntime, path: &str, lock: &str) -> io::Result<ImageLock>
     ImageLock::take(rt, lock)
 }
 
-/// Writes the image of a device to a new file, and forces it to the disk.
+/// Writes the image of a device to a new file, and syncs the file to the disk.
 fn write_image<K: Keep>(
     rt: &HostRuntime,
     path: &str,
@@ -92,8 +92,8 @@ fn write_image<K: Keep>(
     fault.unless(file.sync_all())
 }
 
-/// Makes a new file that only its owner may use. What is at the path is removed: a file that a
-/// killed run left, or a link, but not what the link leads to.
+/// Creates a new file that only its owner can use. Removes the file at the path first: a file that
+/// a killed run left, or a link, but not the link's target.
 fn create_anew(rt: &HostRuntime, path: &str) -> io::Result<File> {
     match fs::remove_file(rt, path) {
         Err(error) if error.kind() != ErrorKind::NotFound => return Err(error),
@@ -102,8 +102,8 @@ fn create_anew(rt: &HostRuntime, path: &str) -> io::Result<File> {
     create_for_owner(rt, path)
 }
 
-/// Renames a file to another path of its folder, and forces the folder to the disk. The folder is
-/// opened first, so that nothing is renamed if that fails.
+/// Renames a file to another path in its folder, and syncs the folder to the disk. The folder is
+/// opened first, so that nothing is renamed if opening fails.
 fn put_in_place(rt: &HostRuntime, new: &str, path: &str, folder: &str) -> io::Result<()> {
     let folder = fs::open(rt, folder)?;
     fs::rename(rt, new, path)?;

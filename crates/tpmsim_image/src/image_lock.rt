@@ -1,21 +1,21 @@
-//! The lock of an image: only one run on an image goes on at a time.
+//! The lock of an image: only one run at a time can use an image.
 
 use crate::owner_file::create_for_owner;
 use std::fs::{File, OpenOptions};
 use std::io;
 use std::io::ErrorKind;
 
-/// A lock that nobody else holds while this value is there. It is a lock on an open file, so that
-/// the system takes it back when the process ends, however that comes.
+/// A lock that nobody else holds while this value exists. It is a lock on an open file, so the
+/// system releases it when the process ends, in whatever way.
 #[derive(Drop)]
 pub struct ImageLock {
     _file: File,
 }
 
 impl ImageLock {
-    /// Takes the lock whose file is at this path, or fails at once where another run holds it. The
-    /// file is made where it is missing, and stays: a lock on a file that was removed is not seen
-    /// by those who make a new one.
+    /// Takes the lock whose file is at this path, or fails at once if another run holds it. The
+    /// file is created if it is missing, and is never removed: if it were, one run could hold the
+    /// removed file's lock, and another run a new file's.
     pub fn take(rt: &HostRuntime, path: &str) -> io::Result<ImageLock> {
         let file = open_or_create(rt, path)?;
         file.try_lock()?;
@@ -23,9 +23,10 @@ impl ImageLock {
     }
 }
 
-/// The file at a path, which is made where it is missing, but not through a link. Its owner alone
-/// may open it, since whoever opens it may lock it, and so keep the image from its owner. It is
-/// opened to be read and written, so that a pipe there does not wait for its other end.
+/// Opens the file at a path. The file is created if it is missing, but not through a link. Only its
+/// owner can open it, because whoever opens it could lock it, and so keep the image from its owner.
+/// It is opened to be read and written, so that opening a pipe does not wait for the pipe's other
+/// end.
 fn open_or_create(rt: &HostRuntime, path: &str) -> io::Result<File> {
     match create_for_owner(rt, path) {
         Err(error) if error.kind() == ErrorKind::AlreadyExists => {

@@ -1,4 +1,4 @@
-//! The saving of a script's device to the file of its image.
+//! Saves a script's device to the file of its image.
 
 ghost use Rattle.std.specs.Prelude.{◌≡◌, [], None, OnErr, OnOk, is_some, true};
 ghost use Rattle.tpm_image_text.specs.KeptText.{kept_text};
@@ -10,23 +10,22 @@ use tpm_image::KeptText;
 use tpm_machine::{Machine, Saver, Unsaved};
 use tpm_record::Keep;
 
-/// A saver of a script's device. It notes what it wrote last, so that a command that changes
-/// nothing but the clock costs no save, and a device that is in the file already is not written
-/// again.
+/// A saver of a script's device. It remembers what it wrote last. Therefore a command that changes
+/// only the clock causes no save, and a device that is already in the file is not written again.
 #[derive(Drop)]
 pub struct ImageSaver<'a> {
     rt: &'a HostRuntime,
     file: ImageFile<'a>,
-    /// What the device of the file keeps, without its clock, if that is known.
+    /// What the device in the file keeps, without its clock, if that is known.
     kept: KeptText,
-    /// The clock of the device that was written last, if nothing failed since.
+    /// The clock of the device that was written last, if no save has failed since then.
     clock: Option<u64>,
     /// Why a save failed.
     fault: Option<DeviceFault>,
 }
 
 impl<'a> ImageSaver<'a> {
-    /// A saver that has saved nothing.
+    /// Creates a saver that has saved nothing.
     pub fn new(rt: &'a HostRuntime, file: ImageFile<'a>) -> ImageSaver<'a> {
         ImageSaver {
             rt,
@@ -37,8 +36,9 @@ impl<'a> ImageSaver<'a> {
         }
     }
 
-    /// Takes note that this device is the one of the file. The file is written again all the same
-    /// if the clock is to be saved too: it may be of an older version, or open to others.
+    /// Records that this device is the one in the file. If the clock has to be saved too, the file
+    /// is written again nevertheless: the file may have an older version, or be readable by other
+    /// users.
     pub fn opened<K: Keep>(&mut self, machine: &Machine<K>)
         ensures { self.new
             ≡ record self.old { kept = kept_text (state_of K.record_of machine.now) } }
@@ -46,7 +46,7 @@ impl<'a> ImageSaver<'a> {
         let _ = self.kept.renew(machine);
     }
 
-    /// Why a save failed, if one did.
+    /// Returns why a save failed, if a save failed.
     pub fn fault(&self) -> Option<DeviceFault> {
         self.fault
     }
@@ -61,8 +61,8 @@ impl<'a> ImageSaver<'a> {
         }
     }
 
-    /// Writes a device, and notes its clock. If the write fails, the saver forgets what the file
-    /// has, so that the next save writes.
+    /// Writes a device, and remembers its clock. If the write fails, the saver forgets the contents
+    /// of the file, so that the next save writes again.
     fn write<K: Keep>(&mut self, machine: &Machine<K>) -> Result<(), Unsaved>
         ensures written { OnOk result (self.new
             ≡ record self.old { clock = Some (state_of K.record_of machine.now).fixed.clock }) }

@@ -1,17 +1,17 @@
 #![tactic(auto)]
 
 //! A device that is kept in an image: the image's file and its lock ([`image_file`],
-//! [`image_lock`]), its savers ([`image_saver`], [`command_saver`]), and the serving of it on a
-//! socket ([`serving`]). A log, if there is one ([`log`]), is in a file of its own ([`log_file`]).
-//! All of these files are their owner's alone ([`owner_file`]).
+//! [`image_lock`]), its savers ([`image_saver`], [`command_saver`]), and the serving of the device
+//! on a socket ([`serving`]). A log, if there is one ([`log`]), is in a file of its own
+//! ([`log_file`]). Only their owner can use these files ([`owner_file`]).
 //!
 //! The device's inputs come from the host: random bytes from a file ([`entropy`]), the time that
 //! has passed ([`stopwatch`]), and both together for each command ([`source`]). The socket
 //! ([`socket`]) serves any device, and its reader ([`attended`]) reports a client that waits.
-//! Contracts say what a saver notes, what is written to a log, and which time a command gets. No
-//! contract can say what a file contains.
+//! Contracts define what a saver remembers, what is written to a log, and the elapsed time of each
+//! command. No contract can define the contents of a file.
 //!
-//! The crate uses tpm_image for images, tpm_journal_text for the form of a log, tpm_wire for
+//! The crate uses tpm_image for images, tpm_journal_text for the text of a log, tpm_wire for
 //! connections, and the settings of tpmsim_arguments.
 
 mod attended;

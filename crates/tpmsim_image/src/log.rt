@@ -1,11 +1,11 @@
-//! The log of a device: a script that plays again what the device executed, and that grows with
-//! each command before its response goes out.
+//! The log of a device: a script that repeats what the device executed. Each command is added to
+//! the log before its response is sent.
 //!
-//! A log has the form of a journal: its head has the image of the device as power came on, and each
-//! command has an entry. [`Log`] is a log that is written to any writer, and notes the commands as
-//! the witness of a device; [`Logged`] is a witness that keeps a log, if there is one. The
-//! contracts say that a log's text contains exactly the commands that it got, in their order
-//! ([`laws`]).
+//! A log has the form of a journal: its head contains the image of the device at power-on, and each
+//! command has an entry. [`Log`] is a log that is written to any writer, and is notified of the
+//! commands as the device's witness; [`Logged`] is a witness that keeps a log, if there is one. The
+//! contracts say that a log's text contains exactly the commands of which it was notified, in their
+//! order ([`laws`]).
 
 ghost use Rattle.std.specs.Prelude.{◌≡◌, ◌≤◌, ◌+◌, ◌++◌, [], IfOk, OnErr, OnOk, false, length, true};
 ghost use Rattle.tpm_bytes.specs.Tap.{marks_of};
@@ -32,25 +32,24 @@ use tpm_machine::{Machine, Unsaved, Witness};
 use tpm_record::Keep;
 use tpm_step::{Event, Outcome};
 
-/// Room for a head.
+/// The size of a buffer for a head.
 const HEAD_ROOM: usize = 57_472;
 
-/// A log, to which nothing is added once a write has failed.
+/// A log. After a write has failed, nothing more is added.
 #[derive(Drop)]
 pub struct Log<W> {
     pub(crate) writer: Tap<W>,
-    /// The sum of the marks so far.
+    /// The checksum of the marks so far.
     pub(crate) sum: u64,
     pub(crate) failed: bool,
-    /// The buffer to which the text of an entry is written, before it goes to the writer at once.
+    /// The buffer for the text of an entry, which is written to the writer in one write.
     pub(crate) room: [u8; ENTRY_ROOM],
 }
 
 impl<W: Write + Drop> Log<W> {
     ghost use Rattle.tpmsim_image.specs.log.Log.{Begins, written_of};
 
-    /// Begins the log of a device as power comes on, at this time of the host's clock in
-    /// milliseconds.
+    /// Begins the log of a device at power-on, at this time of the host's clock in milliseconds.
     pub fn begin<K: Keep>(writer: W, machine: &Machine<K>, now_ms: u64) -> Result<Log<W>, Unsaved>
         ensures begins { IfOk result (λ log. Begins now_ms
             (image_text Two (kept_of (state_of K.record_of machine.now)))
@@ -110,8 +109,8 @@ impl<W: Write> Log<W> {
     ghost use Rattle.tpmsim_image.specs.log.Executed.{entry_by, has_entry};
     ghost use Rattle.tpmsim_image.specs.log.Log.{AddsSome, written_of};
 
-    /// Adds the entry of an event with this response, which drew `drawn` random bytes. An event
-    /// without an entry, or a write that fails, ends the log.
+    /// Adds the entry of an event with this response, which drew `drawn` random bytes. If the event
+    /// has no entry, or the write fails, nothing more can be added to the log.
     fn add(&mut self, event: &Event, drawn: usize, response: &[u8]) -> Result<(), Unsaved>
         ensures added { OnOk result (AddsSome (written_of W.contents self.old)
             (entry_by (plain_event event.now) drawn response.now) (written_of W.contents self.new)) }

@@ -1,4 +1,4 @@
-//! The file of a served device's log, which is a new file of its owner's alone.
+//! The file of a served device's log, a new file that only its owner can use.
 
 use crate::fault::{DeviceFault, Subject};
 use crate::log::Log;
@@ -9,8 +9,8 @@ use std::time::{SystemTime, UNIX_EPOCH};
 use tpm_machine::Machine;
 use tpm_record::Keep;
 
-/// Makes the file of a log at this path, where nothing may be yet, not even a link, and begins the
-/// log of a device as power came on.
+/// Creates the file of a log at this path, which must not exist yet, not even as a link, and begins
+/// the log of a device at power-on.
 pub fn begin_log<K: Keep>(
     rt: &HostRuntime,
     path: &str,

@@ -1,15 +1,15 @@
-//! Files that only their owner reads and writes: they have a device's seeds and every authorization
-//! value, or keep an image from other runs.
+//! Files that only their owner can read and write: they contain a device's seeds and every
+//! authorization value, or lock an image.
 
 use std::fs::{File, OpenOptions, Permissions};
 use std::io;
 use std::os::unix::fs::{OpenOptionsExt, PermissionsExt};
 
-/// The permissions of such a file.
+/// The permissions of a file that only its owner can use.
 const OWNER_ALONE: u32 = 0o600;
 
-/// Makes a file at this path, where nothing may be yet, not even a link. Its owner can read and
-/// write it, whatever the umask is.
+/// Creates a file at this path, which must not exist yet, not even as a link. Its owner can read
+/// and write it, whatever the umask is.
 pub fn create_for_owner(rt: &HostRuntime, path: &str) -> io::Result<File> {
     let file = OpenOptions::new()
         .read(true)

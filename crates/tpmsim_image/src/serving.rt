@@ -1,5 +1,5 @@
 //! How the program serves a device on a socket, one connection after another. It saves the image
-//! after each connection, and with `--save-each` before each response too. With `--log` it writes
+//! after each connection, and with `--save-each` also before each response. With `--log` it writes
 //! each command to a log.
 
 use crate::command_saver::CommandSaver;
@@ -19,8 +19,8 @@ use tpm_record::Keep;
 use tpm_wire::{HostFault, Mux, ServeFault, serve_saving};
 use tpmsim_arguments::Service;
 
-/// Serves a device on a socket: the one whose image is in the file, or a new one where there is no
-/// file.
+/// Serves a device on a socket: the device whose image is in the file, or a new device if there is
+/// no file.
 pub fn serve_device(rt: &HostRuntime, service: &Service, image: &str) -> Result<(), DeviceFault> {
     let file = ImageFile::take(rt, image)?;
     let opened = file.open(rt)?;
@@ -44,7 +44,7 @@ pub fn serve_device(rt: &HostRuntime, service: &Service, image: &str) -> Result<
     serve_machine(rt, service, machine, &mut source, &mut witness)
 }
 
-/// Serves a machine on the socket. Removes the socket's file in the end, if it is still at its
+/// Serves a machine on the socket. At the end, removes the socket's file, if it is still at its
 /// path.
 fn serve_machine<K: Keep>(
     rt: &HostRuntime,
@@ -60,7 +60,7 @@ fn serve_machine<K: Keep>(
     served
 }
 
-/// Begins the log, if there is to be one, and serves the connections.
+/// Begins the log, if one is requested, and serves the connections.
 fn serve_socket<K: Keep>(
     rt: &HostRuntime,
     service: &Service,
@@ -94,9 +94,10 @@ fn serve_connections<K: Keep>(
     Ok(())
 }
 
-/// Saves the device after a connection, its clock too, and says why the program ends, if it does.
+/// Saves the device with its clock after a connection. Returns a fault if the program has to end.
 /// If a command was not answered because the log or the image was not written, a device that is
-/// saved before each response is not saved again: the image already has all that was answered.
+/// saved before each response is not saved again: the image already contains the effects of all
+/// answered commands.
 fn save_after<K: Keep>(
     served: Result<u64, ServeFault>,
     mux: &Mux<K>,
@@ -115,7 +116,8 @@ fn save_after<K: Keep>(
     }
 }
 
-/// Executes the commands of a connection, and answers each after the witness got it.
+/// Executes the commands of a connection, and answers each of them after the witness was notified
+/// of it.
 fn exchange<K: Keep>(
     rt: &HostRuntime,
     socket: &mut Socket,

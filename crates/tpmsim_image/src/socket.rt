@@ -1,4 +1,4 @@
-//! The socket on which a device is served: only its owner may use it, from the moment it is there.
+//! The socket on which a device is served: from its creation on, only its owner can use it.
 
 use crate::attended::Attended;
 use crate::fault::{DeviceFault, Subject};
@@ -9,7 +9,7 @@ use std::os::unix::fs::{DirBuilderExt, FileTypeExt, MetadataExt, PermissionsExt}
 use std::os::unix::net::{SocketAddr, UnixListener, UnixStream};
 use std::{fs, io};
 
-/// A socket that takes connections, and the identity of its file.
+/// A socket that accepts connections, and the identity of its file.
 #[derive(Drop)]
 pub struct Socket {
     listener: UnixListener,
@@ -21,7 +21,7 @@ pub struct Socket {
 }
 
 impl Socket {
-    /// Takes the next connection.
+    /// Accepts the next connection.
     pub fn accept(&mut self) -> io::Result<UnixStream> {
         match self.waiting.take() {
             Some(stream) => Ok(stream),
@@ -32,7 +32,7 @@ impl Socket {
         }
     }
 
-    /// The reader of a connection, which looks for a client that waits meanwhile.
+    /// Returns the reader of a connection, which looks for another client that waits.
     pub fn attend<'a>(&'a mut self, rt: &'a HostRuntime, stream: &'a UnixStream) -> Attended<'a> {
         Attended::new(rt, stream, self)
     }
@@ -42,7 +42,7 @@ impl Socket {
         self.has_seen
     }
 
-    /// Whether a client waits now. It is the next one to be served.
+    /// Whether a client waits now. That client is the next one to be served.
     pub(crate) fn sees_client(&mut self) -> bool {
         if self.listener.set_nonblocking(true).is_err() {
             return false;
@@ -57,7 +57,8 @@ impl Socket {
         true
     }
 
-    /// Removes the socket's file from this path. A file that has taken its place there stays.
+    /// Removes the socket's file from this path. If another file has replaced it there, that file
+    /// stays.
     pub fn remove(&self, rt: &HostRuntime, path: &str) {
         match identity_at(rt, path) {
             Ok(identity) if identity == self.identity => {
@@ -84,13 +85,13 @@ fn identity_at(rt: &HostRuntime, path: &str) -> io::Result<Identity> {
     })
 }
 
-/// A socket at this path, which only its owner may use, from the moment it is there. A socket that
-/// is there already and at which nobody answers is replaced.
+/// Creates a socket at this path, which only its owner can use from its creation on. An existing
+/// socket at which nobody answers is replaced.
 pub fn bind(rt: &HostRuntime, path: &str) -> Result<Socket, DeviceFault> {
     DeviceFault::Socket(Subject::Socket.alone()).unless(bind_aside(rt, path))
 }
 
-/// Binds a socket in a folder next to the path that nobody else may enter, and puts it at the path
+/// Binds a socket in a folder next to the path that nobody else can enter, and moves it to the path
 /// when it is ready.
 fn bind_aside(rt: &HostRuntime, path: &str) -> io::Result<Socket> {
     SocketAddr::from_pathname(path)?;
@@ -103,23 +104,23 @@ fn bind_aside(rt: &HostRuntime, path: &str) -> io::Result<Socket> {
     bound
 }
 
-/// A folder that nobody else may enter, and the path of a socket in this folder.
+/// A folder that nobody else can enter, and the path of a socket in this folder.
 #[derive(Drop)]
 struct Aside {
     folder: String,
     socket: String,
 }
 
-/// The permissions of the folder, which its owner alone may enter.
+/// The permissions of the folder, which only its owner can enter.
 const FOLDER_MODE: u32 = 0o700;
 
-/// How many names are tried for a folder next to the socket.
+/// The number of names that are tried for a folder next to the socket.
 const FOLDERS: u8 = 100;
 
 impl Aside {
-    /// Makes a folder that nobody else may enter, in the folder that this front of a path names.
-    /// Its name is short, since few bytes fit into the address of a socket; a folder that is there
-    /// is left alone.
+    /// Creates a folder that nobody else can enter, in the folder with the path `front`. Its name
+    /// is short, since the address of a socket has room for few bytes. An existing folder is not
+    /// used.
     fn make(rt: &HostRuntime, front: &str) -> io::Result<Aside> {
         for number in 0..FOLDERS {
             let folder = format!(in rt.alloc(); "{front}.{number}")?;
@@ -137,8 +138,8 @@ impl Aside {
     }
 }
 
-/// Binds a socket in the folder aside, whatever the umask is, and gives it the other path too,
-/// which is in this folder.
+/// Binds a socket in the folder `aside`, whatever the umask is, and links it at `path`, in
+/// `folder`.
 fn bind_in_folder(rt: &HostRuntime, aside: &Aside, path: &str, folder: &str) -> io::Result<Socket> {
     fs::set_permissions(
         rt,
@@ -163,8 +164,8 @@ fn bind_in_folder(rt: &HostRuntime, aside: &Aside, path: &str, folder: &str) -> 
     })
 }
 
-/// Puts a socket in the place of one that was left. The folder is locked meanwhile, so that of two
-/// runs that do this at once the second finds the socket of the first, and leaves it there.
+/// Replaces a socket at which nobody answers. The folder is locked meanwhile: if two runs do this
+/// at once, the second finds the socket of the first, and does not replace it.
 fn replace_left(rt: &HostRuntime, aside: &str, path: &str, folder: &str) -> io::Result<()> {
     let folder = fs::open(rt, folder)?;
     folder.lock()?;
@@ -174,7 +175,7 @@ fn replace_left(rt: &HostRuntime, aside: &str, path: &str, folder: &str) -> io::
     fs::hard_link(rt, aside, path)
 }
 
-/// Whether a socket is at this path at which nobody answers.
+/// Whether there is a socket at this path at which nobody answers.
 fn is_left(rt: &HostRuntime, path: &str) -> bool {
     let is_socket = match fs::symlink_metadata(rt, path) {
         Ok(metadata) => metadata.file_type().is_socket(),

@@ -1,4 +1,4 @@
-//! The values that the host passes with each command: random bytes that are read, the time that has
+//! The values that the host passes with each command: random bytes from a reader, the time that has
 //! passed, and a locality.
 
 ghost use Rattle.std.specs.Prelude.{◌≡◌, IfOk, ℕ};
@@ -14,7 +14,8 @@ use std::time::{Clock, Instant};
 use tpm_types::Locality;
 use tpm_wire::Host;
 
-/// The source of the values of each command: a reader of random bytes, and the clock of the host.
+/// The source of the values for each command: a reader of random bytes, and a stopwatch on the
+/// host's clock.
 #[derive(Drop)]
 pub struct Source<R> {
     entropy: RandomReader<R>,
@@ -22,11 +23,11 @@ pub struct Source<R> {
     stopwatch: Stopwatch,
 }
 
-/// The source of a served device, whose random bytes are those of a file.
+/// The source of a served device, whose random bytes come from a file.
 pub type HostSource = Source<BufReader<File>>;
 
 impl<R: Read> Source<R> {
-    /// The source for commands from this locality, with random bytes of this reader.
+    /// Creates the source for commands from this locality, with random bytes from this reader.
     pub fn new(entropy: RandomReader<R>, locality: Locality) -> Source<R>
         ensures locality { result.locality ≡ locality }
         ensures entropy { result.entropy ≡ entropy }
@@ -38,9 +39,9 @@ impl<R: Read> Source<R> {
         }
     }
 
-    /// The values of the next command, which came now. The locality is always the same, the random
-    /// bytes are the next 256 of the reader, and the stopwatch says the time at some time of the
-    /// host's clock.
+    /// Returns the values for a command that arrives now. The locality is always the same, the
+    /// random bytes are the next 256 of the reader, and the stopwatch returns the elapsed time at
+    /// the present time of the host's clock.
     pub fn host(&mut self, clock: &impl Clock) -> io::Result<Host>
         ensures locality { IfOk result (λ host. host.locality ≡ self.old.locality) }
         ensures elapsed { IfOk result (λ host. (now : ℕ)

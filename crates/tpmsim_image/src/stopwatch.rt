@@ -7,8 +7,9 @@ ghost use Rattle.tpmsim_image.specs.Stopwatch.{after_command, told};
 use std::marker::Model;
 use std::time::Instant;
 
-/// A stopwatch, which knows how much time commands got. Contracts see when the first command came,
-/// and how many of the milliseconds since then were passed to commands or dropped.
+/// A stopwatch, which records the time that was passed to commands. In contracts, its state is the
+/// arrival time of the first command, and the number of milliseconds since then that were passed to
+/// commands or dropped.
 #[derive(Drop)]
 pub struct Stopwatch {
     first: Option<Instant>,
@@ -36,9 +37,9 @@ impl Stopwatch {
         }
     }
 
-    /// The elapsed milliseconds of a command that comes now: 0 for the first command, and for each
-    /// later one those since the first that no command got, 2^32 - 1 at most. The others are
-    /// dropped.
+    /// Returns the elapsed milliseconds of a command that arrives now. For the first command they
+    /// are 0. For a later one they are the milliseconds since the first command that were passed to
+    /// no command, at most 2^32 - 1. The others are dropped.
     pub fn tell(&mut self, now: Instant) -> u32
         ensures value { result ≡ told (instant_nanos now) self.old }
         ensures after { self.new ≡ after_command (instant_nanos now) self.old }

@@ -1,10 +1,11 @@
--- No time counts twice on a stopwatch.
+-- A stopwatch counts no millisecond twice.
 use Rattle.std.proofs.Common.{◌≡◌, ℕ, ◌+◌, ◌-◌, ◌/◌, ◌≤◌, List, [], ◌∷◌, Some, max, arith}
 use Rattle.std.specs.List.{AllByRecursion}
 use Rattle.tpmsim_image.specs.Stopwatch.{StopwatchState, told}
 use Rattle.tpmsim_image_laws.specs.Times.{TellsNoTimeTwice, new_stopwatch, told_together}
 
--- a stopwatch whose first command came at this time, and of which so many milliseconds passed
+-- a stopwatch whose first command arrived at this time, and that passed or dropped this many
+-- milliseconds
 abbrev running : (first passed : ℕ) → StopwatchState
 running first passed = record { first = Some first; passed = passed }
 

@@ -1,9 +1,9 @@
--- The elapsed times of all commands together, by a stopwatch.
+-- The sum of the elapsed times of commands, as a stopwatch measures them.
 use Rattle.std.specs.Prelude.{ℕ, ◌+◌, ◌-◌, ◌/◌, ◌≤◌, List, [], ◌∷◌, None}
 use Rattle.std.specs.List.{AllByRecursion}
 use Rattle.tpmsim_image.specs.Stopwatch.{StopwatchState, after_command, told}
 
--- the sum of the elapsed milliseconds of commands that come at these times, one after another
+-- the sum of the elapsed milliseconds of commands that arrive at these times, one after another
 abbrev pub told_together : StopwatchState → (times : List ℕ) → ℕ
 told_together s [] = 0
 told_together s (now ∷ times) = told now s + told_together (after_command now s) times

@@ -1,12 +1,12 @@
 #![tactic(auto)]
 
 //! A program that does the same as `tpmsim`, but keeps the device's state in lists that grow, not
-//! in fixed slots. It exists for the tests: `tools/scripts.sh` compares what the two programs
-//! print for scripts, and tests/lists_starved.sh makes its allocations fail.
+//! in fixed slots. It exists for the tests: `tools/scripts.sh` compares what the two programs print
+//! for scripts, and tests/lists_starved.sh makes its allocations fail.
 //!
-//! Without arguments it runs the script on standard input. `open FILE` opens the device whose
-//! image is in a file, and prints its image, which equals the contents of the file. `line LINE`
-//! executes a command in words on a new device, and prints its trace.
+//! Without arguments, the program runs the script on standard input. `open FILE` opens the device
+//! whose image is in the file, and prints the device's image, which equals the contents of the
+//! file. `line LINE` executes a command in words on a new device, and prints its trace.
 
 mod fault;
 

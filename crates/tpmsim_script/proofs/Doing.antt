@@ -1,4 +1,4 @@
--- If a line has a meaning, it has that meaning's effect; if it has none, it is bad.
+-- A line with a meaning has the effect of that meaning; a line without a meaning is bad.
 use Rattle.std.proofs.Common.{◌≡◌, ℕ, ◌<◌, ◌≤◌, List, [], ◌++◌, Bool, true, false, cond, length, Option, Some, None, Result, Ok, Err, refl, sym, ap, ◌∙◌, append-nil, append_assoc}
 use Rattle.std.specs.Prelude.{nat_le, option_and_then}
 use Rattle.std.proofs.lemmas.Bool.{false≢true, le-leb, lt-leb}
@@ -102,8 +102,8 @@ cycled p s old (Err Save) new after is printed cut next err = absurd (save_is_no
 
 -- ---- the saver's notifications
 
--- If the saver was notified and only the writer can still fail, the notification counts whatever
--- the result is.
+-- If the saver was notified and only the writer can still fail, the saver was notified whatever the
+-- result is.
 pub told_then : {S : Type 0} (tells : S → Type 0) (old : S) (result : Result (Unit {0}) LineFault) (new : S) → OnErr result (result ≡ Err Write) → tells new → Told tells old result new
 told_then tells old (Ok done) new err told = told
 told_then tells old (Err Bad) new err told = absurd (bad_is_no_write err)

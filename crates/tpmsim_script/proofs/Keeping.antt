@@ -1,4 +1,4 @@
--- If a script is played line by line, its device is kept.
+-- A script that is played line by line keeps its device.
 use Rattle.std.proofs.Common.{◌≡◌, ℕ, ◌+◌, ◌<◌, List, [], ◌∷◌, ◌++◌, length, Bool, true, false, Option, Some, None, IfSome, refl, sym, ap, subst, ◌∙◌, append_assoc, append-nil, length-append, arith}
 use Rattle.std.proofs.lemmas.Bool.{false≢true}
 use Rattle.std.specs.Prelude.{Result, Ok, Err, OnOk, OnErr}
@@ -28,8 +28,8 @@ LosesLines None lines new = Unit {0}
 LosesLines (Some text) lines None = ⊥
 LosesLines (Some text) lines (Some rest) = lines_of text ≡ lines ++ lines_of rest
 
--- The lines of a run so far, up to the one with this number; the rest of the text; and the output
--- of the lines.
+-- The lines of a run before the line with this number, the rest of the text, and the output of
+-- these lines.
 pub record SoFar {S : Type 0} (saves saves_change : S → Record → S → Type 0) (text here first now : Option (List ℕ)) (number : ℕ) (start at : Kept S) : Type 0 where
   pub lines : List (List ℕ)
   pub print : List ℕ
@@ -298,7 +298,7 @@ pub told_said : {S : Type 0} (saves saves_change : S → Record → S → Type 0
     → line_meaning line ≡ Some said → Told (Tells saves saves_change (Some said) device old) old result new → Told (Tells saves saves_change (line_meaning line) device old) old result new
 told_said saves saves_change line said device old result new e told = subst (λ m. Told (Tells saves saves_change m device old) old result new) (sym e) told
 
--- If the saver was notified of a line, it was notified at this point of the script.
+-- If the saver was notified of a line, it was notified of the same line of the script.
 pub told_there : {S : Type 0} (saves saves_change : S → Record → S → Type 0) (line said : List ℕ) (device : Record) (old : S) (result : Result (Unit {0}) LineFault) (new : S)
     → said ≡ line → Told (Tells saves saves_change (line_meaning said) device old) old result new → Told (Tells saves saves_change (line_meaning line) device old) old result new
 told_there saves saves_change line said device old result new e told = subst (λ l. Told (Tells saves saves_change (line_meaning l) device old) old result new) e told
@@ -306,7 +306,8 @@ told_there saves saves_change line said device old result new e told = subst (λ
 -- ---- a whole run: nothing was read or in memory at its start, and then the last lines are
 -- written and the device is saved
 
--- If the text that remained at the start is this one, the run kept its device from there.
+-- If a run kept its device from a start with the same text, output and script, it kept its device
+-- from this start.
 pub begun_at : {S : Type 0} (saves saves_change : S → Record → S → Type 0) (before text left held old new : Option (List ℕ)) (writer : Marks) (q p : Playing) (saver : S) (result : Result (Unit {0}) ScriptFault) (Last : Kept S → Type 0)
     → before ≡ text → held ≡ old → q ≡ p → KeepsDevice saves saves_change before left held new writer (kept q saver) result Last → KeepsDevice saves saves_change text left old new writer (kept p saver) result Last
 begun_at saves saves_change before text left held old new writer q p saver result Last a b c h =
@@ -319,7 +320,8 @@ others_yet : (text : Option (List ℕ)) (lines : List (List ℕ)) (P Q : List (L
 others_yet None lines P Q q h = tt
 others_yet (Some text) lines P Q q h = (h.0, h.1, q h.0)
 
--- If lines were played, they were also played with another end that counts the same lines.
+-- If lines were played up to one end of a run, they were also played up to another end for which
+-- the same lines count.
 recast : {S : Type 0} (saves saves_change : S → Record → S → Type 0) (text left old mid new : Option (List ℕ)) (start : Kept S) (result other : Result (Unit {0}) ScriptFault) (Last Next : Kept S → Type 0)
     → (h : Played saves saves_change text left old mid start result Last) → Counts other (length h.lines) → ((rest : List (List ℕ)) → Leaves other left h.end.playing rest) → Writes other old new h.print → Next h.end
     → Played saves saves_change text left old new start other Next

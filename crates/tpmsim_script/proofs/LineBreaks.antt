@@ -1,4 +1,4 @@
--- How a text is split into lines.
+-- Lemmas about splitting a text into lines.
 use Rattle.std.proofs.Common.{◌≡◌, ℕ, ◌+◌, ◌-◌, ◌<◌, ◌≤◌, ◌==◌, Bool, true, false, cond, List, [], ◌∷◌, ◌++◌, length, take, drop, get_or, Option, Some, None, IfSome, refl, sym, ap, ◌∙◌, subst, append_assoc, append-nil, drop-drop, length-append, arith}
 use Rattle.std.specs.List.{onto_first, position, slice_range}
 use Rattle.std.proofs.lemmas.Bool.{eqb-true}
@@ -115,14 +115,14 @@ found_last line rest more h e none some =
     let cut : line ++ (rest ++ more) ≡ line ++ rest = ap (λ l. line ++ (rest ++ l)) none ∙ ap (λ l. line ++ l) (append-nil rest) in
     ap lines_of cut ∙ only_line (line ++ rest) (found_more line rest h e) some ∙ ap (λ l. (line ++ rest) ∷ lines_of l) (sym none)
 
--- If the first elements of a range are left out, the rest is a shorter range.
+-- A range without its first elements is a shorter range.
 pub rest_behind : (bytes : List ℕ) (from count end : ℕ) → from + count ≤ end → slice_range bytes (from + count) end ≡ drop count (slice_range bytes from end)
 rest_behind bytes from count end h =
     let size : end - from ≡ count + (end - (from + count)) = omega arith in
     sym (ap (λ n. drop count (take n (drop from bytes))) size ∙ drop-take count (end - (from + count)) (drop from bytes) ∙ ap (λ l. take (end - (from + count)) l) (drop-drop count from bytes))
 
--- If the bytes that were read contain no 0a, the line is incomplete, or is the last one, or there
--- is no line.
+-- If the bytes that were read contain no 0a, the next line is incomplete, or is the last line, or
+-- does not exist.
 pub stopped_finds : (old new : Lines) (ended : Bool) (line : List ℕ) → old.ended ≡ ended → line_of new ≡ line → line_of new ≡ line_of old ++ rest_of old → rest_of new ≡ []
     → IsUnbroken (line_of old) → position is_break (rest_of old) ≡ None → length (line_of new) ≤ 65536 → Finds old (next_at ended line) new
 stopped_finds old new false line e l whole behind h none short = (whole, behind, subst IsUnbroken (sym whole) (found_more (line_of old) (rest_of old) h none), e, short)

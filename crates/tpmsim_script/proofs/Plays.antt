@@ -1,4 +1,4 @@
--- A script is played line by line.
+-- A run plays its script line by line.
 use Rattle.std.proofs.Common.{◌≡◌, ℕ, zero, suc, ◌+◌, ◌*◌, ◌-◌, ◌<◌, ◌≤◌, ◌==◌, List, [], ◌∷◌, ◌++◌, length, Bool, true, false, cond, Option, Some, None, IfSome, refl, sym, ap, subst, ◌∙◌, append_assoc, append-nil, arith}
 use Rattle.std.proofs.lemmas.Bool.{false≢true}
 use Rattle.std.specs.Io.KnownBytes.{Appends, Keeps, append_known, prepend_known}
@@ -46,7 +46,7 @@ pub ended : (left old new : Option (List ℕ)) (p : Playing) (number : ℕ) → 
 ended None old new p number e k = tt
 ended (Some text) old new p number e k = subst (λ text. IsOutput old new None (play p number (lines_of text))) (sym e) (kept old new k, refl)
 
--- If a line is bad, it stops the script.
+-- A bad line stops the script.
 stopped : (text line : List ℕ) (rest : List (List ℕ)) (old new : Option (List ℕ)) (p : Playing) (number : ℕ) → lines_of text ≡ line ∷ rest → perform_line p line ≡ None → Keeps old new
     → Plays (Some text) old new p number (Some number)
 stopped text line rest old new p number t e k =
@@ -60,7 +60,7 @@ stopped_by_line None rest old held new p number line t k e n = tt
 stopped_by_line (Some text) None old held new p number line t k e n = absurd t
 stopped_by_line (Some text) (Some rest) old held new p number line t k e n = stopped text line (lines_of rest) old new p number t e (subst (Keeps old) (sym n) k)
 
--- If a line had its effect on a player at p, it had that effect from p on.
+-- If a player in the state p performed this line, the line had its effect from p on.
 pub did_there : (p q : Playing) (line said : List ℕ) (held : Option (List ℕ)) (result : Result (Unit {0}) LineFault) (new : Option (List ℕ)) (next : Playing)
     → q ≡ p → said ≡ line → Did (perform_line q said) held q result new next → Did (perform_line p line) held p result new next
 did_there p q line said held result new next e f did =
@@ -83,7 +83,7 @@ pub stopped_by_length : (left old new : Option (List ℕ)) (p : Playing) (number
 stopped_by_length None old new p number t k = tt
 stopped_by_length (Some text) old new p number t k = stopped text t.0 t.1 old new p number t.2 (lt_none p t.0 t.3) k
 
--- If a fault occurs before a line was found, the run ends there.
+-- If a fault occurs before the next line was found, the run ends there.
 pub ran_to_fault : (left old new rest : Option (List ℕ)) (p : Playing) (number : ℕ) (fault : ScriptFault) (line : List ℕ) (P : Option ℕ → Type 0)
     → NextFound number left (Err fault) line rest → UnlessFailed {X = Bool} (Err fault) (Keeps old new) → ((bad : Option ℕ) → Plays left old new p number bad → P bad) → Ran P (Err fault)
 ran_to_fault left old new rest p number (Line bad) line P found kept whole = whole (Some bad) (subst (λ n. Plays left old new p number (Some n)) (sym found.0) (stopped_by_length left old new p number found.1 kept))
@@ -113,8 +113,8 @@ pub reached_on : (left rest old held mid new : Option (List ℕ)) (p q : Playing
 reached_on left rest old held mid new p q number line done next behind t k did h =
     reached_next left rest old held mid new p number line did.0 next behind t k did.1 did.2 (subst (λ x. PlaysUpTo rest mid new x (number + 1) next behind) did.3 h)
 
--- Playing the lines from here up to a line, after those before, plays all lines from the start up
--- to that line.
+-- If the lines from here up to a later line are played after the lines before, all lines from the
+-- start up to the later line are played.
 abbrev pub Leads : Option (List ℕ) → Option (List ℕ) → Playing → ℕ → Option (List ℕ) → Option (List ℕ) → Playing → Option (List ℕ) → Type 0
 Leads here old p number start first q new = (next : ℕ) (behind : List (List ℕ)) → PlaysUpTo here old new p number next behind → PlaysUpTo start first new q 1 next behind
 
@@ -126,7 +126,7 @@ stopped_by_reader (Some rest) None old new (Some text) first p q number t k lead
 stopped_by_reader (Some rest) (Some left) old new (Some text) first p q number t k leads =
     (t.0, number, t.1, leads number (lines_of (t.0 ++ left)) ([], ap lines_of t.2, omega arith, (kept old new k, refl)))
 
--- If no line was found, only these faults are possible.
+-- If no line was found because the reader failed, the script was played up to the reader's failure.
 pub failed_read : (here left old new start first : Option (List ℕ)) (p q : Playing) (number : ℕ) (fault : ScriptFault) → OnUnread {X = Bool} (Err fault) (LosesStart here left) → UnlessFailed {X = Bool} (Err fault) (Keeps old new)
     → Leads here old p number start first q new → OnUnread {X = Unit {0}} (Err fault) (PlaysToFailure start left first new q)
 failed_read here left old new start first p q number (Line bad) t k leads = tt
@@ -152,7 +152,7 @@ failed_with_memory here rest number Write line found = tt
 failed_with_memory here rest number Save line found = tt
 failed_with_memory here rest number NoMemory line found = absurd found
 
--- At a line the fault Read does not occur.
+-- No fault at a line is the fault Read.
 pub stopped_read : (number : ℕ) (fault : LineFault) (fact : Type 0) → OnUnread {X = Unit {0}} (Err (fault_at number fault)) fact
 stopped_read number stop.Bad fact = tt
 stopped_read number stop.Write fact = tt
@@ -239,7 +239,7 @@ start_lost (Some text) (Some more) None line rest start h k e unbroken = absurd 
 start_lost (Some text) (Some more) (Some last) line rest start h k e unbroken =
     (start, unbroken, sym h ∙ ap (λ (l : List ℕ). l ++ more) (sym e) ∙ ap (λ (l : List ℕ). start ++ l) (sym k))
 
--- A read either returned some bytes or was the last one.
+-- Each read either returned some bytes or was the last read.
 pub reads_on : (was now : Bool) (line rest longer more : ℕ) → was ≡ false → longer ≡ line + rest → longer ≤ 65536 → now ≡ (more == 0) → cond now 0 (1 + (2 * (65536 - longer) + (1 - more))) < cond was 0 (1 + (2 * (65536 - line) + (1 - rest)))
 reads_on true now line rest longer more w e limit n = absurd (false≢true (sym w))
 reads_on false true line rest longer more w e limit n = omega arith
@@ -295,7 +295,8 @@ ran_too_many start text before old mid written new q p (Err Write) a b c k d h =
 ran_too_many start text before old mid written new q p (Err Save) a b c k d h = tt
 ran_too_many start text before old mid written new q p (Err NoMemory) a b c k d h = tt
 
--- If the writer's marks are unchanged, the failure that a fault reports still counts.
+-- If the writer's marks are unchanged, and a failed saver is still failed, a fault still reports
+-- who failed.
 pub theirs_yet : (result : Result (Unit {0}) ScriptFault) (reader old new : Marks) (unsaved still : Bool) → new ≡ old → (unsaved ≡ true → still ≡ true) → AreTheirs result reader old unsaved → AreTheirs result reader new still
 theirs_yet (Ok done) reader old new unsaved still e stays h = tt
 theirs_yet (Err (Line bad)) reader old new unsaved still e stays h = tt

@@ -1,4 +1,4 @@
--- The report of a script, line by line.
+-- The report of a script is made line by line.
 use Rattle.std.proofs.Common.{◌≡◌, ℕ, zero, suc, ◌+◌, ◌-◌, ◌<◌, ◌≤◌, ◌==◌, Bool, true, false, not, List, [], ◌∷◌, ◌++◌, length, take, Option, Some, None, refl, sym, ap, ap₂, ◌∙◌, append_assoc, append-nil, arith, cond}
 use Rattle.std.specs.Prelude.{nat_lt}
 use Rattle.std.specs.List.{flat_map, onto_first}
@@ -9,11 +9,11 @@ use Rattle.tpmsim_script.specs.Report.{report_text, script_faults, told}
 use Rattle.tpmsim_script.specs.Checking.{Fault, fault_at, faults_of, first_number, line_check, waited_behind}
 use Rattle.tpmsim_script.specs.Line.{lines_of}
 
--- the faults of the remaining lines; `number` is the number of the first
+-- the faults of the remaining lines; `number` is the number of the first remaining line
 abbrev pub left : (waited number : ℕ) → (text : List ℕ) → List Fault
 left waited number text = faults_of waited number (take (1048577 - number) (lines_of text))
 
--- If a line is checked, one line fewer remains.
+-- After a line is checked, one line fewer remains.
 pub left_more : (waited number : ℕ) (text line others : List ℕ) → number ≤ 1048576 → lines_of text ≡ line ∷ lines_of others
     → left waited number text ≡ fault_at (line_check waited line) number line ++ left (waited_behind (line_check waited line) waited) (number + 1) others
 left_more waited number text line others small e =
@@ -24,7 +24,7 @@ take_none : (count : ℕ) → take count (lines_of []) ≡ []
 take_none zero = refl
 take_none (suc count) = refl
 
--- If a text is empty, no line of it remains.
+-- An empty text has no remaining lines.
 pub left_none : (waited number : ℕ) (text : List ℕ) → length text ≡ 0 → left waited number text ≡ []
 left_none waited number [] e = ap (faults_of waited number) (take_none (1048577 - number))
 left_none waited number (byte ∷ text) e = absurd cc
@@ -55,7 +55,7 @@ some_line : (byte : ℕ) (lines : List (List ℕ)) → 0 < length (onto_first by
 some_line byte [] = omega arith
 some_line byte (line ∷ lines) = omega arith
 
--- If a text is not empty, it has a line.
+-- A text that is not empty has a line.
 pub some_lines : (text : List ℕ) → 0 < length text → 0 < length (lines_of text)
 some_lines [] some = some
 some_lines (byte ∷ text) some = by_break (byte == 10)
@@ -66,8 +66,8 @@ some_lines (byte ∷ text) some = by_break (byte == 10)
 
 -- ---- the faults so far
 
--- The faults so far, together with those of the remaining lines, are those of the whole script,
--- with this text, first bad line and number of lines.
+-- The faults so far and those of the remaining lines are the faults of the whole script. The same
+-- holds for the report's text, the first bad line and the number of lines.
 pub record SoFar (text : List ℕ) (first : Option ℕ) (waited number : ℕ) (rest whole : List ℕ) (whole_first : Option ℕ) (lines : ℕ) : Type 0 where
   pub text_is : text ++ flat_map told (left waited number rest) ≡ whole
   pub first_is : option_or first (first_number (left waited number rest)) ≡ whole_first
@@ -101,7 +101,7 @@ turned old new first next waited after number rest line others whole whole_first
       count_is = count_more rest line others number lines cut sofar.count_is;
     }
 
--- If no fault remains, the faults so far are all.
+-- If no fault remains, the faults so far are all faults of the script.
 all_told : (text : List ℕ) (first : Option ℕ) (waited number : ℕ) (rest whole : List ℕ) (whole_first : Option ℕ) (lines : ℕ)
     → left waited number rest ≡ [] → SoFar text first waited number rest whole whole_first lines → (text ≡ whole) × (first ≡ whole_first)
 all_told text first waited number rest whole whole_first lines none sofar = (
@@ -129,8 +129,8 @@ no_more text first waited number rest whole whole_first lines small none sofar =
     let gone = no_lines rest none in
     le-ltb 1048576 lines (omega (arith, small, gone, sofar.count_is)) ∙ sym (ap not (eq-eqb (length rest) 0 none))
 
--- The number of lines before the rest, and the rest, decide whether a script exceeds the limit on
--- lines.
+-- Whether a script exceeds the limit on lines depends on the number of lines before the rest, and
+-- on whether the rest is empty.
 more_by : (rest : List ℕ) (lines : ℕ) → length (lines_of rest) + 1048577 ≡ lines + 1 → nat_lt 1048576 lines ≡ not (length rest == 0)
 more_by [] lines count = le-ltb 1048576 lines (omega (arith, count))
 more_by (byte ∷ rest) lines count =

@@ -1,4 +1,4 @@
--- Printed output, of which one part is written and the rest is buffered.
+-- Lemmas about printed output, of which one part is written and the rest is buffered.
 use Rattle.std.proofs.Common.{◌≡◌, ℕ, ◌+◌, ◌≤◌, List, [], ◌++◌, length, take, Option, Some, None, sym, ap, ◌∙◌, append_assoc, append-nil, length-append}
 use Rattle.std.proofs.lemmas.List.{length-take-le, take-take, take_at}
 use Rattle.std.specs.Io.KnownBytes.{Appends, Keeps, append_known}
@@ -9,13 +9,13 @@ written None new held h = tt
 written (Some old) None held h = absurd h
 written (Some old) (Some new) held h = append-nil new ∙ h
 
--- If more output is buffered, it is printed.
+-- Output that is added to the buffer is printed.
 pub held : (known : Option (List ℕ)) (old more : List ℕ) → Appends (append_known known old) (append_known known (old ++ more)) more
 held None old more = tt
 held (Some known) old more = sym (append_assoc known old more)
 
--- If a line is put after the buffered output, within a longer list, the buffered output is
--- extended by the line.
+-- If a line is copied to the position after the buffered output, the buffered output is extended by
+-- the line.
 pub put_behind : (items held line printed rest tail : List ℕ) (used end size : ℕ) → held ≡ items → line ≡ printed → used ≤ length items → end ≡ used + length printed → end ≤ size
     → take end (take size (take used held ++ (line ++ rest) ++ tail)) ≡ take used items ++ printed
 put_behind items held line printed rest tail used end size a b inside e fits =

@@ -1,5 +1,5 @@
 -- How a script keeps its device: the saver was notified of the device line by line, and only the
--- output of these lines was written.
+-- output of the lines that were played was written.
 use Rattle.std.specs.Prelude.{◌≡◌, ℕ, ◌+◌, Bool, true, false, List, [], ◌∷◌, ◌++◌, length}
 use Rattle.std.specs.Prelude.{Option, Some, None, IfSome, Result, Ok, Err}
 use Rattle.std.specs.Io.KnownBytes.{Appends, append_known}
@@ -31,7 +31,8 @@ Tells saves saves_change (Some (ExecutesWords words)) device old new = saves_cha
 Tells saves saves_change (Some CyclesPower) device old new = saves old device new
 Tells saves saves_change other device old new = new ≡ old
 
--- A line was played: it is not bad, it prints this text, and the saver was notified of it.
+-- A line was played: the line is not bad and prints this text, and the saver was notified of the
+-- line.
 pub record PlaysLine {S : Type 0} (saves saves_change : S → Record → S → Type 0)
     (old : Kept S) (line text : List ℕ) (new : Kept S) : Type 0 where
   pub performed : perform_line old.playing line ≡ Some (record { text = text; next = new.playing })
@@ -55,7 +56,7 @@ Counts other count = Unit {0}
 
 -- The lines from this state on that were not played. If the run ended well, there are none. If it
 -- stopped at a bad line, they are that line and all later ones. If the reader failed, they are the
--- line that it had begun to return and all later ones (`left` is what the reader has not
+-- line that it had begun to return and all later ones (`left` is the text that the reader has not
 -- returned). If there were too many lines, at least one was not played.
 abbrev pub Leaves : Result (Unit {0}) ScriptFault → (left : Option (List ℕ)) → Playing
     → List (List ℕ) → Type 0
@@ -69,7 +70,7 @@ Leaves (Err fault.TooManyLines) left p rest =
     (line : List ℕ) × (others : List (List ℕ)) × (rest ≡ line ∷ others)
 Leaves (Err other) left p rest = Unit {0}
 
--- This text was written, or only a prefix of it if the writer failed.
+-- This text was written; if the writer failed, only a prefix of the text was written.
 abbrev pub Writes : Result (Unit {0}) ScriptFault
     → Option (List ℕ) → Option (List ℕ) → List ℕ → Type 0
 Writes (Err fault.Write) old new text = CutOff (append_known old text) new
@@ -90,10 +91,10 @@ pub record Played {S : Type 0} (saves saves_change : S → Record → S → Type
   pub written : Writes result old new print
   pub last : Last end
 
--- A run kept its device: the output is what the played lines print, and the saver was notified of
--- each. The end of these lines has the property `Last`. If a save failed, the line of that save
--- is not among them, and none of its output was written. In that case `Last` is not claimed, and
--- if the writer failed too, the output is unspecified.
+-- A run kept its device: the output is that of the played lines, and the saver was notified of each
+-- of them. The end of these lines has the property `Last`. If a save failed, the line of that save
+-- is not among them, and none of its output was written. In that case `Last` is not claimed, and if
+-- the writer failed too, the output is unspecified.
 abbrev pub KeepsDevice : {S : Type 0} → (saves saves_change : S → Record → S → Type 0)
     → (text left old new : Option (List ℕ)) → (writer : Marks) → Kept S
     → Result (Unit {0}) ScriptFault → (Last : Kept S → Type 0) → Type 0

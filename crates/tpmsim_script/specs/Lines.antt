@@ -20,14 +20,14 @@ rest_of lines = slice_range lines.bytes.items lines.next lines.filled
 abbrev pub IsUnbroken : List ℕ → Type 0
 IsUnbroken bytes = All (λ byte. (byte == 10) ≡ false) bytes
 
--- the finding after the last byte that was read: that more may follow, or that the reader has
--- ended, at the end of a line or within one
+-- the result of a search after the last byte that was read: more bytes may follow; or the reader
+-- has ended, at the end of a line or within one
 abbrev pub next_at : Bool → List ℕ → Next
 next_at false line = Incomplete
 next_at true [] = End
 next_at true (byte ∷ line) = Line
 
--- The reader may return these further bytes: none if it has ended.
+-- The reader may return these further bytes; if it has ended, it returns none.
 abbrev pub MayFollow : Lines → List ℕ → Type 0
 MayFollow lines more = lines.ended ≡ true → more ≡ []
 
@@ -58,7 +58,7 @@ Agrees remaining lines = lines.ended ≡ true → IsAtEnd remaining
 abbrev pub text_left : Option (List ℕ) → Lines → Option (List ℕ)
 text_left remaining lines = prepend_known (rest_of lines) remaining
 
--- The first line of a text was read, and it is this one.
+-- The first line of a text was read, and it is this line.
 abbrev pub LosesFirstLine : Option (List ℕ) → List ℕ → Option (List ℕ) → Type 0
 LosesFirstLine None line new = Unit {0}
 LosesFirstLine (Some text) line None = ⊥

@@ -30,15 +30,15 @@ Did line old before (Err Write) new after =
     × CutOff (append_known old effect.text) new × (after ≡ effect.next)
 Did line old before (Err Save) new after = new ≡ old
 
--- The saver was notified if a line had its effect, and is unchanged if the line is bad. If a save
--- failed, the saver is unspecified.
+-- If a line had its effect, the saver was notified. If the line is bad, the saver is unchanged. If
+-- a save failed, the saver is unspecified.
 abbrev pub Told : {S : Type 0} → (S → Type 0) → S → Result (Unit {0}) LineFault → S → Type 0
 Told tells old (Ok done) new = tells new
 Told tells old (Err Bad) new = new ≡ old
 Told tells old (Err Write) new = tells new
 Told tells old (Err Save) new = Unit {0}
 
--- The fault Write means that the writer failed, and Save that the saver did.
+-- The fault Write means that the writer failed, and Save that the saver failed.
 abbrev pub IsTheirs : Result (Unit {0}) LineFault → (writer : Marks) → (unsaved : Bool) → Type 0
 IsTheirs (Err Write) writer unsaved = writer.failed ≡ true
 IsTheirs (Err Save) writer unsaved = unsaved ≡ true

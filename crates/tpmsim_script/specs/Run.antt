@@ -8,19 +8,19 @@ use Rattle.tpmsim_script.specs.Script.{IsOutput, Playing, play}
 use Rattle.tpmsim_script.specs.declared.fault.ScriptFault.{ScriptFault}
 use Rattle.tpmsim_script.specs.declared.fault.ScriptFault.TheVariants as fault
 
--- P holds for None if a run ended well, and for the number of the bad line if the run stopped at
--- one. If the run ended with another fault, P is not claimed.
+-- P holds for None if a run ended well, and for the number of the bad line if the run stopped at a
+-- bad line. If the run ended with another fault, P is not claimed.
 abbrev pub Ran : (Option ℕ → Type 0) → Result (Unit {0}) ScriptFault → Type 0
 Ran P (Ok done) = P None
 Ran P (Err (fault.Line number)) = P (Some number)
 Ran P (Err other) = Unit {0}
 
--- A property holds if the reader failed.
+-- If the reader failed, a fact holds.
 abbrev pub OnUnread : {X : Type 0} → Result X ScriptFault → Type 0 → Type 0
 OnUnread (Err fault.Read) fact = fact
 OnUnread other fact = Unit {0}
 
--- A property holds if the writer failed.
+-- If the writer failed, a fact holds.
 abbrev pub OnUnwritten : {X : Type 0} → Result X ScriptFault → Type 0 → Type 0
 OnUnwritten (Err fault.Write) fact = fact
 OnUnwritten other fact = Unit {0}
@@ -30,18 +30,18 @@ abbrev pub is_unsaved : Result (Unit {0}) ScriptFault → Bool
 is_unsaved (Err fault.Save) = true
 is_unsaved other = false
 
--- A property holds if there were too many lines.
+-- If there were too many lines, a fact holds.
 abbrev pub OnTooMany : {X : Type 0} → Result X ScriptFault → Type 0 → Type 0
 OnTooMany (Err fault.TooManyLines) fact = fact
 OnTooMany other fact = Unit {0}
 
--- A property holds if there was not enough memory.
+-- If there was not enough memory, a fact holds.
 abbrev pub OnNoMemory : {X : Type 0} → Result X ScriptFault → Type 0 → Type 0
 OnNoMemory (Err fault.NoMemory) fact = fact
 OnNoMemory other fact = Unit {0}
 
--- The fault Read means that the reader failed, Write that the writer did, and Save that the saver
--- did.
+-- The fault Read means that the reader failed, Write that the writer failed, and Save that the
+-- saver failed.
 abbrev pub AreTheirs : {X : Type 0} → Result X ScriptFault → (reader writer : Marks)
     → (unsaved : Bool) → Type 0
 AreTheirs (Err fault.Read) reader writer unsaved = reader.failed ≡ true
@@ -75,7 +75,7 @@ abbrev pub PlaysAllAllowed : Option (List ℕ) → Option (List ℕ) → Option 
 PlaysAllAllowed text old new p =
     (line : List ℕ) × (rest : List (List ℕ)) × PlaysUpTo text old new p 1 1048577 (line ∷ rest)
 
--- The text's first line is this one; or the text is empty; or its first line is too long and has
+-- The text's first line is this line; or the text is empty; or its first line is too long and has
 -- this number; or the reader or the writer failed. There is no other fault.
 abbrev pub NextFound : ℕ → Option (List ℕ)
     → Result Bool ScriptFault → List ℕ → Option (List ℕ) → Type 0
@@ -86,14 +86,15 @@ NextFound number old (Err fault.Read) line new = Unit {0}
 NextFound number old (Err fault.Write) line new = Unit {0}
 NextFound number old (Err other) line new = ⊥
 
--- A property holds if a run ended well, at a bad line, or because the reader failed.
+-- If a run ended well, at a bad line, or because the reader failed, a fact holds.
 abbrev pub UnlessFailed : {X : Type 0} → Result X ScriptFault → Type 0 → Type 0
 UnlessFailed (Ok x) fact = fact
 UnlessFailed (Err (fault.Line number)) fact = fact
 UnlessFailed (Err fault.Read) fact = fact
 UnlessFailed (Err other) fact = Unit {0}
 
--- how a run ends after the last line that a script may have, depending on what was found there
+-- how a run ends after the last line that a script may have: with TooManyLines if there is one more
+-- line
 abbrev pub end_at_limit : Result Bool ScriptFault → Result (Unit {0}) ScriptFault
 end_at_limit (Ok true) = Err fault.TooManyLines
 end_at_limit (Ok false) = Ok tt

@@ -155,10 +155,10 @@ play p number (line ∷ lines) =
 abbrev pub IsOutput : Option (List ℕ) → Option (List ℕ) → Option ℕ → Output → Type 0
 IsOutput old new bad output = Appends old new output.text × (output.bad ≡ bad)
 
--- A run wrote, after the old contents of the writer (`old`), what the lines of the text print
--- when they are played from `p` on; `number` is the number of the first line. `bad` is the number
--- of the first bad line, if any. Nothing is claimed if it is unknown what the reader returns.
--- Nothing is claimed about the output if the writer's contents are unknown.
+-- A run wrote, after the old contents of the writer (`old`), the output of the lines of the text,
+-- played from `p` on; `number` is the number of the first line. `bad` is the number of the first
+-- bad line, if any. Nothing is claimed if the text that the reader returns is unknown. Nothing is
+-- claimed about the output if the writer's contents are unknown.
 abbrev pub Plays : Option (List ℕ) → Option (List ℕ) → Option (List ℕ)
     → Playing → ℕ → Option ℕ → Type 0
 Plays None old new p number bad = Unit {0}

@@ -1,4 +1,4 @@
-//! The reason why a line is not allowed in a script, and what is expected there.
+//! Why a line is not allowed in a script, and what is expected there.
 
 use tpm_text::AsmFault;
 

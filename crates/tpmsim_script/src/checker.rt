@@ -1,4 +1,4 @@
-//! Checks a script's lines, without running them.
+//! Checks the lines of a script without running them.
 
 ghost use Rattle.std.specs.Prelude.{◌≡◌, ◌≤◌, IfOk, length};
 ghost use Rattle.tpmsim_script.specs.Checking.{Checks, check, line_check};
@@ -12,8 +12,8 @@ use crate::script::Script;
 use std::alloc::{AllocError, Global};
 use tpm_text::AsmFault;
 
-/// Checks lines, one after another. It remembers the values that the earlier lines set for the
-/// next command.
+/// Checks the lines of a script, one after another. It remembers the values that the earlier lines
+/// set for the next command.
 #[derive(Drop)]
 pub struct Checker {
     script: Script,
@@ -45,7 +45,7 @@ impl Checker {
         self.check_said(said)
     }
 
-    /// Checks the meaning of a line.
+    /// Checks a parsed line.
     fn check_said(&mut self, said: Line) -> Result<(), BadLine>
         requires { length (hex_of (meaning_of said)) ≤ 65536 }
         ensures { Checks (check (waited_of self.old) (meaning_of said.entry)) (waited_of self.old)

@@ -1,4 +1,4 @@
-//! The reason why a script does not run to its end.
+//! Why a script does not run to its end.
 
 ghost use Rattle.std.specs.Prelude.{◌≡◌};
 

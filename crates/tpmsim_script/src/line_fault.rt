@@ -1,4 +1,4 @@
-//! The reason why a script stops at a line, before the line's number is known.
+//! Why a script stops at a line, before the line's number is known.
 
 ghost use Rattle.std.specs.Prelude.{◌≡◌};
 

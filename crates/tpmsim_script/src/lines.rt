@@ -29,7 +29,7 @@ pub enum Next {
     End,
 }
 
-/// The fault that a line has more than [`LINE_LIMIT`] bytes.
+/// The line has more than [`LINE_LIMIT`] bytes.
 #[derive(Clone, Copy, PartialEq, Eq)]
 struct TooLong;
 
@@ -137,7 +137,7 @@ impl Lines {
         self.take(count, count)
     }
 
-    /// The finding if all bytes that were read belong to the line.
+    /// The result of [`Lines::find`] if the bytes that were read contain no end of a line.
     fn stopped(&self) -> Next
         ensures { result ≡ next_at self.now.ended (line_of self.now) }
     {

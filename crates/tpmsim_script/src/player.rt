@@ -1,5 +1,5 @@
-//! A device and the script that it plays. For each line, it performs the line, saves the device
-//! if it changed, and prints the response, after its trace if requested.
+//! A device and the script that it plays. For each line, the player performs the line, saves the
+//! device if it changed, and prints the response, preceded by the trace if requested.
 
 ghost use Rattle.std.specs.Prelude.{◌≡◌, ◌≤◌, [], false, true, length, IfOk, OnOk, OnErr};
 ghost use Rattle.std.specs.Io.KnownBytes.{Appends, Keeps};
@@ -66,9 +66,8 @@ impl<K: Keep> Player<K> {
         &self.machine
     }
 
-    /// Performs a line, and prints the response to a command, and traces if requested. Decodes
-    /// the line's hex or words into `room`. If an allocation can fail, the contract leaves the
-    /// effect unspecified.
+    /// Performs a line, and prints the response to a command, and traces if requested. Decodes the
+    /// line's hex or words into `room`. If an allocation can fail, the effect is unspecified.
     #[tactic(auto, using(crate::proofs::Doing::unsaid_done))]
     pub fn line<W: Write, S: Saver>(
         &mut self,
@@ -112,7 +111,7 @@ impl<K: Keep> Player<K> {
         }
     }
 
-    /// Performs a line.
+    /// Performs a parsed line.
     #[tactic(auto, using(crate::proofs::Doing::nothing_printed))]
     fn perform<W: Write, S: Saver>(
         &mut self,

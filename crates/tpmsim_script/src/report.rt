@@ -33,8 +33,8 @@ pub fn report_of(alloc: Global, text: &[u8]) -> Result<Report, AllocError>
     })
 }
 
-/// How a script ends, if `first` is the number of its first bad line, if any. `more` says whether
-/// it contains more lines than the limit.
+/// How a run of the script ends, given the number of its first bad line, if any. `more` says
+/// whether the script contains more lines than the limit.
 fn end_of(first: Option<u32>, more: bool) -> Result<(), ScriptFault>
     ensures { result ≡ end_of first more }
 {

@@ -92,15 +92,15 @@ pub fn run_device<K: Keep, S: Saver, R: Read, W: Write>(
         (W.contents (device_of writer.old)) (W.contents (device_of writer.new))
         (at_first trace (state_of K.record_of machine)) 1) result }
 
-    // If the reader failed, the whole lines that it had returned were played and written, and
-    // only the start of one more line was not.
+    // If the reader failed, the whole lines that it had returned were played and their output was
+    // written; only the start of one more line was not played.
     ensures read { K.can_refuse ≡ false → OnUnread result (PlaysToFailure
         (R.remaining (device_of reader.old)) (R.remaining (device_of reader.new))
         (W.contents (device_of writer.old)) (W.contents (device_of writer.new))
         (at_first trace (state_of K.record_of machine))) }
 
-    // The fault TooManyLines means that the largest allowed number of lines was played and
-    // written, and that there is one more line.
+    // The fault TooManyLines means that the largest allowed number of lines was played, that their
+    // output was written, and that there is one more line.
     ensures too_many { K.can_refuse ≡ false → OnTooMany result (PlaysAllAllowed
         (R.remaining (device_of reader.old))
         (W.contents (device_of writer.old)) (W.contents (device_of writer.new))
@@ -115,8 +115,8 @@ pub fn run_device<K: Keep, S: Saver, R: Read, W: Write>(
         (kept (at_first trace (state_of K.record_of machine)) saver.old) result
         (λ end. S.saves end.saver end.playing.device saver.new) }
 
-    // The fault Read means that the reader failed, Write that the writer did, and Save that the
-    // saver did.
+    // The fault Read means that the reader failed, Write that the writer failed, and Save that the
+    // saver failed.
     ensures failed { AreTheirs result (marks_of reader.new) (marks_of writer.new)
         (S.has_failed saver.new) }
 
@@ -262,7 +262,8 @@ impl<K: Keep> Run<K> {
     }
 }
 
-/// How a run ends after the last line that a script may have, depending on what was found there.
+/// Returns how a run ends after the last line that a script may have: with TooManyLines if there is
+/// one more line.
 fn end_at_limit(next: Result<bool, ScriptFault>) -> Result<(), ScriptFault>
     ensures { result ≡ end_at_limit next }
 {

@@ -1,4 +1,4 @@
--- A log that got executions has their text.
+-- A log that was notified of executions contains their entries.
 use Rattle.std.proofs.Common.{◌≡◌, ℕ, List, [], ◌∷◌, map, Option, Some, None, refl, sym, ap, ◌∙◌, subst}
 use Rattle.std.proofs.KnownBytes.{Appends-nil, Appends-trans}
 use Rattle.std.specs.Io.KnownBytes.{Appends}
@@ -9,7 +9,8 @@ use Rattle.tpm_journal_text.specs.Journal.{entries_text, sum_after_all}
 use Rattle.tpmsim_image.specs.log.Executed.{entry_in}
 use Rattle.tpmsim_image.specs.log.Log.{Adds, AddsAll, AddsSome, Written}
 
--- the text of a log to which one entry was appended, and then those of others
+-- if one entry was appended to a log, and then the entries of other executions, the entries of all
+-- of them were appended
 behind_first : (old mid new : Written) (one : Execution) (found : Option PlainEntry) (executions : List Execution)
     → entry_in one ≡ found → AddsSome old found mid → AddsAll mid executions new → AddsAll old (one ∷ executions) new
 behind_first old mid new one None executions is adds all = absurd adds

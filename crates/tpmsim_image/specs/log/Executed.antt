@@ -6,8 +6,8 @@ use Rattle.tpm_machine.specs.Drawn.{drawn_by}
 use Rattle.tpm_journal_text.specs.Sum.{sum_of}
 use Rattle.tpm_journal_text.specs.Entry.{PlainEntry, entry_limit}
 
--- the entry of an event with this response, which drew `drawn` random bytes, with no layer above
--- the device; a power cycle and a placed object have none
+-- the entry of an event with this response, which drew `drawn` random bytes, without a layer above
+-- the device; a power cycle and a placed object have no entry
 abbrev pub entry_by : PlainEvent → (drawn : ℕ) → (response : List ℕ) → Option PlainEntry
 entry_by (Given buffer locality elapsed random) drawn response = Some (record {
   elapsed = elapsed;
@@ -20,12 +20,12 @@ entry_by (Given buffer locality elapsed random) drawn response = Some (record {
 entry_by Cycled drawn response = None
 entry_by (Placed object) drawn response = None
 
--- an entry can have this buffer, and these of the random bytes
+-- whether an entry can contain this buffer and this number of the random bytes
 abbrev pub fits_entry : (buffer : List ℕ) → (drawn : ℕ) → (random : List ℕ) → Bool
 fits_entry buffer drawn random =
     nat_le (length buffer) entry_limit && nat_le drawn (length random)
 
--- An event has an entry if it is a command whose buffer an entry can have.
+-- whether an event has an entry: it is a command, and an entry can contain its buffer
 abbrev pub has_entry : PlainEvent → (drawn : ℕ) → Bool
 has_entry (Given buffer locality elapsed random) drawn = fits_entry buffer drawn random
 has_entry Cycled drawn = false

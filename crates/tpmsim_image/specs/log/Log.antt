@@ -1,4 +1,4 @@
--- The text of a log: a head, and the entries of what was executed since.
+-- The text of a log: a head, and the entries of the commands executed since then.
 use Rattle.std.specs.Prelude.{◌≡◌, ℕ, Bool, false, List, map, Option, Some, None}
 use Rattle.std.specs.Io.KnownBytes.{Appends}
 use Rattle.std.specs.List.{AllByRecursion, FoldsTo}
@@ -11,16 +11,16 @@ use Rattle.tpm_journal_text.specs.Journal.{entries_text, sum_after_all}
 use Rattle.tpmsim_image.specs.log.Executed.{entry_in}
 use Rattle.tpmsim_image.specs.declared.log.Log.{Log}
 
--- the state of a log: its text, where that is known, and the sum of its marks
+-- the state of a log: its text, if that is known, and the checksum of its marks
 pub record Written : Type 0 where
   pub text : Option (List ℕ)
   pub sum : ℕ
 
--- the state of a log, by a function that gives the text of its writer
+-- the state of a log; `contents` returns the text of its writer
 abbrev pub written_of : {W : Type 0} → (W → Option (List ℕ)) → Log W → Written
 written_of contents log = record { text = contents (device_of log.writer); sum = log.sum }
 
--- The head of this clock and this image was appended to the text.
+-- The head with this clock and this image was appended to the text.
 pub record Begins (clock : ℕ) (image : List ℕ) (before : Option (List ℕ)) (now : Written) : Type 0
   where
     pub text : Appends before now.text (head_text Image clock image)
@@ -32,7 +32,7 @@ pub record AddsEntry (old : Written) (e : PlainEntry) (new : Written) : Type 0 w
   pub text : Appends old.text new.text (entry_text old.sum e)
   pub sum : new.sum ≡ sum_after old.sum e
 
--- An execution has an entry, which was appended to a log.
+-- The entry of an execution, which must exist, was appended to a log.
 abbrev pub AddsSome : Written → Option PlainEntry → Written → Type 0
 AddsSome old None new = ⊥
 AddsSome old (Some e) new = AddsEntry old e new
@@ -40,7 +40,7 @@ AddsSome old (Some e) new = AddsEntry old e new
 abbrev pub Adds : Written → Execution → Written → Type 0
 Adds old one new = AddsSome old (entry_in one) new
 
--- The text of exactly these executions was appended to a log, in order.
+-- The entries of exactly these executions were appended to a log, in order.
 pub record AddsAll (old : Written) (executions : List Execution) (new : Written) : Type 0 where
   pub entries : List PlainEntry
   pub are : map entry_in executions ≡ map Some entries
@@ -48,7 +48,7 @@ pub record AddsAll (old : Written) (executions : List Execution) (new : Written)
   pub text : Appends old.text new.text (entries_text old.sum entries)
   pub sum : new.sum ≡ sum_after_all old.sum entries
 
--- A log that got executions one after another has the text of exactly these, in order.
+-- A log that was notified of executions one after another contains exactly their entries, in order.
 abbrev pub LogsTellAll : Type 0
 LogsTellAll = (old : Written) (executions : List Execution) (new : Written)
     → FoldsTo Adds old executions new → AddsAll old executions new
@@ -63,7 +63,7 @@ AddsWhereKept contents (Some old) one (Some new) =
     Adds (written_of contents old) one (written_of contents new)
 AddsWhereKept contents (Some old) one None = ⊥
 
--- whether a write to a log failed, if there is one
+-- whether there is a log, and a write to it failed
 abbrev pub log_failed : {W : Type 0} → Option (Log W) → Bool
 log_failed None = false
 log_failed (Some log) = log.failed

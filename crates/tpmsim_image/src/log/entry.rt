@@ -10,8 +10,8 @@ use tpm_journal_text::{ENTRY_LIMIT, Entry, sum_of};
 use tpm_step::Event;
 use tpm_types::Locality;
 
-/// The entry of an event with this outcome, which drew `drawn` random bytes. A power cycle has
-/// none, nor has a buffer of more bytes than an entry can have.
+/// Returns the entry of an event with this outcome, which drew `drawn` random bytes. A power cycle
+/// has no entry, and neither has a buffer that is larger than an entry allows.
 pub(crate) fn entry_of<'a>(event: &'a Event, drawn: usize, response: &[u8]) -> Option<Entry<'a>>
     ensures is { IfSome result (λ entry. IsEntry (plain_entry entry)) }
     ensures value { IfSome result (λ entry.
@@ -32,7 +32,7 @@ pub(crate) fn entry_of<'a>(event: &'a Event, drawn: usize, response: &[u8]) -> O
     }
 }
 
-/// The entry of a command whose response has this sum.
+/// Returns the entry of a command whose response has this checksum.
 fn entry_of_command<'a>(
     buffer: &'a [u8],
     locality: Locality,

@@ -1,9 +1,9 @@
-//! The laws of logs.
+//! What holds for the text of every log.
 
 ghost use Rattle.tpmsim_image.specs.log.Log.{LogsTellAll};
 
-/// A log has the text of exactly the executions that it got, in their order. The function does
-/// nothing.
+/// A log contains the entries of exactly the executions of which it was notified, in their order. A
+/// proof only: it has no effect at run time.
 #[inline(always)]
 #[tactic(auto, using(crate::proofs::log::Telling::tells_all))]
 pub fn log_laws()

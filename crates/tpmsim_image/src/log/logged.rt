@@ -13,7 +13,7 @@ use tpm_machine::{Machine, Unsaved, Witness};
 use tpm_record::Keep;
 use tpm_step::{Event, Outcome};
 
-/// A log, if there is one, and another witness, which gets each command once it is in the log.
+/// A log, if there is one, and another witness, which is notified of each command after the log.
 #[derive(Drop)]
 pub struct Logged<W, S> {
     pub log: Option<Log<W>>,

@@ -5,8 +5,8 @@ use Rattle.tpm_image_text.specs.NonVolatile.{kept_of}
 use Rattle.tpm_image_text.specs.declared.version.Version.TheVariants.{Two}
 use Rattle.tpm_image.proofs.image.save.Goals as goal
 
--- What was written is a prefix of the image: a part of the head, or the head and a part of the
--- rest.
+-- The bytes that were written are a prefix of the image: a part of the head, or the head and a part
+-- of the rest.
 pub returns-clause-cut_off : goal.returns-clause-cut_off
 returns-clause-cut_off g c =
     let same : c.as_slice.result.now ++ c.as_slice-2.result.now ≡ image_text Two (kept_of (g.K.Keep.record_of c.args.machine.now.keep)) = search rules in

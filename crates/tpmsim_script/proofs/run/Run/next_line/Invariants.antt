@@ -6,7 +6,8 @@ use Rattle.tpmsim_script.specs.Lines.{Agrees, IsUnbroken, line_of, rest_of, text
 use Rattle.tpmsim_script.specs.Player.{playing_of}
 use Rattle.tpmsim_script.proofs.run.Run.next_line.Given as goal
 
--- The line so far and the rest of the text make up what remained before, and no output is lost.
+-- The line so far and the rest of the text make up the text that remained before, and no output is
+-- lost.
 abbrev pub invariant-loop-self : goal.invariant-loop-self
 invariant-loop-self g l =
     record {
@@ -17,7 +18,7 @@ invariant-loop-self g l =
       printed : Keeps (printout (g.W.Write.contents (device_of l.fn.writer)) l.fn.self.player.answers) (printout (g.W.Write.contents (device_of l.writer)) l.self.player.answers);
     }
 
--- Each read after the first one makes the line longer, or is the last.
+-- Each read after the first one makes the line longer, or is the last read.
 abbrev pub decreases-loop-self : goal.decreases-loop-self
 decreases-loop-self g l =
     cond l.self.lines.ended 0 (1 + (2 * (65536 - length (line_of l.self.lines)) + (1 - length (rest_of l.self.lines))))
