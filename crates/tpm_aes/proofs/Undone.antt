@@ -42,7 +42,7 @@ length-streamed key feedback text i =
     length-xor_of-whole (block_at text i) (aes_of key feedback)
     (omega (arith, length-block_at text i, length-aes_of key feedback))
 
--- Each piece has the size of the block of a text with the same number.
+-- Piece i has the size of block i of the text, for each i.
 abbrev AreLikeBlocks : (ℕ → List ℕ) → List ℕ → Type 0
 AreLikeBlocks piece text = (i : ℕ) → length (piece i) ≡ length (block_at text i)
 
@@ -179,8 +179,8 @@ pub length-cfb_decrypt_of : (key iv cipher : List ℕ) → length (cfb_decrypt_o
 unfolding pieces_to
 length-cfb_decrypt_of key iv cipher = length-joined (plain_block key iv cipher) cipher (length-plain_block key iv cipher)
 
--- If the plaintext's blocks are the decryption of a ciphertext, encrypting them yields the
--- ciphertext's blocks.
+-- If the blocks of a plaintext are the decrypted blocks of a ciphertext, encrypting them yields the
+-- blocks of the ciphertext.
 encrypted_again : (key iv cipher text : List ℕ) (n : ℕ)
     → ((i : ℕ) → i < n → block_at text i ≡ plain_block key iv cipher i)
     → (i : ℕ) → i ≤ n → cipher_block key iv text i ≡ block_before iv cipher i

@@ -43,7 +43,7 @@ pub fn read_many<'a, T: Readable<'a> + Default + Drop, const N: usize>(
 }
 
 /// An item that can be read from a text, given a key and a number. The key determines which items
-/// are allowed, and the number identifies the item in its fault.
+/// are allowed, and a fault reports the number.
 pub trait ReadableBy<'a, K>: Sized {
     type Fault;
 
