@@ -14,10 +14,10 @@ pub fn sorted_map_laws<T>()
     ensures { IsSortedMap T }
 {}
 
-/// The value found by each key after a change. If a key is removed, or only some values are kept,
-/// each value is unchanged or removed. If a value changes and a view of it does not, the view of
-/// the value found does not change either. If all values change, each key finds the changed value.
-/// A proof only: it has no effect at run time.
+/// How a change of the map affects the value found by each key. If a key is removed, or only some
+/// values are kept, each value is unchanged or removed. If a value changes and a view of it does
+/// not, the view of the value found does not change either. If all values change, each key finds
+/// the changed value. A proof only: it has no effect at run time.
 #[inline(always)]
 #[tactic(auto, using(crate::proofs::FoundKeys::removed_or_same, crate::proofs::FoundKeys::kept_or_gone, crate::proofs::FoundKeys::changed_shows, crate::proofs::FoundKeys::all_changed_found))]
 pub fn found_laws<T, V>()
