@@ -16,8 +16,8 @@ is_null Null = true
 is_null Aes128Cfb = false
 is_null (Xor hash) = false
 
--- the encoding of a symmetric definition: only NULL; or AES, the size of its key in bits, and its
--- mode; or XOR, and the hash that generates its masks
+-- the encoding of a symmetric definition: NULL alone; AES, its key size in bits, and its mode; or
+-- XOR and the hash that generates its masks
 unfoldable pub symmetric_text : SymmetricDefinition → List ℕ
 symmetric_text Null = to_be_bytes w16 0x0010
 symmetric_text Aes128Cfb =

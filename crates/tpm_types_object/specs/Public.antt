@@ -48,7 +48,7 @@ object_type_at text = do
 
 -- ---- the parameters of each type of object
 
--- the encoding of a KEYEDHASH object's scheme: only NULL; or HMAC and its hash algorithm
+-- the encoding of a KEYEDHASH object's scheme: NULL alone, or HMAC and its hash algorithm
 unfoldable pub scheme_text : KeyedHashScheme → List ℕ
 scheme_text Null = to_be_bytes w16 0x0010
 scheme_text (Hmac hash) = to_be_bytes w16 0x0005 ++ to_be_bytes w16 (hash_number hash)
