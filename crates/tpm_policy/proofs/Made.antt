@@ -1,4 +1,4 @@
--- The policy that an assertion makes if it passes its checks.
+-- An assertion that passes its checks changes the policy as defined without the checks.
 use Rattle.std.proofs.Common.{rules, ◌≡◌, Bool, Result, Ok, Err, IfOk, refl, subst}
 use Rattle.tpm_bytes.specs.Reading.{◌>>=◌}
 use Rattle.tpm_mac.specs.declared.algorithm.HashAlg.{HashAlg}

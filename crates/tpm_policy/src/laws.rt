@@ -1,4 +1,4 @@
-//! The laws of assertions.
+//! An assertion changes the policy as defined, and its digest keeps the size of the session's hash.
 
 ghost use Rattle.std.specs.Prelude.{◌≡◌, Bool, Ok, length};
 ghost use Rattle.tpm_mac.specs.Digest.{digest_size};

@@ -87,7 +87,7 @@ impl PolicyState {
         }
     }
 
-    /// A state made of these parts.
+    /// A policy state with these values.
     pub fn of(
         digest: Digest,
         update_count: Option<u64>,
@@ -154,7 +154,7 @@ impl PolicyState {
         self.localities
     }
 
-    /// Resets this to the initial state of a session.
+    /// Resets the policy to the initial state of a session.
     pub fn restart(&mut self, hash: HashAlg)
         ensures { self.new ≡ starting hash }
     {
