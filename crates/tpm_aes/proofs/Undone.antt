@@ -102,7 +102,7 @@ pieces_to-same f g (suc n) each =
     pieces_to-suc f n ∙ ap (λ (xs : List ℕ). xs ++ f n) (pieces_to-same f g n (λ i h. each i (omega arith)))
     ∙ ap (λ (xs : List ℕ). pieces_to g n ++ xs) (each n (omega arith)) ∙ sym (pieces_to-suc g n)
 
--- The first n blocks of a text, concatenated, are the front of the text.
+-- The first n blocks of a text, concatenated, are the first bytes of the text.
 pieces_to-block_at : (text : List ℕ) (n : ℕ) → pieces_to (block_at text) n ≡ take (16 * n) text
 pieces_to-block_at text zero = pieces_to-zero (block_at text)
 pieces_to-block_at text (suc n) =

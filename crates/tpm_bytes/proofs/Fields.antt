@@ -49,7 +49,7 @@ guard_passed false d r y e = (refl, e)
 pub ok_is : {A E : Type 0} (x y : A) → (let done : Result A E = Ok x in done ≡ Ok y) → x ≡ y
 ok_is x y e = cc
 
--- A read consumed this text at the front of the bytes and left the rest.
+-- A read consumed this text at the start of the bytes and left the rest.
 pub record Takes (bytes text rest : List ℕ) : Type 0 where
   pub parts : bytes ≡ text ++ rest
   pub rest_fits : AreBytes rest

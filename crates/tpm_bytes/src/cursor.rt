@@ -1,4 +1,4 @@
-//! Reads bytes from the front of a text: a given number of bytes, big-endian numbers, and sized
+//! Reads bytes from the start of a text: a given number of bytes, big-endian numbers, and sized
 //! buffers (TPM2B). A read that fails leaves the text unchanged.
 
 ghost use Rattle.std.specs.Prelude.{◌≡◌, ℕ, ◌==◌, List, length};

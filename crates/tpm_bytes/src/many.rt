@@ -17,7 +17,7 @@ pub trait Readable<'a>: Sized {
 
     ghost seen: { Self → Seen };
 
-    /// The item at the front of a text, and the rest of the text.
+    /// The item at the start of a text, and the rest of the text.
     ghost at: { List ℕ → Result (Seen × List ℕ) Self.Fault };
 
     fn read(text: &mut Cursor<'a>) -> Result<Self, Self::Fault>
@@ -52,7 +52,7 @@ pub trait ReadableBy<'a, K>: Sized {
 
     ghost seen: { Self → Seen };
 
-    /// The item with this number at the front of a text, and the rest of the text.
+    /// The item with this number at the start of a text, and the rest of the text.
     ghost at: { ℕ → K → List ℕ → Result (Seen × List ℕ) Self.Fault };
 
     fn read(number: u8, key: &K, text: &mut Cursor<'a>) -> Result<Self, Self::Fault>

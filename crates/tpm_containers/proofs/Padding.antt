@@ -60,7 +60,7 @@ at_behind [] place behind = refl
 at_behind (first ∷ cells) zero behind = absurd (omega arith)
 at_behind (first ∷ cells) (suc place) behind = at_behind cells place (omega arith)
 
--- ---- the lowest free place of a list
+-- ---- the lowest free slot of a list
 
 abbrev pub first_free : {X : Type 0} → Cells X → ℕ
 first_free cells = position_or_len is_none cells

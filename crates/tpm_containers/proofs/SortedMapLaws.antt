@@ -130,7 +130,7 @@ module _ {X : Type 0} where
       (λ _. omega arith)
       (λ _. omega (arith, removed_few es key))
 
-  -- ---- what holds for each value of a map
+  -- ---- properties of each value of a map
 
   pub put_each : (Is : ℕ → X → Type 0) (es : Entries X) (key : ℕ) (x : X) → AreEach Is es → Is key x → AreEach Is (with_key es key x)
   put_each Is [] key x each is = (is, tt)

@@ -5,9 +5,9 @@ ghost use Rattle.tpm_containers.specs.IsSortedMap.{IsSortedMap};
 ghost use Rattle.tpm_containers.specs.SortedMap.{Ascends, Entries, at_key, changed_key};
 ghost use Rattle.tpm_containers.specs.SortedMap.{kept_entries, without_key};
 
-/// Ascending keys with their values form a map. The laws say what is found after a key was put,
-/// removed or changed, that the keys still ascend, how many there are, and which one comes next. A
-/// proof only: it has no effect at run time.
+/// Ascending keys with their values form a map. The laws say which values are found after a key was
+/// put, removed or changed, that the keys still ascend, how many there are, and which one comes
+/// next. A proof only: it has no effect at run time.
 #[inline(always)]
 #[tactic(auto, using(crate::proofs::SortedMapLaws::is_map))]
 pub fn sorted_map_laws<T>()

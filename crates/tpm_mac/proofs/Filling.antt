@@ -1,4 +1,4 @@
--- Lists that are filled from the front.
+-- A list is filled from its start, byte by byte or block by block.
 use Rattle.std.proofs.Common.{◌≡◌, ℕ, zero, suc, ◌+◌, ◌-◌, ◌<◌, ◌≤◌, List, [], ◌∷◌, ◌++◌, add-zero, ap, append_assoc, arith, bit_xor, drop, length, length-append, length-drop, refl, replicate, slice_index_or, slice_set, sym, take, ◌∙◌, inl, inr}
 use Rattle.std.proofs.lemmas.Bool.{cases_lt}
 use Rattle.std.proofs.lemmas.Grind.{get_or_default_zero}
@@ -8,7 +8,7 @@ use Rattle.std.proofs.Math.Seq.{take-append-add}
 use Rattle.std.specs.List.{range_with_len}
 use Rattle.tpm_mac.specs.Hmac.{masked_key}
 
--- If bytes overwrite the front of 64 zeros, the result is the bytes padded with zeros to 64.
+-- If bytes overwrite the first of 64 zeros, the result is the bytes padded with zeros to 64.
 pub zeros_overwritten : (zeros bytes written : List ℕ) → zeros ≡ replicate 64 0 → written ≡ bytes
     → written ++ drop (length bytes) zeros ≡ bytes ++ replicate (64 - length bytes) 0
 zeros_overwritten zeros bytes written blank same =

@@ -1,5 +1,5 @@
-//! The state of a policy session: its digest, and what its assertions have recorded (TPM 2.0
-//! Library, Part 1, section 19.7).
+//! The state of a policy session: its digest, and the values that its assertions have recorded (TPM
+//! 2.0 Library, Part 1, section 19.7).
 
 ghost use Rattle.std.specs.Prelude.{◌≡◌, ◌<◌, ◌≤◌, ◌^◌, IfSome, length, option_map, replicate};
 ghost use Rattle.tpm_mac.specs.Digest.{digest_size};

@@ -47,13 +47,13 @@ behind_at number text =
     else (if number == 0x000a then xor_at text
     else Err (plain code.Symmetric)))
 
--- the symmetric definition at the front of a text, and the rest of the text
+-- the symmetric definition at the start of a text, and the rest of the text
 unfoldable pub symmetric_at : List ℕ → Result (SymmetricDefinition × List ℕ) Rc
 symmetric_at text = do
   algorithm ← or_fault (number_at w16 text) (plain code.Insufficient)
   behind_at algorithm.0 algorithm.1
 
--- the cipher at the front of a text, and the rest of the text. A storage key or a SYMCIPHER key
+-- the cipher at the start of a text, and the rest of the text. A storage key or a SYMCIPHER key
 -- can only use AES
 unfoldable pub cipher_at : List ℕ → Result (SymmetricDefinition × List ℕ) Rc
 cipher_at text = do

@@ -24,7 +24,7 @@ neither : (a b : Bool) → (a || b) ≡ false → (a ≡ false) × (b ≡ false)
 neither true b e = absurd cc
 neither false b e = (refl, e)
 
--- If a number at the front of the bytes is not truncated, the bytes start with its encoding.
+-- If a number at the start of the bytes is not truncated, the bytes start with its encoding.
 field_takes : (w : Width) (limit : ℕ) (wide : IsWide w limit) (bytes : List ℕ) → AreBytes bytes → byte_len w ≤ length bytes → Takes bytes (to_be_bytes w (from_be_bytes w (take (byte_len w) bytes))) (drop (byte_len w) bytes)
 field_takes w limit wide bytes fits long =
     let there : ltb (length bytes) (byte_len w) ≡ false = le-ltb _ _ long in

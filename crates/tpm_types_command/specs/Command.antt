@@ -84,7 +84,7 @@ pub record IsCommand (c : Whole) : Type 0 where
 
 -- ---- reading a command, with the first fault
 
--- several handles at the front of a text, and the rest of the text. The first of them is the
+-- several handles at the start of a text, and the rest of the text. The first of them is the
 -- command's handle with this number
 abbrev pub handles_at : ℕ → ℕ → List ℕ → Result (List Handle × List ℕ) Rc
 handles_at number zero text = Ok ([], text)
