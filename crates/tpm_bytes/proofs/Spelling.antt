@@ -1,5 +1,5 @@
--- If a read returns an item exactly if the text starts with its encoding, the same holds for a list
--- of such items.
+-- If a read returns an item exactly when the text starts with its encoding, the same holds for a
+-- list of such items.
 use Rattle.std.proofs.Common.{◌≡◌, ℕ, zero, suc, List, [], ◌∷◌, ◌++◌, length, Result, Ok, refl, ap, subst, ◌∙◌, append_assoc}
 use Rattle.std.specs.List.{flat_map, AllByRecursion}
 use Rattle.tpm_bytes.specs.Many.{many_at}

@@ -34,7 +34,7 @@ use Rattle.tpm_policy.specs.declared.state.Demand.{Demand}
 use Rattle.tpm_policy.specs.declared.state.Demand.TheVariants as demand
 
 -- the data of TPM2_PolicyPCR: the digest in the command, the encoded selection, the digest of the
--- values of the selected PCRs, and how often PCRs have been changed
+-- values of the selected PCRs, and the update counter of the PCRs
 pub record PcrParts : Type 0 where
   pub given : List ℕ
   pub selection : List ℕ

@@ -1,4 +1,4 @@
--- If a read returns a structure exactly if the text starts with its encoding, the same holds for
+-- If a read returns a structure exactly when the text starts with its encoding, the same holds for
 -- the structure in a sized buffer that it fills.
 use Rattle.std.proofs.Common.{◌≡◌, ℕ, ◌^◌, ◌<◌, List, [], ◌∷◌, ◌++◌, length, Result, Ok, Err, refl, sym, ap, subst, ◌∙◌, append-nil, arith}
 use Rattle.std.specs.Prelude.{◌==◌, not}

@@ -1,5 +1,5 @@
--- If a read returns each field of a structure exactly if the text starts with the field's encoding,
--- the same holds for the structure.
+-- If a read returns each field of a structure exactly when the text starts with the field's
+-- encoding, the same holds for the structure.
 use Rattle.std.proofs.Common.{◌≡◌, ℕ, ◌+◌, List, [], ◌++◌, length, drop, Result, Ok, refl, sym, ap, subst, ◌∙◌, append_assoc, append-nil}
 use Rattle.std.proofs.lemmas.List.{take_at, drop_at, get_or-drop}
 use Rattle.tpm_bytes.specs.Reading.{◌>>=◌}
