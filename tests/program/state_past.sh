@@ -3,7 +3,7 @@ tests=$(cd "$(dirname "$0")/.." && pwd -P)
 . "$tests/common/cases.sh"
 . "$tests/common/served.sh"
 
-# journals: the journals in the folder, each with the number of times that its device was asked.
+# journals: prints the journals in the folder, each with the number of commands that its device executed.
 journals() {
     for journal in state/journal*; do
         printf ' %s=%s' "${journal#state/}" "$(grep -c '^cmd' "$journal")"
@@ -11,7 +11,7 @@ journals() {
     echo
 }
 
-# asks COUNT WORDS..: a script of so many commands on the device in the folder, with these words.
+# asks COUNT WORDS..: runs a script of COUNT commands on the device in the folder, with these words.
 asks() {
     count=$1
     shift
@@ -36,13 +36,13 @@ for number in 1 2 3; do
     "$program" replay "state/journal.$number" | grep -c GetRandom
 done
 
-# A number that a killed process left free: what is after it stays.
+# A killed process left a number free. The journals after it stay.
 asks 6
 rm state/journal.2
 "$program" power state --keep=3
 journals
 
-# Fewer than there were: the last one is replaced, and the others stay.
+# With a smaller number, the last one is replaced, and the others stay.
 asks 7
 "$program" power --keep 1 state
 journals
@@ -66,7 +66,7 @@ asks 0
 "$program" power --keep 3 state
 journals
 
-# What is in the way: the journal stays, and the device goes on.
+# If something is in the way, the journal stays, and the device continues.
 asks 1
 rm -f state/journal.[23] && mkdir state/journal.2 && echo >state/journal.3
 run 'a folder in place of the second journal' power --keep 3 state
@@ -79,7 +79,7 @@ journals
 run 'nothing in the way' power --keep 3 state
 journals
 
-# Numbers: 0 to 99, and only with a folder.
+# The number is 0 to 99, and needs a folder.
 run 'keep 99' power --keep 99 state
 run 'keep 100' power --keep 100 state
 run 'keep -1' power --keep -1 state

@@ -25,9 +25,9 @@ use Rattle.tpm_record.specs.rows.Rows.{Success, all_read}
 abbrev pub cleared_lockout : LockoutState → LockoutState
 cleared_lockout s = with_closed false (with_tries 0 s)
 
--- the fixed part of the record after TPM2_Clear: the hierarchies and lockout are cleared, Clock
--- and the counts start at 0, and an update of the PCRs is counted; Time is unchanged, and so is
--- whether TPM2_Clear is disabled
+-- the fixed part of the record after TPM2_Clear: the hierarchies and lockout are cleared, Clock and
+-- the counts start at 0, and an update of the PCRs is counted; Time is unchanged, and TPM2_Clear
+-- remains enabled or disabled
 abbrev pub cleared_fixed : BankValues → List ℕ → Fixed → Fixed
 cleared_fixed banks random f = record f {
   hierarchies = cleared_hierarchies f.hierarchies random;

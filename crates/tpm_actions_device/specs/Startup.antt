@@ -36,9 +36,9 @@ start_of type.State saved.Nothing = Err (parameter_refusal action.First 1 code.V
 start_of type.State saved.Clear = Err (parameter_refusal action.First 1 code.Value)
 start_of type.State saved.State = Ok Resume
 
--- ---- what every startup does
+-- ---- the effects of every startup
 
--- a count of startups after one more startup; at 2^32 - 1 it stays
+-- a count of startups after one more startup; it stays at 2^32 - 1
 abbrev pub counted_up : ℕ → ℕ
 counted_up count = min (count + 1) (2 ^ 32 - 1)
 
@@ -47,7 +47,7 @@ counted_up count = min (count + 1) (2 ^ 32 - 1)
 abbrev pub begun_with : BankValues → Fixed → Fixed
 begun_with banks f = record f { started = true; banks = record banks { update_count = 0 } }
 
--- ---- what a TPM Reset, a TPM Restart and a TPM Resume do
+-- ---- the effects of a TPM Reset, a TPM Restart and a TPM Resume
 
 -- the hierarchies after a startup with CLEAR: platformAuth is empty (Part 1, section 14.3)
 abbrev pub without_platform_auth : Hierarchies → Hierarchies

@@ -1,5 +1,5 @@
-//! TPM2_Clear: removes what belongs to the owner and the endorsement hierarchy, as specified by
-//! its row in `specs/Clear`.
+//! TPM2_Clear: removes the objects of the owner and the endorsement hierarchy, and the owner's NV
+//! indices, as specified by its row in `specs/Clear`.
 
 ghost use Rattle.std.specs.Prelude.{◌≡◌};
 ghost use Rattle.tpm_record.specs.rows.Answer.{IsEmpty};
@@ -20,8 +20,7 @@ use tpm_types::{ActionCheck, Refused, ResponseCode};
 /// endorsement hierarchy's proof.
 const CLEAR_DRAWS: usize = 3 * 32;
 
-/// Clears the part of the state that has a fixed size, after counting the clear as an update of
-/// the PCRs.
+/// Clears the fixed part of the state, except the PCRs, whose update was already counted.
 fn clear_fixed(fixed: &mut Fixed, random: &[u8; 256])
     ensures { fixed.new ≡ cleared_fixed fixed.old.banks random.now fixed.old }
 {
@@ -33,8 +32,9 @@ fn clear_fixed(fixed: &mut Fixed, random: &[u8; 256])
     fixed.restart_count = 0;
 }
 
-/// TPM2_Clear: removes what belongs to the owner and the endorsement hierarchy. Returns DISABLED
-/// if TPM2_ClearControl disabled it, and FAILURE if the update of the PCRs cannot be counted.
+/// TPM2_Clear: removes the objects of the owner and the endorsement hierarchy, and the owner's NV
+/// indices. Returns DISABLED if TPM2_ClearControl disabled it, and FAILURE if the update of the
+/// PCRs cannot be counted.
 #[tactic(auto, unfolding(crate::specs::Clear::clear_row))]
 pub fn clear<K: Keep>(keep: &mut K, call: &Call, answer: &mut Answer) -> Result<(), Refused>
     requires { IsEmpty answer.old }

@@ -10,7 +10,7 @@ use Rattle.tpm_aes.specs.Field.{times_power}
 use Rattle.tpm_aes.specs.Words.{bytes_of}
 use Rattle.tpm_aes.specs.declared.key_schedule.TheConstants.{ROUND_CONSTANTS}
 
--- a column that takes one byte from each of four columns: row r from the r-th of them
+-- a column whose row r is row r of the r-th of four columns
 abbrev pub shifted_column : (a b c d : List ℕ) → List ℕ
 shifted_column a b c d =
     slice_index_or a 0 0 ∷ slice_index_or b 1 0 ∷ slice_index_or c 2 0 ∷ slice_index_or d 3 0 ∷ []
@@ -29,8 +29,8 @@ columns_made : (g : List ℕ → List ℕ) (p q r s : ℕ)
 unfolding shift_rows
 columns_made g p q r s = refl
 
--- If each of the words v, w, x and y is g applied to a column of the state after SubBytes and
--- ShiftRows, then together they are g applied to all its columns.
+-- If each of the words v, w, x and y is g applied to one column of the state after SubBytes and
+-- ShiftRows, then together they are g applied to all columns of that state.
 columns_words : (g : List ℕ → List ℕ) (state a b c d : List ℕ) (v w x y : ℕ) → length state ≡ 4
     → a ≡ to_le_bytes w32 (slice_index_or state 0 0) → b ≡ to_le_bytes w32 (slice_index_or state 1 0)
     → c ≡ to_le_bytes w32 (slice_index_or state 2 0) → d ≡ to_le_bytes w32 (slice_index_or state 3 0)
@@ -85,7 +85,7 @@ constant_values : ROUND_CONSTANTS ≡ map (times_power 1) (range_with_len 0 10)
 unfolding times_power
 constant_values = refl
 
--- The constant of round n is the power n - 1 of x.
+-- The constant of round n is x to the power n - 1.
 pub constant_at : (n : ℕ) → 1 ≤ n → n ≤ 10
     → slice_index_or ROUND_CONSTANTS (n - 1) 0 ≡ times_power 1 (n - 1)
 constant_at n low high =

@@ -21,8 +21,8 @@ s_box_at i a same byte =
     ap (λ (t : List ℕ). slice_index_or t i 0) s_box_values
     ∙ get_or-map-range_with_len sub_byte 0 256 i a 0 (omega arith) (omega arith)
 
--- If the words of a table are f of the entries of the S-box, then entry a is f of the S-box value
--- of a.
+-- If each word of a table is f of the S-box entry at the same index, then entry a is f of the S-box
+-- value of a.
 word_at : (f : ℕ → List ℕ) (table : List ℕ) → length table ≡ 256
     → map (to_le_bytes w32) table ≡ map f S_BOX
     → (i a : ℕ) → i ≡ a → a < 256 → to_le_bytes w32 (slice_index_or table i 0) ≡ f (sub_byte a)
@@ -83,7 +83,7 @@ pub mixed_3_at : (i a : ℕ) → i ≡ a → a < 256
     → to_le_bytes w32 (slice_index_or (mixed_table 3) i 0) ≡ mixed_3 (sub_byte a)
 mixed_3_at = word_at mixed_3 (mixed_table 3) refl mixed_3_values
 
--- Every entry of the S-box and of the four lookup tables is as required.
+-- Every entry of the S-box and of the four lookup tables is correct.
 pub s_box_entries : IsSBox S_BOX
 s_box_entries a byte = s_box_at a a refl byte
 

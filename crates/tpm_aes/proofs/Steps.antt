@@ -49,13 +49,13 @@ expanded_key_from keys key size each =
     λ k low. get_or-map bytes_of keys k [] [] (omega arith) ∙ each k low in
     rw first (fill_by_all (round_key key) (map bytes_of keys) 11 [] (simp length-map size) all)
 
--- The keys for the rounds below n are at their indices.
+-- Entry k of the list is the key for round k, for each k below n.
 pub record HasKeysBelow (keys : List (List ℕ)) (key : List ℕ) (n : ℕ) : Type 0 where
   pub size : length keys ≡ 11
   pub each : (k : ℕ) → k < n → bytes_of (slice_index_or keys k []) ≡ round_key key k
 
--- If the keys for the rounds below n are at their indices, and the next key is stored at index n,
--- then the keys for the rounds up to n are at their indices.
+-- If entry k is the key for round k for each k below n, and the key for round n is stored at index
+-- n, then the same holds for each k up to n.
 pub round_keys_more : (keys : List (List ℕ)) (key next : List ℕ) (n : ℕ) → 1 ≤ n → n < length keys
     → ((k : ℕ) → k < n → bytes_of (slice_index_or keys k []) ≡ round_key key k)
     → bytes_of next ≡ next_round_key n (bytes_of (slice_index_or keys (n - 1) []))
@@ -69,7 +69,8 @@ round_keys_more keys key next n low within so_far is_next =
     (λ k h. let other : k ≢ n = omega arith in rw get_or-set_other (so_far k h))
     (rw get_or-set_same value)
 
--- If keys are the expanded key of a cipher key, key n has the bytes of the key for round n.
+-- If a list of keys is the expanded key of a cipher key, its entry n has the bytes of the key for
+-- round n.
 pub round_key_at : (keys : List (List ℕ)) (key : List ℕ) → length keys ≡ 11
     → bytes_of (slice_index_or keys 0 []) ≡ key
     → map bytes_of keys ≡ expanded_key (bytes_of (slice_index_or keys 0 [])) → (n : ℕ) → n < 11

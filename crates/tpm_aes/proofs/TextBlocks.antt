@@ -32,7 +32,7 @@ pieces_to-suc piece n =
     ∙ flat_map-append piece (range_with_len 0 n) ((0 + n) ∷ [])
     ∙ ap (λ (xs : List ℕ). pieces_to piece n ++ xs) (append-nil (piece (0 + n)) ∙ ap piece number)
 
--- The same for n + 1 written as a sum.
+-- The same claim as `pieces_to-suc`, for n + 1 written as a sum.
 pub pieces_to-add-one : (piece : ℕ → List ℕ) (n : ℕ) → pieces_to piece (n + 1) ≡ pieces_to piece n ++ piece n
 pieces_to-add-one piece n = ap (pieces_to piece) (add-one n) ∙ pieces_to-suc piece n
 
@@ -58,7 +58,7 @@ rest_left piece old now i start done at within =
     ap (drop start) done.value
     ∙ drop_at (pieces_to piece i) (drop (16 * i) old) start (length-done piece old now i done (omega arith) ∙ sym at)
 
--- After block i is removed from the front, the text starts with block i + 1.
+-- After block i is removed from its start, the text starts with block i + 1.
 drop_block : (old : List ℕ) (i size : ℕ) → 16 * i ≤ length old → size ≡ min 16 (length old - 16 * i)
     → drop size (drop (16 * i) old) ≡ drop (16 * (i + 1)) old
 drop_block old i size within is_size =
@@ -82,7 +82,8 @@ block_left piece old now i start end done at within stop =
     let size : end - start ≡ min 16 (length rest) = omega (arith, length-drop (16 * i) old) in
     ap (take (end - start)) left ∙ ap (λ (k : ℕ). take k rest) size ∙ take_min 16 rest
 
--- If the next block is replaced by its piece, one more block is replaced.
+-- If the blocks before block i were replaced, and block i is replaced by its piece, the first i + 1
+-- blocks were replaced.
 pub done_to_more : (piece : ℕ → List ℕ) (old now new part : List ℕ) (i start end : ℕ) → IsDoneTo piece old now i
     → start ≡ 16 * i → start ≤ length old → end ≡ start + min 16 (length old - start)
     → part ≡ piece i → length part ≡ end - start
@@ -111,7 +112,7 @@ done_to_more piece old now new part i start end done at within stop is_piece siz
           ∙ ap (λ (xs : List ℕ). xs ++ drop (16 * (i + 1)) old) (sym (pieces_to-add-one piece i));
     }
 
--- every counted block starts inside the text
+-- if i is below the number of blocks, block i starts inside the text
 pub block_count-inside : (text : List ℕ) (i : ℕ) → i < block_count text → 16 * i < length text
 block_count-inside text i low = omega arith
 
@@ -119,7 +120,7 @@ block_count-inside text i low = omega arith
 pub length-block_at : (text : List ℕ) (i : ℕ) → length (block_at text i) ≡ min 16 (length text - 16 * i)
 length-block_at text i = length-take 16 (drop (16 * i) text) ∙ ap (min 16) (length-drop (16 * i) text)
 
--- the blocks cover the text
+-- no byte of the text lies past its last block
 pub block_count-covers : (text : List ℕ) → length text ≤ 16 * block_count text
 block_count-covers text = omega (arith, (div_ceil_times (length text) 16 (omega arith)).0)
 

@@ -42,7 +42,7 @@ length-streamed key feedback text i =
     length-xor_of-whole (block_at text i) (aes_of key feedback)
     (omega (arith, length-block_at text i, length-aes_of key feedback))
 
--- Each piece has the size of the block of a text with the same number.
+-- Piece i has the size of block i of the text, for each i.
 abbrev AreLikeBlocks : (ℕ → List ℕ) → List ℕ → Type 0
 AreLikeBlocks piece text = (i : ℕ) → length (piece i) ≡ length (block_at text i)
 
@@ -102,7 +102,7 @@ pieces_to-same f g (suc n) each =
     pieces_to-suc f n ∙ ap (λ (xs : List ℕ). xs ++ f n) (pieces_to-same f g n (λ i h. each i (omega arith)))
     ∙ ap (λ (xs : List ℕ). pieces_to g n ++ xs) (each n (omega arith)) ∙ sym (pieces_to-suc g n)
 
--- The first n blocks of a text, concatenated, are the front of the text.
+-- The first n blocks of a text, concatenated, are the first bytes of the text.
 pieces_to-block_at : (text : List ℕ) (n : ℕ) → pieces_to (block_at text) n ≡ take (16 * n) text
 pieces_to-block_at text zero = pieces_to-zero (block_at text)
 pieces_to-block_at text (suc n) =
@@ -179,8 +179,8 @@ pub length-cfb_decrypt_of : (key iv cipher : List ℕ) → length (cfb_decrypt_o
 unfolding pieces_to
 length-cfb_decrypt_of key iv cipher = length-joined (plain_block key iv cipher) cipher (length-plain_block key iv cipher)
 
--- If the plaintext's blocks are the decryption of a ciphertext, encrypting them yields the
--- ciphertext's blocks.
+-- If the blocks of a plaintext are the decrypted blocks of a ciphertext, encrypting them yields the
+-- blocks of the ciphertext.
 encrypted_again : (key iv cipher text : List ℕ) (n : ℕ)
     → ((i : ℕ) → i < n → block_at text i ≡ plain_block key iv cipher i)
     → (i : ℕ) → i ≤ n → cipher_block key iv text i ≡ block_before iv cipher i

@@ -1,4 +1,4 @@
--- Words of four bytes as lists, and lists of bytes of any length.
+-- XORs of words of four bytes and of lists of bytes.
 use Rattle.std.proofs.Common.{◌≡◌, ℕ, suc, zero, ◌+◌, ◌/◌, ◌%◌, ◌^◌, ◌<◌, ◌≤◌, List, [], ◌∷◌, ◌++◌, add-one, ap, ap₂, arith, bit_xor, drop, length, refl, slice_index_or, slice_set, sym, take, ◌∙◌}
 use Rattle.std.proofs.lemmas.Nat.{xor_mod, xor_shr}
 use Rattle.std.specs.Int.{to_le_bytes, w32}
@@ -39,7 +39,7 @@ bytes_of-sums xs ys x4 y4 =
     bytes_of-xor_of (by_index xs) (by_index ys)
     ∙ sym (ap₂ (λ (vs ws : List ℕ). xor_of (bytes_of vs) (bytes_of ws)) (four_words xs x4) (four_words ys y4))
 
--- A word below 256 has its value as the first byte, and zeros as the others.
+-- The first byte of a word below 256 is its value, and the other bytes are zeros.
 pub bytes-byte : (a : ℕ) → a < 256 → to_le_bytes w32 a ≡ a ∷ 0 ∷ 0 ∷ 0 ∷ []
 bytes-byte a small =
     let first : a % 256 ≡ a = omega arith in
@@ -78,7 +78,7 @@ pub xored_more : (old other bytes : List ℕ) (i : ℕ) → i < length old → l
 xored_more old other bytes i within fits so_far =
     rw (so_far, get_or-xored_front old other i within fits, add-one i) (set-xored_front old other i within fits)
 
--- If as many bytes as the list has are XORed, the whole list is XORed.
+-- If n is the length of the list, XORing the first n bytes XORs the whole list.
 pub xored_all : (old other : List ℕ) (n : ℕ) → n ≡ length old → length old ≤ length other
     → xored_front old other n ≡ xor_of old other
 xored_all [] other zero whole fits = refl

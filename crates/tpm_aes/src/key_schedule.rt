@@ -24,8 +24,8 @@ pub(crate) fn next_round_key(round: usize, key: Words) -> Words
     [first, second, third, d ^ third]
 }
 
-/// Rotates the word left by a byte, replaces each byte using the S-box, and adds the round's
-/// constant.
+/// The word rotated left by a byte, with each byte replaced using the S-box, and with the round's
+/// constant added.
 fn scheduled_word(round: usize, word: u32) -> u32
     requires after_first { 1 ≤ round }
     requires to_last { round ≤ 10 }

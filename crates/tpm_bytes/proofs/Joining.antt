@@ -10,8 +10,8 @@ behind front read = do
   others ← read
   Ok (front ++ others.0, others.1)
 
--- An item at the end of the earlier items may be counted as the first of the later ones: the
--- result is the same.
+-- The result is the same whether an item is the last one already read or the first one still to be
+-- read.
 pub moved : {A E : Type 0} (front : List A) (x : A) (read : Result (List A × List ℕ) E) → behind (front ++ x ∷ []) read ≡ behind front (read >>= λ others. Ok (x ∷ others.0, others.1))
 moved front x (Err e) = refl
 moved front x (Ok y) = ap (λ l. Ok (l, y.1)) (append_assoc front (x ∷ []) y.0)

@@ -1,10 +1,10 @@
--- A loop appends texts one after another to a text of fixed capacity.
+-- A loop appends several texts, one after another, to a buffer of fixed capacity.
 use Rattle.std.proofs.lemmas.List.{take_more, flat_map_more}
 use Rattle.std.proofs.lemmas.List.Folds.{length-flat_map-take}
 use Rattle.std.proofs.Common.{◌≡◌, ℕ, ◌+◌, ◌<◌, ◌≤◌, List, [], ◌∷◌, ◌++◌, length, take, get_or, arith, ap, sym, subst, ◌∙◌, length-append}
 use Rattle.std.specs.List.{flat_map}
 
--- If the next text is appended after the previous ones, the texts up to it have been appended.
+-- If the next text is appended after the first i texts, the first i + 1 texts have been appended.
 pub written_more : {X : Type 0} (text : X → List ℕ) (xs : List X) (i : ℕ) (d x : X) (start so_far new : List ℕ) → i < length xs → x ≡ get_or xs i d → so_far ≡ start ++ flat_map text (take i xs) → new ≡ so_far ++ text x → new ≡ start ++ flat_map text (take (i + 1) xs)
 written_more {X} text xs i d x start so_far new below is so wrote =
     let next : take i xs ++ x ∷ [] ≡ take (i + 1) xs = ap (λ (y : X). take i xs ++ y ∷ []) is ∙ sym (take_more xs i d below) in

@@ -4,6 +4,7 @@ use Rattle.std.specs.List.{refill}
 use Rattle.std.specs.Borrow.{Array, Lends, Fml, RattleType, MutBor, u8}
 use Rattle.tpm_bytes.specs.contracts.sink.Sink.{the_row}
 
--- The sink's text becomes what was last written through r, and its length stays the same.
+-- The sink's text becomes the bytes that were last written through r, and its length stays the
+-- same.
 abbrev pub lends_bytes : RattleType → MutBor (List ℕ) → MutBor (List ℕ) → Fml
 lends_bytes N s r = Lends (the_row N) (Array u8 0) s r (refill (length s.now) s.now)

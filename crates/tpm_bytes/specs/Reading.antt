@@ -1,4 +1,4 @@
--- Reads what is at the front of a text: some bytes, a number, or a sized buffer. TPM 2.0 Library,
+-- Reads a value at the start of a text: some bytes, a number, or a sized buffer. TPM 2.0 Library,
 -- Part 1 (numbers on the wire are big-endian), and Part 2, section 10.4 (TPM2B: a size of two
 -- bytes, and that many bytes). A read returns the value and the rest of the text.
 use Rattle.std.specs.Prelude.{◌≡◌, ℕ, ◌<◌, nat_lt, Bool, true, false, if◌then◌else◌}
@@ -36,13 +36,13 @@ bytes_at count text =
     if nat_lt (length text) count then Err too_short
     else Ok (take count text, drop count text)
 
--- the number at the front of a text, and the rest of it
+-- the number at the start of a text, and the rest of it
 abbrev pub number_at : Width → List ℕ → Result (ℕ × List ℕ) Short
 number_at width text =
     if nat_lt (length text) (byte_len width) then Err too_short
     else Ok (from_be_bytes width (take (byte_len width) text), drop (byte_len width) text)
 
--- the content of the sized buffer at the front of a text, and the rest of it. The fault is TooLong
+-- the content of the sized buffer at the start of a text, and the rest of it. The fault is TooLong
 -- if the size is over the limit, even if bytes are missing; otherwise it is Short if bytes are
 -- missing
 abbrev pub sized_at : ℕ → List ℕ → Result (List ℕ × List ℕ) SizedFault
@@ -50,7 +50,7 @@ sized_at limit text = do
   size ← or_fault (number_at w16 text) fault.Short
   if nat_lt limit size.0 then Err fault.TooLong else or_fault (bytes_at size.0 size.1) fault.Short
 
--- The code returned what is defined: the value, seen through `view`, or the fault.
+-- The code returned the defined result: the value, seen through `view`, or the fault.
 abbrev pub Gives : {X Y E : Type 0} → (X → Y) → Result Y E → Result X E → Type 0
 Gives view defined (Ok x) = defined ≡ Ok (view x)
 Gives view defined (Err e) = defined ≡ Err e

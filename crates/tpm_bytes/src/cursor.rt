@@ -1,4 +1,4 @@
-//! Reads bytes from the front of a text: a given number of bytes, big-endian numbers, and sized
+//! Reads bytes from the start of a text: a given number of bytes, big-endian numbers, and sized
 //! buffers (TPM2B). A read that fails leaves the text unchanged.
 
 ghost use Rattle.std.specs.Prelude.{◌≡◌, ℕ, ◌==◌, List, length};
@@ -20,7 +20,7 @@ pub enum SizedFault {
     Short,
 }
 
-/// The unread rest of a text. In contracts it is the bytes that are left.
+/// The unread rest of a text. In contracts it is a list of the unread bytes.
 #[derive(Drop)]
 pub struct Cursor<'a> {
     left: &'a [u8],
@@ -40,7 +40,7 @@ impl<'a> Cursor<'a> {
         Cursor { left: text }
     }
 
-    /// All bytes that are left. They remain unread.
+    /// All unread bytes. They remain unread.
     pub fn rest(&self) -> &'a [u8]
         ensures { result.now ≡ self.now }
     {

@@ -17,7 +17,7 @@ pub trait Readable<'a>: Sized {
 
     ghost seen: { Self → Seen };
 
-    /// The item at the front of a text, and the rest of the text.
+    /// The item at the start of a text, and the rest of the text.
     ghost at: { List ℕ → Result (Seen × List ℕ) Self.Fault };
 
     fn read(text: &mut Cursor<'a>) -> Result<Self, Self::Fault>
@@ -43,7 +43,7 @@ pub fn read_many<'a, T: Readable<'a> + Default + Drop, const N: usize>(
 }
 
 /// An item that can be read from a text, given a key and a number. The key determines which items
-/// are allowed, and the number identifies the item in its fault.
+/// are allowed, and a fault reports the number.
 pub trait ReadableBy<'a, K>: Sized {
     type Fault;
 
@@ -52,7 +52,7 @@ pub trait ReadableBy<'a, K>: Sized {
 
     ghost seen: { Self → Seen };
 
-    /// The item with this number at the front of a text, and the rest of the text.
+    /// The item with this number at the start of a text, and the rest of the text.
     ghost at: { ℕ → K → List ℕ → Result (Seen × List ℕ) Self.Fault };
 
     fn read(number: u8, key: &K, text: &mut Cursor<'a>) -> Result<Self, Self::Fault>

@@ -1,4 +1,4 @@
-//! The fault [`NoMemory`], which the crates of the device return when an allocation fails.
+//! The fault [`NoMemory`], which the device's crates return when an allocation fails.
 
 /// An allocation failed, and the requested change did not happen.
 #[derive(Clone, Copy, Debug, PartialEq, Eq)]

@@ -1,5 +1,5 @@
-//! Wraps a reader or a writer and marks what it did, so that its user can check afterwards whether
-//! it failed or ended.
+//! Wraps a reader or a writer and records whether it failed or ended, so that the caller can check
+//! this afterwards.
 
 ghost use Rattle.std.specs.Prelude.{◌≡◌, OnErr, OnOk, length, true};
 ghost use Rattle.std.specs.Io.{ReadsAtMost, WritesAtMost};

@@ -1,4 +1,5 @@
--- Numbers on the wire and the commands that they name.
+-- The command found for a number on the wire has that number, and each command is found by its
+-- number.
 use Rattle.std.proofs.Common.{◌≡◌, ℕ, ◌<◌, ◌^◌, Bool, true, false, cond, List, [], ◌∷◌, Option, Some, None, refl, sym, subst, arith}
 use Rattle.std.specs.Prelude.{◌==◌, IfSome}
 use Rattle.std.specs.List.{find}

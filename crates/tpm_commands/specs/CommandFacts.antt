@@ -36,7 +36,7 @@ facts number name part shape = record {
 abbrev pub answering : Facts → Facts
 answering shape = record shape { sized_answer = true }
 
--- the shape of a command whose success preserves what a TPM2_Shutdown saved
+-- the shape of a command whose success preserves the state that a TPM2_Shutdown saved
 abbrev pub keeping : Facts → Facts
 keeping shape = record shape { keeps_shutdown = true }
 
@@ -52,8 +52,8 @@ reading shape = record shape { reads_nv = true }
 abbrev pub without_sessions : Facts → Facts
 without_sessions shape = record shape { forbids_sessions = true }
 
--- the shape of a command that creates something, for which memory can run out; its answer is the
--- handle of what it created, then a sized buffer
+-- the shape of a command that creates a session or an object and can run out of memory; its answer
+-- is the new handle, then a sized buffer
 abbrev pub making : Facts → Facts
 making shape = record shape { sized_answer = true; answers_handle = true; grows = true }
 

@@ -20,7 +20,7 @@ use Rattle.tpm_commands.specs.Shape.{is_of_kind}
 abbrev pub handle_fault : ℕ → ResponseCode → Rc
 handle_fault n fault = at (place.Handle n) (plain fault)
 
--- the command's n-th handle at the front of a text, and the rest of the text. The handle must be
+-- the command's n-th handle at the start of a text, and the rest of the text. The handle must be
 -- one that its rule allows
 unfoldable pub allowed_handle_at : ℕ → HandleRule → List ℕ → Result (Handle × List ℕ) Rc
 allowed_handle_at n rule text = do

@@ -1,5 +1,5 @@
--- The parts of a device's state that commands change. TPM 2.0 Library, Part 3: what the detailed
--- actions in each command's section change.
+-- The parts of a device's state that commands change, as the detailed actions in each command's
+-- section say (TPM 2.0 Library, Part 3).
 
 -- A part of a device's state that a successful command may change. In order: nothing; the
 -- sessions; the transient objects; both; the persistent objects; five changes to NV indices (one

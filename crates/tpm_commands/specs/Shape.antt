@@ -27,10 +27,10 @@ is_provision handle =
 
 -- whether a handle is of a kind (Part 2, section 9). The kinds, in order: a PCR (TPMI_DH_PCR); a
 -- PCR or TPM_RH_NULL; only TPM_RH_NULL (the standard also allows a key); a hierarchy or lockout
--- (TPMI_RH_HIERARCHY_AUTH); a hierarchy or TPM_RH_NULL (TPMI_RH_HIERARCHY+); an entity as above,
--- with or without TPM_RH_NULL; a transient or persistent object, which need not exist
--- (TPMI_DH_OBJECT); a policy session or a trial session (03: TPMI_SH_POLICY); the owner or the
--- platform; lockout (TPMI_RH_LOCKOUT); lockout or the platform (TPMI_RH_CLEAR); the owner, the
+-- (TPMI_RH_HIERARCHY_AUTH); a hierarchy or TPM_RH_NULL (TPMI_RH_HIERARCHY+); an entity
+-- (TPMI_DH_ENTITY), with or without TPM_RH_NULL; a transient or persistent object, which need not
+-- exist (TPMI_DH_OBJECT); a policy session or a trial session (03: TPMI_SH_POLICY); the owner or
+-- the platform; lockout (TPMI_RH_LOCKOUT); lockout or the platform (TPMI_RH_CLEAR); the owner, the
 -- platform or an NV index (TPMI_RH_NV_AUTH); an NV index, which need not exist (TPMI_RH_NV_INDEX)
 abbrev pub is_of_kind : HandleKind → Handle → Bool
 is_of_kind kind.Pcr handle = is_some (pcr_of handle)
@@ -74,10 +74,11 @@ is_sized parameter.YesNo = false
 
 -- the shape of a command, regardless of where its lists are in memory. Its fields: the handles and
 -- how each is authorized; the parameters; whether the answer's first parameter is a sized buffer;
--- whether a handle precedes the answer's parameters; whether sessions are forbidden; whether
--- memory can run out; whether the command reads the NV index that authorizes it, if an index does
--- (any other command writes that index, or administers it in the role ADMIN); and whether a
--- success preserves what a TPM2_Shutdown saved (any other success cancels it: Part 3, section 9.4)
+-- whether a handle precedes the answer's parameters; whether sessions are forbidden; whether memory
+-- can run out; whether the command reads the NV index that authorizes it, if an index does (any
+-- other command writes that index, or administers it in the role ADMIN); and whether a success
+-- preserves the state that a TPM2_Shutdown saved (a success of any other command discards it: Part
+-- 3, section 9.4)
 pub record Facts : Type 0 where
   pub handles : List HandleRule
   pub parameters : List ParameterKind

@@ -163,7 +163,7 @@ const COMPARED: &[ParameterKind] = &[Buffer(32), U16, Operation];
 /// authHash.
 const START: &[ParameterKind] = &[Buffer(32), Buffer(32), SessionType, Symmetric, Hash];
 
-/// Whether a fact is among the named ones.
+/// Whether a fact is one of those named.
 macro_rules! holds {
     (sized_answer: sized_answer $($rest:ident)*) => { true };
     (answers_handle: answers_handle $($rest:ident)*) => { true };

@@ -179,7 +179,7 @@ pub struct Shape {
     /// Whether the command reads the NV index that authorizes it, if an index does. Any other
     /// command writes that index or is authorized in the role ADMIN.
     pub reads_nv: bool,
-    /// Whether a success of the command preserves what a TPM2_Shutdown saved. A success of any
-    /// other command cancels it.
+    /// Whether a success of the command preserves the state that a TPM2_Shutdown saved. A success
+    /// of any other command discards it.
     pub keeps_shutdown: bool,
 }

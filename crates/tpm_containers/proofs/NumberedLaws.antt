@@ -1,4 +1,5 @@
--- Slots as a map keyed by number: the values found after one was put, removed or changed.
+-- Slots form a map keyed by number. These lemmas say which values are found after a value was put,
+-- removed or changed.
 use Rattle.std.proofs.Common.{◌≡◌, ◌≢◌, ℕ, ◌+◌, ◌<◌, ◌≤◌, ◌^◌, Bool, true, false, cond, eqb, List, length, Option, Some, None, slice_set, refl, sym, ap, subst, ◌∙◌, arith, inl, inr}
 use Rattle.std.specs.Prelude.{option_and_then}
 use Rattle.std.proofs.lemmas.Bool.{cases_eq, eqb-true, eq-eqb, ne_eqb}
@@ -12,7 +13,8 @@ module _ {X : Type 0} (kind : X → ℕ) where
 
   -- ---- numbers
 
-  -- the value that a number finds in a slot with this content, if it has the number's kind
+  -- the value that a number finds in a slot with this content: none if the slot is free or the
+  -- value is of another kind
   abbrev seen : ℕ → Option X → Option X
   seen number cell = option_and_then (if_of_kind kind number) cell
 
@@ -41,7 +43,8 @@ module _ {X : Type 0} (kind : X → ℕ) where
   kind_of-number_of : (k place : ℕ) → place < 2 ^ 24 → kind_of (number_of k place) ≡ k
   kind_of-number_of k place below = omega arith
 
-  -- After a slot is written, any other number finds what it found before.
+  -- After a slot is written, a number finds the same value as before if it identifies another slot,
+  -- or if it finds that value in the new content too.
   elsewhere : (places : Slots) (place other : ℕ) (cell : Option X) → (place_of other ≡ place → seen other cell ≡ seen other (at_place places place)) → place < length places → at_number kind (slice_set places place cell) other ≡ at_number kind places other
   unfolding at_number
   elsewhere places place other cell same inside =

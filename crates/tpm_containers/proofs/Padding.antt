@@ -1,4 +1,4 @@
--- Slots in a list that grows: the slots past its end are free.
+-- In slots that are stored in a growing list, the slots past the list's end are free.
 use Rattle.std.proofs.Common.{◌≡◌, ℕ, zero, suc, ◌+◌, ◌-◌, ◌<◌, ◌≤◌, Bool, true, false, cond, ltb, List, [], ◌∷◌, ◌++◌, length, get_or, Option, Some, None, slice_set, is_none, refl, sym, ap, ◌∙◌, arith}
 use Rattle.std.specs.List.{position, position_or_len}
 use Rattle.std.proofs.lemmas.Bool.{lt-ltb, ltb-false, ltb-true}
@@ -60,7 +60,7 @@ at_behind [] place behind = refl
 at_behind (first ∷ cells) zero behind = absurd (omega arith)
 at_behind (first ∷ cells) (suc place) behind = at_behind cells place (omega arith)
 
--- ---- the lowest free place of a list
+-- ---- the lowest free slot of a list
 
 abbrev pub first_free : {X : Type 0} → Cells X → ℕ
 first_free cells = position_or_len is_none cells

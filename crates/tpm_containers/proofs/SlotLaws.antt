@@ -1,5 +1,5 @@
--- Slots as a map keyed by number: what a slot contains after another one was written, which slot
--- is the lowest free one, and that all are taken if none is free.
+-- Writing a slot changes no other slot. The lowest free slot is free, and each slot below it is
+-- taken. If no slot is free, all are taken.
 use Rattle.std.proofs.Common.{◌≡◌, ◌≢◌, ℕ, zero, suc, ◌+◌, ◌<◌, true, false, ◌≤◌, ltb, List, [], ◌∷◌, length, Option, Some, None, slice_set, is_none, is_some, cond, refl, sym, ap, ◌∙◌, arith, inl, inr}
 use Rattle.std.proofs.lemmas.List.Quantifiers.{position-Some}
 use Rattle.std.proofs.lemmas.List.Sums.{sum_by-cons}

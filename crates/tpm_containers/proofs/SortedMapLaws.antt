@@ -1,6 +1,6 @@
--- Laws of entries in ascending order of key: the values found after one is put, removed or
--- changed, or some are kept; that the keys still ascend; how many keys there are; and which key
--- comes next.
+-- Entries in ascending order of key form a map. These lemmas say which values are found after a
+-- value is put, removed or changed, or only some are kept; that the keys still ascend; how many
+-- keys there are; and which key is next.
 use Rattle.std.proofs.Common.{◌≡◌, ◌≢◌, ℕ, ◌<◌, ◌≤◌, ◌+◌, ◌⊎◌, Bool, false, true, cond, eqb, leb, [], ◌∷◌, length, Option, Some, None, is_some, refl, sym, ap, subst, ◌∙◌, arith, inl, inr}
 use Rattle.std.proofs.lemmas.Bool.{cases_eq, cases_lt, cond_both, cond-true, cond-false, eq-eqb, ne_eqb, eqb-true, leb-true, leb-false}
 use Rattle.tpm_containers.specs.SortedMap.{AllAbove, AreEach, Ascends, Entries, at_key, changed_key, kept_entries, key_from, with_key, without_key}
@@ -130,7 +130,7 @@ module _ {X : Type 0} where
       (λ _. omega arith)
       (λ _. omega (arith, removed_few es key))
 
-  -- ---- what holds for each value of a map
+  -- ---- properties of each value of a map
 
   pub put_each : (Is : ℕ → X → Type 0) (es : Entries X) (key : ℕ) (x : X) → AreEach Is es → Is key x → AreEach Is (with_key es key x)
   put_each Is [] key x each is = (is, tt)
@@ -301,12 +301,13 @@ module _ {X : Type 0} where
             at_rest e es other (λ same. omega arith) ∙ next_none es key other f.1 from
       ]
 
-  -- ---- maps in which the same is found by each key
+  -- ---- maps in which each key has the same value
 
   abbrev SameFound : Entries X → Entries X → Type 0
   SameFound es fs = (key : ℕ) → at_key es key ≡ at_key fs key
 
-  -- the first key of one map is not below the first key of the other
+  -- if each key has the same value in two maps, the first key of one map is not below the first key
+  -- of the other
   not_below : (e f : ℕ × X) (es fs : Entries X) → Ascends (f ∷ fs) → SameFound (e ∷ es) (f ∷ fs) → f.0 ≤ e.0
   not_below e f es fs up found =
       elim (cases_lt e.0 f.0) [
@@ -318,7 +319,8 @@ module _ {X : Type 0} where
         | inr above ↦ above
       ]
 
-  -- if two maps have the same first entry, the same is found by each key in the rest of both
+  -- if each key has the same value in two maps, and their first keys are equal, each key has the
+  -- same value in the rest of both
   same_rest : (e f : ℕ × X) (es fs : Entries X) → e.0 ≡ f.0 → Ascends (e ∷ es) → Ascends (f ∷ fs) → SameFound (e ∷ es) (f ∷ fs) → SameFound es fs
   same_rest e f es fs one up vp found key =
       elim (cases_eq e.0 key) [

@@ -9,7 +9,7 @@ pub record IsSortedMap (X : Type 0) : Type 0 where
       → at_key (with_key entries key x) key ≡ Some x
   pub put_others : (entries : Entries X) (key : ℕ) (x : X) (other : ℕ) → other ≢ key
       → at_key (with_key entries key x) other ≡ at_key entries other
-  -- after a value is put under a free key, the keys still ascend, and there is one more
+  -- after a value is put under a free key, the keys still ascend, and there is one key more
   pub put_ascends : (entries : Entries X) (key : ℕ) (x : X) → Ascends entries
       → at_key entries key ≡ None → Ascends (with_key entries key x)
   pub put_length : (entries : Entries X) (key : ℕ) (x : X)
@@ -22,8 +22,8 @@ pub record IsSortedMap (X : Type 0) : Type 0 where
   -- removing a key that does not exist changes nothing
   pub removed_absent : (entries : Entries X) (key : ℕ) → at_key entries key ≡ None
       → without_key entries key ≡ entries
-  -- after a removal the keys still ascend. There is one fewer if the key existed, and never one
-  -- more
+  -- after a removal the keys still ascend. Their number decreases by one if the key existed, and
+  -- never increases
   pub removed_ascends : (entries : Entries X) (key : ℕ) → Ascends entries
       → Ascends (without_key entries key)
   pub removed_length : (entries : Entries X) (key : ℕ) (x : X) → at_key entries key ≡ Some x
@@ -68,6 +68,6 @@ pub record IsSortedMap (X : Type 0) : Type 0 where
   -- if there is no next key at or above a key, the map contains no such key
   pub next_none : (entries : Entries X) (key other : ℕ) → key_from entries key ≡ None → key ≤ other
       → at_key entries other ≡ None
-  -- two lists of entries are equal if the same is found by each key
+  -- two lists of entries are equal if each key has the same value in both
   pub same_entries : (entries others : Entries X) → Ascends entries → Ascends others
       → ((key : ℕ) → at_key entries key ≡ at_key others key) → entries ≡ others

@@ -1,4 +1,4 @@
--- Values under numbers, their keys, as a list of entries with ascending keys.
+-- A map from numbers, its keys, to values, as a list of entries with ascending keys.
 use Rattle.std.specs.Prelude.{◌≡◌, ℕ, ◌==◌, ◌<◌, ◌≤◌, nat_le, Bool, true, List, [], ◌∷◌, length, filter, Option, Some, None, Result, Ok, Err, is_some, if◌then◌else◌}
 use Rattle.tpm_containers.specs.declared.sorted_map.KeyFault.{KeyFault}
 use Rattle.tpm_containers.specs.declared.sorted_map.KeyFault.TheVariants.{Taken, Full, NoMemory}
@@ -53,9 +53,8 @@ module _ {X : Type 0} where
   AreEach Is [] = Unit {0}
   AreEach Is (e ∷ es) = Is e.0 e.1 × AreEach Is es
 
-  -- A value was put under a free key, since the map was not full; or nothing changed for one of
-  -- three reasons. The first that applies is returned: the key is taken; the map is full; an
-  -- allocation failed.
+  -- A value was put under a free key; or nothing changed, and the fault is the first of these that
+  -- applies: the key is taken, the map is full, an allocation failed.
   abbrev pub PutsKey : ℕ → Bool → Entries X → ℕ → X → Result (Unit {0}) KeyFault → Entries X
       → Type 0
   PutsKey most can old key x (Ok done) new =

@@ -1,7 +1,7 @@
 #![tactic(auto)]
 
 //! Containers for the state of a device that grows, in a list or in one area of fixed size, with
-//! the same code for both. The crate does not depend on anything of a TPM.
+//! the same code for both. Nothing in it is specific to TPMs.
 //!
 //! - **Items** are an ordered sequence, limited to a fixed number: the trait [`items::Items`].
 //! - **Slots** are a fixed number of places, each free or with a value: the trait

@@ -22,7 +22,7 @@ pub trait Sizes: Drop {
     /// The properties of a value that follow from the types of its parts.
     ghost IsOne: { Self → Type 0 };
 
-    /// The properties of the value that follow from the types of its parts. A proof only: it has
+    /// The value has the properties that follow from the types of its parts. A proof only: it has
     /// no effect at run time.
     fn read_sizes(&self)
         ensures { IsOne self.now };
@@ -91,7 +91,7 @@ pub fn remove<T: Kinded, const N: usize, P: Slots<T, N>>(places: &mut P, number:
     true
 }
 
-/// The properties of each value that follow from the types of its parts, and the number of slots.
+/// Each value has the properties that follow from the types of its parts, and there are `N` slots.
 /// A proof only: it has no effect at run time.
 pub fn read_sizes<T: Sizes, const N: usize, P: Slots<T, N>>(places: &P)
     ensures each { AreAll T.IsOne (P.places places.now) }

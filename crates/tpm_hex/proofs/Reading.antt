@@ -1,4 +1,4 @@
--- Pairs of hex digits, in terms of the values of the digits.
+-- A pair of hex digits decodes to a byte, or fails, depending on the values of its digits.
 use Rattle.std.proofs.Common.{◌≡◌, ℕ, ◌+◌, ◌*◌, ◌%◌, ◌<◌, ◌≤◌, inl, inr, List, length, take, drop, max, slice_index, slice_set, unwrap_or, Option, Some, None, Ok, Err, ap, refl, sym, arith}
 use Rattle.std.proofs.lemmas.Bool.{cases_lt}
 use Rattle.hex.specs.Hex.{decode_pairs, hex_digit_value, pair_value}

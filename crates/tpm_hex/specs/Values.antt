@@ -1,11 +1,11 @@
--- Pairs of hex digits, checked by the values of their digits, so that a loop need not stop at the
--- first bad digit.
+-- The largest digit value decides whether a text is hex, so a loop need not stop at the first bad
+-- digit.
 use Rattle.std.specs.Prelude.{◌≡◌, ℕ, ◌<◌, ◌≤◌, List, Ok, Err}
 use Rattle.hex.specs.Hex.{decode_pairs}
 use Rattle.hex.specs.declared.error.FromHexError.{FromHexError}
 
--- The meaning of the largest digit value: if it is below 16, all bytes are hex digits and encode
--- these bytes; otherwise they encode nothing.
+-- If the largest digit value is below 16, the digits decode to these bytes; otherwise decoding them
+-- fails.
 abbrev pub PairsTell : List ℕ → (largest : ℕ) → (bytes : List ℕ) → Type 0
 PairsTell digits largest bytes =
     (largest < 16 → decode_pairs 0 digits ≡ Ok bytes)

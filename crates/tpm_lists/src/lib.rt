@@ -2,9 +2,9 @@
 
 //! Runs tasks with the device's state in lists that grow.
 //!
-//! The type of that state consists of nested containers. The proof of a call assembles the impls
-//! of all of them again, which takes longer the deeper they are nested. So each function here
-//! names one layer of them, and no crate above names that type.
+//! The type of that state consists of nested containers. The prover resolves the impls of all these
+//! containers at each call, which takes longer the deeper they are nested. So each function here
+//! names one layer of containers, and no crate above names the whole type.
 
 ghost use Rattle.std.specs.Prelude.{Result};
 

@@ -19,7 +19,7 @@ closed_by_failure s =
 abbrev pub opens_by_time : LockoutFields → Bool
 opens_by_time f = f.closed && not (f.lockout_recovery == 0)
 
--- the lockout state once lockoutAuth has been disabled for this time: it is enabled as soon as
+-- the lockout state after lockoutAuth has been disabled for this time: it is enabled once
 -- lockoutRecovery has passed
 abbrev pub opened_at : (time : ℕ) → LockoutState → LockoutState
 opened_at time s =
@@ -27,7 +27,7 @@ opened_at time s =
     then record (with_closed false s) { closed_time = 0 }
     else record s { closed_time = time }
 
--- the lockout state after some milliseconds, as far as lockoutAuth is concerned
+-- the lockout state after some milliseconds, in which only lockoutAuth and its time change
 unfoldable pub opened_after : (elapsed : ℕ) → LockoutState → LockoutState
 opened_after elapsed s =
     if opens_by_time s.fields then opened_at (s.closed_time + elapsed) s

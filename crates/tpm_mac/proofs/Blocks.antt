@@ -28,14 +28,14 @@ pieces_to-suc piece n =
     ∙ flat_map-append piece (range_with_len 1 n) ((1 + n) ∷ [])
     ∙ ap (λ (xs : List ℕ). pieces_to piece n ++ xs) (append-nil (piece (1 + n)))
 
--- n blocks of one size, concatenated, are n times as long
+-- n blocks of the same size, concatenated, are n times as long as one
 length-pieces_to : (piece : ℕ → List ℕ) (size : ℕ) → ((i : ℕ) → length (piece i) ≡ size)
     → (n : ℕ) → length (pieces_to piece n) ≡ n * size
 length-pieces_to piece size each zero = omega arith
 length-pieces_to piece size each (suc n) =
     rw (pieces_to-suc piece n, length-append, each (1 + n), length-pieces_to piece size each n) (omega arith)
 
--- once block n + 1 is written after the first n blocks at the front of a list, the list starts
+-- if a list starts with the first n blocks and block n + 1 is written after them, the list starts
 -- with the first n + 1 blocks
 pub take-piece_written : (piece : ℕ → List ℕ) (size : ℕ) → ((i : ℕ) → length (piece i) ≡ size)
     → (old new block : List ℕ) (n : ℕ) → n * size ≤ length old
@@ -67,7 +67,7 @@ kdfa_block_written alg key label context_u context_v old new block size n sized 
     let each : (i : ℕ) → length (piece i) ≡ size = λ i. rw sized (length-hmac_of alg key _) in
     take-piece_written piece size each old new block n fits so_far same after
 
--- once the last block, possibly truncated, is written, the list is the front of the concatenated
+-- after the last block, possibly truncated, is written, the list is a prefix of the concatenated
 -- blocks
 last-piece_written : (piece : ℕ → List ℕ) (size count n : ℕ) (new : List ℕ) → length new ≤ count * size
     → n ≡ count - 1
@@ -86,7 +86,7 @@ digest_size-positive : (alg : HashAlg) → 0 < digest_size alg
 digest_size-positive Sha1 = omega arith
 digest_size-positive Sha256 = omega arith
 
--- once the last block is written, all bytes of KDFa are written
+-- after the last block is written, the output is the key that KDFa derives
 pub kdfa_written : (alg : HashAlg) (key label context_u context_v new : List ℕ) (size n : ℕ)
     → size ≡ digest_size alg → n ≡ div_ceil (length new) size - 1
     → take ((n + 1) * size) new ≡ take (length new) (blocks_to alg key label context_u context_v (length new) (n + 1))

@@ -1,4 +1,4 @@
--- How contracts describe a hash in progress: by its algorithm and the message fed to it so far.
+-- Contracts describe a hash in progress by its algorithm and the message fed to it so far.
 use Rattle.std.specs.Prelude.{ℕ, List, ◌++◌}
 use Rattle.sha1.specs.Sha1 as S1
 use Rattle.sha2.specs.Hashers.{Holds256}
@@ -8,7 +8,7 @@ use Rattle.tpm_mac.specs.declared.hasher.Hasher.{Hasher}
 use Rattle.tpm_mac.specs.declared.hasher.State.{State}
 use Rattle.tpm_mac.specs.declared.hasher.State.TheVariants.{Sha1, Sha256}
 
--- The state is that of a hash by this algorithm to which this message was fed.
+-- This is the state of a hash with this algorithm, to which this message was fed.
 abbrev pub StateHolds : State → HashAlg → List ℕ → Type 0
 StateHolds (Sha1 hasher) alg.Sha1 message = S1.Holds hasher message
 StateHolds (Sha1 hasher) alg.Sha256 message = ⊥
@@ -19,7 +19,7 @@ StateHolds (Sha256 hasher) alg.Sha256 message = Holds256 hasher message
 unfoldable pub Holds : Hasher → HashAlg → List ℕ → Type 0
 Holds hasher algorithm message = StateHolds hasher.state algorithm message
 
--- This text was fed to the hasher, after whatever was fed to it before.
+-- This text was fed to the hasher, after the message fed to it before.
 abbrev pub Takes : (old : Hasher) → List ℕ → (new : Hasher) → Type 0
 Takes old text new = (algorithm : HashAlg) (message : List ℕ)
     → Holds old algorithm message → Holds new algorithm (message ++ text)

@@ -17,8 +17,8 @@ kdfa_text label context_u context_v bits i =
 abbrev pub block_count : HashAlg → ℕ → ℕ
 block_count alg size = size / digest_size alg + min 1 (size % digest_size alg)
 
--- a key of this size derived by KDFa: the front of all blocks in order, from block 1 on (TCG TPM
--- 2.0 Library Part 1, 11.4.10.2)
+-- a key of this size derived by KDFa: the first bytes of the concatenated blocks, from block 1 on
+-- (TCG TPM 2.0 Library Part 1, 11.4.10.2)
 unfoldable pub kdfa_of : HashAlg → (key label context_u context_v : List ℕ) (size : ℕ) → List ℕ
 kdfa_of alg key label context_u context_v size =
     take size (flat_map

@@ -1,5 +1,5 @@
--- How contracts describe an HMAC in progress: by its algorithm, its key, and the text fed to it so
--- far (FIPS 198-1, 4).
+-- Contracts describe an HMAC in progress by its algorithm, its key, and the text fed to it so far
+-- (FIPS 198-1, 4).
 use Rattle.std.specs.Prelude.{ℕ, List, [], ◌++◌}
 use Rattle.tpm_mac.specs.Hasher.{Holds}
 use Rattle.tpm_mac.specs.Hmac.{masked_key, padded_key}
@@ -17,7 +17,7 @@ MacHolds mac algorithm key text =
 unfoldable pub IsUnkeyed : Mac → HashAlg → Type 0
 IsUnkeyed mac algorithm = Holds mac.inner algorithm [] × Holds mac.outer algorithm []
 
--- This text was fed to the Mac, after whatever was fed to it before.
+-- This text was fed to the Mac, after the text fed to it before.
 abbrev pub MacTakes : (old : Mac) → List ℕ → (new : Mac) → Type 0
 MacTakes old text new = (algorithm : HashAlg) (key taken : List ℕ)
     → MacHolds old algorithm key taken → MacHolds new algorithm key (taken ++ text)

@@ -24,7 +24,7 @@ impl HashAlg {
         }
     }
 
-    /// As many zeros as a digest has bytes.
+    /// A list of zeros as long as a digest.
     pub fn zeros(self) -> &'static [u8]
         ensures { result.now ≡ replicate (digest_size self) 0 }
     {

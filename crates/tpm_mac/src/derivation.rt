@@ -35,7 +35,7 @@ pub fn kdfa(
         take_text(&mut copy, counter, label, context_u, context_v, &bits);
         write_front(out, index * size, copy.finish().as_slice());
     }
-    // The last block consumes the HMAC, so that a single block needs no copy.
+    // The last block uses up the HMAC, so that a single block needs no copy of it.
     let counter = last as u32 + 1;
     take_text(&mut mac, counter, label, context_u, context_v, &bits);
     write_front(out, last * size, mac.finish().as_slice());

@@ -7,7 +7,7 @@ use crate::algorithm::HashAlg;
 use crate::hasher::Hasher;
 use arrayvec::ArrayVec;
 
-/// A digest by any of the algorithms; its length is the algorithm's `size`.
+/// A digest by either algorithm; its length is the algorithm's `size`.
 pub type Digest = ArrayVec<u8, 32>;
 
 /// The digest of the concatenated parts, which are not copied.

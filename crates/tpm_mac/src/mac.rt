@@ -41,8 +41,8 @@ impl Mac {
         mac
     }
 
-    /// A `Mac` of two hashes to which nothing was fed. Its key is fed later, in place, since
-    /// returning a `Mac` copies it.
+    /// A `Mac` whose two hashes were fed nothing, not even a key. `take_key` feeds the key later,
+    /// in place, since returning a `Mac` copies it.
     #[inline(always)]
     #[tactic(auto, unfolding(crate::specs::Mac::IsUnkeyed))]
     pub(crate) fn unkeyed(alg: HashAlg) -> Mac

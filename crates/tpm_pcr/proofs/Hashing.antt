@@ -1,4 +1,5 @@
--- Concatenating the values of selected PCRs, one by one and bank by bank.
+-- A hasher that is fed the values of the selected PCRs one by one, bank by bank, was fed their
+-- concatenation.
 use Rattle.tpm_bytes.specs.Numbers.{numbers_below}
 use Rattle.std.proofs.Common.{◌≡◌, ℕ, ◌+◌, ◌<◌, Bool, true, false, cond, List, [], ◌∷◌, ◌++◌, add-one, ap, append-nil, append_assoc, filter, get_or, length, map, refl, subst, sym, take, ◌∙◌}
 use Rattle.std.proofs.lemmas.Grind.{flat_map-append}
@@ -19,8 +20,8 @@ abbrev pub text_below : BankValues → BankSelection → ℕ → List ℕ
 text_below all bank n =
     concat (map (pcr_value all bank.hash) (filter (is_selected bank.select) (numbers_below n)))
 
--- Concatenating the lists of the chosen numbers, and of one more number if it is chosen, appends
--- that number's list.
+-- If the next number is chosen, its list is appended to the lists of the numbers chosen before;
+-- otherwise nothing is appended.
 joined_cond : (f : ℕ → List ℕ) (front : List ℕ) (n : ℕ) (b : Bool)
     → concat (map f (front ++ cond b (n ∷ []) [])) ≡ concat (map f front) ++ cond b (f n) []
 joined_cond f front n true =
@@ -31,7 +32,7 @@ joined_cond f front n false =
     ap (λ (pcrs : List ℕ). concat (map f pcrs)) (append-nil front) ∙ sym (append-nil (concat (map f front)))
 
 -- If PCR n is selected, its value is appended to those of the selected PCRs below n; otherwise
--- nothing is.
+-- nothing is appended.
 text_below_more : (all : BankValues) (bank : BankSelection) (n : ℕ)
     → text_below all bank (n + 1) ≡ text_below all bank n ++ cond (is_selected bank.select n) (pcr_value all bank.hash n) []
 text_below_more all bank n =

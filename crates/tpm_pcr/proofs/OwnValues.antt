@@ -64,7 +64,7 @@ just_first p room (suc n) =
     let is : take room (filter p (numbers_below (suc n))) ≡ _ = ap (λ k. take room (filter p (numbers_below k))) (sym (add-one n)) ∙ chosen_more p n room in
     subst (λ l. SelectsJust (suc n) (select_with l) l) (sym is) (just_one_more n (take room (filter p (numbers_below n))) _ (just_first p room n))
 
--- If the first few PCRs of a bank's selection are selected again, the selected PCRs are the same.
+-- A selection of the first few PCRs of a bank's selection selects exactly these PCRs.
 pub selected_first : (room : ℕ) (bank : BankSelection) → selected_pcrs (record bank { select = select_with (take room (selected_pcrs bank)) }) ≡ take room (selected_pcrs bank)
 unfolding selected_pcrs all_pcrs
 selected_first room bank = (just_first (is_selected bank.select) room 24).0

@@ -1,4 +1,4 @@
--- Reading PCRs one by one, and bank by bank.
+-- Reading PCRs one by one, bank by bank, returns the first eight values of the selection.
 use Rattle.tpm_bytes.specs.Numbers.{numbers_below}
 use Rattle.std.proofs.Common.{◌≡◌, ℕ, ◌+◌, ◌-◌, ◌<◌, ◌≤◌, Bool, true, false, ◌&&◌, cond, nat_lt, List, [], ◌∷◌, ◌++◌, length, get_or, drop, min, take, map, filter, refl, ap, sym, ◌∙◌, arith, add-one, append_assoc, append-nil, length-append, length-take}
 use Rattle.std.proofs.Math.Seq.{take-append-add}
@@ -21,7 +21,8 @@ le_false a b e = grind (arith, nat_tests)
 lt_false : (a b : ℕ) → nat_lt a b ≡ false → a < b → ⊥
 lt_false a b e below = let above : b ≤ a = grind (arith, nat_tests) in absurd (omega arith)
 
--- If one more value fits, it is appended to the first few; if none fits, they are unchanged.
+-- If there is room for one more value, it is appended to the first few; otherwise these are
+-- unchanged.
 take_push_room : {X : Type 0} (room : ℕ) (xs : List X) (x : X) → nat_lt (length xs) room ≡ true → take room (xs ++ x ∷ []) ≡ take room xs ++ x ∷ []
 take_push_room room xs x e =
     let below : length xs < room = grind (arith, nat_tests) in
@@ -45,8 +46,8 @@ same_test a b c d false false e f h k = refl
 same_test a b c d true false e f h k = absurd (lt_false c d f (h (lt_true a b e)))
 same_test a b c d false true e f h k = absurd (lt_false a b e (k (lt_true c d f)))
 
--- Another value fits among eight, after `old` values and the first k others, exactly if k is less
--- than 8 - `old`.
+-- After `old` values and up to k others, there is room for another of eight values exactly if k is
+-- less than 8 - `old`.
 pub room_left : (old k : ℕ) → nat_lt (old + min (8 - old) k) 8 ≡ nat_lt k (8 - old)
 room_left old k = same_test (old + min (8 - old) k) 8 k (8 - old) _ _ refl refl (λ h. omega arith) (λ h. omega arith)
 
@@ -112,8 +113,8 @@ take_by : {X : Type 0} (room : ℕ) (xs ys : List X) (b : Bool) → nat_lt (leng
 take_by room xs ys true e = let below : length xs < room = lt_true (length xs) room e in take_beyond room (room - length xs) xs ys (omega arith)
 take_by room xs ys false e = let above : room ≤ length xs = le_false (length xs) room e in take_within room xs ys above
 
--- The first few elements of two concatenated lists are those of the first list and, if they do not
--- fill the number, those of the second.
+-- The first `room` elements of two concatenated lists are those of the first list, followed by
+-- elements of the second if the first is shorter.
 pub take-append : {X : Type 0} (room : ℕ) (xs ys : List X) → take room (xs ++ ys) ≡ take room xs ++ take (room - length xs) ys
 take-append room xs ys = take_by room xs ys _ refl
 
@@ -121,8 +122,8 @@ take-append room xs ys = take_by room xs ys _ refl
 pub room_after : (old new k : ℕ) → new ≡ old + min (8 - old) k → 8 - new ≡ (8 - old) - k
 room_after old new k e = omega arith
 
--- If one more bank is returned, the returned selection is that bank and what the remaining banks
--- return.
+-- If one more bank is read, the returned selection continues with that bank, and then with the
+-- selection that is returned for the remaining banks.
 pub answered_more : (room after i : ℕ) (banks front : List BankSelection) (bank : BankSelection) (select : ℕ) → i < length banks → bank ≡ get_or banks i bank → select ≡ select_with (take room (selected_pcrs bank)) → after ≡ room - length (selected_pcrs bank) → (front ++ record bank { select = select } ∷ []) ++ answer_selection after (drop (i + 1) banks) ≡ front ++ answer_selection room (drop i banks)
 answered_more room after i banks front bank select below is kept left =
     append_assoc front _ _

@@ -49,7 +49,7 @@ abbrev pub HaveValues : BankValues → PcrValues → Type 0
 HaveValues banks values =
     (bank : HashAlg) (pcr : ℕ) → pcr < 24 → pcr_value banks bank pcr ≡ values bank pcr
 
--- ---- what TPM2_PCR_Read returns
+-- ---- the answer of TPM2_PCR_Read
 
 -- the PCRs that a bank's selection names, in ascending order, and their values
 unfoldable pub selected_pcrs : BankSelection → List ℕ
@@ -67,8 +67,8 @@ unfoldable pub read_values : BankValues → ℕ → List BankSelection → List 
 read_values banks room selection = take room (flat_map (selected_values banks) selection)
 
 -- the selection of exactly the values that read_values returns. Each bank keeps its first PCRs, up
--- to this number; what is left of the number applies to the banks after it, down to zero. A bank
--- that keeps no PCR remains in the list
+-- to this number; the rest of the number applies to the banks after it. A bank that keeps no PCR
+-- remains in the list
 abbrev pub answer_selection : ℕ → List BankSelection → List BankSelection
 answer_selection room [] = []
 answer_selection room (bank ∷ selection) =

@@ -1,4 +1,4 @@
--- How contracts describe the banks.
+-- Contracts describe the banks by the values of their PCRs and the update counter.
 use Rattle.std.specs.Prelude.{◌≡◌, ℕ, ◌<◌, ◌^◌, List, length}
 use Rattle.std.specs.List.{All}
 

@@ -1,4 +1,4 @@
-//! Laws about the value of one PCR and the update counter when banks change.
+//! Laws of the value of one PCR, and of the update counter, after a change of the banks.
 
 ghost use Rattle.std.specs.Prelude.{◌≡◌, ◌<◌, ◌+◌, ◌==◌, ℕ, List, cond, fold, length, replicate};
 ghost use Rattle.tpm_mac.specs.Digest.{digest_size};

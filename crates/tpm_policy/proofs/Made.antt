@@ -1,4 +1,5 @@
--- The policy that an assertion makes if it passes its checks.
+-- If an assertion passes its checks, the policy after it is `policy_with`, which is defined without
+-- checks.
 use Rattle.std.proofs.Common.{rules, ◌≡◌, Bool, Result, Ok, Err, IfOk, refl, subst}
 use Rattle.tpm_bytes.specs.Reading.{◌>>=◌}
 use Rattle.tpm_mac.specs.declared.algorithm.HashAlg.{HashAlg}

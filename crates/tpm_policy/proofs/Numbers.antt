@@ -14,8 +14,8 @@ AreBytes bytes = (i : ℕ) → slice_index bytes i < 256
 abbrev number_after : ℕ → List ℕ → ℕ
 number_after n bytes = number_from_digits_after 256 n bytes
 
--- If one number is less than another, it stays less when the same number of bytes is appended to
--- each.
+-- If one number is less than another, it is still less after the same number of bytes is appended
+-- to each.
 number_after_lt : (m n : ℕ) (xs ys : List ℕ) → length xs ≡ length ys → AreBytes xs → m < n
     → number_after m xs < number_after n ys
 number_after_lt m n [] [] same fit less = less
@@ -31,7 +31,7 @@ is_less [] others = false
 is_less (byte ∷ bytes) [] = false
 is_less (byte ∷ bytes) (other ∷ others) = nat_lt byte other || (byte == other && is_less bytes others)
 
--- If all earlier bytes are equal, one step of the comparison decides by the next bytes.
+-- If all previous bytes are equal, the next bytes decide the comparison.
 step_is : (m x y : ℕ) (xs ys : List ℕ) (lt eq : Bool) → length xs ≡ length ys
     → AreBytes xs → AreBytes ys
     → ((n : ℕ) → nat_lt (number_after n xs) (number_after n ys) ≡ is_less xs ys)
@@ -101,7 +101,7 @@ below_zero n (suc more) below = rw (lt-ltb n (suc more) below) refl
 abbrev raised : ℕ → ℕ
 raised byte = (byte + 128) % 256
 
--- If the same number is added to both first bytes, it does not change which is less.
+-- Adding the same number to both first bytes does not change which of the two is less.
 raised_alike : (x y : ℕ) (less : Bool) → (raised x + y ≡ raised y + x)
     → (nat_lt x y || (x == y && less)) ≡ (nat_lt (raised x) (raised y) || (raised x == raised y && less))
 raised_alike x y less alike =
@@ -157,7 +157,7 @@ rest_of bytes = take (length bytes - 1) (drop 1 bytes)
 rest_is : (x : ℕ) (xs : List ℕ) → rest_of (x ∷ xs) ≡ xs
 rest_is x xs = let size : length (x ∷ xs) - 1 ≡ length xs = omega arith in rw (size) (take-length xs)
 
--- If two texts have the same size, so have their bytes after the first.
+-- If two texts have the same size, they still have the same size without their first bytes.
 pub rest-length : (bytes others : List ℕ) → length bytes ≡ length others
     → length (rest_of bytes) ≡ length (rest_of others)
 rest-length bytes others same = simp (length-take, length-drop, same) refl

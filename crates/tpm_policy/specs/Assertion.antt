@@ -34,7 +34,7 @@ use Rattle.tpm_policy.specs.declared.state.Demand.{Demand}
 use Rattle.tpm_policy.specs.declared.state.Demand.TheVariants as demand
 
 -- the data of TPM2_PolicyPCR: the digest in the command, the encoded selection, the digest of the
--- values of the selected PCRs, and how often PCRs have been changed
+-- values of the selected PCRs, and the update counter of the PCRs
 pub record PcrParts : Type 0 where
   pub given : List ℕ
   pub selection : List ℕ
@@ -61,7 +61,7 @@ pub record NvParts : Type 0 where
   pub operation : Operation
   pub compared : Result (List ℕ) ActionFault
 
--- the data of a PCR assertion, as values
+-- the data of a PCR assertion, regardless of where they are in memory
 abbrev pub pcr_parts : PcrAssertion → PcrParts
 pcr_parts asserted = record {
   given = asserted.given.now;
@@ -115,8 +115,8 @@ abbrev pub is_other_hash : Option (List ℕ) → List ℕ → Bool
 is_other_hash None hash = false
 is_other_hash (Some recorded) hash = not (bytes_eq recorded hash)
 
--- whether the policy requires a written index, or an unwritten one, and the index is in the other
--- state or absent
+-- whether the policy requires a written index or an unwritten one, and the index is absent or in
+-- the other state
 abbrev pub is_other_written : Option Bool → Option Bool → Bool
 is_other_written None found = false
 is_other_written (Some recorded) None = true

@@ -26,10 +26,10 @@ pub record EntityParts : Type 0 where
   pub hash : HashAlg
   pub digest : List ℕ
 
--- the input of the checks: the number of the entry, the session's type and hash, whether the
--- entity is available, how often PCRs have been changed, the command code, the role of the
--- authorization, the cpHash, whether the entity has been written if it is an NV index, the
--- command's locality, and the entity's policy, if it has one
+-- the input of the checks: the number of the entry, the session's type and hash, whether the entity
+-- is available, the update counter of the PCRs, the command code, the role of the authorization,
+-- the cpHash, whether the entity has been written if it is an NV index, the command's locality, and
+-- the entity's policy, if it has one
 pub record UseParts : Type 0 where
   pub entry : ℕ
   pub kind : SessionType
@@ -61,8 +61,7 @@ parts_of u = record {
   entity = option_map entity_parts u.entity;
 }
 
--- whether the role is ADMIN, which requires the policy to name a command, and the policy names
--- none
+-- whether the role is ADMIN and the policy names no command, which that role requires
 abbrev pub lacks_command : Role → Option ℕ → Bool
 lacks_command role.User command = false
 lacks_command role.Admin command = is_none command
@@ -74,7 +73,7 @@ is_policy_of hash digest None = false
 is_policy_of hash digest (Some entity) =
     hash_number entity.hash == hash_number hash && bytes_eq digest entity.digest
 
--- whether a policy authorizes this use, and what it demands in addition
+-- the result of the checks of this use: the first fault, or the demand of the policy
 unfoldable pub use_passes : Policy → UseParts → Result Demand Rc
 use_passes policy u = do
   trial ← refused_if (is_trial u.kind) (entry_fault u.entry code.Attributes)

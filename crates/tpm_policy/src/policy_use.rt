@@ -1,5 +1,5 @@
-//! Whether a policy session authorizes a use of an entity, and what the policy still demands. The
-//! first condition that fails causes the refusal.
+//! Whether a policy session authorizes a use of an entity, and the demand of its policy. The first
+//! condition that fails causes the refusal.
 
 ghost use Rattle.std.specs.Prelude.{◌≡◌, ◌==◌, option_map};
 ghost use Rattle.std.specs.Int.{bit_at};
@@ -92,11 +92,11 @@ impl PolicyState {
         }
     }
 
-    /// Checks whether the policy authorizes this use, and returns what it demands in addition.
-    /// The first condition that fails determines the error: ATTRIBUTES for a trial session;
-    /// AUTH_UNAVAILABLE; PCR_CHANGED; POLICY_CC for another command; POLICY_FAIL for the role,
-    /// another cpHash, or an index in the wrong written state; LOCALITY; POLICY_FAIL if the
-    /// policy is not that of the entity.
+    /// Checks whether the policy authorizes this use, and returns the policy's demand. The first
+    /// condition that fails determines the error: ATTRIBUTES for a trial session; AUTH_UNAVAILABLE;
+    /// PCR_CHANGED; POLICY_CC for another command; POLICY_FAIL for the role, another cpHash, or an
+    /// index in the wrong written state; LOCALITY; POLICY_FAIL if the policy is not that of the
+    /// entity.
     #[tactic(auto, unfolding(crate::specs::Use::use_passes))]
     pub fn check_use(&self, asked: &Use) -> Result<Demand, Rc>
         ensures { result ≡ use_passes self.now (parts_of asked.now) }

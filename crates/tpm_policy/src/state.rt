@@ -1,5 +1,5 @@
-//! The state of a policy session: its digest, and what its assertions have recorded (TPM 2.0
-//! Library, Part 1, section 19.7).
+//! The state of a policy session: its digest, and the values that its assertions have recorded (TPM
+//! 2.0 Library, Part 1, section 19.7).
 
 ghost use Rattle.std.specs.Prelude.{◌≡◌, ◌<◌, ◌≤◌, ◌^◌, IfSome, length, option_map, replicate};
 ghost use Rattle.tpm_mac.specs.Digest.{digest_size};
@@ -87,7 +87,7 @@ impl PolicyState {
         }
     }
 
-    /// A state made of these parts.
+    /// A policy state with these values.
     pub fn of(
         digest: Digest,
         update_count: Option<u64>,
@@ -154,7 +154,7 @@ impl PolicyState {
         self.localities
     }
 
-    /// Resets this to the initial state of a session.
+    /// Resets the policy to the initial state of a session.
     pub fn restart(&mut self, hash: HashAlg)
         ensures { self.new ≡ starting hash }
     {

@@ -1,4 +1,5 @@
--- The size of an encoded PCR selection. The loop over its banks writes that encoding.
+-- An encoded PCR selection has six bytes for each bank, after its count. The loop over the banks
+-- writes this encoding.
 use Rattle.std.proofs.Common.{◌≡◌, ℕ, ◌+◌, ◌*◌, ◌<◌, List, [], ◌∷◌, ◌++◌, length, take, get_or, refl, append_assoc, arith, length-append, take_all}
 use Rattle.std.specs.Int.{w32, to_be_bytes}
 use Rattle.tpm_bytes.proofs.WrittenTexts.{written_more}
@@ -18,7 +19,7 @@ pub banks_text-nil : banks_text [] ≡ []
 unfolding banks_text
 banks_text-nil = refl
 
--- If one more bank is written, six bytes are appended to the banks before it.
+-- If one more bank is written, six bytes are appended after the previous banks.
 pub bank_written : (banks : List BankSelection) (i : ℕ) (bank : BankSelection) (start so_far new : List ℕ) → i < length banks → bank ≡ get_or banks i bank → so_far ≡ start ++ banks_text (take i banks) → length so_far ≡ length start + 6 * i → new ≡ so_far ++ bank_text bank → (new ≡ start ++ banks_text (take (i + 1) banks)) × (length new ≡ length start + 6 * (i + 1))
 unfolding banks_text
 bank_written banks i bank start so_far new below is so size wrote =

@@ -15,7 +15,7 @@ pub digests_text_more : (digests : List (ArrayVec ℕ)) (i : ℕ) (d : ArrayVec 
 unfolding digests_text
 digests_text_more digests i d below = rw (take_more digests i d below, map-append) (grind (arith, common_steps))
 
--- If one more digest is written, at most 34 bytes are appended to the digests before it.
+-- If one more digest is written, at most 34 bytes are appended after the previous digests.
 pub digest_written : (digests : List (ArrayVec ℕ)) (i : ℕ) (digest : ArrayVec ℕ) (bytes start so_far new : List ℕ) → i < length digests → digest ≡ get_or digests i digest → bytes ≡ digest.items → length bytes ≤ 32 → so_far ≡ start ++ digests_text (digests_of (take i digests)) → length so_far ≤ length start + 34 * i → new ≡ so_far ++ sized_text bytes → (new ≡ start ++ digests_text (digests_of (take (i + 1) digests))) × (length new ≤ length start + 34 * (i + 1))
 digest_written digests i digest bytes start so_far new below is same short so small sized = (
   sized

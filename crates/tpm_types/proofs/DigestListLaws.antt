@@ -1,4 +1,4 @@
--- Lists of digests: the encoding of each value, and nothing else, decodes to that value.
+-- A read returns a list of digests exactly if the text starts with its encoding.
 use Rattle.std.proofs.Common.{◌≡◌, ℕ, ltb, ◌||◌, List, ◌++◌, Ok, arith}
 use Rattle.std.proofs.lemmas.Bool.{ltb-false, le-ltb, or_parts, or_from}
 use Rattle.tpm_bytes.specs.Writing.{sized_text}

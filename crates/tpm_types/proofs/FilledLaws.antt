@@ -1,5 +1,5 @@
--- Structures that fill a sized buffer: the encoding of each value, and nothing else, decodes to
--- that value, if this holds for the structure without the buffer.
+-- If a read returns a structure exactly when the text starts with its encoding, the same holds for
+-- the structure in a sized buffer that it fills.
 use Rattle.std.proofs.Common.{◌≡◌, ℕ, ◌^◌, ◌<◌, List, [], ◌∷◌, ◌++◌, length, Result, Ok, Err, refl, sym, ap, subst, ◌∙◌, append-nil, arith}
 use Rattle.std.specs.Prelude.{◌==◌, not}
 use Rattle.std.specs.Int.{w16, to_be_bytes}

@@ -1,5 +1,5 @@
--- Contracts of reads, derived from a law of the definitions: the encoding of each value, and
--- nothing else, decodes to that value.
+-- Derives the contracts of reads from `Spelled`: a read returns a value exactly if the text starts
+-- with the value's encoding.
 use Rattle.std.proofs.Common.{◌≡◌, ℕ, List, ◌++◌, Result, Ok, Err, ap, subst, ◌∙◌}
 use Rattle.std.specs.Prelude.{IfOk}
 use Rattle.tpm_bytes.specs.Reading.{Reads}

@@ -1,5 +1,4 @@
--- Numbers on the wire and what they name: the value found for a number has that number, and each
--- value is found by its number.
+-- The value found for a number on the wire has that number, and each value is found by its number.
 use Rattle.std.proofs.Common.{◌≡◌, ℕ, ◌<◌, ◌^◌, Bool, true, false, cond, List, Option, Some, None, Ok, refl, ap, subst, ◌∙◌, arith}
 use Rattle.std.specs.Prelude.{◌==◌, ok_or}
 use Rattle.std.specs.Int.{w16, to_be_bytes}
@@ -15,8 +14,8 @@ use Rattle.tpm_types.specs.Algorithm.{hash_named, hash_number, hash_or_null_name
 use Rattle.tpm_types.specs.Rc.{plain}
 use Rattle.tpm_types.proofs.Spelled.{Spelled}
 
--- One link of a chain of tests. If the number is the first value's number, it names that value;
--- otherwise it names the value that the later links find.
+-- A search tests one value after another. If each value that the later tests find has the number,
+-- so does the value that this test finds.
 pub link : {A : Type 0} (number_of : A → ℕ) (number : ℕ) (first : A) (others : Option A) (x : A) → ((o : A) → others ≡ Some o → number ≡ number_of o) → cond (number == number_of first) (Some first) others ≡ Some x → number ≡ number_of x
 link number_of number first others x after = chosen (number == number_of first) refl
   where

@@ -1,32 +1,33 @@
--- Structures of several fields: if for each field only the encoding of a value decodes to it, the
--- same holds for the structure.
+-- If a read returns each field of a structure exactly when the text starts with the field's
+-- encoding, the same holds for the structure.
 use Rattle.std.proofs.Common.{◌≡◌, ℕ, ◌+◌, List, [], ◌++◌, length, drop, Result, Ok, refl, sym, ap, subst, ◌∙◌, append_assoc, append-nil}
 use Rattle.std.proofs.lemmas.List.{take_at, drop_at, get_or-drop}
 use Rattle.tpm_bytes.specs.Reading.{◌>>=◌}
 use Rattle.tpm_bytes.proofs.Fields.{AreBytes, AreBytes-take, Takes, Takes-then, bind_ok, ok_is}
 use Rattle.tpm_bytes.proofs.Spelling.{IsAgain, IsTaken}
 
--- The encoding of each value, and nothing else, decodes to that value.
+-- A read returns a value exactly if the value is valid and the text starts with its encoding.
 pub record Spelled {A E : Type 0} (text : A → List ℕ) (Is : A → Type 0) (at : List ℕ → Result (A × List ℕ) E) : Type 0 where
   pub taken : IsTaken text Is at
   pub again : IsAgain text Is at
 
--- The rest of a structure, after the fields that were already read: the encoding of each value,
--- and nothing else, decodes to that value, and the whole value contains the fields already read.
+-- The read of a structure's remaining fields returns the whole value exactly if the value contains
+-- the fields already read and the text starts with the encoding of the remaining ones.
 pub record Behind {B C E : Type 0} (seen : B → C) (text : B → List ℕ) (Is : B → Type 0) (at : C → List ℕ → Result (B × List ℕ) E) : Type 0 where
   pub taken : (before : C) (bytes : List ℕ) (x : B × List ℕ) → AreBytes bytes → at before bytes ≡ Ok x → Takes bytes (text x.0) x.1 × Is x.0 × (seen x.0 ≡ before)
   pub again : (x : B) (rest : List ℕ) → Is x → at (seen x) (text x ++ rest) ≡ Ok (x, rest)
 
 -- ---- one field after another
 
--- After the last field nothing is left to be read, and the fields are the whole value.
+-- After the last field, nothing remains to be read, and the fields make up the whole value.
 pub all_read : {B C E : Type 0} (seen : B → C) (made : C → B) → ((c : C) → seen (made c) ≡ c) → ((x : B) → made (seen x) ≡ x) → Behind {E = E} seen (λ _. []) (λ _. Unit {0}) (λ c bytes. Ok (made c, bytes))
 all_read {B} {C} {E} seen made same whole = record {
   taken = λ before bytes x fits e. subst (λ (y : B × List ℕ). Takes bytes [] y.1 × Unit {0} × (seen y.0 ≡ before)) (ok_is {E = E} (made before, bytes) x e) (record { parts = refl; rest_fits = fits }, tt, same before);
   again = λ x rest is. ap (λ (y : B). Ok (y, rest)) (whole x);
 }
 
--- If the law holds for the next field and for the fields after it, it holds for all of them.
+-- If `Spelled` holds for the next field, and `Behind` for the fields after it, `Behind` holds for
+-- all of them.
 pub then : {A B C E : Type 0} {text : A → List ℕ} {Is : A → Type 0} {at : List ℕ → Result (A × List ℕ) E} {seen : B → C × A} {others : B → List ℕ} {Are : B → Type 0} {behind : C × A → List ℕ → Result (B × List ℕ) E} → Spelled text Is at → Behind seen others Are behind → Behind (λ x. (seen x).0) (λ x. text (seen x).1 ++ others x) (λ x. Is (seen x).1 × Are x) (λ c bytes. at bytes >>= λ a. behind (c, a.0) a.1)
 then {A} {B} {C} {E} {text} {Is} {at} {seen} {others} {Are} {behind} field next = record {
   taken = λ before bytes x fits e.
@@ -42,8 +43,8 @@ then {A} {B} {C} {E} {text} {Is} {at} {seen} {others} {Are} {behind} field next 
       ∙ next.again x rest are.1;
 }
 
--- If the law holds for the first field and for the others, which may depend on it, it holds for
--- the whole structure.
+-- If `Spelled` holds for the first field, and `Behind` for the other fields, which may depend on
+-- it, `Spelled` holds for the whole structure.
 pub first : {A B E : Type 0} {text : A → List ℕ} {Is : A → Type 0} {at : List ℕ → Result (A × List ℕ) E} {seen : B → A} {others : B → List ℕ} {Are : B → Type 0} {behind : A → List ℕ → Result (B × List ℕ) E} → Spelled text Is at → Behind seen others Are behind → Spelled (λ x. text (seen x) ++ others x) (λ x. Is (seen x) × Are x) (λ bytes. at bytes >>= λ a. behind a.0 a.1)
 first {A} {B} {E} {text} {Is} {at} {seen} {others} {Are} {behind} field next = record {
   taken = λ bytes x fits e.
@@ -59,16 +60,16 @@ first {A} {B} {E} {text} {Is} {at} {seen} {others} {Are} {behind} field next = r
       ∙ next.again x rest are.1;
 }
 
--- If the law holds for the rest of a structure for each value of the previous field, it holds for
--- the rest.
+-- If `Spelled` holds for the remaining fields, for each value of the fields already read, `Behind`
+-- holds for the remaining fields.
 pub for_each : {B C E : Type 0} (seen : B → C) (text : B → List ℕ) (Is : B → Type 0) (at : C → List ℕ → Result (B × List ℕ) E) → ((c : C) → Spelled text (λ x. Is x × (seen x ≡ c)) (at c)) → Behind seen text Is at
 for_each seen text Is at each = record {
   taken = λ before bytes x fits e. let t = (each before).taken bytes x fits e in (t.0, t.1.0, t.1.1);
   again = λ x rest is. (each (seen x)).again x rest (is, refl);
 }
 
--- If the definitions of the encoding and of the values are replaced by equal ones, the law still
--- holds.
+-- If the definitions of the encoding and of the valid values are replaced by equal ones, `Spelled`
+-- still holds.
 pub respelled : {A E : Type 0} {text other : A → List ℕ} {Is Are : A → Type 0} {at : List ℕ → Result (A × List ℕ) E} → Spelled text Is at → ((x : A) → other x ≡ text x) → ((x : A) → Is x → Are x) → ((x : A) → Are x → Is x) → Spelled other Are at
 respelled {A} {E} {text} {other} {Is} {Are} {at} law same to from = record {
   taken = λ bytes x fits e. let t = law.taken bytes x fits e in (subst (λ (l : List ℕ). Takes bytes l x.1) (sym (same x.0)) t.0, to x.0 t.1);

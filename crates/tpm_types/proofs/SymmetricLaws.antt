@@ -1,4 +1,4 @@
--- Symmetric definitions: the encoding of each value, and nothing else, decodes to that value.
+-- A read returns a symmetric definition exactly if the text starts with its encoding.
 use Rattle.std.proofs.Common.{◌≡◌, ℕ, ◌^◌, Bool, true, false, cond, List, ◌++◌, Result, Ok, Err, refl, sym, ap, subst, ◌∙◌, append_assoc, arith, inl, inr}
 use Rattle.std.specs.Prelude.{◌==◌, ◌⊎◌, not}
 use Rattle.std.specs.Int.{w16, to_be_bytes}
@@ -50,8 +50,8 @@ aes_again rest =
     ap aes_at (append_assoc (to_be_bytes w16 0x0080) (to_be_bytes w16 0x0043) rest)
     ∙ rw (number_or_again w16 (2 ^ 16) wide16 f 0x0080 (to_be_bytes w16 0x0043 ++ rest) (omega arith), number_or_again w16 (2 ^ 16) wide16 f 0x0043 rest (omega arith)) refl
 
--- If a hash is read after the number of XOR, the encoding of XOR with that hash was at the front
--- of the bytes.
+-- If a hash is read after the number of XOR, the bytes started with the encoding of XOR with that
+-- hash.
 xor_takes : (bytes : List ℕ) (x : SymmetricDefinition × List ℕ) → AreBytes bytes → xor_at bytes ≡ Ok x → (hash : HashAlg) × (bytes ≡ to_be_bytes w16 (hash_number hash) ++ x.1) × (x.0 ≡ Xor hash)
 unfolding xor_at
 xor_takes bytes x fits e =

@@ -1,4 +1,4 @@
--- Values without trailing zeros.
+-- Removing a trailing zero from a prefix of the bytes does not change the result of trimming.
 use Rattle.std.proofs.Common.{◌≡◌, ◌≢◌, ℕ, zero, suc, ◌+◌, ◌-◌, ◌<◌, ◌≤◌, List, [], ◌∷◌, ◌++◌, length, take, reverse, get_or, refl, sym, ap, ◌∙◌, arith}
 use Rattle.std.proofs.lemmas.List.{reverse-append, reverse-reverse, take_more}
 use Rattle.tpm_types.specs.AuthValue.{trimmed, without_first_zeros}
@@ -30,15 +30,15 @@ trimmed_other bytes (suc last) some =
 front_more : (bytes : List ℕ) (size : ℕ) → 0 < size → size ≤ length bytes → take size bytes ≡ take (size - 1) bytes ++ get_or bytes (size - 1) 0 ∷ []
 front_more bytes size some within = ap (λ (n : ℕ). take n bytes) (let next : size ≡ size - 1 + 1 = omega arith in next) ∙ take_more bytes (size - 1) 0 (omega arith)
 
--- If the last byte of a front is zero, the front without that byte is trimmed to the same bytes.
+-- If the last byte of a prefix is zero, trimming the prefix without that byte has the same result.
 pub front_shorter : (bytes : List ℕ) (size : ℕ) → 0 < size → size ≤ length bytes → get_or bytes (size - 1) 0 ≡ 0 → trimmed (take size bytes) ≡ trimmed (take (size - 1) bytes)
 front_shorter bytes size some within last = ap trimmed (front_more bytes size some within) ∙ trimmed_zero (take (size - 1) bytes) _ last
 
--- If the last byte of a front is not zero, the front is already trimmed.
+-- If the last byte of a prefix is not zero, the prefix is already trimmed.
 pub front_stays : (bytes : List ℕ) (size : ℕ) → 0 < size → size ≤ length bytes → get_or bytes (size - 1) 0 ≢ 0 → trimmed (take size bytes) ≡ take size bytes
 front_stays bytes size some within last = ap trimmed (front_more bytes size some within) ∙ trimmed_other (take (size - 1) bytes) _ last ∙ sym (front_more bytes size some within)
 
--- an empty front is already trimmed
+-- an empty prefix is already trimmed
 pub trimmed_none : (bytes : List ℕ) (size : ℕ) → size ≡ 0 → trimmed (take size bytes) ≡ take size bytes
 unfolding trimmed
 trimmed_none bytes zero none = refl

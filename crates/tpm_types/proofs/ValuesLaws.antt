@@ -1,5 +1,5 @@
--- Digests with their algorithms: the encoding of each value, and nothing else, decodes to that
--- value.
+-- A read returns a digest with its algorithm, or a list of them, exactly if the text starts with
+-- its encoding.
 use Rattle.std.proofs.Common.{◌≡◌, ℕ, ltb, List, ◌++◌, Ok, refl, sym, ap, subst, ◌∙◌, append_assoc, arith}
 use Rattle.std.specs.Int.{w16, to_be_bytes}
 use Rattle.std.proofs.lemmas.Bool.{ltb-false, le-ltb}

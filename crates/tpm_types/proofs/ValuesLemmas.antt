@@ -1,4 +1,4 @@
--- Writing several tagged digests one after another.
+-- A loop over several tagged digests writes the encoding of the list.
 use Rattle.std.proofs.Common.{◌≡◌, ℕ, ◌+◌, ◌<◌, List, [], ◌++◌, length, take, get_or, refl, ap, sym, ◌∙◌, append_assoc, arith}
 use Rattle.std.proofs.lemmas.Grind.{common_steps}
 use Rattle.std.proofs.lemmas.List.{take_more}
@@ -14,7 +14,7 @@ values_text_more : (values : List DigestValue) (i : ℕ) (d : DigestValue) → i
 unfolding values_text
 values_text_more values i d below = rw (take_more values i d below) (grind (arith, common_steps))
 
--- If one more digest is written, it is appended to the digests before it.
+-- If one more digest is written, it is appended after the previous ones.
 pub value_written : (values : List DigestValue) (i : ℕ) (d : DigestValue) (start so_far new : List ℕ) → i < length values → so_far ≡ start ++ values_text (take i values) → new ≡ so_far ++ digest_value_text (get_or values i d) → new ≡ start ++ values_text (take (i + 1) values)
 value_written values i d start so_far new below so wrote =
     let text = digest_value_text (get_or values i d) in

@@ -18,7 +18,7 @@ abbrev pub or_sized_rc : {X : Type 0} → Result X SizedFault → Result X Rc
 or_sized_rc (Ok x) = Ok x
 or_sized_rc (Err fault) = Err (sized_rc fault)
 
--- the content of the sized buffer at the front of a text, with at most this many bytes, and the
+-- the content of the sized buffer at the start of a text, with at most this many bytes, and the
 -- rest of the text
 unfoldable pub buffer_at : ℕ → List ℕ → Result (List ℕ × List ℕ) Rc
 buffer_at limit text = or_sized_rc (sized_at limit text)

@@ -26,7 +26,7 @@ digest_list_text digests = to_be_bytes w32 (length digests) ++ digests_text dige
 abbrev pub IsDigest : List ℕ → Type 0
 IsDigest digest = length digest ≤ 32
 
--- A list of digests, when it is read, contains two to eight of them. Only TPM2_PolicyOR has such a
+-- A list of digests that can be read contains two to eight digests. Only TPM2_PolicyOR has such a
 -- list as a parameter (Part 3, section 23.6).
 pub record IsDigestList (digests : List (List ℕ)) : Type 0 where
   pub several : 2 ≤ length digests

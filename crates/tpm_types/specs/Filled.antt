@@ -18,7 +18,7 @@ abbrev pub or_size : {X : Type 0} → Result X Rc → Result X Rc
 or_size (Ok x) = Ok x
 or_size (Err fault) = Err (record fault { code = within_buffer fault.code })
 
--- the structure that fills the sized buffer at the front of a text, and the rest of the text. The
+-- the structure that fills the sized buffer at the start of a text, and the rest of the text. The
 -- fault is INSUFFICIENT if the buffer is truncated, SIZE if it is shorter or longer than the
 -- structure
 unfoldable pub filled_by : {X : Type 0}

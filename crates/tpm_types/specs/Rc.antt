@@ -59,7 +59,7 @@ code_number code.ReservedBits = 0x0a1
 code_number code.BadAuth = 0x0a2
 code_number code.PolicyCc = 0x0a4
 
--- the number that the place of a fault adds to the number of its code
+-- the number that a fault's handle, parameter or session adds to the number of its code
 abbrev pub place_number : Place → ℕ
 place_number place.Nowhere = 0
 place_number (place.Handle n) = 0x100 * n
@@ -69,11 +69,11 @@ place_number (place.Session n) = 0x800 + 0x100 * n
 abbrev pub rc_number : Rc → ℕ
 rc_number rc = code_number rc.code + place_number rc.place
 
--- a code with no place
+-- a response code without the number of a handle, parameter or session
 abbrev pub plain : ResponseCode → Rc
 plain code = record { code = code; place = place.Nowhere }
 
--- the same response code for another place
+-- the same response code, now for this handle, parameter or session
 abbrev pub at : Place → Rc → Rc
 at place rc = record rc { place = place }
 

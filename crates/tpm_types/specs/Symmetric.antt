@@ -16,8 +16,8 @@ is_null Null = true
 is_null Aes128Cfb = false
 is_null (Xor hash) = false
 
--- the encoding of a symmetric definition: only NULL; or AES, the size of its key in bits, and its
--- mode; or XOR, and the hash that generates its masks
+-- the encoding of a symmetric definition: NULL alone; AES, its key size in bits, and its mode; or
+-- XOR and the hash that generates its masks
 unfoldable pub symmetric_text : SymmetricDefinition → List ℕ
 symmetric_text Null = to_be_bytes w16 0x0010
 symmetric_text Aes128Cfb =
@@ -47,13 +47,13 @@ behind_at number text =
     else (if number == 0x000a then xor_at text
     else Err (plain code.Symmetric)))
 
--- the symmetric definition at the front of a text, and the rest of the text
+-- the symmetric definition at the start of a text, and the rest of the text
 unfoldable pub symmetric_at : List ℕ → Result (SymmetricDefinition × List ℕ) Rc
 symmetric_at text = do
   algorithm ← or_fault (number_at w16 text) (plain code.Insufficient)
   behind_at algorithm.0 algorithm.1
 
--- the cipher at the front of a text, and the rest of the text. A storage key or a SYMCIPHER key
+-- the cipher at the start of a text, and the rest of the text. A storage key or a SYMCIPHER key
 -- can only use AES
 unfoldable pub cipher_at : List ℕ → Result (SymmetricDefinition × List ℕ) Rc
 cipher_at text = do

@@ -2,7 +2,7 @@
 
 ghost use Rattle.std.specs.Prelude.{◌≡◌};
 
-/// The check of a command's own that refused it, numbered by its order in the command's section.
+/// One of a command's own checks, numbered by its order in the command's section.
 #[derive(Clone, Copy, PartialEq, Eq)]
 pub enum ActionCheck {
     First = 1,

@@ -59,7 +59,7 @@ pub enum ResponseCode {
     PolicyCc = 0x0a4,
 }
 
-/// The place of a fault: a handle, parameter or session, numbered from 1 (Part 2, section 6.6.2).
+/// The handle, parameter or session at fault, each numbered from 1 (Part 2, section 6.6.2).
 #[derive(Clone, Copy, PartialEq, Eq)]
 pub enum Place {
     Nowhere,
@@ -87,7 +87,7 @@ impl ResponseCode {
         self as u32
     }
 
-    /// The code without a place.
+    /// The code, without the number of a handle, parameter or session.
     pub fn anywhere(self) -> Rc
         ensures { result ≡ plain self }
     {
@@ -102,7 +102,7 @@ impl Rc {
     ghost use Rattle.tpm_types.specs.Rc.{rc_number, at};
     ghost use Rattle.tpm_types.specs.declared.rc.Place.TheVariants as place;
 
-    /// The wire number of the code, including the bits for its place.
+    /// The wire number of the code, including the bits for its handle, parameter or session.
     pub fn number(self) -> u32
         ensures { result ≡ rc_number self }
     {

@@ -63,7 +63,7 @@ impl SymmetricDefinition {
         Ok(definition)
     }
 
-    /// Reads what follows the algorithm number of AES in a symmetric definition.
+    /// Reads the fields after the algorithm number of AES in a symmetric definition.
     #[tactic(auto, unfolding(crate::specs::Symmetric::aes_at))]
     fn read_aes(text: &mut Cursor) -> Result<SymmetricDefinition, Rc>
         ensures { Reads (λ definition. definition) (aes_at text.old) text.old result text.new }
@@ -85,7 +85,7 @@ impl SymmetricDefinition {
         Ok(SymmetricDefinition::Aes128Cfb)
     }
 
-    /// Reads what follows the algorithm number of XOR in a symmetric definition.
+    /// Reads the field after the algorithm number of XOR in a symmetric definition.
     #[tactic(auto, unfolding(crate::specs::Symmetric::xor_at))]
     fn read_xor(text: &mut Cursor) -> Result<SymmetricDefinition, Rc>
         ensures { Reads (λ definition. definition) (xor_at text.old) text.old result text.new }

@@ -1,5 +1,4 @@
--- Authorization entries and areas: the encoding of each value, and nothing else, decodes to that
--- value.
+-- A read returns an authorization entry or area exactly if the text starts with its encoding.
 use Rattle.std.proofs.Common.{◌≡◌, ℕ, zero, suc, ◌+◌, ◌^◌, ◌<◌, ◌≤◌, false, ltb, List, [], ◌∷◌, ◌++◌, length, Ok, refl, sym, ap, subst, ◌∙◌, append_assoc, arith}
 use Rattle.std.specs.List.{AllByRecursion}
 use Rattle.std.specs.Int.{w8, w32, to_be_bytes}
@@ -18,7 +17,7 @@ use Rattle.tpm_types_command.specs.AuthArea.{area_at, area_text, entries_in, ent
 
 -- ---- an entry
 
--- For a sized buffer of any length: its encoding, and nothing else, decodes to it.
+-- A read returns a sized buffer of any length exactly if the text starts with its encoding.
 sized_spelled : Spelled sized_text (λ bytes. length bytes < 2 ^ 16) (λ text. or_fault (sized_at 0xffff text) (plain code.Authsize))
 sized_spelled = record {
   taken = λ bytes x fits e. let t = sized_takes 0xffff (plain code.Authsize) bytes x fits e in (t.0, t.1);

@@ -1,4 +1,4 @@
--- The header of a command: the encoding of each value, and nothing else, decodes to that value.
+-- A read returns the header of a command exactly if the text starts with its encoding.
 use Rattle.tpm_types.specs.Limits.{buffer_limit}
 use Rattle.std.proofs.Common.{◌≡◌, ℕ, ◌+◌, ◌^◌, ◌≤◌, Bool, true, false, ltb, List, ◌++◌, length, take, drop, Option, Some, Result, Ok, refl, sym, ap, subst, ◌∙◌, arith}
 use Rattle.std.specs.Prelude.{◌==◌, ◌||◌, not, ok_or}
@@ -24,7 +24,7 @@ neither : (a b : Bool) → (a || b) ≡ false → (a ≡ false) × (b ≡ false)
 neither true b e = absurd cc
 neither false b e = (refl, e)
 
--- If a number is not truncated, its encoding is at the front of the bytes.
+-- If a number at the start of the bytes is not truncated, the bytes start with its encoding.
 field_takes : (w : Width) (limit : ℕ) (wide : IsWide w limit) (bytes : List ℕ) → AreBytes bytes → byte_len w ≤ length bytes → Takes bytes (to_be_bytes w (from_be_bytes w (take (byte_len w) bytes))) (drop (byte_len w) bytes)
 field_takes w limit wide bytes fits long =
     let there : ltb (length bytes) (byte_len w) ≡ false = le-ltb _ _ long in
@@ -43,7 +43,7 @@ fields_take bytes fits long =
     let t01 = Takes-then bytes (to_be_bytes w16 (tag_field bytes)) (drop 2 bytes) (to_be_bytes w32 (size_field bytes)) (drop 6 bytes) t0 t1' in
     Takes-then bytes (to_be_bytes w16 (tag_field bytes) ++ to_be_bytes w32 (size_field bytes)) (drop 6 bytes) (to_be_bytes w32 (code_field bytes)) (drop 10 bytes) t01 t2'
 
--- The steps of reading this header have these results.
+-- The bytes start with this header, whose commandSize is their length, and fit in a command buffer.
 pub record IsHeader (bytes : List ℕ) (x : Header × List ℕ) : Type 0 where
   pub text : Takes bytes (header_text x.0.tag (length bytes) x.0.code) x.1
   pub least : 10 ≤ length bytes

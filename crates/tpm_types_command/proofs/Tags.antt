@@ -1,5 +1,4 @@
--- The tags of commands: the tag found for a number has that number, and each tag is found by its
--- number.
+-- The tag found for a number has that number, and each tag is found by its number.
 use Rattle.std.proofs.Common.{◌≡◌, ℕ, ◌<◌, ◌^◌, Some, None, refl, arith}
 use Rattle.tpm_types.proofs.Named.{link, none}
 use Rattle.tpm_types_command.specs.declared.tag.Tag.{Tag}

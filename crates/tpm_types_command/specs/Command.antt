@@ -84,8 +84,8 @@ pub record IsCommand (c : Whole) : Type 0 where
 
 -- ---- reading a command, with the first fault
 
--- several handles at the front of a text, and the rest of the text. Among the command's handles,
--- the first of them has this number
+-- several handles at the start of a text, and the rest of the text. The first of them is the
+-- command's handle with this number
 abbrev pub handles_at : ℕ → ℕ → List ℕ → Result (List Handle × List ℕ) Rc
 handles_at number zero text = Ok ([], text)
 handles_at number (suc count) text = do
@@ -102,7 +102,8 @@ abbrev pub header_or_rc : {A : Type 0} → Result A HeaderFault → Result A Rc
 header_or_rc (Ok x) = Ok x
 header_or_rc (Err fault) = Err (header_fault_rc fault)
 
--- the command encoded by this text, whose end is the parameters; no rest is left
+-- the command that this whole text encodes. The bytes after its header, handles and authorization
+-- area are its parameters, so no rest is left
 unfoldable pub command_at : List ℕ → Result (Whole × List ℕ) Rc
 command_at text = do
   header ← header_or_rc (header_at text)

@@ -52,7 +52,7 @@ impl HeaderFault {
 impl Header {
     ghost use Rattle.tpm_types_command.specs.Header.{header_at};
 
-    /// Reads the header of a command, which must be the whole rest of the text.
+    /// Reads the header of a command. The command must be the whole rest of the text.
     #[tactic(auto, unfolding(crate::specs::Header::header_at))]
     pub fn read(text: &mut Cursor) -> Result<Header, HeaderFault>
         ensures { Reads (λ header. header) (header_at text.old) text.old result text.new }

@@ -1,5 +1,5 @@
--- The attributes and the type of an index after an attribute was set or cleared: changing bits
--- outside a mask changes nothing inside it.
+-- Setting or clearing an attribute of an index does not change its type: changing a bit outside a
+-- mask changes no bit inside it.
 use Rattle.std.proofs.Common.{◌≡◌, ◌≢◌, ℕ, ◌-◌, ◌*◌, ◌/◌, ◌%◌, ◌^◌, ◌<◌, refl, ap, ◌∙◌, arith, inl, inr}
 use Rattle.std.specs.Prelude.{bit_and, bit_or}
 use Rattle.std.specs.Int.{w32, bit_at, bit_not}

@@ -1,4 +1,4 @@
--- The laws of the attributes of an index: which of them are set after one was set or cleared.
+-- Setting or clearing an attribute of an index changes neither the other attributes nor the type.
 use Rattle.std.specs.Prelude.{◌≡◌, ◌≢◌, true, false}
 use Rattle.tpm_types_nv.specs.declared.nv_attributes.NvAttribute.{NvAttribute}
 use Rattle.tpm_types_nv.specs.declared.nv_attributes.NvAttributes.{NvAttributes}

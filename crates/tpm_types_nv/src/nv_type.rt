@@ -9,7 +9,7 @@ ghost use Rattle.tpm_types_nv.specs.NvType.{nv_type_named, nv_type_number};
 pub enum NvType {
     /// Bytes that are written and read.
     Ordinary,
-    /// An eight-byte number that only grows.
+    /// An eight-byte number that can only increase.
     Counter,
     /// An eight-byte number whose bits can be set.
     Bits,

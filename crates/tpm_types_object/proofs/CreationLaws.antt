@@ -1,4 +1,4 @@
--- Creation data: the encoding of each value, and nothing else, decodes to that value.
+-- A read returns creation data exactly if the text starts with their encoding.
 use Rattle.std.proofs.Common.{ℕ, ◌^◌, ◌<◌, List, ◌++◌, length, Option, refl, arith, length-append}
 use Rattle.std.specs.Int.{w8, w16, to_be_bytes}
 use Rattle.tpm_bytes.specs.Writing.{sized_text}

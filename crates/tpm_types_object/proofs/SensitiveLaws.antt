@@ -1,5 +1,5 @@
--- Sensitive areas, and what a caller provides for a new one: the encoding of each value, and
--- nothing else, decodes to that value.
+-- A read returns a sensitive area, or a caller's values for a new one, exactly if the text starts
+-- with their encoding.
 use Rattle.std.proofs.Common.{ℕ, ◌^◌, ◌<◌, List, ◌++◌, length, refl, arith, length-append}
 use Rattle.tpm_bytes.specs.Writing.{sized_text}
 use Rattle.tpm_types_object.specs.declared.public.ObjectType.{ObjectType}
@@ -49,7 +49,7 @@ sized_sensitive_text s = sized_text (sensitive_text s)
 pub sized_sensitive_spelled : Spelled sized_sensitive_text IsSensitive (filled_by sensitive_at)
 sized_sensitive_spelled = filled_spelled sensitive_spelled sensitive_small
 
--- ---- what a caller provides for a new object
+-- ---- the values that a caller provides for a new object
 
 abbrev given_of : SensitiveValues → List ℕ × List ℕ
 given_of s = (s.user_auth, s.«data»)

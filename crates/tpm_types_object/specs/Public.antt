@@ -39,7 +39,7 @@ object_type_named number =
 abbrev pub object_type_text : ObjectType → List ℕ
 object_type_text type = to_be_bytes w16 (object_type_number type)
 
--- the object type at the front of a text, and the rest of the text
+-- the object type at the start of a text, and the rest of the text
 unfoldable pub object_type_at : List ℕ → Result (ObjectType × List ℕ) Rc
 object_type_at text = do
   number ← or_fault (number_at w16 text) (plain code.Insufficient)
@@ -48,7 +48,7 @@ object_type_at text = do
 
 -- ---- the parameters of each type of object
 
--- the encoding of a KEYEDHASH object's scheme: only NULL; or HMAC and its hash algorithm
+-- the encoding of a KEYEDHASH object's scheme: NULL alone, or HMAC and its hash algorithm
 unfoldable pub scheme_text : KeyedHashScheme → List ℕ
 scheme_text Null = to_be_bytes w16 0x0010
 scheme_text (Hmac hash) = to_be_bytes w16 0x0005 ++ to_be_bytes w16 (hash_number hash)
@@ -64,13 +64,13 @@ behind_scheme_at number text =
     if number == 0x0010 then Ok (Null, text)
     else (if number == 0x0005 then hmac_at text else Err (plain code.Scheme))
 
--- the scheme of a KEYEDHASH object at the front of a text, and the rest of the text
+-- the scheme of a KEYEDHASH object at the start of a text, and the rest of the text
 unfoldable pub scheme_at : List ℕ → Result (KeyedHashScheme × List ℕ) Rc
 scheme_at text = do
   scheme ← or_fault (number_at w16 text) (plain code.Insufficient)
   behind_scheme_at scheme.0 scheme.1
 
--- the parameters of a SYMCIPHER object, which are its cipher, at the front of a text, and the rest
+-- the parameters of a SYMCIPHER object, which are its cipher, at the start of a text, and the rest
 -- of the text
 unfoldable pub sym_cipher_at : List ℕ → Result (PublicParameters × List ℕ) Rc
 sym_cipher_at text = do
@@ -82,7 +82,7 @@ keyed_hash_at text = do
   scheme ← scheme_at text
   Ok (parameters_of.KeyedHash scheme.0, scheme.1)
 
--- the parameters of an object of this type at the front of a text, and the rest of the text
+-- the parameters of an object of this type at the start of a text, and the rest of the text
 abbrev pub parameters_at : ObjectType → List ℕ → Result (PublicParameters × List ℕ) Rc
 parameters_at object.KeyedHash text = keyed_hash_at text
 parameters_at object.SymCipher text = sym_cipher_at text
@@ -117,7 +117,7 @@ pub record IsPublic (p : Public) : Type 0 where
   pub auth_policy : length p.auth_policy ≤ 32
   pub unique : length p.unique ≤ 32
 
--- the public area at the front of a text, and the rest of the text
+-- the public area at the start of a text, and the rest of the text
 unfoldable pub public_at : List ℕ → Result (Public × List ℕ) Rc
 public_at text = do
   type ← object_type_at text

@@ -1,7 +1,7 @@
 #![tactic(auto)]
 
 //! The areas of objects (TPM 2.0 Library, Part 2, section 12): public and sensitive areas, the
-//! attributes of objects, what a caller provides for a new object, and creation data.
+//! attributes of objects, the values that a caller provides for a new object, and creation data.
 //!
 //! The crate uses `tpm_types` for the structures in these areas. A read returns the value, or the
 //! first fault as the standard's response code for it; a read or write that fails changes nothing.

@@ -67,7 +67,7 @@ impl ObjectType {
 /// (Part 2, section 11.1).
 #[derive(Clone, Copy, PartialEq, Eq)]
 pub enum KeyedHashScheme {
-    /// TPM_ALG_NULL: no scheme is set, and the object may be used with any.
+    /// TPM_ALG_NULL: no scheme is set, and the object may be used with any scheme.
     Null,
     /// TPM_ALG_HMAC: the object is an HMAC key for this hash algorithm.
     Hmac(HashAlg),
