@@ -57,7 +57,7 @@ none_below [] key low above under = refl
 none_below (e ∷ es) key low above under =
     rw (ne_eqb e.0 key (λ same. omega (arith, same, above.0, under))) (none_below es key low above.1 under)
 
--- If an entry's key is above a key, that key is not found from the entry on.
+-- A key below an entry's key is found neither at that entry nor after it.
 pub none_from : (es : Entries Head) (i key : ℕ) (d : ℕ × Head) → i < length es → Ascends (drop i es) → key ≤ (get_or es i d).0 → key ≢ (get_or es i d).0 → at_key (drop i es) key ≡ None
 none_from [] i key d in_es up under apart = absurd (omega (arith, in_es))
 none_from (e ∷ es) zero key d in_es up under apart =
@@ -84,7 +84,7 @@ piece_fits (e ∷ es) key h up there =
 rest_fits : (e : ℕ × Head) (es : Entries Head) (area : List ℕ) → total (e ∷ es) ≤ length area → total es ≤ length (drop (size_of e.1) area)
 rest_fits e es area fits = omega (arith, fits, length-drop (size_of e.1) area)
 
--- ---- what is found by a key
+-- ---- the index found by a key
 
 pub found_among : (es : Entries Head) (area : List ℕ) (key : ℕ) (h : Head) → Ascends es → at_key es key ≡ Some h → at_key (indices_of es area) key ≡ Some (index_with h (piece_of (start_of es key) (size_of h) area))
 found_among [] area key h up there = absurd cc
@@ -233,7 +233,7 @@ total_changed (e ∷ es) key h g up there same_size =
       | behind apart lower found ↦ rw (ne_eqb e.0 key apart) (omega (arith, total_changed es key h g up.1 found same_size))
     ]
 
--- ---- what holds for each head
+-- ---- properties of each head
 
 pub head_at : (es : Entries Head) (key : ℕ) (h : Head) → Ascends es → AreHeads es → at_key es key ≡ Some h → IsHead key h
 head_at [] key h up are there = absurd cc

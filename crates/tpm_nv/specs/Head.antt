@@ -92,7 +92,7 @@ pub record IsIndexOf (contents : NvContents) (handle : Handle) (head : Head) (by
 abbrev pub started_head : Head → Head
 started_head head = with_attributes head (started_attributes head.public.attributes)
 
--- whether an index remains when TPM2_Clear removes others, and the bytes of those that remain
+-- whether an index remains when TPM2_Clear removes others, and the bytes of the remaining indices
 abbrev pub stays : Head → Bool
 stays head = is_by_platform head.public
 

@@ -1,4 +1,4 @@
-//! The reasons why an NV index cannot be used, defined, or restored from what was saved.
+//! The reasons why an NV index cannot be used, defined, or restored from a saved state.
 
 /// No index has this handle. This is the only reason why an authorization value is not changed.
 #[derive(Clone, Copy, PartialEq, Eq)]

@@ -1,4 +1,4 @@
--- The largest number of bytes that a read consumes: 202 for a sensitive area in a sized buffer.
+-- A read of a sensitive area in a sized buffer consumes at most 202 bytes.
 use Rattle.std.proofs.Common.{◌≡◌, ℕ, ◌+◌, ◌≤◌, cond, ltb, List, length, take, drop, Result, Ok, Err, ap, arith}
 use Rattle.std.specs.Prelude.{◌==◌, not, ok_or}
 use Rattle.std.specs.Int.{w16, from_be_bytes}
@@ -23,7 +23,7 @@ use Rattle.tpm_types.proofs.SelectionLaws.{is_equal}
 abbrev Takes_up_to : {A E : Type 0} → ℕ → (List ℕ → Result (A × List ℕ) E) → Type 0
 Takes_up_to {A} most at = (text : List ℕ) (x : A × List ℕ) → at text ≡ Ok x → length text ≤ most + length x.1
 
--- Two reads in sequence consume at most the sum of what each may consume.
+-- Two reads in sequence consume at most the sum of their two limits.
 both : {A B E : Type 0} (m n : ℕ) (at : List ℕ → Result (A × List ℕ) E) (behind : A → List ℕ → Result (B × List ℕ) E)
     → Takes_up_to m at → ((a : A) → Takes_up_to n (behind a)) → Takes_up_to (m + n) (λ text. at text >>= λ a. behind a.0 a.1)
 both m n at behind first next text x e =

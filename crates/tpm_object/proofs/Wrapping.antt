@@ -120,7 +120,7 @@ decrypted_again parent name iv area whole is =
       area_again area is,
     ) refl
 
--- If an area was decrypted, the bytes were that area, encrypted this way.
+-- If decrypting some bytes yields an area, the bytes are that area, encrypted.
 decrypted_found : (parent : Object) (name protected iv encrypted plain : List ℕ) (area : Sensitive)
     → AreBytes protected → sized_at 16 protected ≡ Ok (iv, encrypted) → length iv ≡ 16
     → cfb_encrypt_of (storage_key parent name) iv plain ≡ encrypted
@@ -134,8 +134,7 @@ decrypted_found parent name protected iv encrypted plain area fits read whole un
     sym undone ∙ ap (cfb_encrypt_of (storage_key parent name) iv) spelled in
     (iv, whole, t.0.parts ∙ ap (λ (l : List ℕ). sized_text iv ++ l) again)
 
--- If a text is longer than any area in a sized buffer, it is refused, whether as an area or as an
--- encrypted one.
+-- A text that is longer than any area in a sized buffer is refused, encrypted or not.
 long_refused : (plain : List ℕ) → 202 < length plain → area_in plain ≡ Err integrity_fault
 long_refused plain long = by (area_in plain) refl
   where
@@ -223,7 +222,7 @@ unwrapped_only parent public text area is =
     wrapped_undone parent public (object_name public) is.iv text area is.spelled is.whole is.sized refl
     (sym is.typed)
 
--- If a private area can be unwrapped, it was wrapped.
+-- A private area that can be unwrapped was wrapped.
 pub unwrapped_found : (parent : Object) (public : Public) (name text protected : List ℕ) (area : Sensitive)
     → name ≡ object_name public → AreBytes text → protected_in parent name text ≡ Ok protected
     → IsSensitive area × IsProtected parent name protected area

@@ -1,6 +1,6 @@
--- The checks of what a caller provides for a new object, and the sizes of what the device adds.
--- TPM 2.0 Library, Part 1, section 27 (object creation), and Part 3, section 12.1 (TPM2_Create).
--- The order of the checks is this device's own.
+-- The checks of the values that a caller provides for a new object, and the sizes of those that the
+-- device adds. TPM 2.0 Library, Part 1, section 27 (object creation), and Part 3, section 12.1
+-- (TPM2_Create). The order of the checks is this device's own.
 use Rattle.std.specs.Prelude.{ℕ, ◌+◌, ◌==◌, ◌&&◌, not, nat_lt, Bool, if◌then◌else◌}
 use Rattle.std.specs.Prelude.{List, [], ◌∷◌, length, Result}
 use Rattle.tpm_mac.specs.Digest.{digest_size}

@@ -1,6 +1,6 @@
 -- Primary objects. TPM 2.0 Library, Part 1, section 14 (primary seeds) and section 27 (object
--- creation), and Part 3, section 24.1 (TPM2_CreatePrimary). The standard leaves the derivation
--- from the seed to the TPM; this device applies KDFa to what the caller sends.
+-- creation), and Part 3, section 24.1 (TPM2_CreatePrimary). The standard leaves the derivation from
+-- the seed to the TPM; this device applies KDFa to the two structures that the caller sends.
 use Rattle.std.specs.Prelude.{ℕ, ◌+◌, List, [], ◌∷◌, take, drop}
 use Rattle.tpm_mac.specs.Digest.{digest_size, hash_of}
 use Rattle.tpm_mac.specs.Kdf.{kdfa_of}
@@ -29,8 +29,8 @@ primary_bytes seed template given =
     (hash_of template.name_alg (sensitive_create_text given))
     (digest_size template.name_alg + generated_size template given)
 
--- both areas of a primary object: the first bytes, up to the size of a digest, are the seedValue,
--- and the others are the key
+-- both areas of a primary object: the first of its bytes, as many as a digest has, are the
+-- seedValue, and the others are the key
 unfoldable pub primary_areas : (seed : List ℕ) → Public → SensitiveValues → Created
 primary_areas seed template given =
     let bytes : List ℕ = primary_bytes seed template given in
