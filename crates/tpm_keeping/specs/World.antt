@@ -15,14 +15,20 @@
 -- it, finish an operation and still report an error, die at any byte, and fork. A fork has the
 -- memory of its parent, but not the lock. Each process has its own word of force.
 --
+-- A host whose write fails cuts the file back. If the write left part of an entry, this is another
+-- process here, which takes the lock next and dies after its cut (`Dies p (Part 0)`).
+--
 -- The model leaves out: what processes read after a failed sync, if the system then shows older
 -- bytes (a holder opens the file again if it is shorter, and does not notice other bytes in their
--- place); a crash that mixes blocks of two contents; a disk that reports a sync that it did not do;
--- file systems that lose bytes of a file and keep later ones, as ext4 and XFS may, or undo one of
--- two renames; a folder whose sync fails and then succeeds without the rename; a torn sector over
--- bytes that were synced before; network file systems, on which locks and renames are seen late;
--- two hosts on one folder; the removal of the lock's file while a holder has the lock; and anybody
--- else who writes to the folder.
+-- place); a write that left a whole entry, was reported as failed, and is cut back; a crash that
+-- mixes blocks of two contents; a disk that reports a sync that it did not do; file systems that
+-- lose bytes of a file and keep later ones, as ext4 and XFS may, or undo one of two renames; a
+-- folder whose sync fails and then succeeds without the rename; a torn sector over bytes that were
+-- synced before; the folder's own name in its parent, which hosts sync with the folder; the
+-- journals of the past, which hosts link before a rename; the content of a command, such as its
+-- time and its random bytes; network file systems, on which locks and renames are seen late; two
+-- hosts on one folder; the removal of the lock's file while a holder has the lock; and anybody else
+-- who writes to the folder.
 use Rattle.std.specs.Prelude.{◌≡◌, ℕ, zero, suc, ◌+◌, ◌-◌, ◌<◌, ◌≤◌, ◌==◌, ◌&&◌, Bool, true, false, cond, List, [], ◌∷◌, ◌++◌, drop, length, max, min, nat_le, take, Option, Some, None}
 use Rattle.tpm_keeping.specs.Journal.{Entered, Journal, Spot, entries, run, started, trail, whole_in}
 use Rattle.tpm_keeping.specs.Holder.{Holder, Told, Done, Stands, Gone, Bytes, Failed, Starved, asked, is_never, newborn, next_in, rests, sure}

@@ -5,16 +5,15 @@
 //!
 //! [`Kept`] is a kept device: it does in the folder what the keeper requests. Several processes can
 //! hold one at the same time. [`playing`] plays a script on it, and [`serving`] serves it on a
-//! connection. [`answer`] reads the keeper's responses. The folder, its lock and their faults are
-//! in tpmsim_folder.
+//! connection. The folder, its lock and their faults are in tpmsim_folder.
 
-mod answer;
 mod keeping;
 mod playing;
 mod said;
 mod serving;
 mod stop;
 mod tail;
+mod tracing;
 
 pub use keeping::Kept;
 pub use playing::play;

@@ -48,7 +48,7 @@ pub struct Folder {
     user: u32,
     /// Whether this process created the folder.
     was_made: bool,
-    /// Whether this process has synced the folder's own name to the disk.
+    /// Whether this process has synced the folder's own name to the disk, or may not.
     is_named: bool,
 }
 
@@ -138,21 +138,23 @@ impl Folder {
 
     /// Syncs the names of the folder's files to the disk, and the first time also the folder's own
     /// name. The process that created the folder or its files may have been killed before it synced
-    /// them.
-    pub fn force(&mut self, rt: &HostRuntime) -> Result<(), KeptFault> {
+    /// them. Returns whether this call left the folder's own name out, because the user may not
+    /// read the parent.
+    pub fn force(&mut self, rt: &HostRuntime) -> Result<bool, KeptFault> {
         match self.force_names(rt) {
-            Ok(()) => Ok(()),
+            Ok(is_left_out) => Ok(is_left_out),
             Err(error) => Err(fault_of(&error, Place::Folder, Said::CannotBeForced)),
         }
     }
 
-    fn force_names(&mut self, rt: &HostRuntime) -> io::Result<()> {
+    fn force_names(&mut self, rt: &HostRuntime) -> io::Result<bool> {
         fs::open(rt, self.path.as_str())?.sync_all()?;
-        if !self.is_named {
-            force_above(rt, self.path.as_str(), self.was_made)?;
-            self.is_named = true;
+        if self.is_named {
+            return Ok(false);
         }
-        Ok(())
+        let is_forced = force_above(rt, self.path.as_str(), self.was_made)?;
+        self.is_named = true;
+        Ok(!is_forced)
     }
 }
 
@@ -223,13 +225,17 @@ fn create(rt: &HostRuntime, path: &str) -> io::Result<File> {
         .open(rt, path)
 }
 
-/// Syncs the parent of this folder to the disk. If the user may not read the parent, nothing is
-/// done, unless this process created the folder.
-fn force_above(rt: &HostRuntime, path: &str, was_made: bool) -> io::Result<()> {
+/// Syncs the parent of this folder to the disk, and returns whether it did. If the user may not
+/// read the parent, it cannot be opened, and so not synced. This is a failure only if this process
+/// created the folder.
+fn force_above(rt: &HostRuntime, path: &str, was_made: bool) -> io::Result<bool> {
     let above = format!(in rt.alloc(); "{path}/..")?;
     match fs::open(rt, above.as_str()) {
-        Ok(above) => above.sync_all(),
-        Err(error) if !was_made && error.kind() == ErrorKind::PermissionDenied => Ok(()),
+        Ok(above) => {
+            above.sync_all()?;
+            Ok(true)
+        }
+        Err(error) if !was_made && error.kind() == ErrorKind::PermissionDenied => Ok(false),
         Err(error) => Err(error),
     }
 }
