@@ -30,8 +30,9 @@ void rattle_dealloc(void *block);
 int rattle_errno(void);
 void rattle_set_errno(int error);
 
-/* Writes the argument with this number to the front of a buffer, without its terminating zero, and returns its
- * length. Returns -1 if there is no such argument, and -2 if it does not fit; the buffer then has its front. */
+/* Writes the argument with this number to the front of a buffer, without its terminating zero, and returns
+ * its length. Returns -1 if there is no such argument. Returns -2 if it does not fit; the buffer then
+ * contains as much of it as fits. */
 ssize_t rattle_arg(size_t number, unsigned char *buffer, size_t size);
 
 /* Writes the value of an environment variable to the front of a buffer, without its terminating zero, and
