@@ -200,7 +200,7 @@ func Measure(tpm *tpmsim.TPM, pcr uint32, data string) []byte {
 	return answer.Parameters[4+2+20+2:][:32]
 }
 
-// Tell prints a line of an example: the result, or why it was refused.
+// `Tell` prints a line of an example: the result, or why it was refused.
 func Tell(what, came string, err error) {
 	if err != nil {
 		came = err.Error()
