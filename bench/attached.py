@@ -64,7 +64,7 @@ class Swtpm:
 
 
 def run(words: list[str], transport: str) -> None:
-    """Runs a tool of tpm2-tools, which has to succeed."""
+    """Runs a tool of tpm2-tools, which must succeed."""
     environment = os.environ | {"TPM2TOOLS_TCTI": transport}
     nowhere = subprocess.DEVNULL
     subprocess.run(words, env=environment, check=True, stdout=nowhere, stderr=nowhere)

@@ -1,9 +1,9 @@
 #!/bin/sh
 # Measures a kept device that the module for libtss2 attaches, and swtpm on a socket: tools of tpm2-tools
-# from start to end, commands in a process that stays, each for each way of forcing the disk, and the
-# opening of a long journal. Needs python3, a C compiler, Debian's tpm2-tools, libtss2-dev, swtpm and
-# swtpm-tools, and what hosts/build.sh needs. DISK is a folder on a disk, /var/tmp by default. Not part
-# of the gate.
+# from start to end, commands in one long-running process, each with each way of syncing to the disk, and
+# the opening of a long journal. Needs python3, a C compiler, Debian's tpm2-tools, libtss2-dev, swtpm and
+# swtpm-tools, and the requirements of hosts/build.sh. DISK is a folder on a disk, /var/tmp by default.
+# Not part of the gate.
 #
 #   bench/attached.sh [ROUNDS]
 set -eu

@@ -9,9 +9,9 @@ COUNT times.
     bench/commands.py nv NAME SIZE INDICES COUNT  read, write or increment of the first of INDICES
                                                   indices, each of SIZE bytes
 
-tools/python.sh runs it. Commands without a session use a password. An object or a session that a command
-makes is flushed. With sessions all commands get the same random bytes: the device then always draws the
-same nonce, and so accepts one prepared buffer each time.
+tools/python.sh runs it. Commands without a session use a password. An object or a session that a
+command makes is flushed. With sessions, all commands get the same random bytes. So the device
+always draws the same nonce, and accepts one prepared buffer each time.
 """
 
 import sys

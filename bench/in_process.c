@@ -133,7 +133,7 @@ static const unsigned char *response;
 static uint32_t response_size;
 
 /* Executes a command by libtpms. At the first use of an algorithm libtpms runs a self-test, and
- * needs the command once more. */
+ * the command must be sent again. */
 static void execute_by_libtpms(unsigned char *buffer, uint32_t size) {
     static unsigned char *kept;
     static uint32_t kept_room;

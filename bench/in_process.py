@@ -21,7 +21,7 @@ ROUNDS = 15
 TARGETS = "tpms", "sim", "still"
 SUCCESS = "00000000"
 
-# The largest number of sessions of libtpmsim, and of loaded sessions of libtpms.
+# The largest number of sessions in libtpmsim, and of loaded sessions in libtpms.
 MOST_SESSIONS, MOST_SESSIONS_OF_LIBTPMS = 16, 3
 
 HMAC_KEY = replace(hmac_key(), attributes=0x0004_0052)
@@ -32,7 +32,7 @@ BOUND = f"StartAuthSession NULL OWNER {'00' * 32} - 0 null sha256"
 BY_SESSION = "PCR_Reset by an HMAC session"
 PARENT, KEY, LOADED = "80000000", "80000001", "80000002"
 
-# TPM2_PCR_Allocate that selects only the SHA-1 and SHA-256 banks, the ones that libtpmsim has.
+# TPM2_PCR_Allocate that selects only the banks of libtpmsim, SHA-1 and SHA-256.
 BANKS = "00000004000403ffffff000b03ffffff000c03000000000d03000000"
 ALLOCATE = f"8002000000370000012b4000000c00000009400000090000000000{BANKS}"
 
@@ -71,7 +71,7 @@ class Program:
         return answer
 
     def command(self, buffer: str) -> str:
-        """Returns the response to a command, which has to succeed."""
+        """Returns the response to a command, which must succeed."""
         response = self.ask(f"cmd {buffer}")
         if response[12:20] != SUCCESS:
             sys.exit(f"{buffer[:100]} is answered {response[:20]}")

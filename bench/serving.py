@@ -2,9 +2,9 @@
 
     python3 serving.py PROGRAM BARE IMAGE
 
-PROGRAM is tpmsim. BARE is a program that only answers every twelve bytes on a socket, with as many bytes
-as the response to a TPM2_GetRandom of 32 bytes. IMAGE is the image of a device.
-"""
+PROGRAM is tpmsim. BARE is a program that answers every twelve bytes on a socket with as many bytes
+as the response to a TPM2_GetRandom of 32 bytes has, and does nothing else. IMAGE is the image of a
+device."""
 
 import contextlib
 import os

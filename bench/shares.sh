@@ -1,8 +1,8 @@
 #!/bin/sh
-# Says which share of its instructions `tpmsim run` spends on the device, and which on the text around it
-# (reading lines, decoding hex, printing), for each command of a script of GetRandom lines. It runs a short
-# and a long script under callgrind and subtracts the counts, so that start and end do not count. Needs
-# valgrind, and rt if the program is not built yet. Not part of the gate.
+# Prints the share of its instructions that `tpmsim run` spends on the device, and the share that it spends
+# on the text around it (reading lines, decoding hex, printing), for each command of a script of GetRandom
+# lines. It runs a short and a long script under callgrind and subtracts the counts, so that start and end
+# do not count. Needs valgrind, and rt if the program is not built yet. Not part of the gate.
 #
 # The device's instructions are those of `Machine::execute_into` and of everything it calls; the rest is the
 # text.

@@ -3,10 +3,10 @@ recorded tpmsim:
 
     python3 swtpm.py ATTACHED..
 
-ATTACHED is the folder of `hosts/build.sh libtpms`; each named folder is measured. The states are stored
-below the current folder. All processes run on one processor, so that none has to wake up, and other work
-on the machine has little effect. Each number is the median of seven rounds in microseconds, followed by
-the minimum in brackets.
+ATTACHED is the folder of `hosts/build.sh libtpms`; each named folder is measured. The states are
+stored below the current folder. All processes run on one processor, so that no processor has to be
+woken, and other work on the machine has little effect. Each number is the median of seven rounds in
+microseconds, followed by the minimum in brackets.
 """
 
 import itertools
@@ -60,7 +60,7 @@ class Tpm:
         self.done(DEFINITION)
 
     def done(self, buffer: bytes) -> None:
-        """Executes a command that has to succeed; repeats it if libtpms asks for that."""
+        """Executes a command, which must succeed; repeats it if libtpms asks for that."""
         code = RETRY
         while code == RETRY:
             self.client.sendall(buffer)

@@ -4,10 +4,11 @@
 #
 #   bench/swtpm.sh [STATES]    STATES is the folder of the states, /dev/shm by default
 #
-# All of it runs on one processor. While other work runs, `chrt -f 10 bench/swtpm.sh` keeps that processor.
+# All of it runs on one processor. If the machine does other work, `chrt -f 10 bench/swtpm.sh` gives it
+# priority.
 #
-# $ATTACHED is the folder of `hosts/build.sh libtpms`; without it the script makes one. $OTHERS may name more
-# such folders, of other libraries, which are measured in the same run.
+# $ATTACHED is the folder of `hosts/build.sh libtpms`; if it is not set, the script makes one. $OTHERS may
+# name more such folders, of other versions of the library, which are measured in the same run.
 set -eu
 
 top=$(CDPATH='' cd "$(dirname "$0")/.." && pwd -P)

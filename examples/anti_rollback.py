@@ -1,7 +1,7 @@
-"""Writes anti_rollback.tpm. A boot loader keeps the lowest version that may start in a counter, which
-never goes back. The key of the disk is sealed for each image: the TPM returns it while the image is the
-measured one and its version is not below the counter. So nobody can bring back an old image with a known
-fault, though it is authentic and its sealed key is still on the disk.
+"""Writes anti_rollback.tpm. A boot loader keeps the lowest version that may start in a counter,
+which never decreases. The key of the disk is sealed for each image: the TPM returns it while the
+measured image is that image and its version is not below the counter. So nobody can start an old
+image with a known fault again, although it is authentic and its sealed key is still on the disk.
 """
 
 import hashlib

@@ -1,5 +1,5 @@
-"""Writes hmac_session.tpm. An HMAC session changes the owner's authorization value, so that no value
-crosses the wire in plain, and nobody can send a command again or alter it on its way.
+"""Writes hmac_session.tpm. An HMAC session changes the owner's authorization value, so that no
+value is sent in plain text, and nobody can send a command again or alter it in transit.
 """
 
 from tpmsim.caller import Use

@@ -1,6 +1,6 @@
-"""Writes one_command.tpm. An administrator lets a technician do one thing to a computer: write one value
-to one NV index, once. The technician gets no password. What is allowed is a cpHash: the hash of a
-command's code, of the Names of its handles and of its parameters.
+"""Writes one_command.tpm. An administrator lets a technician do one thing to a computer: write one
+value to one NV index, once. The technician gets no password. The permission is a cpHash: the hash
+of a command's code, of the Names of its handles and of its parameters.
 """
 
 from tpmsim.caller import area

@@ -1,7 +1,7 @@
-"""Writes suspend_resume.tpm. A laptop sleeps (ACPI state S3): the memory keeps its content, and the TPM
-loses its power, and with it the PCRs. The software in memory continues where it was. It was measured when
-it started, and is not measured again. So the operating system asks the TPM to save the PCRs before it
-sleeps, and the firmware restores them.
+"""Writes suspend_resume.tpm. A laptop sleeps (ACPI state S3): the memory keeps its content, but the
+TPM loses its power and its PCRs. The software in memory continues where it stopped. It was measured
+when it started, and is not measured again. So the operating system asks the TPM to save the PCRs
+before the laptop sleeps, and the firmware has them restored.
 """
 
 import hashlib

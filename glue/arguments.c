@@ -1,4 +1,4 @@
-/* The arguments of the program, as proved code reads them. */
+/* The program's arguments, for proved code. */
 #include "glue.h"
 
 /* glibc passes the arguments to each constructor, before main. Nothing changes them later. */

@@ -1,4 +1,4 @@
-/* Whether reads and writes of a descriptor wait, as proved code sets it. */
+/* Sets whether reads and writes of a descriptor wait, for proved code. */
 #include "glue.h"
 #include <sys/ioctl.h>
 

@@ -1,11 +1,12 @@
-/* The environment, as proved code reads it. */
+/* The environment, for proved code. */
 #include "glue.h"
 #include <stdlib.h>
 #include <unistd.h>
 
 extern char **environ;
 
-/* Writes a text to the front of a buffer, without its terminating zero, as rattle_arg does. */
+/* Writes a text to the front of a buffer, without its terminating zero. Returns as rattle_arg
+   does. */
 static ssize_t put(const char *text, unsigned char *buffer, size_t size) {
     if (text == NULL)
         return -1;

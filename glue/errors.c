@@ -1,4 +1,4 @@
-/* The C library's errno, as proved code reads and sets it. */
+/* The C library's errno, for proved code. */
 #include "glue.h"
 #include <errno.h>
 

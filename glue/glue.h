@@ -8,8 +8,9 @@
 #include <stdint.h>
 #include <sys/types.h>
 
-/* Whether allocation succeeded, 0 or 1, and the block. If it failed, the block is not null, and owns nothing.
- * Proved code reads one byte of `ok`; the other bytes are zeros, which no caller needs to know. */
+/* The result of an allocation: whether it succeeded, 0 or 1, and the block. After a failure the block is
+ * not null, and no memory belongs to it. Proved code reads one byte of `ok`; the other bytes are zeros, which
+ * no caller needs to know. */
 struct tried {
     uint64_t ok;
     void *block;
@@ -29,16 +30,17 @@ void rattle_dealloc(void *block);
 int rattle_errno(void);
 void rattle_set_errno(int error);
 
-/* Writes the argument with this number to the front of a buffer, without its terminating zero, and returns its
- * length. Returns -1 if there is no such argument, and -2 if it does not fit; the buffer then has its front. */
+/* Writes the argument with this number to the front of a buffer, without its terminating zero, and returns
+ * its length. Returns -1 if there is no such argument. Returns -2 if it does not fit; the buffer then
+ * contains as much of it as fits. */
 ssize_t rattle_arg(size_t number, unsigned char *buffer, size_t size);
 
-/* Writes the value of an environment variable to the front of a buffer, without its terminating zero, and returns
- * its length. `name` ends with a zero. Returns -1 if there is no such variable, and -2 if the value does not fit;
- * the buffer then has its front. */
+/* Writes the value of an environment variable to the front of a buffer, without its terminating zero, and
+ * returns its length. `name` ends with a zero. Returns -1 if there is no such variable. Returns -2 if the
+ * value does not fit; the buffer then contains as much of it as fits. */
 ssize_t rattle_env(const char *name, unsigned char *buffer, size_t size);
 
-/* Writes the entry of the environment with this number, NAME=VALUE, and returns as rattle_env does. */
+/* Writes the environment's entry with this number, NAME=VALUE. Returns as rattle_env does. */
 ssize_t rattle_env_at(size_t number, unsigned char *buffer, size_t size);
 
 /* Sets whether reads and writes of the descriptor's open file wait (`on` is false) or not. Returns 0 or -1. */

@@ -4,14 +4,15 @@
 #include "glue.h"
 #include <stdlib.h>
 
-/* The address of a block after a failed allocation: it is not null, and nobody reads or writes it. */
+/* The address of a block after a failed allocation. It is not null, and nobody reads or writes
+ * there. */
 static char no_block;
 
 static struct tried tried_of(void *block) {
     return (struct tried){.ok = block != NULL, .block = block != NULL ? block : &no_block};
 }
 
-/* malloc aligns to 16, and so to every requested alignment. */
+/* malloc aligns to 16 bytes, which is enough for every requested alignment. */
 struct tried rattle_alloc(size_t size, size_t alignment) {
     return tried_of(malloc(size != 0 ? size : alignment));
 }

@@ -224,7 +224,7 @@ func (tpm *TPM) Reset() error {
 	return tpm.restart((*TPM).cycle)
 }
 
-// ManufactureReset does the same with a new device; with a seed, the new device is the same as the first one.
+// ManufactureReset restarts with a new device; with a seed, the new device is the same as the first one.
 func (tpm *TPM) ManufactureReset() error {
 	return tpm.restart(func(tpm *TPM) error {
 		if err := tpm.manufacture(); err != nil {

@@ -1,16 +1,16 @@
 #!/bin/sh
-# Builds a host of the device, with the library within it. The same sources and the same compiler make the
-# same bytes.
+# Builds a program or a library with a device in it, from the archive of the library. The same sources and
+# the same compiler make the same bytes.
 #
 #   hosts/build.sh tcti FOLDER        libtss2-tcti-tpmsim.so.0, the module for libtss2, and tpmsim-power
 #   hosts/build.sh libtpms FOLDER     libtpms.so.0, with which swtpm is a tpmsim; tpmsim-swtpm, which starts
 #                                     it so; for libvirt's path, swtpm and swtpm_setup
 #   hosts/build.sh simulator FOLDER   tpmsim-simulator
 #
-# The library is that of dist/ for this machine, or the archive that TPMSIM_ARCHIVE names, with tpmsim.h next
-# to it. CC, NM and STRIP are the tools, such as those for another machine. CFLAGS are further words for CC;
-# with them nothing is stripped. Needs a C compiler and Debian's binutils; for tcti the headers of
-# libtss2-dev, for libtpms those of libtpms-dev.
+# The archive is the one in dist/ for this machine, or the one that TPMSIM_ARCHIVE names, with tpmsim.h next
+# to it. CC, NM and STRIP are the tools, such as those for another machine. CFLAGS are further arguments for
+# CC; if it is set, nothing is stripped. Needs a C compiler and Debian's binutils; tcti needs the headers of
+# libtss2-dev, and libtpms those of libtpms-dev.
 set -u
 LC_ALL=C
 export LC_ALL
@@ -28,7 +28,7 @@ fail() {
     exit 1
 }
 
-# needs_header HEADER PACKAGE: fails if the compiler does not find it.
+# needs_header HEADER PACKAGE: fails if the compiler does not find the header.
 needs_header() {
     echo "#include <$1>" | "$compiler" -E - >/dev/null 2>&1 || fail "there is no header $1: Debian has it in $2"
 }
@@ -43,8 +43,8 @@ compile() {
     [ -n "${CFLAGS:-}" ] || "$strip" --strip-unneeded "$work/$name"
 }
 
-# compile_shared NAME MAP WORDS..: the same for a shared object that shows the names of a map. What
-# sanitizers need is in the program that loads it.
+# compile_shared NAME MAP WORDS..: compiles and links a shared object that exports the names of a
+# map. The program that loads it contains the runtime of the sanitizers.
 compile_shared() {
     name=$1
     map=$2
@@ -54,7 +54,7 @@ compile_shared() {
         ${CFLAGS:--Wl,-z,defs} "$@"
 }
 
-# The names with their versions, as libtpms.map has them.
+# Prints the names that libtpms.map exports, each with its version.
 wanted_names() {
     awk '
         /^LIBTPMS_/ { version = $1 }
@@ -62,13 +62,13 @@ wanted_names() {
     ' libtpms/libtpms.map | sort
 }
 
-# The names with their versions that libtpms.so.0 shows.
+# Prints the names that libtpms.so.0 exports, each with its version.
 given_names() {
     "$nm" -D --defined-only --with-symbol-versions "$work/libtpms.so.0" |
         awk '$2 != "A" { print $3 }' | sort
 }
 
-# deliver SOURCE NAME MODE: puts a file into the folder. What runs from the folder keeps the file that it has.
+# deliver SOURCE NAME MODE: puts a file into the folder. Programs that have the old file open keep it.
 deliver() {
     { cp "$1" "$folder/.$2.new" && chmod "$3" "$folder/.$2.new" && mv "$folder/.$2.new" "$folder/$2"; } ||
         fail "the folder $folder is not written"
@@ -126,5 +126,6 @@ archive=$(realpath -e "$archive") || exit 1
 mkdir -p "$folder" || fail "the folder $folder is not written"
 work=$(mktemp -d) || exit 1
 trap 'rm -rf "$work"' EXIT
-# The compiler gets the sources by their places in this folder, so that no path gets into the result.
+# The compiler gets the sources by paths relative to this folder, so that no absolute path gets into
+# the result.
 cd "$sources" && "build_$1"

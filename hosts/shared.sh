@@ -1,12 +1,12 @@
 #!/bin/sh
-# Makes dist/libtpmsim-kept.so.0, the C host of a kept device for other languages, and its lines in
-# dist/PROVED: the checksums of its sources and of itself, and the compiler. It is C, and tested; no proof is
-# run. It shows the names tpmsim_kept_* alone, and finds libtpmsim.so.0 next to itself, if no other one is in
-# the process.
+# Builds dist/libtpmsim-kept.so.0, the kept device for other languages, and its lines in dist/PROVED: the
+# checksums of its sources and of itself, and the compiler. It is written in C and tested, not proved. It
+# exports only the names tpmsim_kept_*, and loads the libtpmsim.so.0 next to itself if the process has not
+# loaded another one.
 #
-#   hosts/shared.sh           makes it
-#   hosts/shared.sh --check   makes it again, and compares it with dist/libtpmsim-kept.so.0: the bytes, if
-#                             the compiler is the one that PROVED names, and else the checksums alone
+#   hosts/shared.sh           builds it
+#   hosts/shared.sh --check   builds it again, and compares it with dist/libtpmsim-kept.so.0: the bytes, if
+#                             the compiler is the one that PROVED names, and otherwise only the checksums
 #   hosts/shared.sh --target aarch64 [--check]   the same for dist/aarch64
 #
 # Needs gcc and Debian's binutils, or gcc-aarch64-linux-gnu. CC is the compiler, else gcc.
@@ -22,7 +22,7 @@ fail() {
     exit 1
 }
 
-# Compiles and links it, in the folder of the sources, so that no path gets into it.
+# Compiles and links it in the folder of the sources, so that no absolute path gets into it.
 compile() (
     beside=$PWD/$distribution
     cd hosts/kept && "$compiler" -std=c11 -O2 -fPIC -Wall -Wextra -Werror -Wconversion -I../../library \
@@ -31,7 +31,7 @@ compile() (
         "$beside/libtpmsim.so.0" && "$strip" --strip-unneeded "$made" && chmod 644 "$made"
 )
 
-# Writes its lines of PROVED after the others.
+# Writes its lines to the end of PROVED.
 tell_proved() {
     {
         sed '/^kept /d' "$proved"
@@ -41,12 +41,12 @@ tell_proved() {
     } >"$proved.new" && mv "$proved.new" "$proved"
 }
 
-# Puts it into its place. What has the old one open keeps it.
+# Installs it in dist/. Programs that have the old file open keep it.
 deliver() {
     cp "$made" "$kept_shared.new" && mv "$kept_shared.new" "$kept_shared" && tell_proved
 }
 
-# What is wrong with the one in dist/, a fault a line.
+# Prints the faults of the one in dist/, one per line.
 faults() {
     faults_of_kept
     if ! is_proved 'kept compiler, which proves nothing' "$version"; then

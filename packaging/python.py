@@ -1,11 +1,11 @@
 #!/usr/bin/env python3
-"""Installs the Python package: the modules, the files by which Python knows that it is installed, and
-the programs that python/pyproject.toml names.
+"""Installs the Python package: the modules, the files that show Python that the package is
+installed, and the programs that python/pyproject.toml names.
 
     packaging/python.py ROOT PACKAGES PROGRAMS
 
-PACKAGES is the folder of Python packages below ROOT, and PROGRAMS that of programs. A program finds the
-package by its own place, wherever ROOT is.
+PACKAGES is the folder of Python packages below ROOT, and PROGRAMS that of programs. A program finds
+the package relative to its own path, wherever ROOT is.
 """
 
 import os
@@ -14,7 +14,7 @@ import sys
 
 SOURCES = pathlib.Path(__file__).resolve().parents[1] / "python"
 sys.path.insert(0, str(SOURCES / "packing"))
-# The bytecode of Python is not kept in the repository.
+# The repository contains no Python bytecode.
 sys.dont_write_bytecode = sys.pycache_prefix is None
 
 import tpmsim_wheel  # noqa: E402

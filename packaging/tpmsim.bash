@@ -1,9 +1,9 @@
-# Completion of tpmsim and its tools for bash. The programs themselves say what can be completed: `--help`
-# has the subcommands, the options, and what follows each, as in `--image <FILE>`; `tpmsim lines` has the
-# names of commands.
+# Completion of tpmsim and its tools for bash. The programs themselves provide the words: `--help` lists
+# the subcommands, the options, and the kind of each option's value, as in `--image <FILE>`; `tpmsim
+# lines` lists the names of commands.
 
-# Each of these reads a help text. They print the subcommands that it names, the options of its indented
-# lines, the kind of word that follows an option, and the kind of the first argument.
+# Each of these functions reads a help text. They print its subcommands, the options of its indented
+# lines, the kind of an option's value, and the kind of the first argument.
 _tpmsim_subcommands() { sed -n '/^Commands:/,/^$/s/^  \([a-z][a-z-]*\) .*/\1/p'; }
 _tpmsim_options() { grep '^  ' | grep -oE '(^|[ [|])--[a-z][a-z0-9-]*' | grep -oE -- '--.*' | sort -u; }
 _tpmsim_after() { sed -n "s/.*$1[ =]<\{0,1\}\([A-Z][A-Z_]*\).*/\1/p" | head -n 1; }

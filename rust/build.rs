@@ -1,5 +1,5 @@
-//! Makes the linker find libtpmsim: in the folder `TPMSIM_LIB_DIR`, else in `native/MACHINE`, where a packed
-//! package contains it, else in the repository's `dist/`.
+//! Makes the linker find libtpmsim: in the folder `TPMSIM_LIB_DIR`; otherwise in `native/MACHINE`, where a
+//! packed package contains it; otherwise in the repository's `dist/`.
 //!
 //! The build script of a dependent package reads the folder from `DEP_TPMSIM_LIBDIR`.
 
@@ -7,7 +7,7 @@ use std::env;
 use std::path::{Path, PathBuf};
 use std::process::exit;
 
-/// What the linker needs to know about a folder: how to link the library in it.
+/// Returns how to link the library in a folder, if the folder contains one.
 fn kind_in(folder: &Path) -> Option<&'static str> {
     let has = |name: &str| folder.join(name).exists();
     if has("libtpmsim.a") {
@@ -16,12 +16,12 @@ fn kind_in(folder: &Path) -> Option<&'static str> {
     has("libtpmsim.so").then_some("dylib")
 }
 
-/// A variable that cargo sets for a build script, if it is set.
+/// Returns a variable that cargo sets for a build script, if it is set.
 fn told(name: &str) -> String {
     env::var(name).unwrap_or_default()
 }
 
-/// The folder that the repository ships for a machine.
+/// Returns the folder that the repository ships for a machine.
 fn shipped(repository: &Path, machine: &str) -> PathBuf {
     let dist = repository.join("dist");
     match machine {
@@ -30,7 +30,7 @@ fn shipped(repository: &Path, machine: &str) -> PathBuf {
     }
 }
 
-/// The folder of the library.
+/// Returns the folder of the library.
 fn library_folder() -> PathBuf {
     let named = told("TPMSIM_LIB_DIR");
     if !named.is_empty() {

@@ -1,2 +1,3 @@
-"""The tests' programs in Python. As a package, programs in one folder can import those in another.
+"""The programs of the tests in Python. They form a package, so that programs in one folder can
+import those in another.
 """

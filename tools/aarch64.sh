@@ -1,8 +1,8 @@
 #!/bin/sh
-# Makes the contents of dist/aarch64, for Linux on ARM64: the program, libtpmsim.a, libtpmsim.so.0 and PROVED,
-# which names the kit and the checksums of the sources and of these three; then what hosts/shared.sh makes.
-# The two crates are proved for ARM64, which the prover's verdict names; the crates below them were proved for
-# x86-64.
+# Builds the contents of dist/aarch64, for Linux on ARM64: the program, libtpmsim.a, libtpmsim.so.0 and
+# PROVED, which names the kit and the checksums of the sources and of these three files; then the files of
+# hosts/shared.sh. The two crates are proved for ARM64, as the prover's verdict says; the crates below them
+# were proved for x86-64.
 #
 # All crates below the two have to be built here, as `rt ci` leaves them, and no source may be newer:
 # tools/build.sh and tools/library.sh do that for x86-64 first. Needs `rt`, and Debian's gcc-aarch64-linux-gnu.

@@ -4,7 +4,7 @@
 #
 #   tools/crate.sh [FOLDER]   in FOLDER; else in out/
 #
-# Needs cargo, which builds what is packed.
+# Needs cargo, which builds the packed crate.
 set -u
 folder=$(realpath -m "${1:-$(dirname "$0")/../out}") && cd "$(dirname "$0")/.." || exit 1
 

@@ -1,13 +1,13 @@
 #!/bin/sh
-# Makes the package for Debian and its like, tpmsim_VERSION_amd64.deb, and prints its path. The same
-# commit and the same tools make the same bytes.
+# Builds the package for Debian and its derivatives, tpmsim_VERSION_amd64.deb, and prints its path.
+# The same commit and the same tools make the same bytes.
 #
 #   tools/deb.sh [--machine aarch64] [FOLDER]   in FOLDER; else in out/
 #
-# With --machine aarch64 it is tpmsim_VERSION_arm64.deb, made of dist/aarch64, and needs Debian's
-# gcc-aarch64-linux-gnu. TPMSIM_MAINTAINER is the package's maintainer; else it is the author of the last
-# commit. TPMSIM_PACKING is the compression of dpkg-deb, else xz. tools/install.sh lists the contents of
-# the package. Needs dpkg-deb and python3; nothing is proved.
+# With --machine aarch64 it builds tpmsim_VERSION_arm64.deb from dist/aarch64, and needs Debian's
+# gcc-aarch64-linux-gnu. TPMSIM_MAINTAINER is the package's maintainer, by default the author of the last
+# commit. TPMSIM_PACKING is the compression of dpkg-deb, by default xz. tools/install.sh lists the
+# contents of the package. Needs dpkg-deb and python3; nothing is proved.
 set -u
 umask 022
 unset TPMSIM_MACHINE

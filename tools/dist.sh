@@ -1,8 +1,8 @@
 #!/bin/sh
 # Copies the program that `rt ci` proved and built here to dist/, and writes its lines of PROVED: the
-# kit, and the checksums of the sources and of the program. Needs `rt`. tools/library.sh makes the
-# library, hosts/shared.sh the host of kept devices for other languages, and tools/web.sh the module for
-# web pages.
+# kit, and the checksums of the sources and of the program. Needs `rt`. tools/library.sh builds the
+# library, hosts/shared.sh the kept device for other languages, and tools/web.sh the module for web
+# pages.
 #
 #   tools/dist.sh           copies the program, unless a source is newer than the one built here
 #   tools/dist.sh --check   says whether dist/ was made of the current sources and, if it was made by

@@ -12,9 +12,9 @@
 #     FUNCTIONS  the folder of zsh's functions in PREFIX; share/zsh/site-functions
 #
 # The modules for libtss2 and for swtpm, and tpmsim-simulator, are built if their headers are installed;
-# else a line says that they are left out. Without DESTDIR, root's ldconfig adds the libraries to the
-# loader's cache, and the script says what a user sets to find what neither the loader nor python3
-# finds. Needs python3.
+# otherwise a line says that they are left out. Without DESTDIR, root's ldconfig adds the libraries to
+# the loader's cache. If the loader or python3 does not find the installed files, the script prints the
+# variables that a user has to set. Needs python3.
 set -u
 umask 022
 cd "$(dirname "$0")/.." || exit 1
@@ -116,7 +116,7 @@ put_modules() {
     fi
 }
 
-# tell_loader: makes the loader find the libraries, or says how the user makes it find them.
+# tell_loader: makes the loader find the libraries, or prints how the user makes it find them.
 tell_loader() {
     PATH=$PATH:/usr/sbin:/sbin
     if [ "$(id -u)" -eq 0 ] && command -v ldconfig >"$work/told"; then
@@ -126,7 +126,7 @@ tell_loader() {
         echo "The loader finds the libraries by LD_LIBRARY_PATH=$prefix/$libraries"
 }
 
-# tell_python: says how the user makes python3 find the package, unless python3 finds it already.
+# tell_python: prints how the user makes python3 find the package, unless python3 finds it already.
 tell_python() {
     (cd / && python3 -B -c '
 import sys, tpmsim

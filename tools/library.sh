@@ -1,8 +1,9 @@
 #!/bin/sh
-# Makes the library in dist/: libtpmsim.a, libtpmsim.so.0, tpmsim.h, tpmsim.hpp and tpmsim.pc; and its
-# lines in dist/PROVED, which name the kit, and the checksums of the sources and of the first two.
+# Builds the library in dist/: libtpmsim.a, libtpmsim.so.0, tpmsim.h, tpmsim.hpp and tpmsim.pc; and
+# its lines in dist/PROVED, which name the kit, and the checksums of the sources and of the first two
+# files.
 #
-# The exports are proved and compiled over the crates below them, as `rt ci` left these here. If a
+# The exports are proved and compiled over the crates below them, which `rt ci` built here. If a
 # source is newer, the crates are first proved in a copy. Needs `rt`, git, a C compiler and Debian's
 # binutils.
 #
@@ -42,7 +43,7 @@ prove() {
 }
 
 # Links the archive, from the compiled exports and the kit's connection to the C library's allocator,
-# and the shared object, from the same.
+# and from the same files the shared object.
 link() (
     mkdir "$work/objects" && cd "$work/objects" && ar x "$work/exports.a" &&
         ar x "$kit/c/liblibc_c.a" heap.pic.o && ar rcsD "$work/libtpmsim.a" ./*.o &&

@@ -15,8 +15,8 @@ BEGIN, END = "<!-- crates -->\n", "<!-- end of crates -->\n"
 
 
 def first_clause(crate: Path) -> str:
-    """Returns the first sentence of the comment at the head of a crate's root file, or the part
-    before its colon, if that part has three words.
+    """Returns the first sentence of the comment at the head of a crate's root file. If the part
+    before its colon has at least three words, returns only that part.
     """
     root = crate / "src" / "lib.rt"
     text = (root if root.exists() else crate / "src" / "main.rt").read_text()

@@ -150,7 +150,7 @@ def write(key: str, told: Mapping[str, object]) -> None:
 
 
 def main(words: list[str]) -> int:
-    """Runs the gate, or what the arguments ask for."""
+    """Runs the gate, or the command in the arguments."""
     if words[:1] == ["--wrong"]:
         where = {"date": date.today().isoformat(), "commit": output_of("git", "rev-parse", "HEAD")}
         write("wrong_bodies", {**where, "refused": int(words[1]), "tried": int(words[2])})

@@ -1,12 +1,12 @@
 #!/bin/sh
-# Makes a release of the last commit, and prints what it made: the tag vVERSION; and in a folder the
-# package for Debian, the sources, dist/PROVED, the version's section of CHANGELOG.md, and SHA256SUMS of
-# these. It sends nothing anywhere.
+# Makes a release of the last commit, and prints a list of its parts: the tag vVERSION; and in a folder
+# the package for Debian, the sources, dist/PROVED, the version's section of CHANGELOG.md, and
+# SHA256SUMS of these files. It sends nothing anywhere.
 #
 #   tools/release.sh [FOLDER]   in FOLDER; else in out/vVERSION
 #
-# CHANGELOG.md has to begin with the version's section, `## VERSION, DATE`; nothing may differ from the
-# last commit; and dist/ has to be made of its sources. Needs git, dpkg-deb, tar, gzip and python3.
+# CHANGELOG.md must begin with the version's section, `## VERSION, DATE`; the working tree must equal
+# the last commit; and dist/ must be made of its sources. Needs git, dpkg-deb, tar, gzip and python3.
 set -u
 told_folder=${1:+$(realpath -m "$1")}
 cd "$(dirname "$0")/.." || exit 1
@@ -18,7 +18,7 @@ fail() {
     exit 1
 }
 
-# Prints the reasons that prevent a release, one a line.
+# Prints the reasons that prevent a release, one per line.
 faults() {
     [ -z "$(git status --porcelain)" ] || echo 'something differs from the last commit'
     tools/version.sh >"$work/versions" || cat "$work/versions"

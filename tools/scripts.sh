@@ -3,9 +3,9 @@
 # expected files next to them. Exhaustive scripts are not stored: tests/common/made.py makes them first, with
 # the responses and traces of the device in Python. It tests both programs that `rt ci` leaves, and the one in
 # dist/ if its bytes differ. Then tpmsim_lists, which keeps the device's state in lists and not in arrays of
-# fixed size, plays the scripts that have to succeed, and has to print the same bytes. Last come the shell
-# tests of that program, of the library in dist/, and of the hosts that attach it. If nothing was built here,
-# only the files in dist/ are tested; that needs no `rt`.
+# fixed size, plays the scripts that must succeed, and must print the same bytes. Last come the shell tests
+# of that program, of the library in dist/, and of the hosts that attach it. If nothing was built here, only
+# the files in dist/ are tested; that needs no `rt`.
 #
 #   tools/scripts.sh                   all of them
 #   tools/scripts.sh --shipped         those of what is in dist/ alone
@@ -45,7 +45,7 @@ work=
 trap 'rm -rf "$work"' EXIT
 made_in=$work/made
 mkdir "$work/told" "$work/rooms" "$work/queue" "$made_in" || exit 1
-# A test may run as another user, who has to reach its folder.
+# A test may run as another user, who must be able to enter its folder.
 chmod a+x "$work" "$work/rooms"
 export TMPDIR="$work/rooms"
 # If python3 is a launcher of another python3, as pyenv's is, the tests start that other one directly.
@@ -109,7 +109,7 @@ is_test() {
 programs_of_made=$(find "$top/tests" -mindepth 2 -maxdepth 2 -name '*.py' \
     -exec grep -lE '^"""Makes [a-z_0-9]+[.]tpm' {} + | sort)
 
-# makes PROGRAM: whether it is one of them.
+# makes PROGRAM: whether the program makes scripts when they are played.
 makes() {
     echo "$programs_of_made" | grep -qxF -- "$1"
 }
@@ -154,8 +154,8 @@ for name do
     [ -n "$found" ] || say "FAILED: $name: there is no such test"
 done
 
-# make_scripts TEST..: makes the scripts among these tests that are not stored. If they are all that there
-# are, tests that play all scripts need not make them again.
+# make_scripts TEST..: makes the scripts among these tests that are not stored. If these are all such
+# scripts, the tests that play all scripts need not make them again.
 make_scripts() {
     for test do
         shift

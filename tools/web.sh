@@ -1,18 +1,18 @@
 #!/bin/sh
-# Makes dist/tpmsim.wasm, the device as a module for web pages and for node, and its lines in dist/PROVED: the
-# prover's verdict for the module's own target, the kit, the checksums of the sources and of the module,
-# and the tool that lowered it.
+# Builds dist/tpmsim.wasm, the device as a module for web pages and for node, and its lines in dist/PROVED:
+# the prover's verdict for the module's own target, the kit, the checksums of the sources and of the module,
+# and the tool that converted it.
 #
 # The kit links a module whose memory has 64-bit addresses. Debian's binaryen converts it to one with 32-bit
 # addresses, which every browser and node run without a flag: only that one is shipped. binaryen is not part
 # of the proof, nor is the linker.
 #
-#   tools/web.sh           makes it
-#   tools/web.sh --check   makes it again, and compares it with dist/tpmsim.wasm: its bytes, if kit and
-#                          binaryen are those that PROVED names, and else its checksums alone
+#   tools/web.sh           builds it
+#   tools/web.sh --check   builds it again, and compares it with dist/tpmsim.wasm: its bytes, if kit and
+#                          binaryen are those that PROVED names, and otherwise only its checksums
 #
-# The crates below have to be built here, as `rt ci` leaves them, and no source may be newer:
-# tools/build.sh builds them. Needs `rt`, and Debian's binaryen.
+# The crates below must be built here by `rt ci`, and no source may be newer: tools/build.sh builds
+# them. Needs `rt`, and Debian's binaryen.
 set -u
 cd "$(dirname "$0")/.." && top=$(pwd -P) || exit 1
 . tools/lib/proved.sh
@@ -45,8 +45,8 @@ link() {
             -o "$work/wide.wasm" "$work/exports.a" >>"$log" 2>&1
 }
 
-# Lowers the module. In addition to 64-bit memory it uses these features of WebAssembly, which all browsers
-# have.
+# Converts the module. In addition to 64-bit memory it uses these features of WebAssembly, which all
+# browsers have.
 lower() {
     wasm-opt --enable-memory64 --enable-bulk-memory --enable-sign-ext --enable-mutable-globals \
         --enable-nontrapping-float-to-int --memory64-lowering "$work/wide.wasm" -o "$work/tpmsim.wasm" \

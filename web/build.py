@@ -1,10 +1,10 @@
 #!/usr/bin/env python3
-"""Makes dist/tpmsim.html: one file with the page of web/page, the proved module dist/tpmsim.wasm, and
-what the repository's tables say. The same sources make the same bytes.
+"""Builds dist/tpmsim.html: one file with the page of web/page, the proved module dist/tpmsim.wasm,
+and the contents of the repository's tables. The same sources make the same bytes.
 
     web/build.py             writes dist/tpmsim.html
-    web/build.py --check     compares it with what is there; the status is 1 if they differ
-    web/build.py --facts     prints what the tables say, as the page has it
+    web/build.py --check     compares it with the present one; the status is 1 if they differ
+    web/build.py --facts     prints the contents of the tables, as the page has them
     web/build.py --out FILE  writes the page there; --module FILE takes the module from there
     web/build.py --docs URL  the page's links lead to URL/table/.., instead of ../docs/table/..
 """
@@ -41,7 +41,7 @@ EXAMPLES = (
 Value = dict[str, object]
 
 
-# What the tables say.
+# The contents of the tables.
 
 
 def command_value(code: CC, sections: dict[str, str]) -> Value:
@@ -63,7 +63,7 @@ def command_value(code: CC, sections: dict[str, str]) -> Value:
 
 
 def sections_of_table() -> dict[str, str]:
-    """Where docs/table has each command, by its name."""
+    """Returns the link to each command's section in docs/table, by the command's name."""
     text = (TOP / "docs" / "table" / "README.md").read_text("utf-8")
     found = re.findall(r"^\| \[TPM2_(\w+)\]\(([\w.#-]+)\) \|", text, re.MULTILINE)
     return {name: f"docs/table/{place}" for name, place in found}
@@ -132,7 +132,9 @@ MARK = re.compile(r"@([A-Z]+)@")
 
 @dataclass(frozen=True)
 class Script:
-    """A module of JavaScript: its name in the page, what it imports from which, and its text."""
+    """A module of JavaScript: its name in the page, the names that it imports from other modules,
+    and its text.
+    """
 
     name: str
     imports: list[tuple[str, str]]
@@ -141,7 +143,7 @@ class Script:
 
     @property
     def text(self) -> str:
-        """The module as a function that returns what it exports."""
+        """The module as a function that returns its exports."""
         taken = "".join(f"const {{{names}}} = {of};\n" for names, of in self.imports if names)
         given = ", ".join(self.exports)
         return f"const {self.name} = (() => {{\n{taken}{self.body}return {{ {given} }};\n}})();\n"
@@ -168,7 +170,7 @@ def read_script(path: pathlib.Path) -> tuple[Script, list[pathlib.Path]]:
 
 
 def scripts(first: pathlib.Path, done: dict[pathlib.Path, Script]) -> dict[pathlib.Path, Script]:
-    """The modules of the page, each after those that it imports."""
+    """Returns the modules of the page, each after those that it imports."""
     found, below = read_script(first)
     for it in below:
         if it not in done:
@@ -178,7 +180,9 @@ def scripts(first: pathlib.Path, done: dict[pathlib.Path, Script]) -> dict[pathl
 
 
 def script() -> str:
-    """The modules as one script, without indentation and the comments on lines of their own."""
+    """Returns the modules as one script, without indentation and the comments on lines of their
+    own.
+    """
     body = "".join(it.text for it in scripts(PAGE / "main.js", {}).values())
     return f'(() => {{\n"use strict";\n{body}}})();\n'
 
@@ -196,13 +200,13 @@ def policy(style: str, code: str) -> str:
 
 
 def data_text(value: object) -> str:
-    """JSON that ends no element and begins none."""
+    """Returns a value as JSON that neither begins nor ends an element."""
     spelled = json.dumps(value, separators=(",", ":"), ensure_ascii=True)
     return re.sub("[<>&]", lambda it: f"\\u{ord(it[0]):04x}", spelled)
 
 
 def deflated(module: bytes) -> bytes:
-    """The module, packed as DecompressionStream("deflate-raw") unpacks it."""
+    """Returns the module, packed for DecompressionStream("deflate-raw")."""
     packer = zlib.compressobj(9, zlib.DEFLATED, -zlib.MAX_WBITS)
     return packer.compress(module) + packer.flush()
 
@@ -211,7 +215,9 @@ MODULE = re.compile(r'(<script [^>]*id="module">)([^<]*)(</script>)')
 
 
 def unpacked(text: str) -> str:
-    """The page with its module in hex: another zlib may pack it in other bytes."""
+    """Returns the page with its module in hex, because another zlib may pack it into other
+    bytes.
+    """
     return MODULE.sub(
         lambda it: it[1] + zlib.decompress(base64.b64decode(it[2]), -zlib.MAX_WBITS).hex() + it[3], text
     )

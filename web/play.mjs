@@ -1,11 +1,11 @@
-// Plays scripts with the module that pages use, as `tpmsim run` does with the program.
+// Plays scripts with the module that pages use, like `tpmsim run`.
 //
 //   node play.mjs MODULE run SCRIPT      prints what `tpmsim run SCRIPT` prints
 //   node play.mjs MODULE trace SCRIPT    prints what `tpmsim run --trace SCRIPT` prints
 //   node play.mjs MODULE check SCRIPT    prints what `tpmsim check SCRIPT` prints
 //   node play.mjs MODULE compare FOLDER..
-//       plays each NAME.tpm of these folders that has a NAME.out next to it, and compares what comes of
-//       it with that, and with NAME.trace where there is one
+//       plays each NAME.tpm of these folders that has a NAME.out next to it, and compares the output with
+//       NAME.out, and with NAME.trace if there is one
 import { existsSync, readFileSync, readdirSync } from 'node:fs';
 import { join } from 'node:path';
 import { fileURLToPath } from 'node:url';
@@ -42,7 +42,7 @@ export class Module {
         this.grow(end);
     }
 
-    /** @param {number} end the memory has at least so many bytes then */
+    /** @param {number} end the memory then has at least this many bytes */
     grow(end) {
         const pages = Math.ceil((end - this.calls.memory.buffer.byteLength) / 65536);
         if (pages > 0) this.calls.memory.grow(pages);
@@ -88,7 +88,7 @@ export class Player {
         module.calls.device_manufacture(module.to('holder'), module.to('device'), module.to('random'));
     }
 
-    /** Executes a line. @param {Uint8Array} line @returns {string} why it is bad, empty for a good line */
+    /** Executes a line. @param {Uint8Array} line @returns {string} its fault, empty for a good line */
     line(line) {
         const { calls, at } = this.module;
         const { module } = this;
@@ -134,7 +134,7 @@ export class Player {
     }
 }
 
-/** Reads a script and prints what is wrong with each bad line. @param {Module} module @param {string} file */
+/** Reads a script and prints the fault of each bad line. @param {Module} module @param {string} file */
 function check(module, file) {
     module.view.setUint32(module.at.waited, 0, true);
     let number = 0;

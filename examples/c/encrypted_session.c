@@ -12,7 +12,7 @@ enum { SECRET_BYTES = sizeof secret - 1 };
    is written. */
 enum { BY_OWNER = 0x00020002, WRITTEN = 0x20000000 };
 
-/* All bytes that were sent to the TPM, the last command, and the last response in plain text. */
+/* All bytes that were sent to the TPM, the last command, and the last decrypted response. */
 static text heard, last, plain;
 
 static const char *told(const char *what, size_t size) {

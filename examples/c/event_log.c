@@ -37,7 +37,7 @@ static text replayed(const measurement *log, size_t count) {
     return values;
 }
 
-/* Prints what someone who replays a log concludes. */
+/* Prints the conclusion of a verifier who replays a log. */
 static void judge(const char *what, const measurement *log, size_t count, text values) {
     const text found = replayed(log, count);
     const char *between = ": PCR ";

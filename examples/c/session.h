@@ -1,5 +1,6 @@
-/* A session that computes HMACs, is bound to the entity that it authorizes, and encrypts by AES-128 in
-   mode CFB. SHA-256, HMAC, KDFa and AES are written out; a program uses a library for them. */
+/* A session that computes HMACs, is bound to the entity that it authorizes, and encrypts with
+   AES-128 in CFB mode. SHA-256, HMAC, KDFa and AES are written out here; a program uses a library
+   for them. */
 #ifndef SESSION_H
 #define SESSION_H
 

@@ -1,4 +1,4 @@
-"""The device that the CI has started for the job."""
+"""Tests a device that the CI has started for the job."""
 
 import os
 

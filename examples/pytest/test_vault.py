@@ -1,4 +1,4 @@
-"""Each test has a device of its own, by the fixture `tpm`."""
+"""Each test has its own device, from the fixture `tpm`."""
 
 import pytest
 from tpmsim.caller import Refused

@@ -37,7 +37,7 @@ def replayed(log: Log) -> list[bytes]:
 
 
 def verdict(log: Log, values: list[bytes]) -> str:
-    """Returns what someone who replays a log concludes."""
+    """Returns the conclusion of a verifier who replays a log."""
     wrong = [str(pcr) for pcr, *both in zip(PCRS, replayed(log), values) if both[0] != both[1]]
     return f"PCR {', '.join(wrong)} differ" if wrong else "the PCRs are those of the log"
 

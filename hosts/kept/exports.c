@@ -1,4 +1,4 @@
-/* The kept device, as programs in C and in other languages use it: tpmsim_kept.h says how. */
+/* The kept device for programs in C and in other languages; tpmsim_kept.h documents the calls. */
 #include "kept.h"
 #include "past.h"
 #include "told.h"
@@ -7,7 +7,7 @@
 
 _Static_assert((int)TPMSIM_KEPT_REASON_SIZE == (int)REASON_ROOM, "each sentence fits");
 
-/* The number of a call, whose sentence is written if it was not done. */
+/* Returns the number of a call's result. If the call failed, also writes the reason to `text`. */
 static uint8_t number_of(bool is_done, const struct reason *reason, char text[REASON_ROOM]) {
     if (is_done) return TPMSIM_DONE;
     memcpy(text, reason->text, strlen(reason->text) + 1);
@@ -19,7 +19,7 @@ static bool is_open(const tpmsim_kept_device *handle, struct reason *reason) {
     return handle->private_ || refuse_told(reason, "the handle", NULL, TPMSIM_NO_DEVICE);
 }
 
-/* Reads the options. False if a number is not one of those that it may be. */
+/* Reads the options. Returns false if a number is out of range. */
 static bool read_options(const tpmsim_kept_options *asked, struct kept_options *options) {
     if (asked->force > TPMSIM_FORCE_ALWAYS || asked->keep > PAST_MOST || asked->random_size > 256)
         return false;
@@ -39,7 +39,7 @@ uint8_t tpmsim_kept_open(tpmsim_kept_device *handle, const tpmsim_kept_options *
     struct kept_options options;
     struct reason reason;
     if (!read_options(asked, &options)) {
-        refuse(&reason, "a number of the options", NULL, "means nothing", 0);
+        refuse(&reason, "a number of the options", NULL, "is out of range", 0);
         reason.told = TPMSIM_NO_WORD;
         return number_of(false, &reason, text);
     }

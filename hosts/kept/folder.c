@@ -24,23 +24,25 @@ int close_file(int file) {
     return -1;
 }
 
-/* Copies a path without the slashes at its end, after which a link would be followed. */
+/* Copies a path without the slashes at its end. With a slash at the end, a link would be
+ * followed. */
 static char *copy_path(const char *path) {
     size_t size = strlen(path);
     while (size > 1 && path[size - 1] == '/') size--;
     return strndup(path, size);
 }
 
-/* Gives a folder its mode by its path, which follows no link: by the system call, which glibc
- * before 2.39 does not use; or as glibc does on kernels before Linux 6.6, by /proc. */
+/* Sets the mode of a folder by its path, without following a link. The first attempt is the
+ * system call, which glibc before 2.39 does not use. The second is glibc's function, which uses
+ * /proc on kernels before Linux 6.6. */
 static bool set_mode_by_path(const char *path) {
     return syscall(FCHMODAT2, AT_FDCWD, path, MODE, AT_SYMLINK_NOFOLLOW) == 0 ||
            fchmodat(AT_FDCWD, path, MODE, AT_SYMLINK_NOFOLLOW) == 0;
 }
 
-/* Gives the folder that was made its mode, of which the umask may have taken bits. It is opened
- * for that, which follows no link and needs no /proc. Its path serves only where the umask has
- * taken it from its own user. */
+/* Sets the mode of the new folder, because the umask may have removed bits. Opening the folder
+ * follows no link and needs no /proc. The path is used only if the umask denies the folder to
+ * its own user. */
 static bool set_mode(const char *path) {
     int made = open(path, O_RDONLY | O_DIRECTORY | O_NOFOLLOW | O_CLOEXEC);
     if (made < 0) return errno == EACCES && set_mode_by_path(path);
@@ -130,8 +132,8 @@ int folder_make_file(const struct folder *folder, const char *name, struct reaso
     return close_file(file);
 }
 
-/* Opens the file that is locked, and makes it if it is missing. Another process may make it between
- * the look and the making: that is no reason to be reported. */
+/* Opens the lock file, and makes it if it is missing. It is no fault if another process makes
+ * the file after this one found it missing. */
 static bool open_lock(struct folder *folder, struct reason *reason) {
     if (folder_look(folder, LOCK_NAME, &folder->lock_status, reason) == 0) {
         int made = folder_make_file(folder, LOCK_NAME, reason);
@@ -147,7 +149,7 @@ static bool open_lock(struct folder *folder, struct reason *reason) {
 
 static void close_lock(struct folder *folder) { folder->lock = close_file(folder->lock); }
 
-/* Waits until no other open file has the lock, and takes it. */
+/* Waits until no other open file holds the lock, and takes it. */
 static bool wait_for(int lock) {
     while (flock(lock, LOCK_EX) != 0)
         if (errno != EINTR) return false;
@@ -172,8 +174,8 @@ void folder_unlock(struct folder *folder) {
     if (folder->lock >= 0 && flock(folder->lock, LOCK_UN) != 0) close_lock(folder);
 }
 
-/* Forces the folder that this one is in. If its user may not read that one, or its file system
- * does not force folders, the whole file system of this one is forced instead. */
+/* Syncs the parent folder. If the user may not read the parent, or its file system does not sync
+ * folders, syncs the whole file system of this folder instead. */
 static bool force_name(const struct folder *folder, struct reason *reason) {
     int above = openat(folder->descriptor, "..", O_RDONLY | O_DIRECTORY | O_CLOEXEC);
     int error = above < 0 || fsync(above) != 0 ? errno : 0;

@@ -3,7 +3,7 @@
 #include <stddef.h>
 #include <sys/mman.h>
 
-/* The kernel gives whole pages, of which the mark is the first byte. */
+/* The kernel allocates whole pages; the mark is the first byte of one. */
 enum { SIZE = 1 };
 
 void fork_mark_begin(struct fork_mark *mark) {

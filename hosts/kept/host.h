@@ -1,15 +1,15 @@
-/* What a device hears from the host: the time, and random bytes. */
+/* What a device needs from the host: the time, and random bytes. */
 #ifndef HOST_H
 #define HOST_H
 #include <stdbool.h>
 #include <stddef.h>
 #include <stdint.h>
 
-/* The host's clock, in milliseconds since 1970. False where it cannot be read, or shows an earlier
- * year. */
+/* Reads the host's clock, in milliseconds since 1970. Returns false if the clock cannot be read
+ * or is before 1970. */
 bool host_now(uint64_t *now_ms);
 
-/* Fills a buffer with random bytes of the system. False if there are none. */
+/* Fills a buffer with the system's random bytes. Returns false if there are none. */
 bool host_random(uint8_t *room, size_t size);
 
 #endif

@@ -8,10 +8,10 @@
 #include <stdlib.h>
 #include <unistd.h>
 
-/* No image has as many bytes. */
+/* Larger than any image. */
 enum { ROOM = 64 * 1024 };
 
-/* Opens the file, where it is one that may be read. */
+/* Opens the file if it may be read. Returns -1 with the reason. */
 static int open_file(const char *path, struct reason *reason) {
     struct stat status;
     if (fstatat(AT_FDCWD, path, &status, AT_SYMLINK_NOFOLLOW) != 0) {
@@ -38,7 +38,7 @@ static bool read_device(tpmsim *device, int file, const char *path, uint8_t *roo
     return told == TPMSIM_DONE || refuse_told(reason, path, NULL, told);
 }
 
-/* The bytes of an image, whose device is opened. */
+/* Returns the bytes of an image, and opens its device. */
 static uint8_t *open_bytes(tpmsim *device, const char *path, size_t *size, struct reason *reason) {
     int file = open_file(path, reason);
     if (file < 0) return NULL;

@@ -12,7 +12,8 @@
 
 #define NEW_NAME "journal.new"
 
-/* A journal begins again once it has so many bytes. */
+/* A journal is restarted when it has at least this size; tpmsim_keeper_new has the exact
+   condition. */
 enum { LIMIT = 256 * 1024 };
 
 const char *keeping_name(const struct keeping *keeping) {
@@ -24,14 +25,14 @@ static bool refuse_file(const struct keeping *keeping, const char *name, const c
     return refuse(reason, keeping->folder.path, name, said, errno);
 }
 
-/* Frees the buffer, which has had the device's secrets. */
+/* Clears and frees the buffer, which contained secrets of the device. */
 static void free_buffer(struct keeping *keeping) {
     if (keeping->buffer) explicit_bzero(keeping->buffer, keeping->buffer_size);
     free(keeping->buffer);
     keeping->buffer = NULL;
 }
 
-/* Makes the buffer so large. What it had is gone. */
+/* Makes the buffer at least this large. Its contents are lost if it grows. */
 static bool reserve(struct keeping *keeping, size_t size, struct reason *reason) {
     if (keeping->buffer_size >= size) return true;
     uint8_t *buffer = malloc(size);
@@ -42,7 +43,7 @@ static bool reserve(struct keeping *keeping, size_t size, struct reason *reason)
     return true;
 }
 
-/* Notes what a task cuts off the journal, if it cuts anything. */
+/* Notes in a sentence what a task cuts off the journal, if it cuts anything. */
 static void note_cut(struct keeping *keeping, const tpmsim_ask *ask) {
     char said[128], place[32] = "last whole record";
     if (keeping->size <= ask->cut) return;
@@ -52,7 +53,8 @@ static void note_cut(struct keeping *keeping, const tpmsim_ask *ask) {
     refuse(&keeping->notice, keeping->folder.path, JOURNAL_NAME ":", said, 0);
 }
 
-/* ---- the tasks. One that fails says why, or leaves that to the keeper's fault and to errno. */
+/* ---- the tasks. A task that fails sets the reason, or leaves it to the keeper's fault and to
+   errno. */
 
 static uint8_t look(struct keeping *keeping, struct reason *reason) {
     const struct folder *folder = &keeping->folder;
@@ -72,7 +74,7 @@ static uint8_t look(struct keeping *keeping, struct reason *reason) {
     return TPMSIM_GOT_DONE;
 }
 
-/* Reads the journal from a place on, all of it. */
+/* Reads the whole journal from an offset on. */
 static bool read_from(struct keeping *keeping, uint64_t at, struct reason *reason) {
     size_t size = (size_t)(keeping->size - at);
     if (!reserve(keeping, size, reason)) return false;
@@ -83,7 +85,7 @@ static bool read_from(struct keeping *keeping, uint64_t at, struct reason *reaso
            refuse(reason, keeping->folder.path, JOURNAL_NAME, "was shortened while it was read", 0);
 }
 
-/* Cuts the journal to so many bytes. */
+/* Truncates the journal to this size. */
 static bool cut(const struct keeping *keeping, uint64_t size) {
     while (ftruncate(keeping->journal, (off_t)size) != 0)
         if (errno != EINTR) return false;
@@ -101,7 +103,7 @@ static bool put(struct keeping *keeping, const tpmsim_ask *ask, struct reason *r
     return false;
 }
 
-/* Removes the new file. errno stays as it is. */
+/* Removes the new file, and preserves errno. */
 static void remove_new(struct keeping *keeping) {
     int error = errno;
     unlinkat(keeping->folder.descriptor, NEW_NAME, 0);
@@ -109,14 +111,14 @@ static void remove_new(struct keeping *keeping) {
     errno = error;
 }
 
-/* Writes the new file, and says what failed; NULL if nothing did. */
+/* Writes the new file and syncs it. Returns what failed; NULL if nothing did. */
 static const char *write_new(struct keeping *keeping, size_t size) {
     if (!transfer_write(keeping->fresh, keeping->buffer, size, 0)) return "cannot be written";
     if (fsync(keeping->fresh) != 0) return "cannot be forced to the disk";
     return fstat(keeping->fresh, &keeping->fresh_status) == 0 ? NULL : "cannot be looked at";
 }
 
-/* Makes the new file. A killed process may have left another one. */
+/* Makes the new file. First removes one that a killed process may have left. */
 static bool make(struct keeping *keeping, const tpmsim_ask *ask, struct reason *reason) {
     struct stat status;
     int there = folder_look(&keeping->folder, NEW_NAME, &status, reason);
@@ -147,7 +149,8 @@ static bool name(struct keeping *keeping, struct reason *reason) {
     return true;
 }
 
-/* Does a task of a device in memory. One that was dropped, as memory was refused, is lost. */
+/* Does a task of a device in memory. If the keeper dropped the device for lack of memory, the
+   device is lost. */
 static uint8_t do_in_memory(struct keeping *keeping, const tpmsim_ask *ask) {
     switch (ask->task) {
     case TPMSIM_TASK_LOOK: return keeping->number ? TPMSIM_GOT_DONE : TPMSIM_GOT_GONE;
@@ -159,7 +162,7 @@ static uint8_t do_in_memory(struct keeping *keeping, const tpmsim_ask *ask) {
     return TPMSIM_GOT_DONE;
 }
 
-/* Does a task, with what the keeper writes in the buffer, and returns a number of tpmsim_got. */
+/* Fills the buffer with the keeper's text, does the task, and returns a number of tpmsim_got. */
 static uint8_t do_task(struct keeping *keeping, const tpmsim_ask *ask, struct reason *reason) {
     bool is_done = true;
     if (!keeping->folder.path) return do_in_memory(keeping, ask);
@@ -181,19 +184,19 @@ static uint8_t do_task(struct keeping *keeping, const tpmsim_ask *ask, struct re
 
 /* ---- the loop */
 
-/* Says why the journal does not open, by a look at the whole file. */
+/* Sets the reason why the journal does not open, which needs a look at the whole file. */
 static bool refuse_damage(struct keeping *keeping, struct reason *reason) {
     tpmsim device = {0};
     size_t taken;
     if (!read_from(keeping, 0, reason)) return false;
     uint8_t told = tpmsim_journal_open(&device, keeping->buffer, keeping->read, &taken);
     tpmsim_free(&device);
-    /* Another holder may have cut it meanwhile. */
+    /* Another holder may have cut the journal in between. */
     if (told == TPMSIM_DONE) told = TPMSIM_DAMAGED;
     return refuse_told(reason, keeping->folder.path, JOURNAL_NAME, told);
 }
 
-/* Says why a call was not done, in the keeper's words, unless a task has said it. */
+/* Sets the reason why a call failed, in the keeper's words, unless a task has set it already. */
 static bool refuse_fault(struct keeping *keeping, uint8_t fault, int error, struct reason *reason) {
     char said[128] = "";
     const char *file = fault == TPMSIM_FAULT_LOCK   ? LOCK_NAME

@@ -1,6 +1,6 @@
-/* What the keeper of the library asks for, done with the files of a folder. The keeper decides what
- * is locked, read, written, forced and renamed, and when a response may go out; tpmsim.h says what
- * each task is. */
+/* Does the keeper's tasks with the files of a folder. The keeper of the library decides what is
+ * locked, read, written, synced and renamed, and when a response may be released; tpmsim.h
+ * defines each task. */
 #ifndef KEEPING_H
 #define KEEPING_H
 #include "folder.h"
@@ -11,33 +11,33 @@
 
 struct keeping {
     tpmsim_keeper keeper;
-    /* The folder; without a path the device is in memory, and its journal is nowhere. */
+    /* The folder. Without a path, the device is in memory and has no journal file. */
     struct folder folder;
-    /* The open journal, and a new one without a name; -1 if there is none. */
+    /* The open journal, and the new file before it is renamed; -1 if there is none. */
     int journal, fresh;
     struct stat journal_status, fresh_status;
-    /* How many files were opened as the journal: the number of the last one; and its size. */
+    /* The number of the current journal file, counted from 1 as files are opened; and its size. */
     uint64_t number, size;
-    /* The task that made the new journal. */
+    /* The task that made the new file. */
     tpmsim_ask made;
-    /* How many journals of the past stay. */
+    /* The number of past journals to keep. */
     unsigned keep;
-    /* What is written, or was read: `read` bytes. */
+    /* The bytes to write, or those that were read: `read` of them. */
     uint8_t *buffer;
     size_t buffer_size, read;
-    /* What the last call cut off the journal, in a sentence; empty if nothing was. */
+    /* A sentence about what the last call cut off the journal; empty if it cut nothing. */
     struct reason notice;
 };
 
-/* Has a keeper, and opens the folder of the options, if they have one. */
+/* Makes a keeper, and opens the folder of the options, if they name one. */
 bool keeping_open(struct keeping *keeping, const struct kept_options *options,
                   struct reason *reason);
 
-/* What a sentence is about: the folder, or the device in memory. */
+/* Returns the subject of a sentence: the folder, or "the device in memory". */
 const char *keeping_name(const struct keeping *keeping);
 
-/* Does the call that the keeper has begun, if `told` is TPMSIM_DONE: a number of tpmsim_told, with
- * which the keeper began it. */
+/* Does the tasks of the call that the keeper has begun. `told` is the number of tpmsim_told with
+ * which the call was begun; nothing is done unless it is TPMSIM_DONE. */
 bool keeping_run(struct keeping *keeping, uint8_t told, struct reason *reason);
 
 void keeping_close(struct keeping *keeping);

@@ -21,7 +21,8 @@ static bool tell_now(const struct kept *kept, uint64_t *now_ms, struct reason *r
                   "needs the host's clock, which cannot be read or is before 1970", 0);
 }
 
-/* Has fresh random bytes, which all count as drawn until the device says how many it drew. */
+/* Provides fresh random bytes. All of them count as drawn until the device reports how many it
+ * drew. */
 static bool renew(struct kept *kept, struct reason *reason) {
     if (!draws_renew(&kept->draws))
         return refuse(reason, keeping_name(&kept->keeping), NULL,
@@ -30,9 +31,9 @@ static bool renew(struct kept *kept, struct reason *reason) {
     return true;
 }
 
-/* The moment at which a device begins or its power is cycled: the host's clock, and a number for
- * the start of its completing layer, which no start before had. The clock makes another number of
- * random bytes that repeat. */
+/* Determines the time of a manufacture or power cycle from the host's clock, and a number for
+ * the start of the completing layer that no earlier start had. The number is combined with the
+ * clock, because reproducible runs repeat their random bytes. */
 static bool tell_start(struct kept *kept, uint64_t *now_ms, uint64_t *start,
                        struct reason *reason) {
     if (!renew(kept, reason) || !tell_now(kept, now_ms, reason)) return false;
@@ -50,7 +51,7 @@ static bool run(struct kept *kept, uint8_t told, struct reason *reason) {
     return is_done;
 }
 
-/* Begins a device: with an image, or with random bytes. */
+/* Makes a new device from an image or from random bytes. */
 static bool begin(struct kept *kept, const char *image, struct reason *reason) {
     uint64_t now_ms, start;
     size_t size = DRAWS_BYTES;
@@ -65,13 +66,13 @@ static bool begin(struct kept *kept, const char *image, struct reason *reason) {
     return run(kept, told, reason);
 }
 
-/* Looks for a device, and shows it: tpmsim_keeper_state has it then. */
+/* Checks that there is a device. After this, tpmsim_keeper_state writes its state text. */
 static bool show(struct kept *kept, struct reason *reason) {
     static const uint8_t none[1];
     return run(kept, tpmsim_keeper_begin(&kept->keeping.keeper, TPMSIM_JOB_SHOW, none, 0), reason);
 }
 
-/* Opens the device that is there, for which no seed is needed, or begins one. */
+/* Opens the existing device, which needs no seed, or makes a new one. */
 static bool open_any(struct kept *kept, const struct kept_options *options, struct reason *reason) {
     const struct folder *folder = &kept->keeping.folder;
     struct stat status;
@@ -123,7 +124,8 @@ bool kept_snapshot(struct kept *kept, uint8_t text[TPMSIM_STATE_SIZE], size_t *s
     return true;
 }
 
-/* The library says why a text is not a state text; the keeper only that it is not. */
+/* tpmsim_restore reports why a text is not a state text; the keeper reports only that it is not
+ * one. */
 bool kept_restore(struct kept *kept, const uint8_t *text, size_t size, struct reason *reason) {
     tpmsim device = {0};
     uint64_t now_ms, start;

@@ -1,14 +1,15 @@
-/* A device that is kept in a folder, over the library tpmsim.
+/* A device that is kept in a folder, based on the library libtpmsim.
  *
- * FOLDER/journal has the device as its journal began, and each command since with the random bytes
- * that it drew, its time and its locality. To open the device is to execute them again. A command's
- * record is in the file before its response is written, so a process may be killed at any moment
- * and nothing that was answered is lost. FOLDER/lock is locked while a command is executed: several
- * processes may hold the device at once, and each executes what the others added before its own.
- * What is done when is decided by the library's keeper, and done by keeping.c.
+ * FOLDER/journal contains the device's state at the start of the journal, followed by a record
+ * of each command since then: the command, the random bytes that it drew, its time and its
+ * locality. Opening the device executes these commands again. A command's record is in the file
+ * before its response is released. So a process may be killed at any moment, and no answered
+ * command is lost. FOLDER/lock is locked while a command is executed. Several processes may use
+ * the device at once: each executes what the others have added before its own command. The
+ * library's keeper decides what to do when, and keeping.c does it.
  *
- * A call that fails returns false or NULL, and a sentence that names the path. One call at a time
- * works on a kept device. There are no global variables, and no call ends the process. */
+ * A call that fails returns false or NULL, with a sentence that names the path. Only one call at
+ * a time may use a kept device. There are no global variables, and no call ends the process. */
 #ifndef KEPT_H
 #define KEPT_H
 #include "reason.h"
@@ -17,56 +18,58 @@
 #include <stddef.h>
 #include <stdint.h>
 
-/* What is asked for. Zeros ask for a new device in memory, of random bytes of the system. */
+/* What the caller requests. Zeros request a new device in memory, with the system's random
+ * bytes. */
 struct kept_options {
-    /* The folder; NULL: the device is in memory, and ends with kept_close. */
+    /* The folder. NULL: the device is in memory, and is lost at kept_close. */
     const char *folder;
-    /* The file of the image that a new device is opened from; NULL: it is manufactured. */
+    /* The file with the image of a new device. NULL: the new device is manufactured. */
     const char *image;
-    /* For runs that repeat: 1 to 256 bytes that stand for random ones, repeated to 256, in each
-     * command. A size of 0: bytes of the system. */
+    /* For reproducible runs: 1 to 256 bytes, repeated to 256, which each command gets as its
+     * random bytes. If the size is 0, the system's random bytes are used. */
     const uint8_t *random;
     size_t random_size;
-    /* A number of tpmsim_force: when the journal is forced to the disk, for hosts whose power may
-     * fail. */
+    /* A number of tpmsim_force: when the journal is synced to the disk, for hosts whose power
+     * may fail. */
     uint8_t force;
-    /* How many journals of the past stay in the folder, 0 to PAST_MOST of past.h. */
+    /* The number of past journals to keep in the folder, 0 to PAST_MOST of past.h. */
     unsigned keep;
-    /* The completing layer is on. */
+    /* Whether the completing layer is on. */
     bool completes;
-    /* A folder without a device is a fault; else a new device begins there. */
+    /* If true, a folder without a device is a fault. Otherwise a new device is made there. */
     bool is_there;
-    /* What follows the first damage in a journal is dropped; else the journal is refused. */
+    /* If true, the rest of a journal from its first damage on is dropped. Otherwise a damaged
+     * journal is refused. */
     bool cuts;
-    /* Receives a sentence when something was cut off a journal; NULL: nobody does. */
+    /* Gets a sentence when something was cut off a journal; may be NULL. */
     void (*tell)(const char *sentence);
 };
 
 struct kept;
 
-/* Opens a device. NULL with the reason. */
+/* Opens a device. Returns NULL with the reason. */
 struct kept *kept_open(const struct kept_options *options, struct reason *reason);
 
-/* Executes a command, and writes its response, as tpmsim_execute does. If that fails nothing was
- * answered, and the next call begins with what the journal has. */
+/* Executes a command, and writes its response, as tpmsim_execute does. If this fails, the
+ * command has no response, and the next call starts from the commands in the journal. */
 bool kept_execute(struct kept *kept, const uint8_t *buffer, size_t size, uint8_t locality,
                   uint8_t response[4096], tpmsim_answered *answered, struct reason *reason);
 
-/* Power-cycles the device, for every process that holds it. */
+/* Power-cycles the device, for every process that uses it. */
 bool kept_power(struct kept *kept, struct reason *reason);
 
-/* Writes the state text of a device in a folder, and its size. */
+/* Writes the state text of the device, and the text's size. */
 bool kept_snapshot(struct kept *kept, uint8_t text[TPMSIM_STATE_SIZE], size_t *size,
                    struct reason *reason);
 
-/* Restores the device of a state text in the folder, for every process that holds the one there. If
- * the text is not one, that device is as it was. */
+/* Replaces the device by the one of a state text, for every process that uses it. If the bytes
+ * are not a state text, the device is unchanged. */
 bool kept_restore(struct kept *kept, const uint8_t *text, size_t size, struct reason *reason);
 
-/* Turns the completing layer on or off, for the commands of this holder. */
+/* Turns the completing layer on or off for the commands of this process. */
 void kept_complete(struct kept *kept, bool completes);
 
-/* What the last call cut off the journal, in a sentence; empty if nothing was. */
+/* Returns a sentence about what the last call cut off the journal; empty if it cut nothing. */
 const char *kept_notice(const struct kept *kept);
 
 /* Closes the device, which may be NULL. */

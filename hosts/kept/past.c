@@ -7,13 +7,13 @@
 
 static const char JOURNAL[] = "journal", LAST[] = "journal.1";
 
-/* The name of a journal of the past, 1 for the last one. */
+/* Writes the file name of a past journal; number 1 is the newest. */
 static const char *name_of(unsigned number, char name[32]) {
     snprintf(name, 32, "journal.%u", number);
     return name;
 }
 
-/* The first number without a journal, or `count` if there is none. */
+/* Returns the lowest number without a past journal, or `count` if there is none. */
 static unsigned free_number(const struct folder *folder, unsigned count) {
     struct stat status;
     char name[32];
@@ -24,8 +24,9 @@ static unsigned free_number(const struct folder *folder, unsigned count) {
     return count;
 }
 
-/* Gives those before the first free number the next one, so that there is no journal.1. A process
- * that was killed on the way leaves a free number, and then no further journal is lost. */
+/* Renames the journals before the lowest free number to the next number, so that journal.1 is
+ * free. If a process is killed halfway, it leaves a free number, and no further journal is lost
+ * later. */
 static bool move_on(const struct folder *folder, unsigned count, struct reason *reason) {
     char name[32], next[32];
     if (count == 1 && unlinkat(folder->descriptor, LAST, 0) != 0 && errno != ENOENT)

@@ -4,7 +4,7 @@
 #include <stdio.h>
 #include <string.h>
 
-/* Replaces the bytes that no line has. */
+/* Replaces the control characters, which would break the line. */
 static void keep_in_one_line(char *text) {
     for (; *text; text++)
         if ((unsigned char)*text < ' ' || *text == 127) *text = '?';

@@ -5,7 +5,7 @@
 
 static const char LINK[] = "is a link, which is not followed";
 
-/* Whether it belongs to the user who runs the process. */
+/* Whether the file belongs to the user of the process; otherwise sets the reason. */
 static bool is_own(const struct stat *status, const char *path, const char *name,
                    struct reason *reason) {
     return status->st_uid == geteuid() || refuse(reason, path, name, "belongs to another user", 0);

@@ -1,8 +1,8 @@
-/* libtpmsim-kept: a TPM 2.0 that lives in a folder, which several processes may use at once.
+/* libtpmsim-kept: a TPM 2.0 that is kept in a folder, which several processes may use at once.
 
-   Each command is in the folder's journal before its response is written. So a process may be
-   killed at any moment, and nothing that was answered is lost; docs/ATTACHED.md says what a crash
-   of the host may take.
+   The record of each command is in the folder's journal before the command's response is returned.
+   So a process may be killed at any moment, and no answered command is lost. docs/ATTACHED.md says
+   what may be lost if the host crashes.
 
        tpmsim_kept_device kept = {0};
        tpmsim_kept_options options = {.folder = "state", .force = TPMSIM_FORCE_POWER};
@@ -15,20 +15,20 @@
        tpmsim_kept_execute(&kept, startup, sizeof startup, 0, 0, response, &answered, reason);
        tpmsim_kept_close(&kept);
 
-   A call returns TPMSIM_DONE or another number, and then it wrote a sentence to `reason`, with a 0
-   at its end: it names the path, and gives the system's error if there is one. A call that was not
-   done answered nothing. The next one begins with what the journal has, which may have the command
-   of that call.
+   A call returns TPMSIM_DONE, or another number after writing a sentence to `reason`. The sentence
+   ends with a 0, names the path, and includes the system's error if there is one. A call that
+   failed returned no response. The next call starts from the journal, which may contain the command
+   of the failed call.
 
-   What a caller owes, and nothing checks:
+   The caller must meet these conditions, which nothing checks:
 
-   - A handle begins as zeros, is not copied, and its last call is tpmsim_kept_close. One call at a
-     time works on it. A forked child may use its parent's handle.
-   - No pointer is NULL unless that is said, and no buffers overlap.
-   - There are 128 KB of stack for each call. No call is made from a signal handler, nor in a forked
-     child of a process with threads.
+   - A handle is initialized with zeros and is not copied, and its last call is tpmsim_kept_close.
+     Only one call at a time uses it. A forked child may use its parent's handle.
+   - No pointer is NULL unless stated otherwise, and no buffers overlap.
+   - At least 128 KB of stack are free at each call. No call is made from a signal handler, nor in a
+     forked child of a process with threads.
 
-   No call ends the process, keeps a pointer that it was given, or leaves a signal blocked. */
+   No call ends the process, keeps a pointer that it was passed, or leaves a signal blocked. */
 #ifndef TPMSIM_KEPT_H
 #define TPMSIM_KEPT_H
 
@@ -38,74 +38,76 @@
 extern "C" {
 #endif
 
-/* A handle. Its member is the library's own: NULL if it has no device. */
+/* A handle. Its member is private to the library, and is NULL if the handle has no device. */
 typedef struct tpmsim_kept_device {
     void *private_;
 } tpmsim_kept_device;
 
-/* The size of the buffer for a reason. Each sentence fits. */
+/* The size of a buffer for a reason. Every sentence fits. */
 enum { TPMSIM_KEPT_REASON_SIZE = 4608 };
 
-/* What a call returns besides the numbers of tpmsim_told: a file, the clock or random bytes cannot
-   be had. The numbers of tpmsim_told are those of the journal, of the image, or of the state text.
-   */
+/* The result of a call if a file, the clock or random bytes are not available. All other results
+   are numbers of tpmsim_told, about the journal, the image or the state text. */
 enum { TPMSIM_KEPT_FAILED = 32 };
 
-/* What is opened. */
+/* What to open. */
 typedef struct tpmsim_kept_options {
     /* The folder. */
     const char *folder;
-    /* The file of the image that a new device begins with; NULL: the device is manufactured. */
+    /* The file with the image of a new device. NULL: a new device is manufactured. */
     const char *image;
-    /* For runs that repeat: bytes that stand for random ones, repeated to 256, in each command.
-       NULL with a size of 0: bytes of the system. */
+    /* For reproducible runs: bytes, repeated to 256, which each command gets as its random
+       bytes. NULL with a size of 0: the system's random bytes. */
     const uint8_t *random;
     /* 0 to 256. */
     uint32_t random_size;
-    /* How many journals of the past stay in the folder, 0 to 99: as journal.1, which is the last
-       one, to journal.99. */
+    /* The number of past journals to keep in the folder, 0 to 99: journal.1, the newest, to
+       journal.99. */
     uint32_t keep;
-    /* A number of tpmsim_force: when the disk is forced. */
+    /* A number of tpmsim_force: when the journal is synced to the disk. */
     uint8_t force;
-    /* If not 0, a folder without a device is a fault; else the folder is made if it is not there,
-       and a new device begins in it. */
+    /* If not 0, a folder without a device is a fault. Otherwise the folder is made if it is
+       missing, and a new device is made in it. */
     uint8_t is_there;
-    /* If not 0, what follows the first damage in a journal is dropped; else the journal is refused.
-       */
+    /* If not 0, the rest of a journal from its first damage on is dropped. Otherwise a damaged
+       journal is refused. */
     uint8_t cuts;
 } tpmsim_kept_options;
 
-/* Opens a device, instead of the handle's own, which is closed.
+/* Opens a device. If that succeeds, the handle's previous device is closed.
 
-   TPMSIM_NO_WORD: a number of the options is unknown. TPMSIM_IMAGE_SHORT to TPMSIM_STATE_BODY: the
-   file of the image, or what the journal begins with, is not one. */
+   TPMSIM_NO_WORD: a number in the options is out of range. TPMSIM_IMAGE_SHORT to
+   TPMSIM_STATE_BODY: the image in the file or in the journal's head is invalid, or the state
+   text in the head is. */
 uint8_t tpmsim_kept_open(tpmsim_kept_device *kept, const tpmsim_kept_options *options,
                          char reason[TPMSIM_KEPT_REASON_SIZE]);
 
-/* Executes a command, as tpmsim_journal_execute does: with the completing layer if `completes` is
-   not 0. The time is the host's clock, and the random bytes are the system's. */
+/* Executes a command like tpmsim_journal_execute, with the completing layer if `completes` is
+   not 0. The time is the host's clock, and the random bytes are the system's unless the options
+   contain some. */
 uint8_t tpmsim_kept_execute(tpmsim_kept_device *kept, const uint8_t *buffer, size_t size,
                             uint8_t locality, uint8_t completes, uint8_t response[4096],
                             tpmsim_answered *answered, char reason[TPMSIM_KEPT_REASON_SIZE]);
 
-/* Cycles the power of the device, for each process that holds it. */
+/* Power-cycles the device, for every process that uses it. */
 uint8_t tpmsim_kept_power(tpmsim_kept_device *kept, char reason[TPMSIM_KEPT_REASON_SIZE]);
 
-/* Writes the state text of the device to the front of the buffer: all that it is, with the
-   completing layer. `size` is its size in bytes. */
+/* Writes the state text of the device, with the completing layer, to the front of the buffer,
+   and its size in bytes to `size`. */
 uint8_t tpmsim_kept_snapshot(tpmsim_kept_device *kept, uint8_t text[TPMSIM_STATE_SIZE],
                              size_t *size, char reason[TPMSIM_KEPT_REASON_SIZE]);
 
-/* Restores the device of a state text, for each process that holds this one. TPMSIM_STATE_SHORT to
-   TPMSIM_STATE_BODY: the text is not one, and the device is as it was. */
+/* Replaces the device by the one of a state text, for every process that uses it.
+   TPMSIM_STATE_SHORT to TPMSIM_STATE_BODY: the bytes are not a state text, and the device is
+   unchanged. */
 uint8_t tpmsim_kept_restore(tpmsim_kept_device *kept, const uint8_t *text, size_t size,
                             char reason[TPMSIM_KEPT_REASON_SIZE]);
 
-/* Writes what the last call on the handle cut off the journal, as a sentence with a 0 at its end;
-   an empty one if that was nothing. */
+/* Writes a sentence about what the last call cut off the journal, with a 0 at its end. The
+   sentence is empty if the call cut nothing. */
 void tpmsim_kept_notice(const tpmsim_kept_device *kept, char notice[TPMSIM_KEPT_REASON_SIZE]);
 
-/* Closes the device, if there is one. The handle has none then, and may be used again. */
+/* Closes the device, if there is one. The handle is then empty, and may be reused. */
 void tpmsim_kept_close(tpmsim_kept_device *kept);
 
 #ifdef __cplusplus

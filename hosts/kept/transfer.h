@@ -1,4 +1,4 @@
-/* Bytes to a file and from it, at a place, all of them. */
+/* Writes and reads all requested bytes of a file at an offset. */
 #ifndef TRANSFER_H
 #define TRANSFER_H
 #include <stdbool.h>
@@ -6,10 +6,11 @@
 #include <stdint.h>
 #include <sys/types.h>
 
-/* Writes all bytes, in one call where the system takes them at once. False with errno. */
+/* Writes all bytes, with one system call if the system accepts them at once. Returns false with
+   errno. */
 bool transfer_write(int file, const uint8_t *bytes, size_t size, off_t place);
 
-/* Reads so many bytes, or all that are there. How many; -1 with errno. */
+/* Reads this many bytes, or up to the end of the file. Returns the number; -1 with errno. */
 ssize_t transfer_read(int file, uint8_t *room, size_t size, off_t place);
 
 #endif

@@ -35,7 +35,7 @@ bool words_force(const char *word, uint8_t *force) {
     return false;
 }
 
-/* The value of a digit of hex in either case; 16 if it is not one. */
+/* Returns the value of a hex digit in either case; 16 if it is not one. */
 static unsigned digit_of(char digit) {
     if (digit >= '0' && digit <= '9') return (unsigned)(digit - '0');
     if (digit >= 'a' && digit <= 'f') return (unsigned)(digit - 'a' + 10);
@@ -56,7 +56,7 @@ static bool read_random(struct words *words, const char *value) {
     return true;
 }
 
-/* Reads what follows a word's name. */
+/* Reads the value that follows the name of a word. */
 static bool read_value(struct words *words, enum word word, const char *value) {
     switch (word) {
     case STATE: words->options.folder = value; return *value != 0;
@@ -77,7 +77,7 @@ static bool refuse_word(const char *text, const char *said, struct reason *reaso
     return refuse(reason, *text ? text : "an empty word", NULL, said, 0);
 }
 
-/* Reads one word. `seen` says which ones came before it. */
+/* Reads one word. `seen` marks the words that were read before it. */
 static bool read_word(struct words *words, bool seen[WORDS], const char *text,
                       struct reason *reason) {
     for (int i = 0; i < WORDS; i++) {
@@ -91,13 +91,13 @@ static bool read_word(struct words *words, bool seen[WORDS], const char *text,
     return refuse_word(text, "is none of the words " WORDS_WANTED, reason);
 }
 
-/* Whether no word is there without the folder that is of use with the folder alone. */
+/* Whether `word`, which is only useful with a folder, comes with one if it is there. */
 static bool has_folder(const bool seen[WORDS], enum word word, struct reason *reason) {
     return !seen[word] || seen[STATE] ||
-           refuse(reason, NAMES[word], NULL, "is of use beside state=DIR alone", 0);
+           refuse(reason, NAMES[word], NULL, "is allowed only with state=DIR", 0);
 }
 
-/* Whether the layer is not both asked for and switched off. */
+/* Whether the words do not both request the completing layer and turn it off. */
 static bool has_one_layer(const bool seen[WORDS], struct reason *reason) {
     return !seen[COMPLETE] || !seen[DEVICE] ||
            refuse(reason, NAMES[COMPLETE], NULL, "cannot be combined with device", 0);

@@ -1,4 +1,4 @@
-/* The device, and what is written about each command before it is answered. */
+/* The device, and the record of each command, which is written before the command is answered. */
 #include "device.h"
 
 #include "host_clock.h"
@@ -15,7 +15,7 @@ enum { HEAD_MOST = 72 * 1024 };
 static tpmsim device;
 static uint8_t completing;
 static uint64_t latest;
-/* The record of the last command, until it is written. */
+/* The record of the last command until it is written. */
 static uint8_t record[TPMSIM_RECORD_ROOM];
 static size_t record_size;
 /* Whether writing the record or the permanent state has failed. */
@@ -61,7 +61,8 @@ bool write_last(void) {
     return !is_behind;
 }
 
-/* Executes a command: with its record, with the completing layer, or only by the device. */
+/* Executes a command with its record, with the completing layer but no record, or only by the
+   device. */
 static uint8_t run(const uint8_t *buffer, size_t size, uint8_t locality, uint32_t elapsed,
                    const uint8_t *random, uint8_t *response, tpmsim_answered *answered) {
     if (is_recorded())

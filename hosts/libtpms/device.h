@@ -26,7 +26,8 @@ void let_device_complete(bool completes);
 /* Powers the device on: its completing layer, its clock and its record start. */
 bool begin_device(void);
 
-/* Continues the device whose last command was executed at this time of a host's clock; its record starts. */
+/* Continues the device whose last command was executed at this time of a host's clock, and starts its
+   record. */
 bool resume_device(uint64_t time);
 
 /* The time of the host's clock at the last command. */
@@ -40,7 +41,8 @@ bool execute(const uint8_t *buffer, size_t size, uint8_t locality, struct respon
 /* Whether the last command's record and the permanent state are written, if they have to be. */
 bool last_was_written(void);
 
-/* Writes whichever of them has to be written. On failure, the reason is reported. */
+/* Writes the record and the permanent state if they must still be written. On failure, the
+   reason is reported. */
 bool write_last(void);
 
 /* Powers the device off. */

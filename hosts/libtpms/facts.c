@@ -1,4 +1,4 @@
-/* What is reported about this TPM, whatever its state is. */
+/* The facts about this TPM that do not depend on its state. */
 #include "device.h"
 #include "report.h"
 

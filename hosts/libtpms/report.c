@@ -1,4 +1,4 @@
-/* Lines about faults, and where swtpm has them written. */
+/* Lines about faults, and the log to which swtpm directs them. */
 #include "report.h"
 
 #include <errno.h>

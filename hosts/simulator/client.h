@@ -15,8 +15,8 @@ int client_socket(const struct client *client);
 /* Whether the client waits until it can write, and not for something to read. */
 bool client_writes(const struct client *client);
 
-/* Reads and writes what is possible now. ENDS: the client is gone, or must be closed. STOPS: it asked to
-   stop the simulator. FAILS, with the reason. */
+/* Reads and writes what is possible now. ENDS: the client closed the connection, or must be closed.
+   STOPS: it asked to stop the simulator. FAILS, with the reason: a device cannot continue. */
 enum outcome client_go_on(struct client *client, struct reason *reason);
 
 /* Closes the socket. */

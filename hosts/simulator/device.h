@@ -21,8 +21,8 @@ struct device;
    the device. */
 struct device *device_open(const struct options *options, unsigned number, struct reason *reason);
 
-/* Executes a command from a locality of 0 to 4. What has to be kept of it is stored when this returns.
-   False with the reason if there is no response. */
+/* Executes a command from a locality of 0 to 4. What must be kept of the command is stored when
+   this returns. False with the reason if there is no response. */
 bool device_execute(struct device *device, const uint8_t *buffer, size_t size, uint8_t locality,
                     struct response *response, struct reason *reason);
 

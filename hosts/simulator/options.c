@@ -118,8 +118,8 @@ static bool read_value(struct options *options, enum word word, const char *text
 static const char *clash_in(const struct options *options, bool has_force, bool has_keep) {
     if (options->folder && (options->image || options->record || options->is_timeless))
         return "--state goes without --image, --record and --clock commands";
-    if (has_force && !options->folder) return "--force is of use beside --state alone";
-    if (has_keep && !options->folder) return "--keep is of use beside --state alone";
+    if (has_force && !options->folder) return "--force is allowed only with --state";
+    if (has_keep && !options->folder) return "--keep is allowed only with --state";
     if (options->devices > 1 && options->image) return "--image has the state of one device";
     if (options->port + 2 * (options->devices - 1) > UINT16_MAX - 1)
         return "there are not as many ports after --port";

@@ -1,5 +1,5 @@
-/* tpmsim-power DIR [--cut] [--keep N]: power-cycles the device that is kept in a folder. With --cut a
- * damaged journal opens to the device of its complete records before the damage. With --keep N the last N
+/* tpmsim-power DIR [--cut] [--keep N]: power-cycles the device that is kept in a folder. With --cut,
+ * the records of a damaged journal from the damage on are dropped first. With --keep N the last N
  * journals stay in the folder. */
 #include "kept.h"
 #include <stdio.h>

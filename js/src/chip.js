@@ -1,4 +1,4 @@
-// One device of the proved module: what the exports for it take, write and return.
+// One device of the proved module, with its exports for devices.
 
 import { BadArgument, BadImage, BadJournal, BadState, DeviceEnded } from "./errors.js";
 

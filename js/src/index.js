@@ -1,4 +1,4 @@
-// What the package exports; index.d.ts declares it.
+// The exports of the package; index.d.ts declares them.
 
 export { Device } from "./device.js";
 export {

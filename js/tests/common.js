@@ -1,4 +1,4 @@
-// What the tests share.
+// Constants and functions that several tests use.
 
 /** The bytes with which a script's device is manufactured. */
 export const ZERO_TO_FF = Uint8Array.from({ length: 256 }, (_, at) => at);

@@ -1,4 +1,4 @@
-// A device: what it executes, keeps, saves and restores.
+// A device: executing, keeping, saving and restoring.
 
 import assert from "node:assert/strict";
 import { test } from "node:test";

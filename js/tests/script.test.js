@@ -1,4 +1,4 @@
-// Scripts: those of the repository get the same responses and traces as from the program.
+// The scripts of the repository get the same responses and traces as from the program.
 
 import assert from "node:assert/strict";
 import { existsSync, readFileSync, readdirSync } from "node:fs";

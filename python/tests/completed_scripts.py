@@ -1,6 +1,6 @@
 """Random commands for a device with the completing layer: objects and sessions that are made and
-flushed, their contexts, lists, and the other commands that the layer answers. A few commands are
-bent, or come from a caller without the layer.
+flushed, their contexts, lists, and the other commands that the layer answers. A few commands have
+changed bytes, or come from a caller without the layer.
 """
 
 from tpmsim.caller import storage_key

@@ -30,8 +30,7 @@ class Journal:
         self.go_on()
 
     def go_on(self, layer=None):
-        """Begins the journal again with the whole state. The executed commands are no longer in it.
-        """
+        """Begins the journal again with the whole state. It then lacks the executed commands."""
         self.head(2, state_text(self.model, layer))
 
     def head(self, kind, text):

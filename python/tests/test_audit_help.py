@@ -18,7 +18,7 @@ class Help(unittest.TestCase):
         with contextlib.redirect_stdout(output):
             status = command_line.main("--help")
         self.assertEqual(status, 0)
-        self.assertTrue(output.getvalue().startswith("Judges a script by what was printed of it"))
+        self.assertTrue(output.getvalue().startswith("Checks a device's log for reviewers"))
         self.assertIn("SCRIPT [OUTPUT] [--image START] [--policy FILE]..", output.getvalue())
 
     def test_refusals_that_are_no_entrys(self):

@@ -185,8 +185,7 @@ class Words(unittest.TestCase):
 
 
 def tpm_session(session, bind):
-    """Returns the session if its properties are those of a session that was started with numbers.
-    """
+    """Returns the session if it has the properties of a session that was started with numbers."""
     wanted = given.algorithm("sha1"), given.cipher("xor"), given.handle("bind", "OWNER")
     return session if wanted == (session.algorithm, session.cipher, bind) else None
 
@@ -244,8 +243,7 @@ class Documented(unittest.TestCase):
 
 
 def named(module):
-    """Yields the public classes, functions, methods and properties that a module defines, by name.
-    """
+    """Yields the public classes, functions, methods and properties of a module, by name."""
     for it in defined(module, inspect.isfunction):
         yield f"{module.__name__} {it.__qualname__}", it
     for kind in defined(module, inspect.isclass):

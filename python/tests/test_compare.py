@@ -37,8 +37,8 @@ def script(name):
 
 
 class OtherSeeds(unittest.TestCase):
-    """The values of sessions are computed again correctly: with new seeds and nonces the outcomes
-    are the same.
+    """The session values are computed correctly again: with new seeds and nonces the outcomes are
+    the same.
     """
 
     def test_nothing_differs(self):
@@ -75,8 +75,7 @@ do GetRandom 4
         self.assertEqual(told(pathlib.Path("script"), report), [f"script: {it}" for it in lines])
 
     def test_journals(self):
-        """A journal of a new device is played, whatever its seeds are. Another journal is refused.
-        """
+        """A journal of a new device with any seeds is played. Another journal is refused."""
         for begin in Journal.cycle, Journal.begin:
             journal = Journal(Model(bytes(256)))
             journal.play("do Startup 0", DEFINE, "do GetRandom 4")
@@ -135,16 +134,14 @@ class Completed(unittest.TestCase):
         self.assertGreater(commands, 800)
 
     def test_an_object_with_another_handle(self):
-        """The other TPM loads the object's context to another handle. Later uses have that handle.
-        """
+        """The other TPM loads the object's context to another handle, which later uses have."""
         journal = self.recorded(contexts_that_move)
         report = self.compared(journal)
         self.assertEqual((report.differences, report.not_comparable), ([], []))
 
 
 def contexts_that_move(device):
-    """Makes two keys, and loads their contexts in reverse order, like tools that keep no handles.
-    """
+    """Makes two keys, and loads their contexts in reverse order, like tools without handles."""
     tpm = Caller(device)
     tpm.start_up()
     contexts = []

@@ -1,5 +1,5 @@
-"""Tests why a device refused a command. The reason follows from the sent commands and the
-responses, wherever the device is.
+"""Tests the reason why a device refused a command. The reason follows from the sent commands and
+the responses, wherever the device is.
 """
 
 import os
@@ -89,7 +89,7 @@ class Reasons(unittest.TestCase):
             self.assertIn(f"The password of the entry is not the authValue of {index:08x}", why)
 
     def served(self):
-        """Returns a device on a socket. Nobody reports its random bytes."""
+        """Returns a device on a socket. Its random bytes are unknown."""
         process = subprocess.Popen([program_found(), *SERVE.split()], cwd=self.folder)
         self.addCleanup(process.wait)
         self.addCleanup(process.kill)
@@ -110,8 +110,7 @@ class Reasons(unittest.TestCase):
 
     @unittest.skipUnless(shutil.which("swtpm"), "there is no swtpm")
     def test_of_another_maker(self):
-        """Another maker's TPM is explained as long as its responses are the same as this device's.
-        """
+        """Another maker's TPM is explained as long as its responses equal this device's."""
         with StartedSwtpm() as device:
             tpm = Caller(device)
             tpm.start_up()

@@ -210,8 +210,8 @@ class Devices(unittest.TestCase):
         self.assertEqual(path.read_bytes(), b"TPMI")
 
     def test_kept_state(self):
-        """Two processes can hold a device at once. A journal that is damaged, or that is no
-        journal, is reported as such, and stays as it is.
+        """Two processes can use a device at once. A journal that is damaged, or a file that is not
+        a journal, is reported and stays unchanged.
         """
         with KeptDevice(self.folder) as device, KeptDevice(self.folder) as other:
             tpm = Caller(device)

@@ -42,7 +42,7 @@ class Accepted(unittest.TestCase):
 
     def test_misread_structure(self):
         """If inSensitive was encrypted without the parent's value, it is decrypted to bytes that
-        are no structure.
+        are not a structure.
         """
         parent = self.tpm.create_primary(storage_key(), user_auth=b"\xf1parent")
         named = 0

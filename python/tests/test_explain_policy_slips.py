@@ -1,6 +1,6 @@
-"""Tests each usual mistake in a policy digest. The test computes the digest itself, with one
-change. One mistake is named as one, two are named as two, and none is named if no mistake
-explains the digest.
+"""Tests each common mistake in a policy digest. The test computes the digest itself, with one
+change. One mistake is named as one, two are named as two, and none is named if no mistake explains
+the digest.
 """
 
 import hashlib
@@ -110,8 +110,7 @@ class Case:
 
 
 def link(place, make):
-    """Returns a change that makes one link in another way, from the case and the digest before it.
-    """
+    """Returns a change that makes one link differently, from the case and the previous digest."""
 
     def of_link(case, links):
         links[place] = lambda old: make(case, old)
@@ -237,8 +236,8 @@ NONE = (
 
 
 def pairs_of(rows, most=60):
-    """Yields some pairs of rows. Links that are made in another way come first, then links in
-    another order.
+    """Yields some pairs of rows: first links that are made differently, then links in another
+    order.
     """
     pairs = list(itertools.combinations(rows, 2))
     for first, second in random.Random("pairs").sample(pairs, most):

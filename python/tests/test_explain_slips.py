@@ -1,5 +1,5 @@
-"""Makes each usual mistake of a caller in random sessions. The explanation names the mistake. If an
-HMAC is random, it names none.
+"""Makes each common mistake of a caller in random sessions. The explanation names the mistake. If
+an HMAC is random, the explanation names none.
 """
 
 import random
@@ -82,8 +82,7 @@ class Case:
             self.tpm.call("GetRandom", uses=[self.session], bytesRequested=1)
 
     def parts(self, prepared):
-        """Returns the ingredients of the first entry's HMAC, with the names of sessions.entry_hmac.
-        """
+        """Returns the ingredients of the first entry's HMAC, named as in sessions.entry_hmac."""
         means, tpm, handle = prepared.uses[0], self.tpm, prepared.authorized(1)
         algorithm = means.session.algorithm
         return {
@@ -97,8 +96,7 @@ class Case:
         }
 
     def bent(self, prepared, hashed=None, **changes):
-        """Returns the command with an HMAC of other parts. `hashed` are the changes in its cpHash.
-        """
+        """Returns the command with an HMAC of other parts; `hashed` changes its cpHash."""
         if hashed is not None:
             changes["parameters"] = self.cp_hash(prepared, **hashed)
         return prepared.but_entry(1, hmac=sessions.entry_hmac(**(self.parts(prepared) | changes)))
@@ -187,7 +185,7 @@ class Slips(unittest.TestCase):
             self.bends(case, "authValue put in", case.tpm.random(4, case.session), key=key)
 
     def test_auth_value_in_a_policy(self):
-        """The authorization value is put in without PolicyAuthValue, and left out after it."""
+        """The authorization value is used without PolicyAuthValue, and left out after it."""
         for words, in_key, wanted in (
             ("PolicyCommandCode Unseal\n", b"pin", "authValue put in"),
             ("PolicyAuthValue\n", b"", "authValue left out"),

@@ -1,4 +1,4 @@
-"""Tests each usual mistake in an HMAC, by a caller that changes one ingredient. One mistake is
+"""Tests each common mistake in an HMAC, by a caller that changes one ingredient. One mistake is
 named as one, two are named as two, and none is named if no mistake explains the HMAC.
 """
 

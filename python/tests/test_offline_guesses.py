@@ -1,6 +1,5 @@
-"""Tests for guesses that need no authorization attempt. The explanation and the audit report if a
-value encrypts, and the entry did not have to know that value. They do not report ordinary
-encryption.
+"""Tests guesses that the device does not see. The explanation and the audit report a value that
+encrypts although the entry did not have to know it. They do not report ordinary encryption.
 """
 
 import pathlib
@@ -51,7 +50,7 @@ def audited(script):
 
 
 class OfflineGuesses(unittest.TestCase):
-    """A value that encrypts, although nobody had to prove it."""
+    """A value that encrypts although nobody had to prove it."""
 
     def test_attack(self):
         slip = "guesses of a bound value need no try"

@@ -106,8 +106,7 @@ class Heads(unittest.TestCase):
         self.assertEqual(played(bent)[0].damages, [words])
 
     def test_a_word_in_hex(self):
-        """A hex word in a comment does not begin a log, unless it may be an image or a state text.
-        """
+        """A hex word in a comment begins a log only if it may be an image or a state text."""
         for words in "# state bad", "# state deed", "# image ", "# image of the device":
             play, events = played("\n".join((words, START, words, RIGHT)).encode())
             self.assertEqual((codes(events), play.fault), (["", "18b"], ""), words)
@@ -124,8 +123,8 @@ def records_of(line):
 
 class Ends(unittest.TestCase):
     def test_a_cut_end(self):
-        """A journal that is cut at any offset, with or without zeros after it, has its whole
-        records.
+        """A journal that is cut at any offset, with or without zeros after it, contains its
+        complete records.
         """
         journal = journal_with_index()
         for size in range(journal.head_bytes, len(journal.text)):
@@ -139,7 +138,8 @@ class Ends(unittest.TestCase):
                 self.assertFalse(any(it.differences for it in events))
 
     def test_a_byte_left_out(self):
-        """A last record that lacks one of its bytes is not cut off, unless it lacks its last byte.
+        """A last record without one of its bytes is not cut off, unless its last byte is
+        missing.
         """
         journal = journal_with_index()
         text = journal.text

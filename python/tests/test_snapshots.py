@@ -42,8 +42,8 @@ def in_library():
 
 
 class Pair(Transport):
-    """The library's device and the model's. They get the same events and must give the same
-    responses. After each command, each one continues from the other's state text.
+    """The library's device and the model's. They get the same events and must return the same
+    responses. After each command, each continues from the other's state text.
     """
 
     def __init__(self):
@@ -160,7 +160,7 @@ class Told(Snapshots):
     """Tests of devices that receive their locality, time and random bytes."""
 
     def test_what_was_told(self):
-        """A snapshot restores what the device was given. Its bytes have none of that, and begin a
+        """A snapshot restores the settings of the device. Its bytes have none of these, and begin a
         new trace.
         """
         device = self.tpm.device
@@ -277,8 +277,7 @@ class OverKeptState(Snapshots, unittest.TestCase):
         return KeptDevice(self.folder, forces=False)
 
     def test_other_holders(self):
-        """Each holder continues from the snapshot. So does a process that opens the folder later.
-        """
+        """Each holder continues from the snapshot, and so does a process that opens the folder."""
         taken = self.worked()
         with KeptDevice(self.folder) as other:
             self.tpm.call("PCR_Reset", 16)

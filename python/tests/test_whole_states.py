@@ -92,8 +92,7 @@ class Explained(unittest.TestCase):
         self.assertIn("began before the log", events[-1].reason.words)
 
     def test_one_head_after_another(self):
-        """A head with the state of the log before continues that log, with all knowledge from it.
-        """
+        """A head with the state of the log before it continues that log, with all its knowledge."""
         first = before()
         text = first.text
         first.go_on()

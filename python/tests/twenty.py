@@ -160,8 +160,7 @@ class TwentyTests:
         self.assertEqual(self.tpm.auth_value(RH_PLATFORM), b"")
 
     def test_snapshot(self):
-        """A snapshot restores sessions and objects with their nonces, however often it is restored.
-        """
+        """A snapshot restores sessions and objects with their nonces, any number of times."""
         handle = self.tpm.create_primary(sealed(), data=b"data")
         session = self.tpm.session(RH_OWNER)
         nonce, before = session.nonce_tpm, self.tpm.device.snapshot()

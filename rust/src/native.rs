@@ -89,7 +89,7 @@ pub(crate) enum Executor {
     Completed,
 }
 
-/// What is passed with a command in addition to its buffer.
+/// The inputs of a command in addition to its buffer.
 pub(crate) struct Circumstances<'a> {
     pub locality: u8,
     pub elapsed: u32,

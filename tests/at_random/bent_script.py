@@ -1,5 +1,5 @@
-"""Bent scripts and bent images. In a bent script, some commands have random bytes changed, some
-lines are lost or swapped, and sometimes a byte of the text is changed.
+"""Altered scripts and altered images. In an altered script, some commands have random bytes
+changed, some lines are missing or swapped, and sometimes a byte of the text is changed.
 """
 
 from tpmsim.model.image import BODY_AT, DIGEST_AT_END, HEAD_BYTES

@@ -280,8 +280,7 @@ class Writer(random.Random):
         return [self.entity(), handle], parameters
 
     def policy_cp_hash(self):
-        """Mostly asserts the cpHash of a possible command without parameters, or a recorded cpHash.
-        """
+        """Asserts mostly the cpHash of a command without parameters, or a recorded cpHash."""
         (handle,), _ = self.told()
         held = self.device.sessions.get(handle)
         algorithm = held.algorithm if held else SHA256

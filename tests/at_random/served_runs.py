@@ -16,8 +16,7 @@ SECONDS = 60
 
 
 def exchanged(client, connection):
-    """Sends the connection's bytes in their pieces, and returns what the program sends meanwhile.
-    """
+    """Sends the connection's bytes in pieces, and returns the bytes received meanwhile."""
     left, answered, is_sending = connection.sent, b"", True
     while True:
         writers = [client] if is_sending else []

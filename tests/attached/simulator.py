@@ -1,4 +1,5 @@
-"""Tests what tpmsim-simulator keeps, records and repeats; several devices; and hostile clients:
+"""Tests tpmsim-simulator: what it keeps and records, reproducible runs, several devices, and
+hostile clients:
 
     tools/python.sh tests/attached/simulator.py SIMULATOR
 """
@@ -51,8 +52,7 @@ class Served:
         return socket.create_connection((host, first + port), SECONDS)
 
     def asks(self, port: int, *requests: bytes) -> bytes:
-        """Returns the answers to requests on a new connection. A last request ends the connection.
-        """
+        """Returns the answers to requests on a new connection, which is then ended."""
         with self.stream(port) as stream:
             stream.sendall(b"".join(requests) + number(20, 4))
             return b"".join(iter(lambda: stream.recv(4096), b""))

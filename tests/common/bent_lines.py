@@ -168,8 +168,7 @@ def shown(line):
 
 
 def compared(cases):
-    """Returns how many cases differ. A case is a label, the expected outcome, and the actual one.
-    """
+    """Returns how many cases differ. A case has a label, an expected and an actual outcome."""
     differ = 0
     for label, want, give in cases:
         if want != give:

@@ -1,4 +1,5 @@
-"""Clients of `tpmsim serve` that end otherwise than client.py, and clients at the same time:
+"""Clients of `tpmsim serve` that end differently from client.py, and several clients at the same
+time:
 
     python3 clients.py KIND SOCKET HEX..
 

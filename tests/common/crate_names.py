@@ -93,8 +93,7 @@ def parts_of(text: str) -> Iterator[str]:
 
 
 def type_of(parameter: str) -> str:
-    """Returns the type of a parameter, without the parameter's name; `self` is returned as it is.
-    """
+    """Returns the type of a parameter, without its name; `self` stays unchanged."""
     name, colon, kind = parameter.partition(":")
     return plain(kind if colon and "self" not in name else parameter)
 

@@ -1,4 +1,4 @@
-"""Opens damaged images with a program, and compares its answers with those of the Python device:
+"""Opens damaged images with a program, and compares its responses with those of the Python device:
 
     damaged_images.py PROGRAM                      images of a device that saved its state, in both
                                                    versions, and bodies with one thing wrong

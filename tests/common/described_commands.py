@@ -153,8 +153,7 @@ def buffer_of(code: CC, handles: list[int], *entries: bytes) -> bytes:
 
 
 def attributes(program: Program, codes: list[CC]) -> Iterator[Asked]:
-    """Compares numbers, counts of handles, and whether a handle is returned, by TPM2_GetCapability.
-    """
+    """Compares the attributes in TPM2_GetCapability: number, handles, returned handle."""
     asking = [f"do GetCapability {COMMANDS} {it:#x} 1" for it in codes]
     total = f"do GetCapability 6 {TOTAL_COMMANDS:#x} 1"
     printed = program.run(["do Startup 0", *asking, total])[1:]
@@ -231,8 +230,7 @@ def words(program: Program, codes: list[CC]) -> Iterator[Asked]:
 
 
 def kinds_of_handles(program: Program, codes: list[CC]) -> Iterator[Asked]:
-    """Compares which handles a command accepts, among all handles that exist and some that do not.
-    """
+    """Compares the handles that a command accepts, existing ones and others."""
     for code in codes:
         right, wanted, buffers = right_handles(code), [], []
         for place, handle in enumerate(code.handles, 1):
@@ -352,8 +350,7 @@ def is_kept_by(program: Program, between: list[str]) -> bool:
 
 
 def answers(program: Program, codes: list[CC]) -> Iterator[Asked]:
-    """Compares the handles and parameters of responses: the description must read them to the end.
-    """
+    """Checks that the description reads each response to its end."""
     responses = {
         code: bytes.fromhex(answer)
         for code, check, answer in saved_state(program)

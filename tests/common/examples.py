@@ -1,4 +1,4 @@
-"""A valid example of each command, with the commands that it needs before it.
+"""A valid example of each command, after the commands that it needs.
 
 cut_commands.py, bent_commands.py and turned_commands.py of tests/general make their exhaustive
 scripts from this table. All examples are executed in this order on one device, which is
@@ -256,8 +256,7 @@ STATE = [
     step("TPM2_Startup(CLEAR)", STARTUP),
     Example("TPM2_SelfTest", command(CC.SelfTest, b"\1")),
     Example(
-        "TPM2_GetCapability",
-        command(CC.GetCapability, number(1, 4) + number(0, 4) + number(3, 4)),
+        "TPM2_GetCapability", command(CC.GetCapability, number(1, 4) + number(0, 4) + number(3, 4))
     ),
     Example("TPM2_ReadClock", command(CC.ReadClock, b"")),
     Example("TPM2_Shutdown", command(CC.Shutdown, number(1, 2))),

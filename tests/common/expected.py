@@ -64,8 +64,7 @@ class Command:
 
 
 def events_of(script):
-    """Yields the commands of a script, and None for each power cycle, up to its end or a bad line.
-    """
+    """Yields a script's commands, and None for a power cycle, up to a bad line."""
     locality, random = 0, bytes(RANDOM_BYTES)
     comment, in_comment, elapsed = "", False, 0
     for line in script.splitlines():

@@ -1,4 +1,5 @@
-"""Shows what `tpmsim` syncs to disk before it answers from a journal that another process began:
+"""Tests which names `tpmsim` syncs to disk before it answers from a journal that another process
+began:
 
     python3 forced_names.py PROGRAM
 

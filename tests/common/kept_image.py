@@ -1,4 +1,4 @@
-"""Compares the image that a run of the program keeps with the image of the Python device."""
+"""Compares the image that a run of the program stores with the image of the Python device."""
 
 import pathlib
 

@@ -93,8 +93,7 @@ def watch(script):
 
 
 def check_powers():
-    """A power cycle saves the clock too, even if no command before it changed and saved anything.
-    """
+    """A power cycle also saves the clock, even if no command before it saved anything."""
     run = Run()
     run.tell(b"do Startup 0", b"wait 5000", b"do ReadClock", b"power", b"do ReadClock")
     device = opened()

@@ -165,8 +165,7 @@ def looked_at(program):
 
 
 def tidy():
-    """Removes the folders that killed runs left, at most a hundred. Returns whether there were any.
-    """
+    """Removes at most a hundred folders of killed runs. Returns whether there were any."""
     left = list(pathlib.Path().glob(".[0-9]*"))
     for folder in left:
         shutil.rmtree(folder)

@@ -1,4 +1,4 @@
-"""Makes the scripts that are not stored, with their responses and traces by the Python device:
+"""Makes the scripts that are not stored, and their responses and traces by the Python device:
 
     tools/python.sh tests/common/made.py FOLDER          all of them
     tools/python.sh tests/common/made.py FOLDER NAME..   these, such as cut_commands

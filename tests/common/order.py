@@ -1,5 +1,5 @@
 """A caller for scripts about the order of refusals. Each command has many faults, which are
-repaired one by one. The response always reports the first fault that is left.
+repaired one by one. The response always reports the first remaining fault.
 """
 
 from collections.abc import Sequence

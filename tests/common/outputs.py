@@ -1,4 +1,6 @@
-"""Writes the output of a script by the Python device: NAME.out, and NAME.trace if there is one."""
+"""Writes the output of a script by the Python device: NAME.out, and NAME.trace if that exists
+already.
+"""
 
 import pathlib
 from dataclasses import dataclass

@@ -1,5 +1,5 @@
-"""A caller that compares its device with the device's history. The state of a policy session
-follows from the accepted commands.
+"""A caller that compares its device with the device's history. The accepted commands determine the
+state of a policy session.
 """
 
 from typing import Any, Callable, Sequence

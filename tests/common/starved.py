@@ -77,8 +77,7 @@ def check_words(program):
 
 @dataclass(frozen=True)
 class Service:
-    """The result of a run that serves: how it ended, its responses, and the contents of its folder.
-    """
+    """The result of a serving run: how it ended, its responses, and its folder."""
 
     ending: Ending
     answers: bytes

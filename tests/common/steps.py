@@ -1,5 +1,4 @@
-"""A caller of scripts with the steps that many scripts take, and the values that these steps use.
-"""
+"""A caller of scripts with the steps that many scripts need, and the values in these steps."""
 
 import contextlib
 import functools
@@ -56,8 +55,7 @@ in_plain = functools.partial(Use, demand=PASSWORD)
 def aes_key(
     attributes: int = Attribute.SIGN | Attribute.DECRYPT, algorithm: int = SHA256
 ) -> Public:
-    """Returns the template of an AES key that the caller provides, with these further attributes.
-    """
+    """Returns the template of an AES key from the caller, with these further attributes."""
     return Public(SYMCIPHER, algorithm, HERE | OPEN | attributes)
 
 

@@ -1,4 +1,4 @@
-"""The caller of every program that writes a script. It has the script and its device.
+"""The caller in every program that writes a script. It contains the script and its device.
 
 Each command follows its description. The description names the command's outcome after a colon,
 unless it is a success:

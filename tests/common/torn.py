@@ -76,7 +76,10 @@ ENDINGS = {
     for end, calls in (
         (End(FILE), "statx image, open image.lock, flock image.lock, open image, read image"),
         (End(ENTROPY), "open entropy, statx entropy, read entropy, clock_gettime"),
-        (End(SOCKET), "mkdir .0, chmod .0, socket, bind, listen, chmod .0/s, statx .0/s, link socket"),
+        (
+            End(SOCKET),
+            "mkdir .0, chmod .0, socket, bind, listen, chmod .0/s, statx .0/s, link socket",
+        ),
         (End(WELL, (".0",)), "unlink .0/s, rmdir .0"),
         (End(SOCKET), "accept4"),
         (End(WELL, (), ALONE), "recv connection, send connection"),

@@ -1,4 +1,5 @@
-"""Compares the public functions that promise nothing with the list of them in docs/THEOREMS.md:
+"""Compares the public functions without `ensures` clauses with the list of them in
+docs/THEOREMS.md:
 
     python3 tests/common/unpromised_calls.py DOCUMENT FOLDER
 
@@ -68,7 +69,9 @@ def differences(found: Found, rows: dict[str, set[str]]) -> list[str]:
         files, named = found.get(crate, {}), rows.get(crate, set())
         for name in sorted({*files} - named):
             faults.append(f"{crate}/src/{name} is not listed: {', '.join(files[name])}")
-        faults += [f"{crate}/src/{name} is listed, and has none" for name in sorted(named - {*files})]
+        faults += [
+            f"{crate}/src/{name} is listed, and has none" for name in sorted(named - {*files})
+        ]
     return faults
 
 

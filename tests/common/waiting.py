@@ -1,4 +1,5 @@
-"""Three clients of `tpmsim serve`, two of which wait while another one sends nothing:
+"""Three clients of `tpmsim serve`. Two of them wait while the first one keeps its connection and
+sends nothing more:
 
     python3 waiting.py SOCKET ERRORS HEX
 

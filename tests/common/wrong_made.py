@@ -1,4 +1,4 @@
-"""Plays the made scripts on Python devices, each of which is wrong in one thing:
+"""Plays the made scripts on wrong Python devices, each with one error:
 
     wrong_made.py PROGRAM
 

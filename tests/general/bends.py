@@ -1,5 +1,5 @@
-"""Bent commands: the offsets of the sizes and counts of a buffer, and the buffers in which one of
-these numbers is increased or decreased by one.
+"""Altered commands: the offsets of the sizes and counts in a buffer, and the buffers in which one
+of these numbers is increased or decreased by one.
 
 Sizes and counts follow from the form of the command: its handles, its entries, and the kinds of
 its parameters, as in lines.py. So a new command needs no line here, unless one of its sized

@@ -1,7 +1,7 @@
-"""Makes bent_commands.tpm. Each command is bent: first commandSize is raised and lowered by one,
+"""Makes bent_commands.tpm. Each command is altered: first commandSize is raised and lowered by one,
 the rest unchanged. Then a zero byte is added at the end, with commandSize corrected. Then each size
 and each count after the header is raised and lowered by one, the rest unchanged. 0 is lowered to
-the largest number. All that is bent is refused. At last the command comes whole. Parameters,
+the largest number. All altered commands are refused. At last the command is sent whole. Parameters,
 entries and the items of lists are counted from 1.
 """
 

@@ -1,6 +1,6 @@
-"""Writes clear.tpm. TPM2_Clear, for a new owner, removes the old owner's objects and NV indices,
-the seed of its primary objects, its authorization values and its lockout. The platform's entities
-stay.
+"""Writes clear.tpm. TPM2_Clear prepares the device for a new owner: it removes the old owner's
+objects and NV indices, the seed of its primary objects, its authorization values and its lockout.
+The platform's entities stay.
 """
 
 from tpmsim.model.capability import HANDLES, PROPERTIES

@@ -1,9 +1,9 @@
-"""Makes cut_hmac_commands.tpm. Commands that an HMAC authorizes, cut after their authorization
-area to each shorter length, with the right commandSize. The HMAC is that of the whole parameters,
-so it is wrong; it is compared before the parameters are read. At a protected NV index or object
-that is a try: TPM_PT_LOCKOUT_COUNTER (20E) shows that it counts. TPM2_DictionaryAttackLockReset
-forgives it each time. A refusal leaves the session as it was: so the whole command comes at last,
-with the same HMAC.
+"""Makes cut_hmac_commands.tpm. Commands that an HMAC authorizes are cut after their authorization
+area to each shorter length, with the right commandSize. The HMAC is the one for the whole
+parameters, so it is wrong; it is compared before the parameters are read. At a protected NV index
+or object, that is a failed try: TPM_PT_LOCKOUT_COUNTER (20E) shows that it counts.
+TPM2_DictionaryAttackLockReset forgives it each time. A refusal leaves the session unchanged. So the
+whole command is sent at last, with the same HMAC.
 """
 
 from collections.abc import Iterator

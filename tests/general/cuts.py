@@ -1,7 +1,7 @@
 """Commands that are cut to every shorter length.
 
 A cut buffer with the old commandSize is refused for its size. With the right commandSize it is
-refused for the cut: words and codes say what refuses it up to which length.
+refused for the missing bytes. Descriptions and codes say what refuses it, and up to which length.
 """
 
 from collections.abc import Iterator

@@ -1,6 +1,6 @@
 """Makes get_capability.tpm. TPM2_GetCapability lists handles (1), commands (2), PCRs (5) and
 properties (6). It returns the elements from the requested one on, up to the requested number, and
-says whether more of them follow.
+says whether there are more.
 """
 
 from tpmsim.model.capability import command_attributes, COMMANDS, HANDLES, PCRS, PROPERTIES

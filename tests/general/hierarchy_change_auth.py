@@ -1,5 +1,5 @@
-"""Writes hierarchy_change_auth.tpm. TPM2_HierarchyChangeAuth gives a hierarchy, or the reset of the
-lockout, another authorization value. The old one authorizes it.
+"""Writes hierarchy_change_auth.tpm. TPM2_HierarchyChangeAuth changes the authorization value of a
+hierarchy or of TPM_RH_LOCKOUT. The old value authorizes the command.
 """
 
 from tests.common.steps import AUTHORIZED

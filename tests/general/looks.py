@@ -1,5 +1,5 @@
-"""Scripts of commands that are first refused, and then succeed whole. After each refusal some
-commands read the state of the device, which must be unchanged.
+"""Scripts of commands that are first refused, and then succeed. After each refusal some commands
+read the state of the device, which must be unchanged.
 """
 
 import copy
@@ -115,8 +115,7 @@ class LookingScript(Script):
         self.look(what, list(at_all(self.device)))
 
     def outcome_now(self, buffer: bytes) -> str:
-        """Returns the outcome that a command would have now. Only a copy of the device executes it.
-        """
+        """Returns the outcome that a command would have now, from a copy of the device."""
         refused = self.probe.execute(buffer, self.locality, self.random).refused
         if refused is None or refused.startswith("AUTH_FAIL"):
             self.probe = copy.deepcopy(self.device)

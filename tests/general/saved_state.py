@@ -1,7 +1,7 @@
-"""Writes saved_state.tpm. A state that TPM2_Shutdown(STATE) saved is good for the next TPM2_Startup
-as long as no command cancels it. Every command that succeeds does, except those that change
-nothing. Here each command follows a TPM2_Shutdown(STATE). TPM2_Startup(STATE) after a power cycle
-then shows whether the state was still there.
+"""Writes saved_state.tpm. A state that TPM2_Shutdown(STATE) saved can be used by the next
+TPM2_Startup until a command discards it. Every command that succeeds discards it, except those that
+change nothing. Here each command follows a TPM2_Shutdown(STATE). TPM2_Startup(STATE) after a power
+cycle then shows whether the state was still there.
 """
 
 from functools import partial

@@ -1,5 +1,5 @@
-"""Writes shutdown.tpm. TPM2_Shutdown says which state is kept for the next TPM2_Startup: with CLEAR
-(0000) only what is always kept, with STATE (0001) also PCR 0 to 15.
+"""Writes shutdown.tpm. TPM2_Shutdown selects the state that is kept for the next TPM2_Startup: with
+CLEAR (0000) only what is always kept, with STATE (0001) also PCRs 0 to 15.
 """
 
 from tests.common.steps import Steps

@@ -1,6 +1,6 @@
-"""Writes startup_state.tpm. TPM2_Startup(STATE) restores PCR 0 to 15 as TPM2_Shutdown(STATE) saved
-them. It keeps what TPM2_Startup(CLEAR) resets: platformAuth, and the locks of NV indices. Objects
-and sessions are gone even so.
+"""Writes startup_state.tpm. TPM2_Startup(STATE) restores PCRs 0 to 15 as TPM2_Shutdown(STATE) saved
+them. It keeps platformAuth and the locks of NV indices, which TPM2_Startup(CLEAR) resets. Objects
+and sessions are removed even so.
 """
 
 from tests.common.steps import Steps

@@ -1,5 +1,5 @@
-"""Writes what_stays.tpm. What a device still knows of sessions and counters that are gone: nothing
-of a session, and the largest value that any counter had.
+"""Writes what_stays.tpm. What a device still knows of ended sessions and undefined counters:
+nothing of a session, and the largest value of all counters.
 """
 
 from tests.common.vocabulary import CC, counter, FIRST, number, RH_LOCKOUT, SECOND, SHA256, Teller

@@ -1,4 +1,4 @@
-"""Bodies of images that are bent at random, with the head and the digest that belong to them.
+"""Bodies of images that are altered at random, with a head and a digest that fit them.
 
 A seed gives the same bodies everywhere, because only the stable part of `random` is used.
 """

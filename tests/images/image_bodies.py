@@ -1,5 +1,5 @@
-"""Bodies of images with one thing wrong, each with the nearest good body; and good bodies with
-values that are not checked.
+"""Bodies of images with one fault, each with the nearest good body; and good bodies with values
+that are not checked.
 """
 
 import copy
@@ -137,8 +137,7 @@ def flag_cases():
 
 
 def changed_lists():
-    """Yields changes of a full device's objects or indices, with descriptions; and the good image.
-    """
+    """Yields changed objects or indices of a full device, described; and the good image."""
     for words, find in (("objects", objects_of), ("indices", indices_of)):
         for at in (0, 7, len(find(image_fields.body_of(FULL)).groups) - 2):
             fields = image_fields.body_of(FULL)
@@ -270,8 +269,7 @@ def index_cases():
 
 
 def size_cases():
-    """Yields sized buffers that their structure does not fill, and texts with more or fewer bytes.
-    """
+    """Yields buffers that their structure does not fill, and longer or shorter texts."""
     for words, find, at in (
         ("an object's public area", objects_of, 3),
         ("an object's sensitive area", objects_of, 4),

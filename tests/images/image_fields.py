@@ -1,4 +1,4 @@
-"""The image of a device as its fields: sized ones, counted ones, and plain ones.
+"""The image of a device as its fields: fields with a size, fields with a count, and plain fields.
 
 The fields can be changed. Then they are written again with their sizes and counts, or with other
 sizes and counts.

@@ -1,4 +1,4 @@
-"""Writes the image of the device after a script, as `tpmsim serve --image` would leave it:
+"""Writes the image of the device after a script, as `tpmsim serve --image` would store it:
 
     tools/python.sh tests/images/images.py SCRIPT [IMAGE]
 

@@ -1,6 +1,4 @@
-"""Bodies of state texts with one thing wrong, each with the nearest good body; and the largest
-body.
-"""
+"""Bodies of state texts with one fault, each with the nearest good body; and the largest body."""
 
 from dataclasses import replace
 
@@ -128,8 +126,7 @@ def place_pairs():
 
 
 def pairs():
-    """Yields each wrong body with a description of its fault, and the good body that belongs to it.
-    """
+    """Yields each wrong body, a description of its fault, and the related good body."""
     yield from session_pairs()
     yield from place_pairs()
     for name in ("forgiving_time", "closed_time"):

@@ -49,8 +49,7 @@ class Commands(PreparedCommands):
         return self.device.auth_value(handle)
 
     def use(self, handle):
-        """Returns a command that needs an object's sensitive area: for a child, a MAC, or its data.
-        """
+        """Returns a command that needs an object's sensitive area."""
         public = self.device.objects[handle].public
         if public.kind == SYMCIPHER:
             return self.child(handle, sealed(), user_auth=b"auth", data=b"data")

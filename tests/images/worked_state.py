@@ -1,4 +1,6 @@
-"""The device of the worked state text, and that text. worked_state.txt lists the text by fields."""
+"""The device of the worked example of a state text, and that text. worked_state.txt lists its
+fields.
+"""
 
 import copy
 import functools

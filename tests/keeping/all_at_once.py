@@ -1,4 +1,4 @@
-"""Hosts of each kind hold one kept device at once, and some of them are killed at random moments:
+"""Hosts of each kind use one kept device at once, and some of them are killed at random moments:
 
     python3 all_at_once.py PROGRAM HOSTS SHIM SECONDS PROCESSES SEED [fills]
 

@@ -1,4 +1,4 @@
-"""Makes each call fail in turn of a power cycle that keeps past journals:
+"""Makes each call of a power cycle that keeps past journals fail in turn:
 
     python3 past_each.py PROGRAM HOSTS SHIM
 
@@ -30,8 +30,7 @@ class KeepingPast(Python):
 
 
 def made(host: Host, folder: pathlib.Path) -> None:
-    """Makes a device with three past journals. Each contains one letter; the last one contains A.
-    """
+    """Makes a device with three past journals of one letter each; the last one is A."""
     for act in (BEGIN, STARTUP):
         does(host, act, str(folder))
     host.close()

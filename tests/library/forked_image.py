@@ -34,8 +34,7 @@ def image():
 
 
 def in_child(device, snapshot):
-    """Returns the results of a forked child's calls, and whether it has written the image by then.
-    """
+    """Returns the results of a forked child's calls, and whether it wrote the image."""
     before = image()
     acts = {
         "a command": lambda: device.execute(b""),

@@ -21,8 +21,7 @@ class Library:
         self.device = LibraryDevice(manufactured=RANDOM)
 
     def fault_of(self, text: bytes) -> str | None:
-        """Returns the fault of an image. If there is none, the holder then has the image's device.
-        """
+        """Returns the fault of an image. Without a fault, the holder gets its device."""
         try:
             self.device.begin(text)
         except BadImage as fault:

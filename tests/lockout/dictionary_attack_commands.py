@@ -1,6 +1,6 @@
 """Writes dictionary_attack_commands.tpm. TPM2_DictionaryAttackLockReset and
 TPM2_DictionaryAttackParameters: their bytes, and their refusals. TPM_RH_LOCKOUT authorizes them,
-by a password or an HMAC session.
+with a password or an HMAC session.
 """
 
 from tests.common.vocabulary import CC, command, DECRYPT, ENCRYPT, frames, number, on_handle

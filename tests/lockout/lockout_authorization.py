@@ -1,7 +1,7 @@
-"""Writes lockout_authorization.tpm. A wrong entry is AUTH_FAIL if it was a try at the value of
-TPM_RH_LOCKOUT: as a password or in the key of an HMAC, or because its session was bound to
-TPM_RH_LOCKOUT at the start. Every other wrong entry is BAD_AUTH. Each such try locks lockoutAuth
-for lockoutRecovery.
+"""Writes lockout_authorization.tpm. A wrong entry is AUTH_FAIL if it guessed the value of
+TPM_RH_LOCKOUT: as a password, in the key of an HMAC, or because its session was bound to
+TPM_RH_LOCKOUT at the start. Every other wrong entry is BAD_AUTH. Each such failed try disables
+lockoutAuth for lockoutRecovery.
 """
 
 from tests.common.vocabulary import area, BY_VALUE, CC, FIRST, frames, RH_LOCKOUT, RH_OWNER, Teller

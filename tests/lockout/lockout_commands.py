@@ -1,5 +1,5 @@
-"""Writes lockout_commands.tpm. Each command that a protected entity authorizes: with maxTries 1 one
-wrong entry locks, and then the right one is refused, whichever command made the try.
+"""Writes lockout_commands.tpm. Each command that a protected entity authorizes. With maxTries 1,
+one wrong entry locks; then the right one is refused, whichever command had the wrong entry.
 """
 
 from tests.common.steps import PROTECTED, Steps

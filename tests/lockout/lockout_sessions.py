@@ -1,7 +1,6 @@
-"""Writes lockout_sessions.tpm. Each way in which an entry can be a try at a protected authorization
+"""Writes lockout_sessions.tpm. Each way in which an entry can guess a protected authorization
 value: as the password, in the key of an HMAC, or because its session was bound to a protected
-entity at the start. maxTries is 1 here. So one wrong entry of such a way locks it, and all the
-others.
+entity at the start. maxTries is 1 here, so one wrong entry of any of these ways locks all of them.
 """
 
 from dataclasses import dataclass

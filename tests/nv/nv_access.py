@@ -1,5 +1,6 @@
 """Writes nv_access.tpm. Each attribute for writing and reading by itself, with each kind of
-authHandle: the owner, the platform, the index itself and another one. By passwords, not policies.
+authHandle: the owner, the platform, the index itself and another index. The entries are passwords,
+not policies.
 """
 
 from tests.common.vocabulary import area, bits, BY_POLICY, BY_VALUE, counter, extended, FIRST, LOCKS

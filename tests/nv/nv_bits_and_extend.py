@@ -1,5 +1,5 @@
-"""Writes nv_bits_and_extend.tpm. Indices of bits, in which TPM2_NV_SetBits sets more and more bits;
-and indices that are extended like PCRs, each with its own hash algorithm.
+"""Writes nv_bits_and_extend.tpm. Bit fields, in which TPM2_NV_SetBits sets more and more bits; and
+indices that are extended like PCRs, each with its own hash algorithm.
 """
 
 from tests.common.vocabulary import bits, BY_OWNER, digest, digest_bytes, extended, FIRST, frames

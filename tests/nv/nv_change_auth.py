@@ -1,5 +1,5 @@
-"""Writes nv_change_auth.tpm. TPM2_NV_ChangeAuth: an index is authorized in the ADMIN role, which
-needs a policy with TPM2_PolicyCommandCode of this very command.
+"""Writes nv_change_auth.tpm. TPM2_NV_ChangeAuth: the index is authorized in the ADMIN role, which
+needs a policy with TPM2_PolicyCommandCode for this command.
 """
 
 from tests.common.steps import AFTER_AUTH_VALUE, Steps, with_value

@@ -1,5 +1,5 @@
-"""Writes nv_counters.tpm. Counters. A new one begins after the largest value that any counter ever
-had, so that no value occurs twice. Index 01000002 has the attributes 00020012.
+"""Writes nv_counters.tpm. A new counter begins after the largest value that any counter ever had,
+so that no value occurs twice. Index 01000002 has the attributes 00020012.
 """
 
 from tests.common.vocabulary import area, BY_OWNER, counter, FIRST, FOURTH, number, NvAttribute

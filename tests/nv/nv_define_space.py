@@ -1,5 +1,5 @@
-"""Makes nv_define_space.tpm. TPM2_NV_DefineSpace: which public areas an index can have, and how
-many indices there can be.
+"""Makes nv_define_space.tpm. TPM2_NV_DefineSpace: the public areas that an index can have, and the
+limit on the number of indices.
 """
 
 import itertools

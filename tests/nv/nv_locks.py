@@ -1,6 +1,6 @@
-"""Writes nv_locks.tpm. Locks: WRITEDEFINE locks a written index against writing for good.
-WRITE_STCLEAR and READ_STCLEAR lock an index until the next start. CLEAR_STCLEAR makes it unwritten
-at each start.
+"""Writes nv_locks.tpm. Locks: WRITEDEFINE locks a written index against writing permanently.
+WRITE_STCLEAR and READ_STCLEAR lock an index until the next TPM2_Startup(CLEAR), and CLEAR_STCLEAR
+makes it unwritten then.
 """
 
 import contextlib

@@ -1,5 +1,5 @@
-"""Writes nv_read_public.tpm. TPM2_NV_ReadPublic needs no authorization. It answers the public area
-with the present attributes, and the Name, which is nameAlg and the digest of the public area.
+"""Writes nv_read_public.tpm. TPM2_NV_ReadPublic needs no authorization. It returns the public area
+with the current attributes, and the Name, which is nameAlg and the digest of the public area.
 """
 
 from tests.common.vocabulary import area, BY_OWNER, BY_VALUE, counter, DECRYPTS, digest

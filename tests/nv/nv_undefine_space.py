@@ -1,5 +1,5 @@
-"""Writes nv_undefine_space.tpm. TPM2_NV_UndefineSpace: the owner removes its indices, the platform
-all.
+"""Writes nv_undefine_space.tpm. TPM2_NV_UndefineSpace: the owner can remove its own indices, the
+platform all.
 """
 
 from tests.common.vocabulary import area, BY_OWNER, BY_VALUE, CC, FIRST, NvAttribute, RH_ENDORSEMENT

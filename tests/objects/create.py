@@ -1,5 +1,5 @@
 """Writes create.tpm. TPM2_Create makes an object and returns it in a private area, which only its
-parent can load. Nothing of it stays in the device.
+parent can load. The device keeps nothing of the object.
 """
 
 from tpmsim.model import object_rules

@@ -1,6 +1,6 @@
-"""Writes evict_control.tpm. TPM2_EvictControl makes a persistent object of a transient one, or
-removes a persistent one. A persistent object survives power cycles, has a handle from 81000000 on,
-and is used like the transient one.
+"""Writes evict_control.tpm. TPM2_EvictControl makes a persistent object from a transient one, or
+removes a persistent one. A persistent object survives power cycles, has a handle of 81000000 or
+higher, and is used like the transient one.
 """
 
 from tpmsim.model.capability import HANDLES

@@ -1,5 +1,5 @@
 """Writes flush_objects.tpm. TPM2_FlushContext removes a transient object from the device. There are
-eight places, 80000000 to 80000007; an object gets the lowest free one.
+eight slots, 80000000 to 80000007; an object gets the lowest free one.
 """
 
 from dataclasses import replace

@@ -1,6 +1,5 @@
-"""Writes hmac_keys.tpm. TPM2_HMAC makes an HMAC of a buffer with an object that is a key for it. The
-hash algorithm is that of the scheme of the key; if that scheme is NULL, the command names the hash
-algorithm.
+"""Writes hmac_keys.tpm. TPM2_HMAC computes the HMAC of a buffer with an HMAC key. The hash
+algorithm is that of the key's scheme; if the scheme is NULL, the command names the hash algorithm.
 """
 
 from tests.common.steps import aes_key, RESTRICTED_KEY, Steps

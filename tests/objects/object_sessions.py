@@ -1,5 +1,5 @@
-"""Writes object_sessions.tpm. HMAC sessions that authorize objects. Everywhere the Name of an
-object is used as the handle of a hierarchy is: in the hash of a command, in a binding, and in
+"""Writes object_sessions.tpm. HMAC sessions that authorize objects. The Name of an object is used
+wherever a hierarchy's handle is used: in the hash of a command, in a binding, and in
 TPM2_PolicySecret.
 """
 

@@ -1,4 +1,4 @@
-"""Writes objects_power_cycle.tpm. Transient objects are gone after a power cycle. The seeds of the
+"""Writes objects_power_cycle.tpm. A power cycle removes transient objects. The seeds of the
 owner's, the endorsement and the platform hierarchy stay, so that the same primary objects can be
 made again. The null hierarchy has a new seed and a new proof after each TPM2_Startup(CLEAR).
 """
@@ -16,8 +16,7 @@ def start(what, seed):
 
 
 def primaries():
-    """Returns the Name of a storage key in each hierarchy, and a child that was created under each.
-    """
+    """Returns the Name of a storage key in each hierarchy, and a child of each."""
     names, children = {}, {}
     for hierarchy, name in HIERARCHIES:
         with tpm.held(f"A storage key in {name}", storage_key(), hierarchy=hierarchy) as handle:

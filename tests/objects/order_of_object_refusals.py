@@ -1,6 +1,6 @@
 """Makes order_of_object_refusals.tpm. The order of refusals in the commands of objects: a buffer
-has many faults, which are repaired one after the other. The answer is always the first fault that
-is left.
+has many faults, which are repaired one after the other. The response always reports the first
+remaining fault.
 """
 
 from functools import partial

@@ -54,8 +54,7 @@ def sensitive(data=b"forged", auth=b"", seed=b"s" * 32, kind=KEYEDHASH):
 
 @dataclass(frozen=True)
 class Forger:
-    """A forger who knows the seed of the parent. The forger makes private areas for a public area.
-    """
+    """A forger who knows the parent's seed makes private areas for a public area."""
 
     parent: int
     public: Public

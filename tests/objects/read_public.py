@@ -1,5 +1,5 @@
-"""Writes read_public.tpm. TPM2_ReadPublic answers an object's public area; its Name, which is
-nameAlg and the hash of that area; and its qualified name, which depends on the Names of all objects
+"""Writes read_public.tpm. TPM2_ReadPublic returns an object's public area; its Name, which is
+nameAlg and the hash of that area; and its qualified Name, which depends on the Names of all objects
 above it. It needs no authorization.
 """
 

@@ -1,6 +1,6 @@
-"""Makes sealed_sizes.tpm. Sealed data of up to 128 bytes, which a session encrypts on the way:
+"""Makes sealed_sizes.tpm. Sealed data of up to 128 bytes, which a session encrypts in transit:
 inSensitive of TPM2_Create, inPrivate of TPM2_Load, outData of TPM2_Unseal, and the buffer and the
-answer of TPM2_HMAC.
+response of TPM2_HMAC.
 """
 
 from tests.common.steps import Steps

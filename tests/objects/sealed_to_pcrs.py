@@ -1,6 +1,6 @@
-"""Writes sealed_to_pcrs.tpm. Sealed data whose authPolicy is that of TPM2_PolicyPCR over PCR 10: a
-trial session computes its digest, and a policy session authorizes TPM2_Unseal while PCR 10 has the
-same value.
+"""Writes sealed_to_pcrs.tpm. Sealed data with an authPolicy of TPM2_PolicyPCR over PCR 10: a trial
+session computes the digest, and a policy session authorizes TPM2_Unseal while PCR 10 has the same
+value.
 """
 
 from tpmsim.standard import digests

@@ -1,6 +1,6 @@
-"""Makes template_refusals.tpm. What TPM2_CreatePrimary, TPM2_Create and TPM2_Load refuse of
-inSensitive and inPublic: first what cannot be read, in reading order; then what is wrong in any
-public area; and then what is wrong in an area of a new object.
+"""Makes template_refusals.tpm. The refusals of TPM2_CreatePrimary, TPM2_Create and TPM2_Load for
+inSensitive and inPublic: first what cannot be parsed, in reading order; then what is wrong in any
+public area; and then what is wrong in the area of a new object.
 """
 
 from dataclasses import dataclass

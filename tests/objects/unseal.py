@@ -1,4 +1,6 @@
-"""Writes unseal.tpm. TPM2_Unseal returns the data of a sealed object, by its authorization."""
+"""Writes unseal.tpm. TPM2_Unseal returns the data of a sealed object, if the object's authorization
+is given.
+"""
 
 from tests.common.steps import aes_key, PROTECTED, RESTRICTED_KEY, Steps
 from tests.common.vocabulary import ALG_NULL, CC, HERE, hmac_key, ObjectAttribute, sealed, SHA1

@@ -1,5 +1,5 @@
 """Writes long_policy.tpm. A policy of many assertions. A trial session gets the same digest as a
-policy session, although no assertion has to hold yet.
+policy session, although no assertion needs to hold yet.
 """
 
 from tests.common.policy_teller import PolicyTeller

@@ -1,5 +1,5 @@
-"""Makes order_of_policy_refusals.tpm. The order of refusals of the policy commands: many faults
-are repaired one after the other. The answer is always the first one that is left, in the order of
+"""Makes order_of_policy_refusals.tpm. The order of refusals of the policy commands: many faults are
+repaired one after the other. The response always reports the first remaining fault, in the order of
 docs/table/order_of_refusals.md.
 """
 

@@ -1,5 +1,5 @@
 """Writes policy_command_code.tpm. TPM2_PolicyCommandCode: the policy is only for one command. Its
-parameter is the code of a command, served or not.
+parameter is the code of a command, which the device need not implement.
 """
 
 from tests.common.policy_teller import PolicyTeller

@@ -1,5 +1,5 @@
-"""Makes policy_handles.tpm. The commands of policies have the handle of a policy or trial session,
-which needs no authorization. In TPM2_PolicySecret it is the second.
+"""Makes policy_handles.tpm. The policy commands have the handle of a policy or trial session, which
+needs no authorization. In TPM2_PolicySecret it is the second handle.
 """
 
 from tpmsim.standard import area

@@ -1,6 +1,6 @@
 """Writes policy_locality.tpm. TPM2_PolicyLocality: the policy is only for some localities. Its
 parameter has a bit for each of the localities 0 to 4. The localities that all such parameters have
-in common are left.
+in common remain.
 """
 
 from tests.common.policy_teller import PolicyTeller

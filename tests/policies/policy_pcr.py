@@ -1,5 +1,5 @@
-"""Makes policy_pcr.tpm. TPM2_PolicyPCR: the policy is for PCRs with their present values. Its
-parameters are the digest that they should have, if any, and the selection.
+"""Makes policy_pcr.tpm. TPM2_PolicyPCR: the policy is for PCRs with their current values. Its
+parameters are the digest that these values must have, if any, and the selection.
 """
 
 from tests.common.policy_teller import PolicyTeller
@@ -20,8 +20,7 @@ def changed(what, banks=ZERO):
 
 
 def values_digest(banks):
-    """Returns the hash of the values of a selection, bank by bank, and in each bank by PCR number.
-    """
+    """Returns the hash of a selection's values, by bank, and by PCR number in each bank."""
     return tpm.history.pcrs.digest(session.algorithm, [(bank, sorted(it)) for bank, it in banks])
 
 

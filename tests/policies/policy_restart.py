@@ -1,5 +1,5 @@
-"""Writes policy_restart.tpm. TPM2_PolicyRestart: the session has forgotten its assertions, and
-keeps everything else.
+"""Writes policy_restart.tpm. After TPM2_PolicyRestart the session has no assertions; everything
+else in it is unchanged.
 """
 
 from tests.common.policy_teller import PolicyTeller

@@ -1,6 +1,6 @@
 """Writes policy_secret.tpm. TPM2_PolicySecret: the policy is for a user who knows the authorization
-value of an entity, and shows it now. Its parameters are nonceTPM, cpHashA, policyRef and
-expiration. Here only by the empty password.
+value of an entity, and proves it now. Its parameters are nonceTPM, cpHashA, policyRef and
+expiration. All entries here are the empty password.
 """
 
 from tests.common.policy_teller import ENTITIES, PolicyTeller

@@ -1,4 +1,4 @@
-"""Writes policy_secret_authorization.tpm. The value of its first handle authorizes
+"""Writes policy_secret_authorization.tpm. The authorization value of its first handle authorizes
 TPM2_PolicySecret, in a password or an HMAC session, as in any other command. The policy session
 needs no authorization.
 """

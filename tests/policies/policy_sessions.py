@@ -1,5 +1,5 @@
-"""Writes policy_sessions.tpm. Policy sessions and trial sessions have the same sixteen places as
-HMAC sessions. Their handles begin with 03, and those of HMAC sessions with 02.
+"""Writes policy_sessions.tpm. Policy sessions and trial sessions use the same sixteen slots as HMAC
+sessions. Their handles begin with 03, and those of HMAC sessions with 02.
 """
 
 from tests.common.vocabulary import CC, Entry, flipped, frames, HASHES, number, RH_LOCKOUT, RH_OWNER

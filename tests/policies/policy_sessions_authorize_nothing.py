@@ -1,6 +1,6 @@
-"""Writes policy_sessions_authorize_nothing.tpm. A policy session authorizes entities with a policy.
-Hierarchies and PCRs have none: only their authorization value authorizes them. A trial session
-never authorizes.
+"""Writes policy_sessions_authorize_nothing.tpm. A policy session authorizes only entities with a
+policy. Hierarchies and PCRs have none: only their authorization value authorizes them. A trial
+session never authorizes.
 """
 
 from tests.common.vocabulary import CC, CONTINUE_SESSION, DECRYPT, DECRYPTS, Entry, frames

@@ -1,6 +1,6 @@
-"""Writes policy_sessions_that_encrypt.tpm. Policy sessions and trial sessions as further entries:
-they authorize nothing there, and their HMAC is compared like that of HMAC sessions. They can
-decrypt and encrypt, and keep their assertions.
+"""Writes policy_sessions_that_encrypt.tpm. Policy sessions and trial sessions in additional
+entries: they authorize nothing there, and their HMAC is compared like that of HMAC sessions. They
+can decrypt and encrypt, and keep their assertions.
 """
 
 from tests.common.policy_teller import PolicyTeller

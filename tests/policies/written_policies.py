@@ -1,5 +1,5 @@
-"""Writes written_policies.tpm. Policies with branches, each of which is taken, and refused; and
-other policies. tests/python/policy_audit.sh gives tools/audit.py these policies in words.
+"""Writes written_policies.tpm. Policies with branches, each of which is used once and refused once;
+and other policies. tests/python/policy_audit.sh passes these policies in words to tools/audit.py.
 """
 
 from tests.common.vocabulary import AUTH_VALUE, BY_OWNER, CC, digest, HERE, name_of, number

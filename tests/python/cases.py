@@ -1,4 +1,4 @@
-"""Runs tools/audit.py many times in one process, each time with other words:
+"""Runs tools/audit.py many times in one process, each time with other arguments:
 
     cases.py <CASES
 

@@ -2,11 +2,11 @@
 
     sweep.py PROGRAM COUNT [SEED]
 
-The program audits each script of tests/ and examples/, and COUNT random ones; SEED is the seed
-of the first. Each random script is also judged from the image of its device at a power cycle,
-and again with lines that are bent. A script that ends with a bad line has to be judged up to
-that line. The program names the logs that do not agree, and leaves their scripts. At the end it
-prints the counts. The status is 1 if a log does not agree.
+The program audits each script of tests/ and examples/, and COUNT random ones; SEED is the seed of
+the first. Each random script is also judged from the image of its device at a power cycle, and
+again with altered lines. A script that ends with a bad line must be judged up to that line. The
+program names the logs that do not agree, and keeps their scripts. At the end it prints the counts.
+The status is 1 if a log does not agree.
 """
 
 import pathlib

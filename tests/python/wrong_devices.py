@@ -1,6 +1,5 @@
-"""Python devices that are wrong in one thing each, with a script that shows the error. The audit
-compares the output of such a device with that same device, so that only the history can find the
-error.
+"""Wrong Python devices with one error each, and a script that shows the error. The audit compares
+the output of such a device with that same device, so that only the history can reveal the error.
 
     wrong_devices.py
 

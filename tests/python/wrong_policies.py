@@ -1,5 +1,5 @@
-"""Python devices that are wrong in one thing each. Their logs are audited against that same device,
-by policies in words:
+"""Wrong Python devices with one error each. Their logs are audited against that same device, with
+policies in words:
 
     wrong_policies.py POLICIES
 

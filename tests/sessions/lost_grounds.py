@@ -1,6 +1,6 @@
 """Writes lost_grounds.tpm. How the grounds of tests/sessions/grounds.tpm are lost: each way is
-refused, by G9 unless said otherwise, and next to it is the same with the condition met. How a
-session itself is lost is in tests/sessions/replays.tpm.
+refused, by G9 unless stated otherwise, and next to it the same command is accepted with the
+condition met. tests/sessions/replays.tpm shows how a session itself is lost.
 """
 
 from tpmsim.standard import digests

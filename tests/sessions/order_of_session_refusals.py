@@ -1,5 +1,5 @@
-"""Makes order_of_session_refusals.tpm. The order of refusals of commands with sessions: many
-faults are repaired one after the other. The answer is always the first one that is left, in the
+"""Makes order_of_session_refusals.tpm. The order of refusals of commands with sessions: many faults
+are repaired one after the other. The response always reports the first remaining fault, in the
 order of docs/table/order_of_refusals.md.
 """
 

@@ -1,6 +1,6 @@
-"""Writes session_encryption.tpm. Parameter encryption by AES-128 in mode CFB: a session with the
-attribute decrypt encrypts the bytes of the first parameter, and one with encrypt those of the first
-answer.
+"""Writes session_encryption.tpm. Parameter encryption with AES-128 in CFB mode: with the attribute
+decrypt, the first parameter of the command is encrypted; with the attribute encrypt, the first
+parameter of the response.
 """
 
 from functools import partial

@@ -1,5 +1,6 @@
-"""Writes session_entries.tpm. Entries of sessions in an authorization area: what is refused of them
-before any HMAC is compared, entry by entry, and in each entry the first of these faults.
+"""Writes session_entries.tpm. Entries of sessions in an authorization area: the faults that are
+refused before any HMAC is compared. They are checked entry by entry, and the first fault of an
+entry counts.
 """
 
 from tests.common.vocabulary import CC, CONTINUE_SESSION, DECRYPT, ENCRYPT, Entry, frames, number

@@ -1,6 +1,6 @@
-"""Writes xor_sessions.tpm. TPM_ALG_XOR: the first parameter, or the first answer, is XORed with a
-mask of the same size, KDFa(authHash, sessionKey || authValue, "XOR", nonceNewer, nonceOlder,
-bits).
+"""Writes xor_sessions.tpm. TPM_ALG_XOR: the first parameter of the command or of the response is
+XORed with a mask of the same size, KDFa(authHash, sessionKey || authValue, "XOR", nonceNewer,
+nonceOlder, bits).
 
 Each mask is computed here only by hashlib and hmac, without sessions.py: parameters are masked by
 hand, and answers are compared byte for byte.

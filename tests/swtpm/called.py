@@ -1,5 +1,5 @@
-"""A device of the caller that replaces swtpm (caller.c). The caller reads lines and answers
-them. The device's states are files in the caller's working folder.
+"""A device of the program that replaces swtpm (caller.c). That program reads commands from lines
+and prints the responses. The device's states are files in its working folder.
 """
 
 import pathlib

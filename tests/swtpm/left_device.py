@@ -1,5 +1,5 @@
-"""A device that is left with a bound and an unbound HMAC session, a policy session, objects,
-contexts of the completing layer, and a launch. Also the commands that it has to accept when it
+"""A device that is stopped with a bound and an unbound HMAC session, a policy session, objects,
+contexts of the completing layer, and a launch. Also the commands that it must accept when it
 continues.
 """
 

@@ -1,4 +1,4 @@
-"""Leaves a running device, and continues it in other processes. Each of its sessions is used before
+"""Stops a running device, and continues it in other processes. Each of its sessions is used before
 and after, objects stay, and contexts are loaded:
 
     resumed.py CALLER LIBRARY FOLDER

@@ -1,11 +1,11 @@
-"""Reads and bends volatile states:
+"""Reads and alters volatile states:
 
     volatile_states.py read FILE
     volatile_states.py time FILE
     volatile_states.py bend FILE FOLDER
 
-`read` prints the content of a state. `time` prints whether its time is within the last few
-minutes. `bend` writes bad states into a folder, and prints the files' names.
+`read` prints the content of a state. `time` prints whether its time is within the last few minutes.
+`bend` writes altered states into a folder, and prints the files' names.
 """
 
 import hashlib

@@ -1,5 +1,5 @@
 """Compares the state that the page reads from state texts with the Python device that is opened
-from them: page_states.py STATES. page_states.mjs writes STATES.
+from the same texts: page_states.py STATES. page_states.mjs writes STATES.
 """
 
 import json

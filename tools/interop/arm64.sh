@@ -41,7 +41,7 @@ foreign() {
         -o Dir::Cache="$folder/cache" "$@" >>"$log" 2>&1
 }
 
-# Fetches the packages, and qemu as one file that needs no other.
+# Downloads the packages, and qemu as one file that needs no other.
 fetch() {
     mkdir -p "$folder/state/lists/partial" "$folder/cache/archives/partial" && : >"$folder/status" &&
         foreign update || return 1
@@ -50,7 +50,7 @@ fetch() {
         (cd "$folder" && apt-get -q download qemu-user-static) >>"$log" 2>&1
 }
 
-# Unpacks them. This does what their scripts would do, as far as it matters.
+# Unpacks the packages. Then does the part of their installation scripts that matters here.
 unpack() {
     mkdir -p "$root.new" "$folder/qemu" &&
         dpkg-deb -x "$folder"/qemu-user-static_*.deb "$folder/qemu" || return 1
@@ -64,7 +64,8 @@ unpack() {
         echo 'root:x:0:' >"$root.new/etc/group" && mv "$root.new" "$root"
 }
 
-# Puts the package and a clone of the last commit into the root, replacing those of the last time.
+# Puts the package and a clone of the last commit into the root, and replaces those of the previous
+# run.
 bring() {
     rm -rf "$folder/made" "$root/repository"
     tools/deb.sh --machine aarch64 "$folder/made" >>"$log" 2>&1 &&

@@ -1,7 +1,7 @@
 #!/bin/sh
 # Plays the installed package on an ARM64 machine: the program, the module for libtss2, the one for swtpm,
-# Microsoft's protocol and the package in Python; and in the repository the two commands of the README.
-# tools/interop/arm64.sh brings it there. Each line says what went right.
+# Microsoft's protocol and the Python package; and in the repository the two commands of the README.
+# tools/interop/arm64.sh copies this script there. Each line reports a success.
 set -u
 top=$(CDPATH='' cd "$(dirname "$0")/../.." && pwd -P) || exit 1
 work=$(mktemp -d) || exit 1

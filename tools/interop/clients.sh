@@ -1,8 +1,8 @@
 #!/bin/sh
-# Other clients of libtss2 use a kept device with its completing layer, by the module that
-# hosts/build.sh makes: Debian's tpm2-pytss, clevis with a parent of AES, and tpm2-abrmd with tpm2-tools
-# on it. It says for each whether it did what was asked. For FAPI, whose profiles all need RSA or ECC keys,
-# it says how far tss2_provision goes. Not part of the gate. It installs nothing, and leaves nothing.
+# Other clients of libtss2 use a kept device with its completing layer, by the module that hosts/build.sh
+# builds: Debian's tpm2-pytss, clevis with an AES parent, and tpm2-abrmd with tpm2-tools on it. The script
+# reports for each client whether it succeeded. For FAPI, whose profiles all need RSA or ECC keys, it
+# reports how far tss2_provision gets. Not part of the gate. It installs nothing, and leaves no files.
 #
 #   tools/interop/clients.sh
 #
@@ -119,7 +119,8 @@ END
     check 'tpm2-abrmd: objects and sessions of six tools' dbus-run-session -- sh abrmd.sh
 }
 
-# How far FAPI goes: the last fault of tss2_provision and of tss2_getinfo, with this folder's own keystore.
+# fapi: prints how far FAPI gets: the last fault of tss2_provision and of tss2_getinfo, with this folder's
+# own keystore.
 fapi() {
     mkdir -p fapi/user fapi/system fapi/log
     cat >fapi/config <<END

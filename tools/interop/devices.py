@@ -48,7 +48,8 @@ class Device:
     name = ""
     #: The words of TPM2TOOLS_TCTI.
     tcti = ""
-    #: Whether what a tool left loaded is flushed after each step, as a resource manager does.
+    # Whether the objects and sessions that a tool left loaded are flushed after each step, as a
+    # resource manager does.
     is_flushed = True
 
     def __init__(self, folder: Path) -> None:
@@ -63,11 +64,11 @@ class Device:
         raise NotImplementedError
 
     def stop(self) -> None:
-        """Ends what was started for the device."""
+        """Ends the programs that were started for the device."""
 
 
 class Module(Device):
-    """A tpmsim in a folder, through the module for libtss2, which flushes by itself."""
+    """A tpmsim in a folder, through the module for libtss2, which flushes them itself."""
 
     name = "tpmsim"
     is_flushed = False

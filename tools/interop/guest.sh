@@ -1,18 +1,18 @@
 #!/bin/sh
 # Boots Linux guests with QEMU on a tpmsim under swtpm: SeaBIOS and OVMF, each with tpm-tis and tpm-crb.
 # Firmware and kernel must leave the same PCRs as under swtpm with its own libtpms. The guest extends a
-# PCR, seals data to it, sleeps and wakes (S3), reboots and unseals them; so does one in another run of
-# QEMU. Then a running guest is saved with its TPM, and goes on in another QEMU. Not part of the gate: it
-# takes minutes. It installs nothing, and leaves only its folder, if it gets one.
+# PCR, seals data to it, sleeps and wakes (S3), reboots and unseals the data. A guest in another run of
+# QEMU unseals them too. Then a running guest is saved with its TPM, and continues in another QEMU. Not
+# part of the gate: it takes minutes. It installs nothing, and leaves only its folder, if one is named.
 #
 #   tools/interop/guest.sh [FOLDER]                   all of that
 #   tools/interop/guest.sh FOLDER FIRMWARE DEVICE     one of the four, as seabios tpm-tis
 #   tools/interop/guest.sh FOLDER moves               the guest that is saved while it runs
 #
 # Needs Debian's qemu-system-x86, qemu-utils, ovmf, swtpm, libtpms-dev, busybox-static, tpm2-tools, socat, and a
-# kernel with the TPM's drivers built in: the file that $KERNEL names, or Debian's cloud kernel, which
-# apt-get downloads. The folder of `hosts/build.sh libtpms` is that of $ATTACHED, or it is made. QEMU emulates
-# the processor, unless $ACCELERATOR is kvm.
+# kernel with the TPM's drivers built in: the file that $KERNEL names, or Debian's cloud kernel, which apt-get
+# downloads. $ATTACHED is the folder of `hosts/build.sh libtpms`; if it is not set, the script makes one. QEMU
+# emulates the processor, unless $ACCELERATOR is kvm.
 set -u
 
 top=$(CDPATH='' cd "$(dirname "$0")/../.." && pwd -P) || exit 1
@@ -42,7 +42,8 @@ fail() {
     failed=$((failed + 1))
 }
 
-# The kernel, and a first file system of busybox, tpm2-tools and the libraries that they need.
+# Makes the guest's files: the kernel, and an initial file system of busybox, tpm2-tools and the
+# libraries that they need.
 make_guest() {
     if [ -z "${KERNEL:-}" ]; then
         mkdir -p "$folder/kernel"
@@ -70,7 +71,7 @@ make_guest() {
     (cd "$root" && find . | busybox cpio -o -H newc 2>/dev/null | gzip -1) >"$folder/initramfs"
 }
 
-# begin_tpm swtpm|tpmsim NAME: the TPM of a guest, on the state of that name.
+# begin_tpm swtpm|tpmsim NAME: starts the TPM of a guest, with the state of that name.
 begin_tpm() {
     rm -f "$run/ctrl"
     mkdir -p "$folder/$2"
@@ -114,12 +115,14 @@ boot() {
     tr -d '\r' <"$run/serial" | sed -n 's/^.*RESULT //p' >"$run/results"
 }
 
-# measured NAME: what firmware and kernel left, as the guest of a run reported it first.
+# measured NAME: prints the PCRs that firmware and kernel left, as the guest of a run reported them
+# first.
 measured() {
     awk '/^VERSION/ { boots++ } boots == 1 && /^(VERSION|PCR|LOG)/' "$folder/$1/results"
 }
 
-# check NAME BOOTS COUNT: the guest of a run booted this often, and reported this many right results.
+# check NAME BOOTS COUNT: checks that the guest of a run booted this often, and reported this many
+# right results.
 check() {
     while IFS= read -r line; do
         case $line in
@@ -134,7 +137,8 @@ check() {
     fi
 }
 
-# replays NAME: the records of a run's boots are executed again, with the same answers.
+# replays NAME: executes the records of a run's boots again, and checks that the responses are the
+# same.
 replays() {
     for record in "$folder/$1"/record/*.tpm; do
         if python3 - "$attached/libtpms.so.0" "$record" <<'END'; then
@@ -153,7 +157,7 @@ END
     done
 }
 
-# combination FIRMWARE DEVICE: all trials of one combination.
+# combination FIRMWARE DEVICE: runs all trials of one combination.
 combination() {
     firmware=$1
     device=$2
@@ -176,7 +180,7 @@ combination() {
     for run in "$name-pcrs" "$name-first" "$name-again"; do replays "$run"; done
 }
 
-# machine NAME WORDS..: begins a QEMU for a guest that moves, whose TPM has its own state.
+# machine NAME WORDS..: starts a QEMU for a guest that moves, whose TPM has its own state.
 machine() {
     run=$folder/$1
     shift
@@ -210,13 +214,13 @@ told() {
     return 1
 }
 
-# moved NAME: the PCRs that the guest printed last are those after two and one extends.
+# moved NAME: checks that the PCRs that the guest printed last are those after two extends and one.
 moved() {
     tr -d '\r' <"$run/serial" | sed -n 's/^.*RESULT MOVE //p' | tail -n 2 >"$run/pcrs"
     if cmp -s "$run/pcrs" "$folder/moved_pcrs"; then ok "$1"; else fail "$1: $(cat "$run/pcrs")"; fi
 }
 
-# A guest at locality 2 is saved, and loaded again; then it moves to another QEMU with another swtpm.
+# Saves a guest at locality 2, and loads it again; then moves it to another QEMU with another swtpm.
 moves() {
     printf '20 %s\n15 %s\n' \
         6A4F8C2FE171394674DC8F8CCEFB497B809900F19A5E0A00D7B10CEE285954FD \

@@ -22,7 +22,7 @@ result() {
     echo "RESULT $*" >/dev/ttyS0
 }
 
-# tool LABEL WORDS..: runs a tool of tpm2-tools, and reports whether it did what was asked.
+# tool LABEL WORDS..: runs a tool of tpm2-tools, and reports whether it succeeded.
 tool() {
     label=$1
     shift
@@ -33,7 +33,7 @@ tool() {
     fi
 }
 
-# same LABEL TEXT: the last tool printed this text.
+# same LABEL TEXT: reports whether the last tool printed this text.
 same() {
     if [ "$(cat output)" = "$2" ]; then
         result ok "$1"
@@ -47,8 +47,8 @@ off() {
     poweroff -f
 }
 
-# at_locality_2 HEX: sends a command by the registers of tpm-tis, which stays at locality 2. It prints the
-# response code.
+# at_locality_2 HEX: sends a command by the registers of tpm-tis, which stays at locality 2, and prints
+# the response code.
 at_locality_2() {
     base=0xFED42
     devmem ${base}000 8 2

@@ -1,8 +1,8 @@
 #!/bin/sh
-# Uses a device of tpmsim-simulator with the tools of IBM's TSS (Debian: tss2), over Microsoft's protocol, which
-# they speak by default. It says of each whether it did what was asked: the start, PCRs, sessions that encrypt
-# by AES and by XOR, the four kinds of NV index, policies, sealed primary objects, lockout, Clear. Not part of
-# the gate. It installs nothing, and leaves nothing.
+# Uses a device of tpmsim-simulator with the tools of IBM's TSS (Debian: tss2), over Microsoft's protocol, their
+# default. It reports for each of these whether it succeeded: TPM2_Startup, PCRs, sessions that encrypt by AES
+# and by XOR, the four types of NV index, policies, sealed primary objects, lockout, TPM2_Clear. Not part of the
+# gate. It installs nothing, and leaves no files.
 #
 #   tools/interop/ibm_tools.sh [PROGRAM]
 set -u
@@ -36,7 +36,7 @@ tool() {
     fi
 }
 
-# same: the unsealed data are the sealed ones.
+# same: checks that the unsealed data are the sealed data.
 same() {
     cmp -s secret unsealed || { echo 'FAILED: other bytes'; failed=$((failed + 1)); }
 }
@@ -74,7 +74,7 @@ indices() {
     tool flushcontext -ha 02000000
 }
 
-# Data that are sealed by a password, and by a policy of PCR 16.
+# sealing: seals data with a password, and with a policy of PCR 16.
 sealing() {
     tool createprimary -hi o -bl -kt f -kt p -if secret -pwdk kkk
     tool unseal -ha 80000000 -pwd kkk -of unsealed

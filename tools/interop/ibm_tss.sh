@@ -1,8 +1,8 @@
 #!/bin/sh
-# Uses a served device with IBM's tools, Debian's tss2, which reach it over TCP and socat, with a connection
-# for each tool. It says of each whether it did what was asked. Their sessions encrypt by TPM_ALG_XOR, and
-# stay from one tool to the next. Not part of the gate. It installs nothing, and leaves nothing. Needs tss2
-# and socat, and rt if the program is not built yet.
+# Uses a served device with IBM's tools, Debian's tss2, which connect to it over TCP and socat, with one
+# connection for each tool. It reports for each tool whether it succeeded. The sessions encrypt by
+# TPM_ALG_XOR, and stay loaded from one tool to the next. Not part of the gate. It installs nothing, and
+# leaves no files. Needs tss2 and socat, and rt if the program is not built yet.
 #
 #   tools/interop/ibm_tss.sh [PORT]    on this port of 127.0.0.1, or on 2321
 set -u
@@ -34,7 +34,8 @@ sleep 0.5
 export TPM_INTERFACE_TYPE=socsim TPM_SERVER_TYPE=raw TPM_SERVER_NAME=127.0.0.1
 export TPM_COMMAND_PORT="$port" TPM_ENCRYPT_SESSIONS=0 TPM_DATA_DIR="$folder"
 
-# What a session's entry does in addition to staying (1): it decrypts (20), encrypts (40), or both.
+# The attributes of a session's entry: the session continues (1), and it decrypts (20), encrypts
+# (40), or does both.
 in=21 out=41 both=61
 
 # tool WORDS..: runs a tool, for at most ten seconds.
@@ -49,7 +50,7 @@ tool() {
     fi
 }
 
-# refused CODE WORDS..: the same for a tool that must be refused with this code.
+# refused CODE WORDS..: runs a tool that must be refused with this code.
 refused() {
     code=$1
     shift
@@ -63,7 +64,7 @@ refused() {
     fi
 }
 
-# same A B: the output equals the input.
+# same A B: checks that the output equals the input.
 same() {
     cmp -s "$1" "$2" || { echo 'FAILED: other bytes came back'; failed=$((failed + 1)); }
 }
@@ -72,8 +73,8 @@ tool startup -c
 tool hierarchychangeauth -hi o -pwdn owner
 head -c 1024 /dev/urandom >data
 
-# Sessions of both hashes, bound and not: an index is written and read through them, in two pieces,
-# and an HMAC of 1,024 bytes is computed.
+# Sessions of both hashes, bound and unbound: an index is written and read through them, in two
+# parts, and an HMAC of 1,024 bytes is computed.
 tool startauthsession -se h -bi 40000001 -pwdb owner
 tool startauthsession -se h -halg sha1
 tool nvdefinespace -hi o -ha 01000001 -sz 1024 -pwdp owner -pwdn index -se0 02000000 $in
@@ -88,7 +89,8 @@ tool hmac -hk 80000000 -if data -halg sha256 -os mac -pwdk key -se0 02000000 $bo
 tool hmac -hk 80000000 -if data -halg sha256 -os again -pwdk key -se0 02000001 $both
 same mac again
 
-# An index that can be written once. Its policy is made of the code of TPM2_PolicyNvWritten and 0.
+# An index that can be written once. Its policy consists of the code of TPM2_PolicyNvWritten and a
+# 0.
 echo 0000018f00 >assertion
 tool policymaker -if assertion -of once
 printf 12345678 >record

@@ -1,13 +1,14 @@
 #!/bin/sh
-# libvirt begins, saves, restores and ends a guest, and goes back to a snapshot of it. One guest has a TPM of
-# type `emulator`, with the swtpm and swtpm_setup of `hosts/build.sh libtpms`, which come first on the daemon's
-# path; another one has type `external`, whose swtpm runs already. The daemon belongs to a session of the present
-# user, or of nobody if that is root. Not part of the gate. It installs nothing, and leaves nothing.
+# libvirt starts, saves, restores and ends a guest, and reverts it to a snapshot. One guest has a TPM of type
+# `emulator`, with the swtpm and swtpm_setup of `hosts/build.sh libtpms`, which come first on the daemon's path;
+# another one has type `external`, whose swtpm is already running. The daemon belongs to a session of the present
+# user, or of nobody if that is root. Not part of the gate. It installs nothing, and leaves no files.
 #
 #   tools/interop/libvirt.sh
 #
 # Needs Debian's libvirt-daemon, libvirt-daemon-driver-qemu, libvirt-clients, qemu-system-x86, qemu-utils,
-# swtpm, libtpms-dev and util-linux. The folder of `hosts/build.sh libtpms` is that of $ATTACHED, or it is made.
+# swtpm, libtpms-dev and util-linux. $ATTACHED is the folder of `hosts/build.sh libtpms`; if it is not set, the
+# script makes one.
 set -u
 
 top=$(CDPATH='' cd "$(dirname "$0")/../.." && pwd -P) || exit 1
@@ -59,7 +60,8 @@ check() {
     fi
 }
 
-# guest NAME BACKEND [DEVICE]: a guest whose TPM has this backend, and perhaps another device.
+# guest NAME BACKEND [DEVICE]: prints a guest whose TPM has this backend, and perhaps another
+# device.
 guest() {
     cat >"$folder/home/$1.xml" <<END
 <domain type='qemu'><name>$1</name><memory unit='MiB'>64</memory><vcpu>1</vcpu>
@@ -70,7 +72,7 @@ END
     virsh define "$folder/home/$1.xml"
 }
 
-# is_ours NAME: whether the swtpm that libvirt began for this guest has our device in it.
+# is_ours NAME: whether the swtpm that libvirt started for this guest contains our device.
 is_ours() {
     for process in $(pgrep -x swtpm); do
         tr '\0' ' ' <"/proc/$process/cmdline" | grep -q "$folder/home" || continue
@@ -83,7 +85,8 @@ is_stored() {
     find "$folder/home" -name tpm2-00.permall | grep -q .
 }
 
-# Whether the firmware's TPM2_HierarchyChangeAuth was executed, its last command before it boots.
+# Whether the firmware's TPM2_HierarchyChangeAuth was executed, which is its last command before it
+# boots.
 is_used() {
     grep -q '^cmd 8002.\{8\}00000129' "$folder/home/record"/boot-*.tpm
 }

@@ -1,13 +1,15 @@
 #!/usr/bin/env python3
 """Boots loaders with QEMU on a tpmsim under swtpm, and on swtpm with its own libtpms. On both, each
-must extend the same PCRs by the same SHA-1 and SHA-256 digests, and every extend must succeed.
+loader must extend the same PCRs by the same SHA-1 and SHA-256 digests, and every extend must
+succeed.
 
     tools/interop/loaders.py ATTACHED [LOADER..]
 
 ATTACHED is the folder of `hosts/build.sh libtpms`. The loaders are uboot (its EFI, on arm64), aavmf
-(UEFI on arm64), ovmf (UEFI on x86-64) and grub (its module tpm, after ovmf); without words, all of
-them. Needs Debian's swtpm, qemu-system-arm, qemu-system-x86, u-boot-qemu, qemu-efi-aarch64, ovmf,
-grub-efi-amd64-bin and grub-common. Not part of the gate: it takes minutes. It leaves no files.
+(UEFI on arm64), ovmf (UEFI on x86-64) and grub (its module tpm, after ovmf). Without a LOADER, all
+are booted. Needs Debian's swtpm, qemu-system-arm, qemu-system-x86, u-boot-qemu, qemu-efi-aarch64,
+ovmf, grub-efi-amd64-bin and grub-common. Not part of the gate: it takes minutes. It leaves no
+files.
 """
 
 from __future__ import annotations
@@ -36,8 +38,9 @@ AAVMF = ("/usr/share/AAVMF/AAVMF_CODE.fd", "/usr/share/AAVMF/AAVMF_VARS.fd")
 
 @dataclass(frozen=True)
 class Loader:
-    """How a loader is booted: QEMU's arguments, and what is typed after each text on its console.
-    The boot is complete when the last text appears. `refused` lists texts that must not appear.
+    """How a loader is booted: QEMU's arguments, and the keys that are typed after each text on its
+    console. The boot is complete when the last text appears. `refused` lists texts that must not
+    appear.
     """
 
     machine: str
@@ -79,7 +82,7 @@ class Boot:
 
 
 def make_grub(folder: pathlib.Path) -> None:
-    """Makes a folder from which ovmf starts GRUB, whose module tpm measures what GRUB does."""
+    """Makes a folder from which ovmf starts GRUB. GRUB's module tpm measures its actions."""
     place = folder / "EFI/BOOT"
     place.mkdir(parents=True)
     config = folder / "grub.cfg"
@@ -180,7 +183,7 @@ def booted(program: str, loader: Loader, drive: pathlib.Path) -> Boot:
 
 
 def judged(ours: Boot, theirs: Boot) -> list[str]:
-    """Returns what is wrong with a boot."""
+    """Returns the faults of a boot."""
     boots = (("tpmsim", ours), ("swtpm", theirs))
     faults = [f"{whose}: {boot.fault}" for whose, boot in boots if boot.fault]
     if not ours.extends:

@@ -1,4 +1,4 @@
-"""Why a tpmsim does less than swtpm: the reasons that day.steps and rest.steps name."""
+"""The reasons why a tpmsim does less than swtpm, which day.steps and rest.steps name."""
 
 from __future__ import annotations
 

@@ -24,9 +24,9 @@ class Step:
     """A line of a file of steps."""
 
     command: str
-    #: The response code by which it has to be refused; empty: it has to succeed.
+    # The response code with which it must be refused; empty: it must succeed.
     code: str = ""
-    #: The name of the reason for which a tpmsim does less than swtpm; empty: it does as much.
+    # The name of the reason why a tpmsim does less than swtpm; empty: it does as much.
     reason: str = ""
     #: Whether it counts: a preparation and a power cycle do not.
     counts: bool = True

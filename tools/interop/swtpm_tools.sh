@@ -1,14 +1,14 @@
 #!/bin/sh
 # Uses a tpmsim under swtpm: with Debian's tpm2-tools, by libtss2's transport `swtpm`, policy tools included,
-# and with swtpm_ioctl. It says of each case whether it went as it should. It restarts swtpm, moves the running
-# device from one swtpm to another, kills it, fills its disk, and damages what it keeps. Not part of the gate.
-# It installs nothing, and leaves nothing.
+# and with swtpm_ioctl. It reports for each case whether it went as expected. It restarts swtpm, moves the
+# running device from one swtpm to another, kills it, fills its disk, and damages its stored state. Not part of
+# the gate. It installs nothing, and leaves no files.
 #
 #   tools/interop/swtpm_tools.sh
 #
-# Needs Debian's swtpm, swtpm-tools, libtpms-dev, tpm2-tools, libtss2-tcti-swtpm0, socat and busybox. The folder of
-# `hosts/build.sh libtpms` is that of $ATTACHED, or it is made. A case that cannot be tried is reported as
-# skipped, with its reason.
+# Needs Debian's swtpm, swtpm-tools, libtpms-dev, tpm2-tools, libtss2-tcti-swtpm0, socat and busybox. $ATTACHED is
+# the folder of `hosts/build.sh libtpms`; if it is not set, the script makes one. A case that cannot be tried is
+# reported as skipped, with its reason.
 set -u
 
 top=$(CDPATH='' cd "$(dirname "$0")/../.." && pwd -P) || exit 1
@@ -42,7 +42,7 @@ skip() {
     skipped=$((skipped + 1))
 }
 
-# begin_tpm FOLDER WORDS..: begins swtpm on the state of a folder, and waits until it is ready.
+# begin_tpm FOLDER WORDS..: starts swtpm with the state of a folder, and waits until it is ready.
 begin_tpm() {
     state=$1
     shift
@@ -66,14 +66,14 @@ ioctl() {
     timeout 20 swtpm_ioctl --tcp "127.0.0.1:$((port + 1))" "$@" >output 2>error
 }
 
-# succeeds NAME COMMAND..: a command that must succeed.
+# succeeds NAME COMMAND..: runs a command that must succeed.
 succeeds() {
     name=$1
     shift
     if "$@"; then ok "$name"; else fail "$name: $(cat error)"; fi
 }
 
-# refused NAME COMMAND..: a command that must not succeed.
+# refused NAME COMMAND..: runs a command that must not succeed.
 refused() {
     name=$1
     shift
@@ -89,7 +89,7 @@ run_tool() {
     timeout 20 tpm2 "$@" >output 2>error
 }
 
-# same FILE: the last tool printed the content of a file.
+# same FILE: checks that the last tool printed the content of a file.
 same() {
     cmp -s output "$1" || fail "other bytes than $1"
 }
@@ -114,7 +114,7 @@ simple() {
     tool nvundefine 0x1500016 -C o
 }
 
-# A key that is sealed to PCR 10, by contexts that each tool leaves for the next.
+# A key that is sealed to PCR 10, through contexts that each tool saves for the next.
 sealing() {
     tool createprimary -C o -G aes128cfb -g sha256 -c primary.context
     tool startauthsession -S trial.context
@@ -159,7 +159,7 @@ policies() {
 # The PCR that a moved device must have, and its policy session.
 extended=0000000000000000000000000000000000000000000000000000000000000007
 
-# The device moves while it runs: with a PCR, a session and an object.
+# The device moves while it runs, with a PCR, a session and an object.
 moves() {
     mkdir from to
     begin_tpm "$folder/from" --flags not-need-init || return
@@ -208,7 +208,7 @@ moves() {
     end_tpm
 }
 
-# bent FILE: the file with a byte in its middle changed.
+# bent FILE: changes a byte in the middle of the file.
 bent() {
     size=$(($(wc -c <"$1") / 2))
     { head -c "$size" "$1"; printf '\377'; tail -c "+$((size + 2))" "$1"; } >bent_file
@@ -227,7 +227,8 @@ own_state() {
     end_tpm
 }
 
-# Damaged states are refused, and so are those of swtpm's own libtpms; what is kept stays.
+# Damaged states are refused, and so are those of swtpm's own libtpms; the stored state is
+# unchanged.
 damage() {
     own_state own_volatile
     mkdir damaged
@@ -249,7 +250,7 @@ damage() {
     end_tpm
 }
 
-# swtpm is killed after an answer, and the device has everything that was answered.
+# swtpm is killed after a response, and the device has executed everything that was answered.
 kills() {
     mkdir killed
     begin_tpm "$folder/killed" --flags not-need-init,startup-clear || return
@@ -268,8 +269,8 @@ kills() {
     if [ "$lost" -eq 0 ]; then ok '20 kills, nothing lost'; else fail "$lost of 20 kills lost a write"; fi
 }
 
-# A full disk: the command fails, and so does each that follows. With free space again all goes on, and what
-# was written is there.
+# On a full disk, the command and each later one fail. With free space again, everything works, and the
+# earlier data are still there.
 full_disk() {
     mkdir full
     if ! mount -t tmpfs -o size=16k tmpfs full 2>error; then
@@ -294,14 +295,14 @@ full_disk() {
     umount full
 }
 
-# extend_17: TPM2_PCR_Extend of PCR 17, at the locality that was set, because tpm2-tools set their own. It
-# prints the response code.
+# extend_17: sends TPM2_PCR_Extend of PCR 17 at the locality that was set, because tpm2-tools set their
+# own, and prints the response code.
 extend_17() {
     printf '%s' "80020000004100000182000000110000000940000009000001000000000001000b$extended" |
         busybox xxd -r -p | socat -t 2 - "TCP:127.0.0.1:$port" | head -c 10 | busybox xxd -p | cut -c 13-20
 }
 
-# What the control channel does, apart from the states.
+# The functions of the control channel, except the states.
 control() {
     mkdir control
     begin_tpm "$folder/control" || return

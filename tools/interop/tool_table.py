@@ -43,7 +43,7 @@ class Results:
     served: list[Outcome] = dataclasses.field(default_factory=list)
 
     def reasons_of(self, tool: str) -> set[str]:
-        """Returns why steps of a tool pass only on swtpm."""
+        """Returns the reasons why steps of a tool pass only on swtpm."""
         pairs = zip(self.swtpm, self.tpmsim, strict=True)
         return {ours.step.reason for theirs, ours in pairs if is_less(theirs, ours) and tool in ours.step.tools}
 

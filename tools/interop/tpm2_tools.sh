@@ -1,6 +1,6 @@
 #!/bin/sh
-# Uses a device with Debian's tpm2-tools, each tool in its own process. It says of each whether it did what
-# was asked. Not part of the gate. It installs nothing, and leaves nothing.
+# Uses a device with Debian's tpm2-tools, each tool in its own process, and reports for each tool whether
+# it succeeded. Not part of the gate. It installs nothing, and leaves no files.
 #
 #   tools/interop/tpm2_tools.sh            by each of the three ways
 #   tools/interop/tpm2_tools.sh WAY..      by these:
@@ -49,7 +49,7 @@ run() {
     timeout 10 tpm2 "$@" >output 2>error
 }
 
-# tool WORDS..: runs a tool that has to do what is asked.
+# tool WORDS..: runs a tool that must succeed.
 tool() {
     if run "$@"; then
         echo "ok: tpm2 $*"
@@ -73,12 +73,12 @@ refused() {
     fi
 }
 
-# same FILE: the last tool printed the content of a file.
+# same FILE: checks that the last tool printed the content of a file.
 same() {
     cmp -s output "$1" || wrong "other bytes than $1"
 }
 
-# said TEXT: the last tool printed a line with a text.
+# said TEXT: checks that the last tool printed a line with a text.
 said() {
     grep -q -- "$1" output || wrong "it does not say $1"
 }
@@ -146,9 +146,9 @@ indices() {
     done
 }
 
-# A key that is sealed to PCR 10, under persistent handles. Without the completing layer the tool that
-# loads it fails to save its context afterwards; the object stays under its handle. The layer keeps the
-# place of an object that was flushed and has a context; therefore the test asks for handles.
+# A key that is sealed to PCR 10, with persistent handles. Without the completing layer the tool that
+# loads it fails to save its context afterwards; the object keeps its handle. The layer reserves the
+# slot of an object that was flushed and has a context; therefore the test asks for handles.
 sealing() {
     tool createprimary -C o -G aes128cfb -g sha256
     tool evictcontrol -C o -c 0x80000000 0x81000001
@@ -192,7 +192,7 @@ ending() {
     tool shutdown
 }
 
-# Tools that pass contexts on, and ask for what the device alone does not have.
+# Tools that pass contexts to each other, and request features that the device alone lacks.
 contexts() {
     tool getrandom --hex 16
     for what in algorithms properties-fixed properties-variable handles-loaded-session; do
@@ -240,7 +240,7 @@ policies() {
     tool flushcontext session.context
 }
 
-# Serves a device on a socket, which the tools use.
+# Serves a device on a socket, to which the tools connect.
 serve() {
     has socat
     "$top/tpmsim" serve --socket socket --image image --entropy /dev/urandom --locality 0 \
@@ -253,7 +253,7 @@ serve() {
     export TPM2TOOLS_TCTI="cmd:socat - UNIX-CONNECT:$folder/socket"
 }
 
-# keep WORDS: makes the module, by which the tools use a new device, with more words.
+# keep WORDS: builds the module, through which the tools use a new device, with further words.
 keep() {
     [ -e made ] || "$top/hosts/build.sh" tcti made || exit 2
     rm -rf state

@@ -1,5 +1,5 @@
-# Programs for ARM64 on another machine: the kernel runs them by qemu, in namespaces of their own, so that
-# no other program is affected. Needs unshare, and a Linux of 6.7 or newer that lets the user make
+# Runs programs for ARM64 on another machine: the kernel runs them by qemu, in namespaces of their own, so
+# that no other program is affected. Needs unshare, and Linux 6.7 or newer that lets the user make
 # namespaces. Other scripts read this file by `.`.
 # shellcheck shell=sh
 

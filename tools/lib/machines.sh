@@ -10,7 +10,7 @@ needs_for_machines() {
     done
 }
 
-# make_base: makes $work/base, the machine of which each other one is a copy.
+# make_base: makes $work/base, the machine of which all others are copies.
 make_base() {
     mkdir "$work/cache" || fail 'there is no folder for packages'
     debootstrap --cache-dir="$work/cache" --variant=minbase bookworm "$work/base" "$mirror" \

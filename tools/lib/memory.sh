@@ -18,7 +18,7 @@ folder_in_memory() {
 }
 
 # folder_for_proofs NUMBER: makes a folder in memory for the files of NUMBER proofs at a time, and prints
-# its path. For each proof 1 GB has to be free for its files, and 3 GB for the prover.
+# its path. For each proof 1 GB must be free for its files, and 3 GB for the prover.
 folder_for_proofs() {
     [ "$(gigabytes_free)" -ge $((4 * $1)) ] && folder_in_memory "$1"
 }

@@ -14,8 +14,8 @@ is_served() {
     esac
 }
 
-# Whether the program of dist/ was verified, and nothing in the repository that it depends on has
-# changed since, not even by a move. Whoever can write the stamp can write this file too.
+# Whether the program of dist/ was verified, and nothing in the repository on which it depends has
+# changed or moved since. Whoever can write the stamp can write this file too.
 is_verified() {
     [ -f "$stamp" ] && is_served && changed=$(
         find crates.txt HANDLES dist crates -regex 'crates/[^/]*/out' -prune -o \
@@ -23,7 +23,7 @@ is_verified() {
     ) && [ -z "$changed" ]
 }
 
-# Whether the program of dist/ is proved and runs here; if not, `fault` says why.
+# Whether the program of dist/ is proved and runs here; if not, `fault` contains the reason.
 is_good() {
     fault='dist/ has programs for Linux on x86-64 and on ARM64 alone'
     is_served || return 1
@@ -37,8 +37,8 @@ is_good() {
     return 1
 }
 
-# Verifies the program of dist/. The stamp has the time at which that began, so that a change made
-# meanwhile counts. If no stamp can be written, the next start verifies again.
+# Verifies the program of dist/. The stamp has the time at which the verification began, so that a
+# later change counts. If no stamp can be written, the next start verifies again.
 verify() {
     new=$stamp.$$
     mkdir -p "${stamp%/*}" 2>/dev/null

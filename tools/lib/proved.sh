@@ -27,7 +27,7 @@ uses() {
     sed -n -e "s/^$1\( [^:]*\)\{0,1\}://p" crates.txt
 }
 
-# crates_below CRATE..: prints the crates of this repository that these use, lowest first.
+# crates_below CRATE..: prints the crates of this repository that these crates use, lowest first.
 crates_below() {
     awk -F: -v tops="$*" '
         function visit(crates, i, count, names) {
@@ -66,9 +66,8 @@ is_newest() {
         newer=$(find $sources -newer "$1" -print -quit 2>/dev/null) && [ -z "$newer" ]
 }
 
-# are_built CRATE..: whether each of these libraries and programs is built here, as `rt ci` leaves it, and
-# none of its sources is newer. `rt ci` leaves no file of a static library; for one, all crates below it have
-# to be built.
+# are_built CRATE..: whether each of these libraries and programs was built here by `rt ci`, and none of its
+# sources is newer. `rt ci` leaves no file of a static library; for one, all crates below it must be built.
 are_built() {
     for crate do
         if grep -q "^$crate staticlib" crates.txt; then

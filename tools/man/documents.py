@@ -3,11 +3,12 @@
 
     tools/man/documents.py ROOT FOLDER [PATH=PLACE]..
 
-FOLDER below ROOT then contains them, at their paths in the repository. PATH is another installed file of
-the repository, and PLACE its path below ROOT. Links between documents lead to installed files; any other
-link becomes its text. Programs have their installed names, which packaging/pages.toml lists, except in
-README.md, which is about the sources. Documents for developers are left out. A script does not name the
-program that wrote it, since that program is not installed. Needs only python3.
+FOLDER below ROOT then contains them, at their paths in the repository. PATH is another installed
+file of the repository, and PLACE its path below ROOT. Links between documents lead to installed
+files; any other link becomes its text. Programs have their installed names, which
+packaging/pages.toml lists, except in README.md, which is about the sources. Documents for
+developers are left out. A script does not name the program that wrote it, because that program is
+not installed. Needs only python3.
 """
 
 import functools

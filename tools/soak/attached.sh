@@ -1,13 +1,13 @@
 #!/bin/sh
 # Attacks the kept device of hosts/kept. Its processes are killed before a system call, or a call fails, or
-# they fork. In between the host crashes: the disk then has the data that were synced, and a random part of
-# the rest. With force=always no answered command may be lost; with force=power no power cycle. It is not part
-# of the gate; tests/attached/attached_crashes.sh is. Needs cc and python3.
+# they fork. In between the host crashes: the disk then contains the synced data, and a random part of the
+# rest. With force=always no answered command may be lost; with force=power no power cycle. It is not part of
+# the gate; tests/attached/attached_crashes.sh is. Needs cc and python3.
 #
-#   tools/soak/attached.sh             ten minutes, of seed 1
-#   tools/soak/attached.sh 60 7        one minute, of seed 7
+#   tools/soak/attached.sh             ten minutes, with seed 1
+#   tools/soak/attached.sh 60 7        one minute, with seed 7
 #
-# At the end it prints how much was tried. If something was lost, it prints that, and the status is 1.
+# At the end it prints how much was tried. If something was lost, it prints what, and the status is 1.
 set -u
 
 tests=$(CDPATH='' cd "$(dirname "$0")/../../tests" && pwd -P) || exit 1

@@ -1,8 +1,8 @@
 #!/bin/sh
 # Plays the shell tests, and explains each journal and log that they leave. A command must be explained as
-# accepted or refused as the digest of its response in the log says. Journals that a test has damaged are
-# listed with what is wrong. Then it explains all scripts of tests/ and examples/ in the same way, by the
-# answers of dist/tpmsim. Needs python3.
+# accepted or refused, as the digest of its response in the log shows. Journals that a test has damaged
+# are listed with their damage. Then it explains all scripts of tests/ and examples/ in the same way, with
+# the responses of dist/tpmsim. Needs python3.
 #
 #   tools/soak/explained.sh            all
 #   tools/soak/explained.sh attached_cut 'swtpm/*'

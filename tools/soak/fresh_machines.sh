@@ -2,8 +2,7 @@
 # Plays tools/scripts.sh of the last commit in empty Debian systems: with git and python3; with a C compiler
 # too; with python3-minimal; with everything that packaging/debian_packages names; and without git and
 # python3. No test may fail there. Then it installs the packages that the last line but one names, and plays
-# again: now that line names none. It takes half an hour or more, and is not part of the gate.
-#
+# again: now that line must name none. It takes half an hour or more, and is not part of the gate.
 #   tools/soak/fresh_machines.sh           each machine of the list below
 #   tools/soak/fresh_machines.sh NAME..    these
 #
@@ -13,8 +12,8 @@ set -u
 top=$(CDPATH='' cd "$(dirname "$0")/../.." && pwd -P) || exit 1
 mirror=${MIRROR:-http://deb.debian.org/debian}
 
-# A machine: its name, /dev/shm (the size of a folder in memory, or none), the user who plays, and the
-# packages that it has.
+# A machine: its name, /dev/shm (the size of a folder in memory, or none), the user who plays, and its
+# packages.
 machines="
 python    4g   root  git python3
 no_shm    none root  git python3
@@ -49,7 +48,7 @@ judge() {
     grep -v -e '^ok: ' -e '^skipped: ' "$work/said" | sed 's/^/    /'
 }
 
-# named: prints the packages that the tests name, and that would let more tests run.
+# named: prints the packages that the tests name, with which more tests would run.
 named() {
     sed -n 's/^More is played after: apt-get install //p' "$work/said"
 }

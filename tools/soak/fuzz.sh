@@ -1,19 +1,19 @@
 #!/bin/sh
-# Plays at random, and compares the program's answers with those of the device in plain Python under
+# Plays random events, and compares the program's responses with those of the device in plain Python under
 # python/tpmsim/model. Needs python3. A round consists of a random script, an altered script, in which
-# bytes of commands, lines and letters are changed, and a stream. A stream is connections to a served
-# device in consecutive runs on its image. Some of its buffers are incomplete or have wrong sizes, and some
-# images are altered. A round depends only on its seed.
+# bytes of commands, lines and letters are changed, and a stream. A stream consists of connections to a
+# served device in consecutive runs with its image. Some of its buffers are incomplete or have wrong sizes,
+# and some images are altered. A round depends only on its seed.
 #
 #   tools/soak/fuzz.sh 600             rounds for 600 seconds, from a seed by the clock on, which it prints
 #   tools/soak/fuzz.sh 600 7           from seed 7 on, then 8, and so on
 #   tools/soak/fuzz.sh --rounds 60 1   those of the seeds 1 to 60, the same each time: about a minute
 #   tools/soak/fuzz.sh --replay FILE   a script or a stream that an earlier run left
 #
-# It runs PROGRAM, or the one that tools/lib/program.sh names. If an answer differs, it prints the seed,
-# leaves the script or the stream, and says at which of its lines. It leaves the first one a second time,
-# with only the lines that the difference needs. tests/common/streams.py defines the lines of a stream. The
-# last lines count what was tried; the status is 1 if anything differs.
+# It runs PROGRAM, or the one that tools/lib/program.sh names. If a response differs, it prints the seed,
+# keeps the script or the stream, and prints the line of the difference. It keeps the first one a second
+# time, reduced to the lines that the difference needs. tests/common/streams.py defines the lines of a
+# stream. The last lines count what was tried; the status is 1 if anything differs.
 set -u
 
 is_number() {

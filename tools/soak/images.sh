@@ -1,16 +1,16 @@
 #!/bin/sh
-# Opens damaged images with a program, and compares its answers with those of the device in plain
-# Python under python/tpmsim/model: every beginning of the largest image of each version; the one of
+# Opens damaged images with a program, and compares its responses with those of the device in plain
+# Python under python/tpmsim/model: every prefix of the largest image of each version; the one of
 # version 2 with each byte changed in three ways or more; and randomly altered bodies of a full
 # device, with the right length and digest. A device that is opened from one of these bodies is also
-# saved again. It is not part of the gate; tests/images/images.sh is. Needs cc and python3; takes some
-# minutes.
+# saved again. It is not part of the gate; tests/images/images.sh is. Needs cc and python3, and takes
+# some minutes.
 #
-#   tools/soak/images.sh             ten thousand bent bodies of seed 1
-#   tools/soak/images.sh 7           those of seed 7
-#   tools/soak/images.sh 7 100       a hundred of them
+#   tools/soak/images.sh             ten thousand altered bodies, with seed 1
+#   tools/soak/images.sh 7           ten thousand, with seed 7
+#   tools/soak/images.sh 7 100       a hundred, with seed 7
 #
-# If the answers differ, it says so, keeps the first differing outputs, and prints their place. Its
+# If the responses differ, it says so, keeps the first differing outputs, and prints their path. Its
 # last line is `N agree, M differ`.
 set -u
 

@@ -1,14 +1,14 @@
 #!/bin/sh
-# Kills a served device at random moments while connections come one after another, and checks the image
-# after each kill, as tests/serving/killed.sh does a few times. Then it does the same as often with a
-# device that is served with --save-each, and kills it immediately after a response, as
-# tests/serving/save_each.sh does. It is not part of the gate. Needs python3.
+# Kills a served device at random moments while clients connect one after another, and checks the image
+# after each kill, as tests/serving/killed.sh does a few times. Then it serves a device with --save-each
+# as often, and kills it immediately after a response, as tests/serving/save_each.sh does. It is not
+# part of the gate. Needs python3.
 #
 #   tools/soak/kills.sh               1,000 kills, of seed 1
 #   tools/soak/kills.sh 5000 7        5,000 kills, of seed 7
 #
 # Its first line says that all was right, or what was wrong; then it keeps the last image, and prints its
-# place. The second line says when the kills happened, which differs from run to run. The other lines are
+# path. The second line says when the kills happened, which differs from run to run. The other lines are
 # about --save-each.
 set -u
 

@@ -2,17 +2,17 @@
 # Tries the patches under wrong/turned. Each changes the code of a command together with the definition of
 # its row, and with the proofs that repeat the row. So the device behaves wrongly, and yet all crates below
 # tpm_step are proved. But its history determines another behaviour, so a law of tpm_step, or of another
-# crate of laws, has to fail. All patches are run before a piece of work is called done. Patches that name
-# different laws of one crate are tried in one copy of that crate and of those below it. `rt ci` proves the
-# copy: from nothing, if the kit keeps nothing. Needs rt, and git.
+# crate of laws, must fail. All patches are tried before a piece of work is declared done. Patches that
+# name different laws of one crate are tried in one copy of that crate and of those below it. `rt ci`
+# proves the copy, from nothing if the kit has stored no proofs. Needs rt, and git.
 #
 #   tools/soak/turned_rows.sh                    all of them
 #   tools/soak/turned_rows.sh pcr_16_restored    one of them, or several
 #
 # A patch begins with a description of the wrong behaviour, and with one or two lines:
 #
-#   law: FILE NAME       what must be refused, in crates/tpm_step/proofs/FILE.antt
-#   crate: CRATE         or in crates/CRATE/proofs/FILE.antt
+#   law: FILE NAME       the law that must be refused, in crates/tpm_step/proofs/FILE.antt
+#   crate: CRATE         if the law is in crates/CRATE/proofs/FILE.antt instead
 #
 # The last line is `N of M turned rows refused`; the status is 0 if all are.
 set -eu

@@ -93,7 +93,7 @@ class BadEdit(Exception):
 
 @dataclasses.dataclass(frozen=True)
 class Turn:
-    """A line of a file, and the line that replaces it."""
+    """A line of a file, and its replacement."""
 
     file: str
     old: str
@@ -359,7 +359,7 @@ def copy_parts(start: pathlib.Path, folder: pathlib.Path) -> None:
 
 
 def lent(one: str, other: str) -> None:
-    """Copies a file that nobody writes to, by a link if one can be made."""
+    """Copies a file that nobody writes to, as a link if possible."""
     try:
         os.link(one, other)
     except OSError:

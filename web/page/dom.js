@@ -21,7 +21,7 @@ export function make(tag, options = {}, ...children) {
 export const byId = (id) => /** @type {HTMLElement} */ (document.getElementById(id));
 
 /**
- * A list of names and values.
+ * Makes a list of names and values.
  * @param {[string, Child | Child[]][]} pairs
  */
 export function listed(pairs) {

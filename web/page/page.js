@@ -42,7 +42,7 @@ export class Page {
      */
     this.parted = [];
     /**
-     * What the panes of the step and of the device now show.
+     * The current contents of the panes of the step and of the device.
      * @type {unknown[]}
      */
     this.shown = [];
@@ -101,7 +101,7 @@ export class Page {
     return low;
   }
 
-  /** @param {string} text @param {number} [line] the line to begin at @param {string} [opened] what is said of it */
+  /** @param {string} text @param {number} [line] the line to begin at @param {string} [opened] a message */
   load(text, line = -1, opened = "") {
     this.opened = opened;
     this.editor.text = text;
@@ -357,7 +357,7 @@ export class Page {
 
   // Files and links.
 
-  /** Shows what the page begins with by default. */
+  /** Shows the initial script of the page. */
   greet() {
     const isBad = byId("note").classList.contains("bad");
     this.load(exampleOf(FIRST_EXAMPLE), 0);

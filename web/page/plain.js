@@ -71,7 +71,7 @@ export const plainCommand = (run, at) => new Decryption(run, 0).command(at);
 export const plainResponse = (run, at) => new Decryption(run, 0).response(at);
 
 class Decryption {
-  /** @param {Run} run @param {number} starts how many starts of sessions are looked at already */
+  /** @param {Run} run @param {number} starts the number of nested session starts */
   constructor(run, starts) {
     this.run = run;
     this.starts = starts;
@@ -208,7 +208,8 @@ class Decryption {
   }
 
   /**
-   * Returns a session that the device has where the script begins, for example from a state text.
+   * Returns a session that the device already has at the start of the script, for example from a
+   * state text.
    * @param {number} handle @param {number} step @param {Uint8Array | null} nonce
    * @returns {Session}
    */

@@ -41,7 +41,8 @@ function ruleKeys(check, command, meaning) {
 }
 
 /**
- * Returns the keys of the policy conditions that a command is refused with, by the name of the code.
+ * Returns the keys of the policy conditions for which a command may be refused, by the name of the
+ * code.
  * @param {string} name
  */
 const conditionKeys = (name) =>
@@ -60,7 +61,7 @@ export function rulesOf(check, buffer, meaning, before) {
 }
 
 /**
- * Returns the rows of the table for a check of all commands, or for the checks of this command: the sentence
+ * Returns the rows of the table for a check of all commands, or for the command's own checks: the sentence
  * of each row, by the row's label.
  * @param {string} check @param {Uint8Array} buffer
  * @returns {[string, string][]}
@@ -111,7 +112,7 @@ function failedCondition(buffer, meaning, before) {
 const WRITTEN = 1 << 29;
 
 /**
- * Returns which condition refused first: conditions 5 and 6 are checked before 8.
+ * Returns the condition that refused first: conditions 5 and 6 are checked before 8.
  * @param {import("./state.js").Session} session
  * @param {import("./state.js").Index | undefined} index
  */

@@ -1,6 +1,6 @@
-// Plays a script: answers and states by their events. What an edit left unchanged is not played
-// again: the state before each 64th event is kept as a state text, and playing continues from
-// there.
+// Plays a script, and keeps the responses and states by their events. An event before the first
+// edited line is not played again: the state before each 64th event is kept as a state text, and
+// playing continues from there.
 
 import { decoded } from "./bytes.js";
 import { responseCode } from "./fields.js";
@@ -69,7 +69,7 @@ export class Run {
   }
 
   /**
-   * Replaces the events, and keeps the answers to those at the front that are the same.
+   * Replaces the events, and keeps the answers to the unchanged events at the front.
    * @param {Step[]} steps
    */
   take(steps) {
@@ -89,7 +89,7 @@ export class Run {
   }
 
   /**
-   * Plays up to an event, and then continues for at most so many milliseconds.
+   * Plays up to an event, and then continues for at most this many milliseconds.
    * @param {number} least @param {number} milliseconds
    */
   play(least, milliseconds) {

@@ -1,4 +1,4 @@
-// Reads the lines of a script: the meaning of each, and the events that they make.
+// Reads the lines of a script: the meaning of each line, and the resulting events.
 
 import { areSame, bytesOf, hexNumber, hexOf } from "./bytes.js";
 import { RANDOM_BYTES } from "./device.js";
@@ -166,7 +166,7 @@ export function readScript(chip, lines) {
 }
 
 /**
- * Returns whether two events are alike, wherever they are in the script.
+ * Returns whether two events are the same, except for their positions in the script.
  * @param {Step} one @param {Step} other
  */
 export function isSameStep(one, other) {
@@ -188,7 +188,7 @@ function sumOf(bytes) {
 }
 
 /**
- * Returns whether a response that a script records is the device's.
+ * Returns whether a response that a script records is the device's response.
  * @param {string} given @param {import("./device.js").Answer} answer
  */
 export function isAnswer(given, answer) {

@@ -203,7 +203,7 @@ function encryptionShown(plain, isRefused = false) {
 }
 
 /**
- * Returns the field that a response code points at.
+ * Returns the field that a response code refers to.
  * @param {import("./fields.js").Field[]} fields @param {Meaning | null} meaning
  */
 function wrongField(fields, meaning) {

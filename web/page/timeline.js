@@ -31,7 +31,7 @@ const OTHER = 2;
 const REFUSED = 3;
 
 /**
- * Returns the mark at each pixel. If several steps share a pixel, it is the mark of the most notable one.
+ * Returns the mark at each pixel. If several steps share a pixel, it is the most notable one.
  * @param {import("./script.js").Step[]} steps @param {number[]} refusals @param {number} span how many pixels
  *   there are
  */

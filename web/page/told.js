@@ -18,8 +18,8 @@ import { tableLink } from "./step_pane.js";
  * @typedef {{
  *   name: string, script: string, line: number, start: string, summary: string,
  *   events: Record<string, Event>,
- * }} Log the text of the log, the line to begin at, the device if the log does not say it, and what is
- *   said of the command in each line
+ * }} Log the text of the log, the line to begin at, the device if the log does not contain it, and the
+ *   findings about the command in each line
  */
 
 export class Told {

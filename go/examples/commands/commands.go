@@ -21,7 +21,7 @@ const (
 	Trial  = 3
 )
 
-// By is what authorizes a handle: the entry of the authorization area. Value is a password or an HMAC.
+// By authorizes a handle: the entry of the authorization area. Value is a password or an HMAC.
 type By struct {
 	Session    uint32
 	Nonce      []byte
@@ -29,10 +29,11 @@ type By struct {
 	Value      []byte
 }
 
-// Password is a value as a password.
+// Password returns the authorization by a password.
 func Password(value string) *By { return &By{Session: 0x40000009, Value: []byte(value)} }
 
-// ByPolicy is a policy session, with the value if its policy asks for it as a password.
+// ByPolicy returns the authorization by a policy session. The value is the password if the policy
+// requires one.
 func ByPolicy(session uint32, value string) *By {
 	return &By{session, make([]byte, 16), 1, []byte(value)}
 }
@@ -199,7 +200,7 @@ func Measure(tpm *tpmsim.TPM, pcr uint32, data string) []byte {
 	return answer.Parameters[4+2+20+2:][:32]
 }
 
-// `Tell` prints a line of an example: what came of it, or why it was refused.
+// `Tell` prints a line of an example: the result, or why it was refused.
 func Tell(what, came string, err error) {
 	if err != nil {
 		came = err.Error()

@@ -20,7 +20,8 @@ const (
 
 const continues = 1
 
-// A Session is one that computes HMACs, bound to what it authorizes, and encrypts by AES-128 in mode CFB.
+// A Session computes HMACs, is bound to the entity that it authorizes, and encrypts with AES-128 in CFB
+// mode.
 type Session struct {
 	handle                uint32
 	key                   []byte
@@ -28,7 +29,7 @@ type Session struct {
 	value                 []byte
 }
 
-// SHA256 is a digest.
+// SHA256 returns the digest of a text.
 func SHA256(text []byte) []byte {
 	digest := sha256.Sum256(text)
 	return digest[:]
@@ -40,7 +41,7 @@ func mac(key []byte, texts ...[]byte) []byte {
 	return mac.Sum(nil)
 }
 
-// kdfa makes 256 bits of a key and two nonces.
+// kdfa derives 256 bits from a key and two nonces.
 func kdfa(key []byte, label string, newer, older []byte) []byte {
 	return mac(key, Number(1), []byte(label), []byte{0}, newer, older, Number(256))
 }
@@ -63,7 +64,7 @@ func StartBound(tpm *tpmsim.TPM, bind uint32, value string) *Session {
 	return it
 }
 
-// stream is what encrypts or decrypts, by keys of two nonces.
+// stream returns a cipher stream that encrypts or decrypts, with keys derived from two nonces.
 func (it *Session) stream(make func(cipher.Block, []byte) cipher.Stream, newer, older []byte) cipher.Stream {
 	both := kdfa(Join(it.key, it.value), "CFB", newer, older)
 	block, err := aes.NewCipher(both[:16])
@@ -73,8 +74,8 @@ func (it *Session) stream(make func(cipher.Block, []byte) cipher.Stream, newer, 
 	return make(block, both[16:])
 }
 
-// Entry is the entry of a command with these Names of its handles, and the parameters, of which the first is
-// encrypted if the attributes say so.
+// Entry returns the entry of a command whose handles have these Names, and its parameters. The first
+// parameter is encrypted if the attributes say so.
 func (it *Session) Entry(code uint32, names, parameters []byte, attributes byte) (*By, []byte) {
 	it.nonceCaller = newNonce()
 	parameters = Join(parameters)
@@ -88,7 +89,7 @@ func (it *Session) Entry(code uint32, names, parameters []byte, attributes byte)
 	return &By{it.handle, it.nonceCaller, attributes, hmac}, parameters
 }
 
-// Answered checks who answered, and returns the parameters in plain.
+// Answered checks that the response is the device's, and returns the decrypted parameters.
 func (it *Session) Answered(code uint32, by *By, answer *Answer) ([]byte, error) {
 	nonce, after := Front(answer.Entry)
 	given, _ := Front(after[1:])

@@ -19,7 +19,7 @@ const (
 	hour  = 3600
 )
 
-// `tell` prints the data of the index by a PIN, or why there are none.
+// `tell` prints the data of the index for a PIN, or the reason for the refusal.
 func tell(tpm *tpmsim.TPM, what, pin string) {
 	data, err := Read(tpm, pin)
 	Tell(what, string(data), err)

@@ -80,8 +80,8 @@ class Auditor:
         self.log.end()
 
     def begin(self, step: records.Begin, is_begun: bool) -> None:
-        """Reads a head, which is that of the start or a later one of the same device. A head with
-        an image is taken after a power cycle; a head with a state text may be.
+        """Reads a head: the one at the start, or a later one of the same device. A head with an
+        image always follows a power cycle; a head with a state text may follow one.
         """
         if step.damage:
             raise Disagreement(f"script line {step.line}: {step.damage}")

@@ -18,7 +18,9 @@ from tpmsim.standard.lines import handle_word
 
 @dataclass(frozen=True)
 class Use:
-    """An entry of a command, what it authorizes, if anything, and its session from the history."""
+    """An entry of a command, its entity and its session: the entity that it authorizes, if any, and
+    the session according to the history.
+    """
 
     seen: Seen
     place: int

@@ -1,5 +1,5 @@
-"""Which line wrote each PCR, set each authorization value and incremented each counter, and which
-line sent a command again.
+"""Finds the line that last wrote each PCR, set each authorization value or incremented each
+counter, and the lines that sent a command again.
 """
 
 from __future__ import annotations
@@ -29,7 +29,7 @@ BANKS = SHA1, SHA256
 
 class PcrLines:
     """For each PCR value the line that wrote it last, and the last line that wrote any PCR or was a
-    TPM2_Clear. A value that no line wrote is from the text at the start of the log, if there is
+    TPM2_Clear. A value that no line wrote is part of the state at the start of the log, if there is
     one.
     """
 
@@ -102,7 +102,9 @@ def written_by(event: Accepted) -> list[tuple[int, int]]:
 
 
 class ValueLines:
-    """For each handle the line that set its value; a value that no line set is from the start."""
+    """For each handle the line that set its authorization value. A value that no line set is from
+    the start of the log.
+    """
 
     def __init__(self, text: str) -> None:
         self.at_first = f"that {text} has" if text else "of a new device"

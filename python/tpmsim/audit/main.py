@@ -1,23 +1,22 @@
-"""Judges a script by what was printed of it, for reviewers of a device's log:
+"""Checks a device's log for reviewers: a script, and what was printed for it.
 
     tpmsim-audit SCRIPT [OUTPUT] [--image START] [--policy FILE]..
     tpmsim-audit --digest --policy FILE..
 
-OUTPUT is what `tpmsim run --trace SCRIPT` printed; `-` is standard input. A journal has the sums of
-its own answers, and needs no OUTPUT. The device was a new one, unless --image or the start of a
-journal has another: then it was the device of that image, after a power cycle, or the device of that
-state text, as it was. Each --policy is a policy in words, as docs/USING.md describes it. With
---digest nothing is judged, and the digests of the policies are printed.
+OUTPUT is what `tpmsim run --trace SCRIPT` printed; `-` is standard input. A journal contains
+checksums of its own answers, and needs no OUTPUT. The device was new, unless --image or the head of
+a journal names another one: the device of that image, after a power cycle, or the device of that
+state text, unchanged. Each --policy is a policy in words, as docs/USING.md describes it. With
+--digest nothing is checked, and the digests of the policies are printed.
 
 It prints what the log shows: the PCRs, the policies, each use of an entity with the ground on which
-it was accepted, why commands were refused for another reason than an entry, the counters, and the
-failed guesses. Of each policy in words it prints which entities have it, and how each use of them
-met it.
+it was accepted, the reasons for refusals that no entry caused, the counters, and the failed
+guesses. For each policy in words it prints which entities have it, and how each use of them met it.
 
-The status is 0 if everything agrees. It is 1, with a line on standard error, if the log is cut, if no
-device with this start answers so, if the script has a bad line, if no entity has a given policy, or
-if a use does not meet its policy. It is 2 if the arguments, a file, a policy or the image is wrong.
-It needs python3, and no program.
+The status is 0 if everything agrees. It is 1, with a line on standard error, if the log is cut, if
+no device with this start returns these responses, if the script has a bad line, if no entity has a
+given policy, or if a use does not meet its policy. It is 2 if the arguments, a file, a policy or
+the image is wrong. It needs python3, and no program.
 """
 
 import os

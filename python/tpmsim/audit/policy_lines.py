@@ -42,8 +42,8 @@ class Step:
 
 @dataclass(frozen=True)
 class Before:
-    """The `either` of a line that was met before the log, by a branch that the log does not
-    show.
+    """The `either` of a line whose branch was met before the log, which therefore does not show the
+    branch.
     """
 
     line: int
@@ -55,8 +55,8 @@ class Before:
 
 @dataclass(frozen=True)
 class Choice:
-    """The branch that met the `either` of a line, counted from 1, the number of branches, and the
-    TPM2_PolicyOR.
+    """The branch that met the `either` of a line. It has the branch's number, counted from 1, the
+    number of branches, and the TPM2_PolicyOR.
     """
 
     line: int

@@ -52,10 +52,11 @@ def asserted_by(seen: Seen, before: LiveSession, after: LiveSession, pcrs: Pcrs)
 
 @dataclass
 class Begun:
-    """A session: the line that started it, how its bind entity is protected, the line of its first
+    """A session: the line that started it, the protection of its bind entity, the line of its first
     TPM2_PolicyPCR, its assertions since its policy began, its events as text, one per line, and the
-    commands accepted with an hmac of it. A session of a state text has no starting line, and
-    `before` is the digest that its policy had there. `bound` is the text for its bind entity.
+    commands that were accepted with an HMAC of this session. A session from a state text has no
+    starting line; `before` is the digest that its policy had in the text. `bound` is the text for
+    its bind entity.
     """
 
     line: int

@@ -82,8 +82,8 @@ class Guesses:
                 raise Disagreement(words)
 
     def touched(self, use: Use) -> str | None:
-        """Returns what a try guesses: the value in its key or password, or in its session's
-        binding.
+        """Returns the value that a failed try guesses: the one in its key or password, or the one
+        to which its session is bound.
         """
         own = use.view.protection if use.takes_value else None
         return own or self.sessions.protection(use.entry.handle)
@@ -151,8 +151,8 @@ class Uses:
                 self.policies.note(use)
 
     def tell(self, use: Use, findings: list[Finding]) -> None:
-        """Reports a use with its ground: each condition of a policy session; for other entries,
-        what was shown.
+        """Reports a use with its ground. For a policy session these are its conditions; for other
+        entries, the value that the caller showed to know.
         """
         used, told = self.entities.of(use.authorized).used, self.words(use)
         if use.live and use.is_policy:

@@ -103,7 +103,7 @@ class Caller(Calls, PreparedCommands):
         if step.branches:
             self.tell_branch(use, step)
         elif step.code in (CC.PolicySecret, CC.PolicyNV):
-            # A Name that was not learned is a handle, which is its own Name.
+            # An entity whose Name was not learned is named by its handle, which is its own Name.
             known = [handle for handle, name in self.names.items() if name == step.name]
             those = [*(known or [int.from_bytes(step.name, "big")])[:1], session.handle]
             if step.code == CC.PolicyNV:
@@ -115,7 +115,9 @@ class Caller(Calls, PreparedCommands):
         use.demand = demands.get(step.code, use.demand)
 
     def tell_branch(self, use: Use, step: Step) -> None:
-        """Executes the first branch that the device accepts; raises the last refusal."""
+        """Executes the first branch that the device accepts. If it accepts none, raises the last
+        refusal.
+        """
         refused: Refused | None = None
         for branch in step.branches:
             try:

@@ -102,8 +102,8 @@ def flipped(data: bytes, at: int = -1) -> bytes:
 
 
 def wrong(prepared: Prepared, place: int = 1) -> Prepared:
-    """Returns the command with a bit of an entry's hmac or password flipped, or a byte if it is
-    empty.
+    """Returns the command with one bit flipped in an entry's HMAC or password. If that is empty,
+    one byte is added.
     """
     hmac = prepared.entries[place - 1].hmac
     return prepared.but_entry(place, hmac=flipped(hmac) if hmac else b"\1")
@@ -133,8 +133,8 @@ class Response:
 
 
 class Refused(TpmsimError):
-    """A command that the device refuses: the number of the response code, its name (empty if it is
-    unknown here), its place, such as p1, h2 or s1, or empty, and the check that refuses, such as G9
+    """A command that the device refuses: the number of the response code; its name, empty if it is
+    unknown here; its place, such as p1, h2 or s1, or empty; and the check that refuses, such as G9
     or A1, if a trace reports it.
     """
 

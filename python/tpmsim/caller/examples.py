@@ -1,6 +1,5 @@
-"""An example of each command that succeeds, with what it needs. A test that plays each command, or
-cuts or bends it, starts from here:
-
+"""An example of each command that succeeds, with the entities that it needs. A test that plays each
+command, or plays it truncated or with changed bytes, starts from here:
     scene = Scene.on(Device())
     scene.tpm.send(EXAMPLES[CC.NV_Read](scene))
 """

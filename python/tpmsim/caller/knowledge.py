@@ -262,8 +262,7 @@ class Knowledge:
             self.auth_values[public.index] = trimmed(auth_value)
         elif handle is not None and code in (CC.CreatePrimary, CC.Load):
             name = values.read_all(code.answered_parameters, parameters)["name"]
-            # A loaded object's value is in its private area; whoever made that area knows the
-            # value.
+            # A loaded object's value is in its private area. Only the maker of that area knows it.
             user_auth = Fields(fields.sized()).sized() if code == CC.CreatePrimary else b""
             self.note(handle, name, trimmed(user_auth))
 

@@ -15,7 +15,7 @@ Selection = Sequence[tuple[int, Sequence[int]]]
 
 
 class PreparedCommands(Commands):
-    """The commands, prepared to be sent. Sizes of buffers are in bytes."""
+    """Methods that prepare a command to be sent. Sizes of buffers are in bytes."""
 
     def bare(self, code: CC, those: Sequence[int], uses: Sequence[Means], *values: Any) -> Prepared:
         """Prepares a command with a value for each parameter, and with an entry for each use."""
@@ -24,7 +24,9 @@ class PreparedCommands(Commands):
     def asked(
         self, code: CC, those: Sequence[int], uses: Sequence[Means], *values: Any
     ) -> Prepared:
-        """The same; without uses, a password authorizes it."""
+        """Prepares a command with a value for each parameter; without uses, a password authorizes
+        it.
+        """
         return self.bare(code, those, self.by(uses, those[0]) if code.authorized else uses, *values)
 
     # PCRs, hierarchies and sessions.

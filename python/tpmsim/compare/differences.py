@@ -94,7 +94,9 @@ def between(here: dict[str, Any], there: dict[str, Any]) -> Iterator[tuple[str, 
 
 @dataclass(frozen=True)
 class Cause:
-    """A cause: the pattern of its differences, the section of rev. 01.38, and our decision."""
+    """A known cause: the pattern of its differences, the section of rev. 01.38, and our
+    decision.
+    """
 
     words: str
     form: str

@@ -1,15 +1,15 @@
-"""tpmsim-compare SCRIPT.. --with TPM: each script on tpmsim and on another TPM, side by side.
+"""tpmsim-compare SCRIPT.. --with TPM: plays each script on tpmsim and on another TPM, side by side.
 
 TPM is one of
-    swtpm                                   the program, a new one for each script
+    swtpm                                   the program, started again for each script
     swtpm:path=SOCKET                       a running one, with its control channel at SOCKET.ctrl
     swtpm:host=HOST,port=N                  a running one, with its control channel at N + 1
     mssim:host=HOST,port=N                  one with Microsoft's protocol, the platform at N + 1
     device:FILE                             such as /dev/tpmrm0, which is not power-cycled
 
-A running TPM keeps what it has: clear it before. A journal or log is a script too, if its device was
-a new one; a command that the completing layer saw is played with that layer. The status is 0 if
-nothing differs, 1 if something differs, and 2 if they cannot be compared.
+A running TPM keeps its state, so clear it before. A journal or log is a script too, if its device
+was new. A command that was executed with the completing layer is played with that layer. The status
+is 0 if nothing differs, 1 if something differs, and 2 if they cannot be compared.
 """
 
 import argparse

@@ -18,7 +18,8 @@ from tpmsim.standard import SHA256, TRANSIENT
 from tpmsim.standard.command_names import command_name
 from tpmsim.standard.values import read_all
 
-# What a command changes in addition to its handles, so that a later difference may follow from it.
+# The part of a command's changes that no handle names, so that a later difference may follow from
+# it.
 GUESSES = "guesses"
 ALL = "all"
 CHANGES = {
@@ -107,8 +108,8 @@ class Comparison:
             raise ValueError(f"line {self.line} begins with a device that no other TPM can be made")
 
     def send(self, buffer: bytes) -> bytes:
-        """Sends a command. If the other TPM runs on the host's time, only this device forgives
-        tries.
+        """Sends a command, after the script's waits. If the other TPM runs on the host's time, only
+        this device forgives failed tries.
         """
         waited, self.waited = min(self.waited, MOST_MILLISECONDS), 0
         try:
@@ -157,8 +158,8 @@ class Comparison:
         self.lose(asked, event, line)
 
     def can_be_sent(self, buffer: bytes) -> bool:
-        """Whether a buffer can be sent. In a stream only the size field says where a command ends;
-        Microsoft's protocol and a file have another way.
+        """Whether a buffer can be sent. In a stream, only the size field shows where a command
+        ends. Microsoft's protocol and a file mark the end in another way.
         """
         if isinstance(self.other, (FileDevice, SimulatorDevice)):
             return True
@@ -194,7 +195,7 @@ class Comparison:
         elif not codes[0]:
             self.lose(asked, event, self.line)
         elif there:
-            # Removes what exists only on the other TPM, if one command can do that.
+            # Removes an entity that exists only on the other TPM, if one command can do that.
             self.flush(there.handle)
             if asked.code == CC.NV_DefineSpace:
                 self.other.execute(self.translation.undefining(there))
@@ -230,8 +231,8 @@ class Comparison:
         return [*touched, ALL]
 
     def lose(self, asked: Command | None, event: Executed, line: int) -> None:
-        """Notes what only this device has now, since a command returned or made it, and what it
-        ended.
+        """Notes the entities that now exist only on this device, because a command returned or made
+        them here, and those that it ended here.
         """
         if asked is None or any(event.response[6:10]):
             return

@@ -1,4 +1,4 @@
-"""The unchanged script on this device, and what its caller knew at each of its commands."""
+"""Plays the unchanged script on this device, with its caller's knowledge at each command."""
 
 from dataclasses import dataclass, field
 from typing import Any
@@ -40,8 +40,8 @@ def parsed(buffer: bytes) -> Command | None:
 
 @dataclass(frozen=True)
 class Shown:
-    """In which way an entry was correct; `key` says whether the authorization value is in the key
-    of the correct hmac.
+    """How an entry was correct; `key` says whether the authorization value is in the key of the
+    correct HMAC.
     """
 
     is_password: bool = False
@@ -59,7 +59,7 @@ class Received:
 
 
 class Reference:
-    """This device, twice: one instance that responds, and one in Python whose state can be read.
+    """This device twice: an instance that responds, and a model in Python whose state can be read.
     The completing layer is above both.
     """
 
@@ -95,8 +95,8 @@ class Reference:
         return True
 
     def open_empty(self, step: records.Begin) -> bool:
-        """Becomes the device of a head, if it was just powered on and holds nothing that a new
-        device lacks. Returns whether it did.
+        """Becomes the device of a head, if that device was just powered on and contains nothing
+        that a new device lacks. Returns whether it did.
         """
         begun = opened(step.content, step.start)
         found = begun.device

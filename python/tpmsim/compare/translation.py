@@ -86,8 +86,8 @@ class Translation:
                 raise NotComparable(TIED, self.hashed[entry.handle])
 
     def is_made_elsewhere(self, asked: Command) -> bool:
-        """Whether a command loads an area that no response contained: the script has the area from
-        the device's own seeds.
+        """Whether a command loads an area that no response contained. Such an area in the script
+        was made with the seeds of its own device.
         """
         if asked.code != CC.Load:
             return False

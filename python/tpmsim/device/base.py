@@ -180,8 +180,8 @@ class Transport(ABC):
         raise Unsupported("there are no snapshots")
 
     def close(self) -> None:
-        """Ends the device, or the connection to it; `with` does so too. If there is a file of its
-        image, that then has the clock.
+        """Ends the device, or the connection to it; `with` does so too. If the device has an image
+        file, the file then contains the clock.
 
         >>> device = Device()
         >>> device.close()

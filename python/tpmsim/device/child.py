@@ -43,7 +43,8 @@ def remove(folder: str, process: int) -> None:
 class ChildDevice(InStep, Device):
     """A device in a child process. Without an image it is manufactured with the bytes 00 to ff, and
     its state is in a folder of its own until it is closed. With an image it is the device of that
-    file, or a new one with random seeds. Each change is in the file before the command is answered.
+    file, or a new one with random seeds. Each change is in the file before the response is
+    returned.
 
     >>> with ChildDevice() as device:
     ...     device.execute(b"").check
@@ -142,7 +143,7 @@ class ChildDevice(InStep, Device):
         return self.image.read_bytes()
 
     def check_folder(self) -> None:
-        """Raises Unsupported for a device with an image, since it draws seeds that nobody knows."""
+        """Raises Unsupported for a device with an image, whose random seeds are unknown here."""
         if self.image is not None:
             raise Unsupported("a child's device with an image has no snapshots")
 

@@ -11,13 +11,13 @@ Done = TypeVar("Done")
 
 
 class InStep(Transport):
-    """A connection that is closed if an exchange does not complete, for whatever reason: its
-    response would be taken for that of the next command. Each later call raises DeviceEnded, which
-    says why.
+    """A connection that is closed if an exchange does not complete, for whatever reason: otherwise
+    the next command would get the response of this one. Each later call raises DeviceEnded with the
+    reason.
     """
 
     # Why the connection is closed; empty while it is open. An exchange sets it first, and clears it
-    # last.
+    # at its end.
     why_closed = ""
 
     def whole(self, exchange: Callable[[], Done]) -> Done:

@@ -67,17 +67,17 @@ def check(told: int, reason: str) -> None:
 
 
 class KeptDevice(LocatedDevice):
-    """The device in a folder. If the folder has none, a new one begins there. Several processes may
-    hold it at once: each executes what the others added, and then its own command. With `forces`,
-    the name of each journal that is new or opened is forced to the disk. With `completes`, the
-    completing layer of the library is above the device. The last `keep` journals that new ones
-    replaced, 0 to 99, stay in the folder. With `cuts`, what follows the first damage in a journal is
-    dropped; otherwise the journal is refused. A forked child may use its parent's device, and
-    threads take turns.
+    """The device in a folder. If the folder has none, a new one is made there. Several processes
+    may use it at once: each executes what the others added, and then its own command. With
+    `forces`, the name of each journal that is new or opened is synced to the disk. With
+    `completes`, the completing layer of the library is above the device. The last `keep` replaced
+    journals, 0 to 99, stay in the folder. With `cuts`, the rest of a journal from its first damage
+    on is dropped; otherwise a damaged journal is refused. A forked child may use its parent's
+    device, and threads take turns.
 
-    DeviceEnded says in a sentence of docs/ATTACHED.md why a call was not done. If the journal
-    begins with bytes that are not an image or a state text, BadImage or BadState says so. If the
-    end of a journal was cut off, a RuntimeWarning says what is missing.
+    If a call fails, DeviceEnded has a sentence of docs/ATTACHED.md. If the journal begins with
+    bytes that are not an image or a state text, the exception is BadImage or BadState. If the end
+    of a journal was cut off, a RuntimeWarning says what is missing.
 
     >>> import tempfile
     >>> with tempfile.TemporaryDirectory() as folder:
@@ -138,7 +138,7 @@ class KeptDevice(LocatedDevice):
         return Answered(told, CHECKS[answered.check])
 
     def power_cycle(self) -> None:
-        """Power-cycles the device for every process that holds it."""
+        """Power-cycles the device for every process that uses it."""
         self.ask(self.host.tpmsim_kept_power)
         self.events.append("power")
 
@@ -167,8 +167,8 @@ class KeptDevice(LocatedDevice):
         return ctypes.string_at(text, size.value)
 
     def restore(self, snapshot: object) -> None:
-        """Restores a snapshot for every process that holds the device; the journal restarts with
-        it.
+        """Restores a snapshot for every process that uses the device. The journal restarts from the
+        snapshot.
         """
         text = Snapshot.of(snapshot)
         if not self.holder:
@@ -196,7 +196,9 @@ FORKS, stopped = threading.RLock(), list[list[KeptDevice]]()
 
 
 def stop_calls() -> None:
-    """Waits for the calls of other threads, which a fork would leave half done in the child."""
+    """Waits for the calls of other threads. A fork during a call would leave the call unfinished in
+    the child.
+    """
     FORKS.acquire()
     stopped.append(sorted(HELD, key=id))
     for device in stopped[-1]:

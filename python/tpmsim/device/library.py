@@ -106,7 +106,7 @@ class ImageFile:
             self.leave()
 
     def leave(self) -> None:
-        """Releases the lock, which a child may share, and does not write the file."""
+        """Releases the lock without writing the file. A child may share the lock."""
         is_here, self.is_left = self.is_here, True
         if is_here:
             fcntl.flock(self.lock, fcntl.LOCK_UN)

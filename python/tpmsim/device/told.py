@@ -184,8 +184,8 @@ class Device(Transport):
         self.events.append("power")
 
     def snapshot(self) -> Snapshot:
-        """Returns all that the device is, with sessions and objects, as its state text. The bytes
-        may be kept in a file, and restored by another process.
+        """Returns the whole state of the device, with sessions and objects, as its state text. The
+        bytes may be stored in a file, and restored by another process.
 
         >>> with Device() as device, Device() as other:
         ...     tpm = Caller(device)
@@ -201,8 +201,8 @@ class Device(Transport):
         return Snapshot(self.state(), self.at, self.elapsed, self.begun, self.events)
 
     def restore(self, snapshot: object) -> None:
-        """Makes the device what it was at a snapshot of any device, or what a state text says. The
-        events are then those of the snapshot; a text alone and a kept device's snapshot leave none.
+        """Restores the state in a snapshot of any device, or in a state text. The events are then
+        those of the snapshot; after a text alone, or a kept device's snapshot, there are none.
         Raises BadState for other bytes, which change nothing, and TypeError for anything else.
 
         >>> with Device() as device:

@@ -107,8 +107,8 @@ def wrong_password(scene: Scene, found: Reason, entry: Entry, handle: int) -> No
 
 
 def name_password(scene: Scene, found: Reason, entry: Entry, handle: int) -> None:
-    """Names the slip that makes the given password, or the number of those tried, unless a slip is
-    already named.
+    """Names the slip that makes the given password, or the number of slips that were tried. Does
+    nothing if a slip is already named.
     """
     tried = 0
     for told, password in passwords(scene, handle) if not found.slips else ():

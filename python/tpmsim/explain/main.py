@@ -5,24 +5,25 @@
 LOG is a script, as docs/SCRIPTS.md describes it, with lines that begin with `cmd`, `do`, `wait`,
 `loc`, `entropy` or `power`. It may also be the journal of a device in a folder, a log of `tpmsim
 serve`, the output of `tpmsim script`, the report of a failed test, or several of these in sequence.
-It may have its answers in comments, as a trace, a response code or a response; or ANSWERS may be what
-`tpmsim run` or `tpmsim run --trace` printed for it. `-` is standard input. The device is the one of
-the image or of the state text in the log; without these, that of START with --image; else a new one.
+It may contain its answers in comments, as a trace, a response code or a response; or ANSWERS may be
+what `tpmsim run` or `tpmsim run --trace` printed for it. `-` is standard input. The device is the
+one of the image or of the state text in the log; without these, the one of START with --image;
+otherwise a new one.
 
-It plays the log on the device in Python, and reports where the log's answers are not the model's. For
-each refusal it says which check refused, in words and numbers; for a wrong HMAC, what goes into it,
-and which usual slip makes the given one; for accepted commands, what is worth a look. It also says
-how much the completing layer answered.
+It plays the log on the device in Python, and reports where the log's answers differ from the
+model's. For each refusal it reports the check that refused, in words and numbers. For a wrong HMAC
+it shows the HMAC's ingredients, and the common mistake that makes the given one. For accepted
+commands it points out suspicious details. It also reports how much the completing layer answered.
 
-    --at LINE    tells all of the command in one line of the log, accepted or refused
+    --at LINE    shows all of the command in one line of the log, accepted or refused
     --try VALUE  tries a text, or bytes as hex:00ff, in each place of a wrong HMAC or password, or of a
                  policy digest; it may be given several times
     --json       the same as JSON
     --html       one page to look at, with nothing fetched from elsewhere
 
-The status is 0. It is 1 if an answer of the log is not the model's. It is 2 if the arguments, a file
-or the image is wrong, or if a line is not one of a script; what came before that line is reported. It
-needs python3, and no program.
+The status is 0. It is 1 if an answer of the log differs from the model's. It is 2 if the arguments,
+a file or the image is wrong, or if a line is not a script's; everything before that line is
+reported. It needs python3, and no program.
 """
 
 import json

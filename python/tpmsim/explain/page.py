@@ -1,8 +1,7 @@
-"""A log as a page to look at: the page of the device itself (docs/WEB.md), with the log and what is
-reported about it. The page plays the log, so it contains the log's text, but no state and no
+"""A log as a page to look at: the page of the device itself (docs/WEB.md), with the log and the
+findings about it. The page plays the log, so it contains the log's text, but no state and no
 fields.
-
-A log is data of the page, which its script shows only as text. So no log can close the element that
+A log is data in the page, which its script shows only as text. So no log can close the element that
 contains it, or be parsed as markup.
 """
 

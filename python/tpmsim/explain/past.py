@@ -1,4 +1,4 @@
-"""What happened before a command: since when values are what they are, and what policies assert."""
+"""The events before a command: when each value was set, and what policies assert."""
 
 from __future__ import annotations
 

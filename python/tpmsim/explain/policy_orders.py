@@ -1,5 +1,5 @@
-"""Which assertions a policy has, and in which order: one is missing, added or repeated, or they are
-in another order.
+"""Finds out which assertions a policy has, and in which order: one may be missing, added or
+repeated, or they may be in another order.
 """
 
 from __future__ import annotations

@@ -47,8 +47,8 @@ class Found:
 
 
 def found(use: Use) -> Found:
-    """Returns what makes the HMAC that was sent. Sending a whole command again is a slip as
-    well.
+    """Returns the slips that make the HMAC that was sent. Sending a whole command again is also a
+    slip.
     """
     if not use.entry.hmac:
         words = "the HMAC was left out, which is right only where the key is empty"
@@ -168,7 +168,7 @@ def old_nonces(use: Use) -> Iterator[Slip]:
 
 
 def other_attributes(use: Use) -> Iterator[Slip]:
-    """Yields all other attributes; the words say if they are those of the previous entry."""
+    """Yields all other attributes. The words say if a set is that of the previous entry."""
     last = use.begun.last_attributes if use.begun else None
     own = use.entry.attributes
     sent = f"sent were {attribute_words(own)}"

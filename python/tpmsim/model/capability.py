@@ -5,11 +5,12 @@ from tpmsim.model.parameters import Held, integer, Request, takes
 from tpmsim.standard import CC, frames, handle_kinds, HASHES, HMAC_SESSION, number, NV, PERSISTENT
 from tpmsim.standard import POLICY_SESSION, TRANSIENT
 
-# The capabilities that are served (Part 2, section 6.12), and the most elements of one answer.
+# The supported capabilities (Part 2, section 6.12), and the largest number of elements in one
+# response.
 HANDLES, COMMANDS, PCRS, PROPERTIES = 1, 2, 5, 6
 MOST_ELEMENTS = 64
 
-# The first bytes of the handles of PCRs, and of what is always there.
+# The first byte of the handles of PCRs, and that of permanent handles.
 PCR_KIND, PERMANENT_KIND = 0x00, 0x40
 PERMANENT = (
     frames.RH_OWNER,
@@ -25,7 +26,7 @@ FAMILY_INDICATOR, TOTAL_COMMANDS = 0x100, 0x129
 LOCKOUT_COUNTER, MAX_AUTH_FAIL, LOCKOUT_INTERVAL, LOCKOUT_RECOVERY = range(0x20E, 0x212)
 FAMILY = b"2.0\0"
 
-# The places in the attributes of a command (TPMA_CC) of the number of its handles, and of the bit that
+# The position of the number of handles in the attributes of a command (TPMA_CC), and the bit that
 # says that its response has a handle.
 HANDLES_SHIFT, ANSWERED_HANDLE = 25, 1 << 28
 PLACE_BITS = 0xFF_FFFF
@@ -37,7 +38,7 @@ def command_attributes(code: CC) -> int:
 
 
 class Commands(Held):
-    """The command of a device that has all that is asked for."""
+    """TPM2_GetCapability, for a device with sessions, objects, indices and a lockout."""
 
     @takes(integer(4), integer(4), integer(4))
     def get_capability(self, request: Request, capability: int, wanted: int, count: int) -> Answer:
@@ -50,7 +51,7 @@ class Commands(Held):
         return Answer(more + number(capability, 4) + number(len(given), 4) + b"".join(given))
 
     def elements(self, capability: int, wanted: int) -> list[bytes]:
-        """All elements from the requested one on, in their order."""
+        """Returns all elements from the requested one on, in their order."""
         if capability == HANDLES:
             return [number(it, 4) for it in self.handles_from(wanted)]
         if capability == COMMANDS:
@@ -62,7 +63,9 @@ class Commands(Held):
         raise Refusal("VALUE/p1", "A1")
 
     def handles_from(self, wanted: int) -> list[int]:
-        """The handles from this one on, of the kind that its first byte says."""
+        """Returns the handles from `wanted` on, of the kind that the first byte of `wanted`
+        selects.
+        """
         kind = handle_kinds.first_byte(wanted)
         held = {
             PCR_KIND: handle_kinds.PCRS,
@@ -72,10 +75,10 @@ class Commands(Held):
             PERSISTENT: self.objects,
         }
         if kind == HMAC_SESSION:
-            # Sessions of all types, in the order of their places.
+            # Sessions of all types, in the order of their slots.
             by_place = sorted((it & PLACE_BITS, it) for it in self.sessions)
             return [handle for at, handle in by_place if at >= wanted & PLACE_BITS]
-        # That asks for saved sessions, and none is ever saved.
+        # This kind requests saved sessions, and the device never saves any.
         if kind == POLICY_SESSION:
             return []
         if kind not in held:

@@ -50,8 +50,8 @@ class Command:
         return [(at, *both) for at, both in enumerate(zip(entries, authorized), 1)]
 
     def others(self, place: int, handle: int | None) -> list[int]:
-        """Returns, for a first entry that authorizes, the other sessions that decrypt and
-        encrypt.
+        """Returns the other sessions that decrypt and encrypt, if this is the first entry and it
+        authorizes a handle.
         """
         if place != 1 or handle is None:
             return []

@@ -1,8 +1,9 @@
-"""What a device has accepted, and everything that this determines: the values of its PCRs, its
-counters, its authorization values, and the start, key, nonce and policy of each session.
+"""The history of a device: all that it has accepted, and everything that this determines: the
+values of its PCRs, its counters, its authorization values, and the start, key, nonce and policy of
+each session.
 
-Each of them is a fold over the accepted events, the earliest first. It reads only what the events
-show of the device. Its rules are those of docs/THEOREMS.md.
+Each of these is a fold over the accepted events, the earliest first. It reads only what the events
+show of the device. The rules are those of docs/THEOREMS.md.
 """
 
 from __future__ import annotations

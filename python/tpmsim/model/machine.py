@@ -118,7 +118,9 @@ class Model(
         elapsed: int = 0,
         is_starved: bool = False,
     ) -> Outcome:
-        """Time passes first. If allocation fails for the command, nothing else changes."""
+        """Executes a command after the elapsed time. If allocation fails for the command, only the
+        time changes the device.
+        """
         self.tick(elapsed)
         if is_starved:
             return Outcome(STARVED, Row.of(buffer, MEMORY_CHECK), "MEMORY")
@@ -235,12 +237,14 @@ class Model(
         return self.sessions[entry.handle].key + (self.auth_value(handle) if uses else b"")
 
     def encryption_key(self, session: Session, handle: int | None) -> bytes:
-        """The key for parameters includes the authorization value even if the session is bound."""
+        """Returns the key for parameters. It includes the authorization value even if the session
+        is bound.
+        """
         return session.key + self.auth_value(handle)
 
     def touched(self, entry: Entry, handle: int | None) -> str | None:
-        """Returns what an entry tries: the protection of the value that it uses, or of the value
-        from which the session's key was made.
+        """Returns what a wrong entry counts against: the protection of the value that the entry
+        uses, or of the value from which the session's key was made.
         """
         if handle is not None and self.uses_auth_value(entry, handle) and self.protection(handle):
             return self.protection(handle)

@@ -62,7 +62,7 @@ class Commands(Held):
         return Answer(counter + frames.selection(*selection) + listed)
 
     def extend(self, handle: int, values: list[tuple[int, bytes]], locality: int) -> None:
-        """Extends the PCR in each digest's bank by the digest; has no effect for TPM_RH_NULL."""
+        """Extends the PCR in the bank of each digest. Has no effect for TPM_RH_NULL."""
         if handle == RH_NULL:
             return
         if locality not in extended_from(handle):

@@ -16,7 +16,9 @@ def is_persistent(handle: int) -> bool:
 
 
 def check_hierarchy(asker: int, held: Object, removes: bool) -> None:
-    """The platform may make only its own objects persistent, but remove any."""
+    """Checks the hierarchy: the platform may make only its own objects persistent, but may remove
+    any.
+    """
     if asker == RH_PLATFORM:
         allowed = removes or held.hierarchy == RH_PLATFORM
     else:

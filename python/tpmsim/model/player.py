@@ -37,7 +37,7 @@ def hex_bytes(text: bytes) -> bytes:
 
 
 class Words:
-    """What a script's lines set for the next command: its locality, its random bytes, and the
+    """The settings for the next command in a script: its locality, its random bytes, and the
     elapsed milliseconds.
     """
 

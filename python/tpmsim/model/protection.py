@@ -42,7 +42,9 @@ class Lockout:
             self.closed_time = 0
 
     def forgive(self, elapsed: int) -> None:
-        """Forgives a try for each whole recovery time, and carries over the remaining time."""
+        """Forgives a failed try for each whole recovery time, and carries over the remaining
+        time.
+        """
         period = MILLISECONDS * self.recovery_time
         if not self.failed_tries or not period:
             self.forgiving_time = 0
@@ -53,7 +55,9 @@ class Lockout:
             self.forgiving_time = 0
 
     def is_locked(self) -> bool:
-        """With recovery_time 0 the protection is off; otherwise max_tries 0 locks at once."""
+        """Whether protected values are refused without a check. With recovery_time 0 the protection
+        is off; otherwise max_tries 0 locks at once.
+        """
         return self.recovery_time != 0 and self.failed_tries >= self.max_tries
 
     def refuses(self, touched: str | None) -> bool:

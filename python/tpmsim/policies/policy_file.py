@@ -101,7 +101,7 @@ class Reader:
         return self.next is not None and self.next.depth == depth
 
     def policy(self, depth: int, opener: int) -> Policy:
-        """Reads the policy of a block; `opener` is the line above the block that opens it."""
+        """Reads the policy of a block; `opener` is the number of the line that opens the block."""
         if self.next is None or self.next.depth < depth:
             words = f"no branch stands below it, {STEP} spaces further in; {NO_DEMAND}"
             raise Fault(opener, words)

@@ -18,7 +18,9 @@ class Written:
 
 @dataclass(frozen=True)
 class Policy:
-    """Assertions, perhaps after one of several branches; the line is then that of the `either`."""
+    """Assertions, perhaps after an `either` with several branches. The line is then that of the
+    `either`.
+    """
 
     line: int = 0
     branches: tuple[Policy, ...] = ()
@@ -31,7 +33,9 @@ def zeros(algorithm: int) -> bytes:
 
 
 def texts_after(algorithm: int, old: bytes, update: Update) -> list[bytes]:
-    """Returns the texts that are hashed for an assertion after a digest, the latest first."""
+    """Returns the texts that are hashed for an assertion, given the previous digest; the latest
+    text comes first.
+    """
     begin = zeros(algorithm) if update.forgets else old
     text = begin + number(update.code, 4) + update.about
     referred = []

@@ -1,14 +1,16 @@
-"""tpmsim-script [--socket PATH] [--trace] [-o FILE] SCRIPT: plays a layered script, and writes the plain one.
+"""tpmsim-script [--socket PATH] [--trace] [-o FILE] SCRIPT: plays a layered script, and writes the
+plain one.
 
 A layered script has the lines of a script (do, cmd, loc, wait, entropy, power), and also
-    let NAME = COMMAND.FIELD    a field of the last answer to a command, by its name in Part 3
+    let NAME = COMMAND.FIELD    a field of the last response to a command, by its name in Part 3
     let NAME = "TEXT"           the bytes of a text
     auth HANDLE VALUE           the authorization value with which later lines compute
     $NAME, ${NAME}              the value of that name; $nonce is a new nonce each time
     s:$session:pin=VALUE:..     an entry whose HMAC is computed, with decrypt, encrypt, end
 
-The device is a script's own, in this process, or the one at the socket of `tpmsim serve`. A fault is
-reported on standard error with its line and column; then the status is 2, and nothing is written.
+The device is the script's own, in this process, or the one at the socket of `tpmsim serve`. A fault
+is reported on standard error with its line and column; then the status is 2, and nothing is
+written.
 """
 
 import argparse

@@ -49,7 +49,8 @@ CODES = {
     )
 }
 
-# What a place adds to a code, by its kind, in addition to 0x100 times its number (section 6.6.2).
+# The number that each kind of place adds to a code, in addition to 0x100 times its index (section
+# 6.6.2).
 PLACES = {"h": 0, "p": 0x040, "s": 0x800}
 
 

@@ -56,7 +56,7 @@ WANTED = {
     Kind.HASH: "an algorithm's number, 'sha1', 'sha256' or 'null'",
 }
 
-# What encoding a wrong value raises, whichever its kind.
+# The exceptions that encoding a wrong value raises, for all kinds.
 MISFITS = (AttributeError, KeyError, OverflowError, TypeError, ValueError, Wrong)
 
 

@@ -283,7 +283,9 @@ def entry_of(token: bytes) -> Entry:
 
 
 def entry_word(entry: Entry) -> str:
-    """Returns the word for an entry, which is a password in its one form, or of a session."""
+    """Returns the word for an entry: a password, if the entry has the form of one, or the fields of
+    a session's entry.
+    """
     hmac = hex_word(entry.hmac)
     if (entry.handle, entry.nonce, entry.attributes) == (RS_PW, b"", CONTINUE_SESSION):
         return f"pw:{hmac}"

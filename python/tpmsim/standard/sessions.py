@@ -1,5 +1,5 @@
-"""What both the TPM and its caller compute for a session, over whole texts (TPM 2.0 Library, Part
-1).
+"""Computations for a session that the TPM and its caller share, over whole texts (TPM 2.0 Library,
+Part 1).
 """
 
 import functools
