@@ -14,6 +14,7 @@ from tpmsim.model import image as images
 from tpmsim.model.completion import Completed, Completion
 from tpmsim.model.general import Command
 from tpmsim.model.machine import Model, Outcome
+from tpmsim.model.object_rules import Object
 from tpmsim.records import goes_on, Opened, opened, TRACE
 from tpmsim.records.marks import sum_of
 from tpmsim.standard import lines, policy
@@ -216,33 +217,27 @@ class Watched:
         return event
 
     def completed(self, buffer: bytes, locality: int, random: bytes, elapsed: int) -> Event:
-        """Executes a command with the completing layer, which may respond itself, or execute
-        another command first.
+        """Executes a command with the completing layer, which may respond itself, and place the
+        object of a context.
         """
         told = buffer, locality, random, elapsed
-        done = self.layer.execute(self.model, told, self.execute, self.give_up)
-        if self.event is None or self.event.scene.buffer != buffer:
-            scene = Scene(self.model, self.past, self.line, *told)
-            scene.check, self.event = done.own.row.check, Event(self.line, scene, done.own)
-        event, event.completes = self.event, True
+        done = self.layer.execute(self.model, told, self.execute, self.place)
+        event, self.now.completes = self.now, True
         if not done.did:
             return self.judged()
         event.layer, event.own = done.did, done.own
-        if done.outcome is event.outcome or not done.own.refused:
+        if not done.own.refused:
             self.judged()  # the device did it
         event.outcome, event.scene.refused = done.outcome, done.outcome.refused or ""
-        if done.outcome is not done.own and event.refused and not event.reason:
+        if event.refused:
             event.reason = of_layer(done)
         return event
 
-    def give_up(self, buffer: bytes, locality: int, random: bytes, elapsed: int) -> Outcome:
-        """Executes a command that the layer sends to the device, and that is not an event of the
-        log.
-        """
-        outcome = self.execute(buffer, locality, random, elapsed)
-        self.event = None
-        self.past.follow(self.line, "given up by the completing layer")
-        return outcome
+    def place(self, kept: Object) -> int | None:
+        """Places the object of a context in the device."""
+        handle = self.model.place(kept)
+        self.past.follow(self.line, "ContextLoad")
+        return handle
 
     def follow(self, event: Event, outcome: Outcome) -> None:
         scene, answered = event.scene, None
