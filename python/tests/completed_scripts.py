@@ -27,6 +27,9 @@ PARAMETERS = tuple(
 # A counter that the owner writes and reads.
 COUNTER = nv.of_type(nv.Type.COUNTER) | nv.Attribute.OWNERWRITE | nv.Attribute.OWNERREAD
 
+# The offset of the buffer in a context's contextBlob.
+BLOB_AT = 18
+
 
 def handle_of(chance):
     kind = chance.choice(KINDS if chance.random() < 0.95 else OTHERS)
@@ -107,13 +110,22 @@ class Scripts:
         if int.from_bytes(buffer[6:10], "big") == CONTEXT_SAVE and not any(response[6:10]):
             self.contexts.append(response[10:])
 
-    def bent(self, data):
-        at = self.chance.randrange(len(data))
+    def bent(self, data, size=None):
+        """Returns the data with a bit turned, which is one of the first `size` bytes."""
+        at = self.chance.randrange(size or len(data))
         return data[:at] + bytes([data[at] ^ 1 << self.chance.randrange(8)]) + data[at + 1 :]
 
     def context(self):
         context = self.chance.choice(self.contexts[-12:] or [bytes(38)])
-        return context if self.chance.random() < 0.9 else self.bent(context)
+        return context if self.chance.random() < 0.9 else self.bent_context(context)
+
+    def bent_context(self, context):
+        """Returns a context with a bit turned, perhaps in its first fields, or with another end."""
+        size = self.chance.choice((BLOB_AT, len(context)))
+        way = self.chance.randrange(3)
+        if way == 0:
+            return context + b"\0"
+        return context[: self.chance.randrange(size)] if way == 1 else self.bent(context, size)
 
     def next(self):
         chance = self.chance

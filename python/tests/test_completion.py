@@ -15,6 +15,7 @@ from tpmsim.audit.log import Log, NoLog
 from tpmsim.device import KeptDevice, library
 from tpmsim.explain import page, text
 from tpmsim.explain.play import Play
+from tpmsim.model import contexts
 from tpmsim.records import COMPLETED
 from tpmsim.standard import lines
 
@@ -22,19 +23,18 @@ SEEDS, COMMANDS = 12, 500
 
 # The actions of the layer, with N for each number.
 DEEDS = {
-    "context N of object N, which stays in its place",
-    "context N of session N, which stays in its place",
+    "context N of object N, which stays loaded",
+    "context N of session N, which stays in its slot",
     "object N is not there",
-    "object N waits, as it was flushed",
     "session N is not there",
     "session N is saved already",
     "N is neither a transient object nor a session",
+    "the object of context N is loaded as N",
+    "no slot of an object is free",
     "the handle of context N",
-    "what context N names, N, is gone, or is loaded",
-    "the bytes are no context since the power came on",
-    "the device was not told: the object waits in its place for the sake of its context",
-    "the device was not told: the object was flushed already, and waits in its place",
-    "N, which waited longest, was given up, and the command executed again",
+    "the session of context N, N, is gone, or is loaded",
+    "this layer did not make the context since its start",
+    *(words for _, words in contexts.FAULTS),
     "the bytes are not used",
     "no algorithm is left to be tested",
     "all tests succeeded",

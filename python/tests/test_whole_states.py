@@ -117,7 +117,7 @@ class Explained(unittest.TestCase):
         journal.go_on(layer)
         play = Play()
         list(play.events(journal.text))
-        context = play.layer.context(0x03000000, 1)
+        context = play.layer.token(0x03000000, 1)
         buffer = b"\x80\x01" + number(10 + len(context), 4) + number(CONTEXT_LOAD, 4) + context
         event = play.command(buffer, 0, b"", 0, completes=True)
         self.assertEqual(event.response[10:].hex(), "03000000")

@@ -114,6 +114,18 @@ def told(outcome: Outcome, parameters: bytes = b"") -> Outcome:
     return Outcome(frames.success(parameters), outcome.row)
 
 
+def names_session(context: bytes) -> bool:
+    """Returns whether the savedHandle of a context, which comes after the sequence, is a session's.
+    Every other context is read as an object's.
+    """
+    fields = Fields(context)
+    try:
+        fields.number(8)
+        return is_session(fields.number(4))
+    except Short:
+        return False
+
+
 class Completion:
     """What the layer remembers of a device since a start, by whose number it knows its contexts:
     the sequence of the last context, and for each saved session the sequence of its context.
@@ -277,8 +289,7 @@ class Completion:
         return Completed(told(own, text), own, words)
 
     def load(self, device: Model, context: bytes, own: Outcome, place: Place) -> Completed:
-        """A context whose savedHandle is a session's is a token; every other one is an object's."""
-        if is_session(int.from_bytes(context[8:12].ljust(4, b"\0"), "big")):
+        if names_session(context):
             return self.load_session(device, context, own)
         try:
             kept = contexts.opened(device, self.start, context)

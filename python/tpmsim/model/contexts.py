@@ -41,10 +41,11 @@ class Fault(TpmsimError):
 
 
 TRUNCATED = "INSUFFICIENT/p1", "the context is truncated"
-SAVED_HANDLE = "HANDLE/p1", "savedHandle is neither 80000000 nor 80000002"
+SAVED_HANDLE = "HANDLE/p1", "savedHandle is neither an object's nor a session's"
 HIERARCHY = "VALUE/p1", "the context's hierarchy is not a hierarchy"
 SIZE = "SIZE/p1", "a size in the context is wrong, or bytes follow the context"
 INTEGRITY = "INTEGRITY/p1", "this device did not make the context since its last TPM Reset"
+FAULTS = TRUNCATED, SAVED_HANDLE, HIERARCHY, SIZE, INTEGRITY
 
 
 @dataclass(frozen=True)

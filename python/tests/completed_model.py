@@ -1,0 +1,29 @@
+"""The device in Python, with the completing layer above it."""
+
+from tpmsim.device import ModelDevice
+from tpmsim.device.base import Executed
+from tpmsim.model.completion import Completion
+
+
+class CompletedModel(ModelDevice):
+    """A device in this process, which needs no program. `did` says what the layer did for the
+    latest command, if anything; with `completes` false, only the device executes commands.
+    """
+
+    def __init__(self, start=0):
+        super().__init__(seed=b"completed")
+        self.completion, self.completes, self.did = Completion(start), True, ""
+
+    def answer(self, buffer, locality, elapsed, random):
+        told, model = (buffer, locality, random, elapsed), self.model
+        if self.completes:
+            done = self.completion.execute(model, told, model.execute, model.place)
+            self.did = done.did
+            return Executed(buffer, done.outcome.response, locality, elapsed, random)
+        event = super().answer(buffer, locality, elapsed, random)
+        self.completion.forget(model)
+        return event
+
+    def cycle(self):
+        super().cycle()
+        self.completion.forget(self.model)
