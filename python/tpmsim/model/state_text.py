@@ -147,6 +147,11 @@ def open_state(
     return device, layer
 
 
+def is_earlier(text: bytes) -> bool:
+    """Returns whether a text begins as a state text of version 1 does."""
+    return text.startswith(MAGIC + number(VERSION_1, 2))
+
+
 def fault_of(text: bytes) -> str | None:
     try:
         open_state(text)
