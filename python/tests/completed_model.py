@@ -1,5 +1,6 @@
 """The device in Python, with the completing layer above it."""
 
+from journals import Journal
 from tpmsim.device import ModelDevice
 from tpmsim.device.base import Executed
 from tpmsim.model.completion import Completion
@@ -10,8 +11,8 @@ class CompletedModel(ModelDevice):
     latest command, if anything; with `completes` false, only the device executes commands.
     """
 
-    def __init__(self, start=0):
-        super().__init__(seed=b"completed")
+    def __init__(self, start=0, model=None):
+        super().__init__(model, seed=b"completed")
         self.completion, self.completes, self.did = Completion(start), True, ""
 
     def answer(self, buffer, locality, elapsed, random):
@@ -27,3 +28,21 @@ class CompletedModel(ModelDevice):
     def cycle(self):
         super().cycle()
         self.completion.forget(self.model)
+
+
+class RecordedModel(CompletedModel):
+    """The same, with a journal of what it executes, which a power cycle begins again."""
+
+    def __init__(self):
+        super().__init__()
+        self.journal = Journal(self.model)
+        self.completion = Completion(self.journal.sum)
+
+    def answer(self, buffer, locality, elapsed, random):
+        event = super().answer(buffer, locality, elapsed, random)
+        self.journal.record(buffer, event.response, locality, elapsed, random, self.completes)
+        return event
+
+    def cycle(self):
+        super().cycle()
+        self.journal.go_on(self.completion.numbers)

@@ -9,6 +9,7 @@ import tempfile
 import unittest
 
 import completed_scripts
+from completed_model import RecordedModel
 from tpmsim.audit import start
 from tpmsim.audit.auditor import Auditor, report
 from tpmsim.audit.log import Log, NoLog
@@ -78,15 +79,25 @@ def trace_of(event):
     return lines.traced(event.outcome, scene.locality, scene.elapsed)
 
 
-@unittest.skipUnless(library.is_there(), "there is no library")
-class Completed(unittest.TestCase):
+def in_python(seed, count):
+    """Returns the same of a device in Python."""
+    with RecordedModel() as device:
+        answered = completed_scripts.play(device, random.Random(seed), count, changes=True)
+    return device.journal.text, answered
+
+
+class InPython(unittest.TestCase):
+    """Journals of the device in Python, which needs no library."""
+
+    recorded = staticmethod(in_python)
+
     def test_commands_at_random(self):
-        """Each command gets the same response from Python and from the library. It is explained as
-        refused only if the library refuses it.
+        """Each command gets the recorded response when the journal is explained. It is explained as
+        refused only if it was refused.
         """
         seen = set()
         for seed in range(SEEDS):
-            journal, answered = recorded(seed, COMMANDS)
+            journal, answered = self.recorded(seed, COMMANDS)
             play = Play()
             events = list(play.events(journal))
             self.assertEqual((len(events), play.fault, play.cuts), (len(answered), "", []))
@@ -100,7 +111,7 @@ class Completed(unittest.TestCase):
         history.
         """
         for seed in range(2):
-            journal, answered = recorded(seed, COMMANDS)
+            journal, answered = self.recorded(seed, COMMANDS)
             auditor = Auditor(start.of_log(journal, None), NoLog())
             auditor.read(journal)
             counts = auditor.counts
@@ -113,6 +124,13 @@ class Completed(unittest.TestCase):
             self.assertFalse(any(it.differences for it in events))
             words = f"{counts.refused} refused and {counts.layer} answered by the completing layer"
             self.assertIn(words, "\n".join(report(auditor)))
+
+
+@unittest.skipUnless(library.is_there(), "there is no library")
+class Completed(InPython):
+    """Journals of the library: Python and the library give the same responses."""
+
+    recorded = staticmethod(recorded)
 
     def test_words(self):
         """Reports both the layer's response and the device's own response."""
