@@ -176,10 +176,9 @@ class Full(CompletedModel):
     """Another TPM, which never has a slot for the object of a context."""
 
     def answer(self, buffer, locality, elapsed, random):
-        event = super().answer(buffer, locality, elapsed, random)
         if buffer[6:10] == number(CONTEXT_LOAD, 4):
             return Executed(buffer, frames.refusal(0x902), locality, elapsed, random)
-        return event
+        return super().answer(buffer, locality, elapsed, random)
 
 
 def contexts_that_move(device):
