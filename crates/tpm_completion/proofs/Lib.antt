@@ -4,3 +4,4 @@ pub mod Telling
 pub mod Exactly
 pub mod DeviceFirst
 pub mod Runs
+pub mod Loaded

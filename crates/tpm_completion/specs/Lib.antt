@@ -9,6 +9,7 @@ pub mod Execution
 pub mod Handles
 pub mod Hashing
 pub mod Listing
+pub mod Loaded
 pub mod Loading
 pub mod PcrProperties
 pub mod Properties
