@@ -3,10 +3,12 @@ flushed, their contexts, lists, and the other commands that the layer answers. A
 bent, or come from a caller without the layer.
 """
 
-from tpmsim.caller import storage_key
+from tpmsim.caller import HERE, OPEN, storage_key
+from tpmsim.caller.templates import STORES
 from tpmsim.standard import CC, command, frames, number, NV, nv, RH_LOCKOUT, RH_NULL, RH_OWNER
 from tpmsim.standard import RH_PLATFORM, SHA256, sized, TRANSIENT
 from tpmsim.standard.handle_kinds import PRIMARY_HIERARCHIES
+from tpmsim.standard.objects import Attribute
 
 CONTEXT_SAVE, CONTEXT_LOAD, STIR_RANDOM, QUOTE = 0x162, 0x161, 0x146, 0x158
 INCREMENTAL_SELF_TEST, GET_TEST_RESULT, HASH, TEST_PARMS = 0x142, 0x17C, 0x17D, 0x18A
@@ -37,10 +39,12 @@ def handle_of(chance):
 
 
 def primary(chance):
-    sensitive = sized(sized(b"") + sized(b""))
-    public = sized(storage_key(chance.choice((SHA256, frames.SHA1))).text)
+    sensitive = sized(sized(chance.choice((b"", b"pin"))) + sized(b""))
+    attributes = HERE | OPEN | STORES | chance.choice((0, 0, 0, Attribute.ST_CLEAR))
+    public = sized(storage_key(chance.choice((SHA256, frames.SHA1)), attributes).text)
     parameters = sensitive + public + sized(b"") + number(0, 4)
-    return command(CC.CreatePrimary, number(RH_OWNER, 4) + PASSWORD + parameters, frames.SESSIONS)
+    hierarchy = number(chance.choice((RH_OWNER, *PRIMARY_HIERARCHIES)), 4)
+    return command(CC.CreatePrimary, hierarchy + PASSWORD + parameters, frames.SESSIONS)
 
 
 def session(chance):
