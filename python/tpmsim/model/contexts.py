@@ -44,7 +44,7 @@ TRUNCATED = "INSUFFICIENT/p1", "the context is truncated"
 SAVED_HANDLE = "HANDLE/p1", "savedHandle is neither an object's nor a session's"
 HIERARCHY = "VALUE/p1", "the context's hierarchy is not a hierarchy"
 SIZE = "SIZE/p1", "a size in the context is wrong, or bytes follow the context"
-INTEGRITY = "INTEGRITY/p1", "this device did not make the context since its last TPM Reset"
+INTEGRITY = "INTEGRITY/p1", "the device did not make the context, or may no longer load it"
 FAULTS = TRUNCATED, SAVED_HANDLE, HIERARCHY, SIZE, INTEGRITY
 
 
