@@ -18,7 +18,7 @@ from tpmsim.model.completion import CONTEXT_LOAD, CONTEXT_SAVE
 from tpmsim.model.machine import Model
 from tpmsim.standard import command, frames, number, SHA256, TRANSIENT
 import completed_scripts
-from completed_model import CompletedModel
+from completed_model import CompletedModel, RecordedModel
 from journals import Journal
 
 TESTS = pathlib.Path(__file__).resolve().parents[2] / "tests"
@@ -211,6 +211,20 @@ class Others(unittest.TestCase):
         own = [it for it in report.differences if it.follows is None]
         self.assertTrue(own)
         self.assertNotIn(None, [cause_of(it) for it in own])
+
+    @unittest.skipUnless(shutil.which("swtpm"), "there is no swtpm")
+    def test_contexts_of_swtpm(self):
+        """swtpm loads its contexts when this device loads the corresponding ones. Only the tickets
+        of the keys differ.
+        """
+        with RecordedModel() as device:
+            device.journal.go_on(device.completion.numbers)
+            contexts_that_move(device)
+        with StartedSwtpm() as other:
+            report = Comparison(other).play(device.journal.text)
+        found = [(it.command, it.what) for it in report.differences]
+        self.assertEqual(found, [("CreatePrimary", "creationTicket")] * 2)
+        self.assertEqual(report.not_comparable, [])
 
     def test_wrong_words(self):
         for words in ("", "tpm", "swtpm:port=1", "mssim:path=x", "device:"):
