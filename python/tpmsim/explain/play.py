@@ -7,17 +7,19 @@ from typing import Callable, Iterator
 
 from tpmsim import records
 from tpmsim.explain import accepted, dissection, entries, general, ingredients, own, parameters
+from tpmsim.explain.contexts import Contexts
 from tpmsim.explain.dissection import Field
 from tpmsim.explain.past import Past
 from tpmsim.explain.reason import Fact, OfLayer, Reason, Scene, WANTED
 from tpmsim.model import image as images
-from tpmsim.model.completion import Completed, Completion
+from tpmsim.model.completion import asked_of, Completed, Completion, CONTEXT_LOAD, CONTEXT_SAVE
+from tpmsim.model.contexts import INTEGRITY
 from tpmsim.model.general import Command
 from tpmsim.model.machine import Model, Outcome
 from tpmsim.model.object_rules import Object
 from tpmsim.records import goes_on, Opened, opened, TRACE
 from tpmsim.records.marks import sum_of
-from tpmsim.standard import lines, policy
+from tpmsim.standard import HEADER_BYTES, lines, policy
 
 CODE_DIGITS = 8
 OF_ENTRIES = "G9", "G10"
@@ -163,7 +165,7 @@ class Watched:
         # Values that the user tries in a refused HMAC, password or policy.
         self.tried: tuple[bytes, ...] = ()
         self.event: Event | None = None
-        self.layer = Completion()
+        self.layer, self.contexts = Completion(), Contexts()
         self.put(model)
 
     def put(self, model: Model) -> None:
@@ -229,9 +231,20 @@ class Watched:
         if not done.own.refused:
             self.judged()  # the device did it
         event.outcome, event.scene.refused = done.outcome, done.outcome.refused or ""
-        if event.refused:
-            event.reason = of_layer(done)
+        self.note_context(event, done)
         return event
+
+    def note_context(self, event: Event, done: Completed) -> None:
+        """Notes a saved context, or why a command with the layer is refused."""
+        asked, bound = asked_of(event.scene.buffer), (self.model, self.layer.start)
+        if not event.refused:
+            if asked is not None and asked.code == CONTEXT_SAVE:
+                self.contexts.note(self.line, event.response[HEADER_BYTES:], *bound)
+            return
+        more = ""
+        if asked is not None and asked.code == CONTEXT_LOAD and done.did == INTEGRITY[1]:
+            more = self.contexts.why_wrong(asked.parameters, *bound)
+        event.reason = of_layer(done, more)
 
     def place(self, kept: Object) -> int | None:
         """Places the object of a context in the device."""
@@ -269,8 +282,8 @@ class Watched:
         return Model.answered_parameters(self.model, command, parameters)
 
 
-def of_layer(done: Completed) -> Reason:
-    return OfLayer("", f"The completing layer answers it: {done.did}.")
+def of_layer(done: Completed, more: str = "") -> Reason:
+    return OfLayer("", f"The completing layer answers it: {done.did}. {more}".rstrip())
 
 
 class Play(Watched):
