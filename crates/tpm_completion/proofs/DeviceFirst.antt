@@ -9,7 +9,8 @@ use Rattle.tpm_step.specs.Answer.{framed}
 use Rattle.tpm_completion.specs.Answer.{is_refusal}
 use Rattle.tpm_completion.specs.Capability.{asked_at, capability_told, handles_told, told_of}
 use Rattle.tpm_completion.specs.Command.{Command, plain_command, tag_of}
-use Rattle.tpm_completion.specs.DeviceFirst.{DeviceFirst, asks_command, asks_parameters, has_list, is_gap}
+use Rattle.tpm_completion.specs.DeviceFirst.{DeviceFirst, asks_command, asks_list, asks_parameters, has_list, is_gap}
+use Rattle.tpm_completion.specs.Loading.{context_asked}
 use Rattle.tpm_completion.specs.Reply.{capability_asked, command_reply, listed, probed, reply, reply_by, served, stands}
 use Rattle.tpm_completion.specs.Saving.{Reply}
 use Rattle.tpm_completion.specs.declared.capability.Asked.{Asked}
@@ -36,12 +37,9 @@ either : {X : Type 0} (a b : Bool) (x y z : X) → a ≡ false → b ≡ false �
 either a b x y z e f = if_false a x (if b then y else z) e ∙ if_false b y z f
 
 -- the layer has no list of handles with another highest byte
-no_handles : (r : Record) (c : Completion) (asked : Asked) (kind : ℕ) → ((kind == 0x80) || ((kind == 0x02) || (kind == 0x03))) ≡ false → handles_told r c asked kind ≡ None
+no_handles : (r : Record) (c : Completion) (asked : Asked) (kind : ℕ) → ((kind == 0x02) || (kind == 0x03)) ≡ false → handles_told r c asked kind ≡ None
 no_handles r c asked kind none =
-    if_false (kind == 0x80) _ _ (or_left (kind == 0x80) ((kind == 0x02) || (kind == 0x03)) none)
-    ∙ either (kind == 0x02) (kind == 0x03) _ _ None
-    (or_left (kind == 0x02) (kind == 0x03) (or_right (kind == 0x80) ((kind == 0x02) || (kind == 0x03)) none))
-    (or_right (kind == 0x02) (kind == 0x03) (or_right (kind == 0x80) ((kind == 0x02) || (kind == 0x03)) none))
+    either (kind == 0x02) (kind == 0x03) _ _ None (or_left (kind == 0x02) (kind == 0x03) none) (or_right (kind == 0x02) (kind == 0x03) none)
 
 -- the layer has no list of what is asked for, by the tests of its capability
 none_by : {X : Type 0} (handles commands properties kinds : Bool) (of_handles of_commands of_properties : Option X) → (commands || (properties || (handles && kinds))) ≡ false → (kinds ≡ false → of_handles ≡ None) → (if handles then of_handles else (if commands then of_commands else (if properties then of_properties else None))) ≡ None
@@ -53,7 +51,7 @@ none_by handles false true kinds h c p none of = absurd (false≢true (sym none)
 no_list : (r : Record) (c : Completion) (asked : Asked) → has_list asked ≡ false → told_of r c asked ≡ None
 no_list r c asked none =
     none_by (asked.capability == 1) (asked.capability == 2) (asked.capability == 6)
-    ((asked.property / 2 ^ 24 == 0x80) || ((asked.property / 2 ^ 24 == 0x02) || (asked.property / 2 ^ 24 == 0x03)))
+    ((asked.property / 2 ^ 24 == 0x02) || (asked.property / 2 ^ 24 == 0x03))
     (handles_told r c asked (asked.property / 2 ^ 24)) _ _ none (no_handles r c asked (asked.property / 2 ^ 24))
 
 told_none : (r : Record) (c : Completion) (asked : Asked) (was_told : Bool) (response : List ℕ) → is_refusal 0x1c4 response ≡ false → was_told && has_list asked ≡ false → capability_told r c asked was_told response ≡ None
@@ -91,6 +89,18 @@ by_stands : (r : Record) (c : Completion) (buffer response : List ℕ) (was_told
 by_stands r c buffer response was_told (Ok command) gap none = command_stands r c command response was_told gap none
 by_stands r c buffer response was_told (Err e) gap none = probe_stands c buffer response gap
 
-pub device_first : DeviceFirst
+-- no object is loaded unless the device refused the command with COMMAND_CODE
+none_asked : (r : Record) (buffer response : List ℕ) → is_gap response ≡ false → context_asked r buffer response ≡ None
+unfolding context_asked
+none_asked r buffer response gap =
+    if_false (r.fixed.started && is_refusal 0x143 response) _ None
+    (and_right r.fixed.started (is_refusal 0x143 response)
+    (or_left (is_refusal 0x143 response) (is_refusal 0x1c4 response || bytes_eq response (framed 0xc4 0x1e [])) gap))
+
+reply_stands : (r : Record) (c : Completion) (buffer response : List ℕ) (was_told : Bool) → is_gap response ≡ false → was_told && asks_list buffer ≡ false → reply r c buffer response was_told ≡ stands c response
 unfolding reply
-device_first r c buffer response was_told gap none = by_stands r c buffer response was_told (plain_command buffer) gap none
+reply_stands r c buffer response was_told gap none = by_stands r c buffer response was_told (plain_command buffer) gap none
+
+pub device_first : DeviceFirst
+device_first r c buffer response was_told gap none =
+    (none_asked r buffer response gap, reply_stands r c buffer response was_told gap none)

@@ -1,7 +1,7 @@
 pub mod Commands
 pub mod Counters
 pub mod Telling
-pub mod Waiting
 pub mod Exactly
 pub mod DeviceFirst
 pub mod Runs
+pub mod Loaded

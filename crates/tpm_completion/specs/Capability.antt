@@ -13,7 +13,7 @@ use Rattle.tpm_record.specs.Record.{Record}
 use Rattle.tpm_actions_capability.specs.Elements.{command_element}
 use Rattle.tpm_actions_capability.specs.declared.element.Element.{Element}
 use Rattle.tpm_completion.specs.Answer.{is_refusal}
-use Rattle.tpm_completion.specs.Handles.{objects_shown, sessions_shown}
+use Rattle.tpm_completion.specs.Handles.{sessions_shown}
 use Rattle.tpm_completion.specs.Listing.{element, listing}
 use Rattle.tpm_completion.specs.PcrProperties.{pcr_property_elements}
 use Rattle.tpm_completion.specs.Properties.{property_elements}
@@ -70,13 +70,11 @@ command_elements = flat_map commands_by all_codes
 -- the list of the handles with a highest byte, if the layer lists them otherwise than the device
 abbrev pub handles_told : Record → Completion → Asked → (kind : ℕ) → Option (List ℕ)
 handles_told r c asked kind =
-    if kind == 0x80 then
-    Some (listing form.Value 1 asked.property asked.count (objects_shown r c))
-    else (if kind == 0x02 then
+    if kind == 0x02 then
     Some (listing form.Value 1 (asked.property % 2 ^ 24) asked.count (sessions_shown r c false))
     else (if kind == 0x03 then
     Some (listing form.Value 1 (asked.property % 2 ^ 24) asked.count (sessions_shown r c true))
-    else None))
+    else None)
 
 -- the layer's list of a capability that the device answered, if it has one
 abbrev pub told_of : Record → Completion → Asked → Option (List ℕ)

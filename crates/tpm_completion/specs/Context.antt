@@ -1,19 +1,19 @@
--- The context of an object or a session: a token that names its place in the device. TPM 2.0
--- Library, Part 2, section 14 (TPMS_CONTEXT: sequence, savedHandle, hierarchy, contextBlob), and
--- Part 1, section 30 (context management).
-use Rattle.std.specs.Prelude.{ℕ, not, List, [], ◌∷◌, ◌++◌, if◌then◌else◌, Result, Ok}
+-- The context of a session: a token that names its slot in the device, where the session stays. TPM
+-- 2.0 Library, Part 2, section 14 (TPMS_CONTEXT: sequence, savedHandle, hierarchy, contextBlob),
+-- and Part 1, section 30 (context management).
+use Rattle.std.specs.Prelude.{ℕ, not, Bool, false, List, [], ◌∷◌, ◌++◌, Result, Ok, Err}
 use Rattle.std.specs.Int.{w32, w64, to_be_bytes}
 use Rattle.std.specs.Str.{bytes_eq}
 use Rattle.tpm_bytes.specs.Reading.{◌>>=◌, bytes_at, number_at, refused_if, too_short}
 use Rattle.tpm_bytes.specs.Writing.{sized_text}
 use Rattle.tpm_bytes.specs.declared.cursor.Short.{Short}
 use Rattle.tpm_types.specs.declared.handle.Handle.{Handle}
-use Rattle.tpm_types.specs.Handle.{is_transient, null_handle, numbered}
+use Rattle.tpm_types.specs.Handle.{is_session, null_handle, numbered}
 use Rattle.tpm_completion.specs.declared.context.Token.{Token}
 
--- the size of a context
-abbrev pub context_size : ℕ
-context_size = 38
+-- the size of a session's context
+abbrev pub session_context_size : ℕ
+session_context_size = 38
 
 -- the bytes "tpmsim 1", by which a token is known
 abbrev pub mark : List ℕ
@@ -23,14 +23,11 @@ mark = 0x74 ∷ 0x70 ∷ 0x6d ∷ 0x73 ∷ 0x69 ∷ 0x6d ∷ 0x20 ∷ 0x31 ∷ [
 abbrev pub token_text : (start : ℕ) → Handle → List ℕ
 token_text start handle = mark ++ to_be_bytes w64 start ++ to_be_bytes w32 handle.number
 
--- the savedHandle of a token: 80000000 for every object, and a session's own
-abbrev pub saved_handle : Handle → ℕ
-saved_handle handle = if is_transient handle then 0x8000_0000 else handle.number
-
--- the context of a token: its number is the sequence, and its hierarchy is TPM_RH_NULL
+-- the context of a token: its number is the sequence, its handle the savedHandle, and its hierarchy
+-- is TPM_RH_NULL
 unfoldable pub context_text : (start : ℕ) → Token → List ℕ
 context_text start token =
-    to_be_bytes w64 token.context ++ to_be_bytes w32 (saved_handle token.handle)
+    to_be_bytes w64 token.context ++ to_be_bytes w32 token.handle.number
     ++ to_be_bytes w32 null_handle.number ++ sized_text (token_text start token.handle)
 
 -- the token of a context's bytes: its number comes first, and its handle after 26 more bytes. The
@@ -43,3 +40,20 @@ token_at start text = do
   let token : Token = record { context = context.0; handle = numbered handle.0 }
   same ← refused_if (not (bytes_eq text (context_text start token))) too_short
   Ok token
+
+-- ---- which kind of context it is
+
+-- the savedHandle of a context, which comes after its sequence
+unfoldable pub saved_handle_at : List ℕ → Result Handle Short
+saved_handle_at text = do
+  sequence ← number_at w64 text
+  number ← number_at w32 sequence.1
+  Ok (numbered number.0)
+
+abbrev pub is_of_session : Result Handle Short → Bool
+is_of_session (Ok handle) = is_session handle
+is_of_session (Err e) = false
+
+-- whether the savedHandle of a context is a session's. Every other context is read as an object's
+abbrev pub names_session : List ℕ → Bool
+names_session context = is_of_session (saved_handle_at context)

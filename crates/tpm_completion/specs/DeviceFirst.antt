@@ -1,5 +1,5 @@
 -- The client gets the device's response, except in a few named cases.
-use Rattle.std.specs.Prelude.{◌≡◌, ℕ, ◌/◌, ◌^◌, ◌==◌, ◌&&◌, ◌||◌, Bool, false, List, [], Result, Ok, Err}
+use Rattle.std.specs.Prelude.{◌≡◌, ℕ, ◌/◌, ◌^◌, ◌==◌, ◌&&◌, ◌||◌, Bool, false, List, [], None, Result, Ok, Err}
 use Rattle.std.specs.Str.{bytes_eq}
 use Rattle.tpm_bytes.specs.declared.cursor.Short.{Short}
 use Rattle.tpm_record.specs.Record.{Record}
@@ -7,6 +7,7 @@ use Rattle.tpm_step.specs.Answer.{framed}
 use Rattle.tpm_completion.specs.Answer.{is_refusal}
 use Rattle.tpm_completion.specs.Capability.{asked_at}
 use Rattle.tpm_completion.specs.Command.{Command, plain_command}
+use Rattle.tpm_completion.specs.Loading.{context_asked}
 use Rattle.tpm_completion.specs.Reply.{reply, stands}
 use Rattle.tpm_completion.specs.declared.capability.Asked.{Asked}
 use Rattle.tpm_completion.specs.declared.completion.Completion.{Completion}
@@ -18,15 +19,14 @@ is_gap response =
     is_refusal 0x143 response
     || (is_refusal 0x1c4 response || bytes_eq response (framed 0xc4 0x1e []))
 
--- whether the layer has a list of what TPM2_GetCapability asks for: commands, properties,
--- transient objects, and loaded or saved sessions
+-- whether the layer has a list of what TPM2_GetCapability asks for: commands, properties, and loaded
+-- or saved sessions
 abbrev pub has_list : Asked → Bool
 has_list asked =
     (asked.capability == 2)
     || ((asked.capability == 6)
     || ((asked.capability == 1)
-    && ((asked.property / 2 ^ 24 == 0x80)
-    || ((asked.property / 2 ^ 24 == 0x02) || (asked.property / 2 ^ 24 == 0x03)))))
+    && ((asked.property / 2 ^ 24 == 0x02) || (asked.property / 2 ^ 24 == 0x03))))
 
 -- whether a command is TPM2_GetCapability, and the layer has a list of what it asks for
 abbrev pub asks_parameters : Result Asked Short → Bool
@@ -41,10 +41,12 @@ asks_command (Err e) = false
 abbrev pub asks_list : (buffer : List ℕ) → Bool
 asks_list buffer = asks_command (plain_command buffer)
 
--- The client gets the device's response, byte for byte, and the layer stays as it was, unless the
--- response is one of those refusals, or a success of TPM2_GetCapability for a list of the layer.
+-- The client gets the device's response, byte for byte, no object is loaded, and the layer stays as
+-- it was, unless the response is one of those refusals, or a success of TPM2_GetCapability for a
+-- list of the layer.
 abbrev pub DeviceFirst : Type 0
 DeviceFirst =
     (r : Record) (c : Completion) (buffer response : List ℕ) (was_told : Bool)
     → is_gap response ≡ false → was_told && asks_list buffer ≡ false
-    → reply r c buffer response was_told ≡ stands c response
+    → (context_asked r buffer response ≡ None)
+    × (reply r c buffer response was_told ≡ stands c response)

@@ -1,19 +1,24 @@
 -- How the completing layer handles one event: which events the device executes, what the client
 -- gets, and what the layer remembers then.
-use Rattle.std.specs.Prelude.{◌≡◌, ℕ, ◌==◌, Bool, true, false, List, [], Option, Some, None, replicate}
+use Rattle.std.specs.Prelude.{◌≡◌, ℕ, ◌==◌, Bool, true, false, List, Option, Some, None, Result, Ok, Err}
 use Rattle.tpm_machine.specs.Follows.{After, Follows}
 use Rattle.tpm_machine.specs.Drawn.{drawn_by}
 use Rattle.tpm_machine.specs.State.{latest_drawn, state_of}
 use Rattle.tpm_machine.specs.declared.machine.Machine.{Machine}
+use Rattle.tpm_object.specs.declared.object.Object.{Object}
+use Rattle.tpm_record.specs.Objects.{next_handle}
 use Rattle.tpm_record.specs.Record.{Record}
 use Rattle.tpm_step.specs.Events.{PlainEvent, Given, Cycled, Placed}
 use Rattle.tpm_step.specs.Execution.{Executes}
 use Rattle.tpm_step.specs.Step.{Stepped, outcome_step}
 use Rattle.tpm_step.specs.declared.event.Outcome.{Outcome}
+use Rattle.tpm_types.specs.Rc.{rc_number}
+use Rattle.tpm_context.specs.Head.{fault_rc}
+use Rattle.tpm_context.specs.declared.fault.ContextFault.{ContextFault}
 use Rattle.tpm_completion.specs.Completion.{forgotten}
+use Rattle.tpm_completion.specs.Loading.{context_asked, object_opened, placed_reply}
 use Rattle.tpm_completion.specs.Reply.{reply}
-use Rattle.tpm_completion.specs.Room.{flush_asked, flush_text, given_up, noted}
-use Rattle.tpm_completion.specs.Saving.{Reply}
+use Rattle.tpm_completion.specs.Saving.{Reply, refused}
 use Rattle.tpm_completion.specs.declared.completion.Completion.{Completion}
 
 -- the effect of an event: the response, the device's own row and its record; what the layer
@@ -41,7 +46,7 @@ answered seen reply = record {
 }
 
 -- The device alone executes an event. If it followed a history, it follows the history with this
--- event. The layer only forgets the contexts of what is gone.
+-- event. The layer only forgets the contexts of sessions that are gone.
 pub record Passes (can : Bool) (c : Completion) (old : Record) (event : PlainEvent) (seen : Seen)
     : Type 0
   where
@@ -50,66 +55,81 @@ pub record Passes (can : Bool) (c : Completion) (old : Record) (event : PlainEve
     pub layer : seen.layer ≡ forgotten seen.step.after c
     pub drawn : seen.drawn ≡ drawn_by old event seen.step.row.check
 
--- The flush of an object that has a context: the device executes an empty command, which only lets
--- time pass, and the layer answers.
-abbrev pub Notes : Bool → Completion → Record → (locality elapsed : ℕ) → List ℕ → (place : ℕ) → Seen
-    → Type 0
-Notes can c old locality elapsed random place seen =
-    (tick : Seen) × Passes can c old (Given [] locality elapsed random) tick
-    × (seen ≡ answered tick (noted tick.layer place))
+-- ---- a command that loads the context of an object
 
--- the random bytes of the layer's own flush, which draws none
-unfoldable pub no_random : List ℕ
-no_random = replicate 256 0
+-- the object that a context asked for contains, or why it is not loaded, after this effect on the
+-- device
+abbrev pub opened_behind : Seen → (context : List ℕ) → Result Object ContextFault
+opened_behind first context = object_opened first.step.after first.layer context
 
--- The object in a place is given up: the device executes its flush, and then the command again. No
--- time passes for either.
-abbrev pub GivesUp : Bool → Seen → (buffer : List ℕ) → (locality : ℕ) → List ℕ → (place : ℕ) → Seen
-    → Type 0
-GivesUp can first buffer locality random place seen =
-    (flush : Seen)
-    × Passes can first.layer first.step.after (Given (flush_text place) locality 0 no_random) flush
-    × Passes can flush.layer flush.step.after (Given buffer locality 0 random) seen
+-- the effect when the context is refused, which changes nothing
+abbrev pub unopened_behind : Seen → ContextFault → Seen
+unopened_behind first fault = answered first (refused first.layer (rc_number (fault_rc fault)))
 
--- the layer's answer after this effect on the device
+-- the effect with the object placed by this step of the device. The row stays that of the command,
+-- which the device refused
+abbrev pub placed_behind : Seen → (placing : Stepped) → Seen
+placed_behind first placing =
+    let reply : Reply = placed_reply first.layer (next_handle first.step.after.objects) in
+    record {
+      step = record first.step { response = reply.response; after = placing.after };
+      layer = reply.after;
+      drawn = 0;
+    }
+
+-- the effect when the device is refused the memory for the object: MEMORY (904), and nothing else
+abbrev pub unplaced_behind : Seen → Seen
+unplaced_behind first = record (answered first (refused first.layer 0x904)) { drawn = 0 }
+
+-- After this effect, the device executes the placing of an object.
+pub record ExecutesPlacing (can : Bool) (first : Seen) (object : Object) (placing : Stepped) : Type 0
+  where
+    pub executes : Executes can first.step.after (Placed object) placing
+    pub history : After Follows first.step.after (Placed object) placing
+
+-- The device places an object (false), or is refused the memory for it (true), which happens only
+-- if it can be.
+abbrev pub PlacesIf : (can refused : Bool) → Seen → Object → Seen → Type 0
+PlacesIf can false first object seen =
+    (placing : Stepped) × ExecutesPlacing can first object placing
+    × (seen ≡ placed_behind first placing)
+PlacesIf can true first object seen = (can ≡ true) × (seen ≡ unplaced_behind first)
+
+-- After the device refused the command, the object of its context is placed, or the context is
+-- refused.
+abbrev pub Loads : (can : Bool) → Seen → Result Object ContextFault → Seen → Type 0
+Loads can first (Ok object) seen = (refused : Bool) × PlacesIf can refused first object seen
+Loads can first (Err fault) seen = seen ≡ unopened_behind first fault
+
+-- ---- any command
+
+-- the context of an object that a buffer loads after this effect on the device, if any
+abbrev pub asked_behind : Seen → (buffer : List ℕ) → Option (List ℕ)
+asked_behind first buffer = context_asked first.step.after buffer first.step.response
+
+-- the layer's answer after this effect on the device, to a command that loads no object
 abbrev pub reply_behind : Seen → (buffer : List ℕ) → Reply
 reply_behind first buffer =
     reply first.step.after first.layer buffer first.step.response (first.step.row.check == 0)
 
--- After the device's first execution of a command, an object is given up for it, or the layer
+-- After the device's execution of a command, the context of an object is loaded; or the layer
 -- answers, or the client gets the device's response.
-abbrev pub Behind : Bool → Seen → (buffer : List ℕ) → (locality : ℕ) → List ℕ → Option ℕ → Seen
-    → Type 0
-Behind can first buffer locality random (Some place) seen =
-    GivesUp can first buffer locality random place seen
-Behind can first buffer locality random None seen =
-    seen ≡ answered first (reply_behind first buffer)
-
--- the place of the object that is given up after this effect on the device, if any
-abbrev pub given_up_behind : Seen → Option ℕ
-given_up_behind first = given_up first.layer first.step.row first.step.response
+abbrev pub Behind : (can : Bool) → Seen → (buffer : List ℕ) → Option (List ℕ) → Seen → Type 0
+Behind can first buffer (Some context) seen = Loads can first (opened_behind first context) seen
+Behind can first buffer None seen = seen ≡ answered first (reply_behind first buffer)
 
 -- The device executes a command first.
 abbrev pub AsksFirst : Bool → Completion → Record → (buffer : List ℕ) → (locality elapsed : ℕ)
     → List ℕ → Seen → Type 0
 AsksFirst can c old buffer locality elapsed random seen =
     (first : Seen) × Passes can c old (Given buffer locality elapsed random) first
-    × Behind can first buffer locality random (given_up_behind first) seen
-
--- A command with the layer: the layer notes the flush of an object that has a context; the device
--- executes every other command first.
-abbrev pub CompletesBy : Bool → Completion → Record → (buffer : List ℕ) → (locality elapsed : ℕ)
-    → List ℕ → Option ℕ → Seen → Type 0
-CompletesBy can c old buffer locality elapsed random (Some place) seen =
-    Notes can c old locality elapsed random place seen
-CompletesBy can c old buffer locality elapsed random None seen =
-    AsksFirst can c old buffer locality elapsed random seen
+    × Behind can first buffer (asked_behind first buffer) seen
 
 -- An event had this effect with the layer: the device alone executes a power cycle or places an
 -- object.
 abbrev pub Completes : Bool → Completion → Record → PlainEvent → Seen → Type 0
 Completes can c old (Given buffer locality elapsed random) seen =
-    CompletesBy can c old buffer locality elapsed random (flush_asked c buffer) seen
+    AsksFirst can c old buffer locality elapsed random seen
 Completes can c old Cycled seen = Passes can c old Cycled seen
 Completes can c old (Placed object) seen = Passes can c old (Placed object) seen
 

@@ -1,23 +1,14 @@
--- The handles of transient objects and of sessions that the completing layer lists, in ascending
--- order. TPM 2.0 Library, Part 3, section 30.2 (TPM2_GetCapability), and Part 2, section 7.2
--- (TPM_HT).
+-- The handles of sessions that the completing layer lists, in ascending order. TPM 2.0 Library, Part
+-- 3, section 30.2 (TPM2_GetCapability), and Part 2, section 7.2 (TPM_HT).
 use Rattle.std.specs.Prelude.{true, false, ℕ, ◌==◌, not, Bool, List, [], if◌then◌else◌}
 use Rattle.std.specs.List.{flat_map}
 use Rattle.tpm_bytes.specs.Numbers.{numbers_below}
-use Rattle.tpm_types.specs.Limits.{object_limit, session_limit}
+use Rattle.tpm_types.specs.Limits.{session_limit}
 use Rattle.tpm_record.specs.Record.{Record}
-use Rattle.tpm_actions_capability.specs.Elements.{object_element, session_element}
+use Rattle.tpm_actions_capability.specs.Elements.{session_element}
 use Rattle.tpm_actions_capability.specs.declared.element.Element.{Element}
-use Rattle.tpm_completion.specs.Completion.{object_held, session_context}
+use Rattle.tpm_completion.specs.Completion.{session_context}
 use Rattle.tpm_completion.specs.declared.completion.Completion.{Completion}
-
--- the handle of the transient object in a place, unless the object waits; no client has the handle
--- of one that waits
-unfoldable pub object_shown : Record → Completion → ℕ → List Element
-object_shown r c place = if (object_held c place).waits == 0 then object_element r place else []
-
-abbrev pub objects_shown : Record → Completion → List Element
-objects_shown r c = flat_map (object_shown r c) (numbers_below object_limit)
 
 -- whether a session with this context number is in the state that `saved` says: saved (true), or
 -- loaded (false), with the number 0
@@ -25,7 +16,7 @@ abbrev pub is_in_state : (saved : Bool) → (context : ℕ) → Bool
 is_in_state true context = not (context == 0)
 is_in_state false context = context == 0
 
--- the handle of the session in a place, if it is in the state that `saved` says: saved (true) or
+-- the handle of the session in a slot, if it is in the state that `saved` says: saved (true) or
 -- loaded (false)
 unfoldable pub session_shown : Record → Completion → (saved : Bool) → ℕ → List Element
 session_shown r c saved place =

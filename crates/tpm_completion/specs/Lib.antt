@@ -9,10 +9,11 @@ pub mod Execution
 pub mod Handles
 pub mod Hashing
 pub mod Listing
+pub mod Loaded
+pub mod Loading
 pub mod PcrProperties
 pub mod Properties
 pub mod Reply
-pub mod Room
 pub mod Run
 pub mod Saving
 pub mod Testing

@@ -13,9 +13,11 @@ use Rattle.tpm_commands.specs.CommandFacts.{all_codes}
 use Rattle.tpm_record.specs.Record.{Record}
 use Rattle.tpm_record.specs.declared.fixed.Fixed.{Fixed}
 use Rattle.tpm_record.specs.declared.hierarchy.Hierarchies.{Hierarchies}
+use Rattle.tpm_actions_capability.specs.Elements.{object_elements}
 use Rattle.tpm_actions_capability.specs.declared.element.Element.{Element}
-use Rattle.tpm_completion.specs.Context.{context_size}
-use Rattle.tpm_completion.specs.Handles.{objects_shown, sessions_shown}
+use Rattle.tpm_context.specs.Context.{context_size as object_context_size}
+use Rattle.tpm_completion.specs.Context.{session_context_size}
+use Rattle.tpm_completion.specs.Handles.{sessions_shown}
 use Rattle.tpm_completion.specs.Listing.{element}
 use Rattle.tpm_completion.specs.declared.completion.Completion.{Completion}
 
@@ -48,9 +50,10 @@ identity_elements =
     ∷ element 0x10c 0  -- FIRMWARE_VERSION_2
     ∷ []
 
--- how much the device holds and takes. Sessions that are saved keep their places, so as many are
--- active as can be loaded; contexts of sessions may be of any age; each NV index may be a counter;
--- TPMA_MEMORY is 0, as no memory is shared and no persistent object is copied
+-- how much the device holds and takes, and how the contexts of objects are protected. Sessions that
+-- are saved keep their slots, so as many are active as can be loaded; contexts of sessions may be
+-- of any age; each NV index may be a counter; TPMA_MEMORY is 0, as no memory is shared and no
+-- persistent object is copied
 unfoldable pub limit_elements : List Element
 limit_elements =
     element 0x10d data_limit  -- INPUT_BUFFER
@@ -64,11 +67,14 @@ limit_elements =
     ∷ element 0x116 nv_index_limit  -- NV_COUNTERS_MAX
     ∷ element 0x117 nv_data_limit  -- NV_INDEX_MAX
     ∷ element 0x118 0  -- MEMORY
+    ∷ element 0x11a 0x0b  -- CONTEXT_HASH: SHA-256
+    ∷ element 0x11b 0x06  -- CONTEXT_SYM: AES
+    ∷ element 0x11c 128  -- CONTEXT_SYM_SIZE
     ∷ element 0x11e buffer_limit  -- MAX_COMMAND_SIZE
     ∷ element 0x11f buffer_limit  -- MAX_RESPONSE_SIZE
     ∷ element 0x120 32  -- MAX_DIGEST
-    ∷ element 0x121 context_size  -- MAX_OBJECT_CONTEXT
-    ∷ element 0x122 context_size  -- MAX_SESSION_CONTEXT
+    ∷ element 0x121 object_context_size  -- MAX_OBJECT_CONTEXT
+    ∷ element 0x122 session_context_size  -- MAX_SESSION_CONTEXT
     ∷ element 0x128 0  -- SPLIT_MAX
     ∷ element 0x129 command_count  -- TOTAL_COMMANDS
     ∷ element 0x12a command_count  -- LIBRARY_COMMANDS
@@ -118,9 +124,9 @@ session_count r c saved = length (sessions_shown r c saved)
 abbrev pub active_count : Record → Completion → ℕ
 active_count r c = session_count r c false + session_count r c true
 
--- how many transient objects do not wait; one that waits gives its place up
-abbrev pub object_count : Record → Completion → ℕ
-object_count r c = length (objects_shown r c)
+-- how many transient objects are loaded
+abbrev pub object_count : Record → ℕ
+object_count r = length (object_elements r)
 
 abbrev pub is_counter : ℕ × Head → Bool
 is_counter e = is_of e.1.public.attributes type.Counter
@@ -141,7 +147,7 @@ count_elements r c =
     ∷ element 0x204 (session_limit - session_count r c false)  -- HR_LOADED_AVAIL
     ∷ element 0x205 (active_count r c)  -- HR_ACTIVE
     ∷ element 0x206 (session_limit - active_count r c)  -- HR_ACTIVE_AVAIL
-    ∷ element 0x207 (object_limit - object_count r c)  -- HR_TRANSIENT_AVAIL
+    ∷ element 0x207 (object_limit - object_count r)  -- HR_TRANSIENT_AVAIL
     ∷ element 0x208 (length r.persistent)  -- HR_PERSISTENT
     ∷ element 0x209 (persistent_limit - length r.persistent)  -- HR_PERSISTENT_AVAIL
     ∷ element 0x20a (counter_count r.nv)  -- NV_COUNTERS

@@ -1,5 +1,6 @@
--- The completing layer's answers after the device's response. TPM 2.0 Library, Part 3, sections
--- 10.3 (TPM2_IncrementalSelfTest), 10.4 (TPM2_GetTestResult), 15.4 (TPM2_Hash), 16.2
+-- The completing layer's answers after the device's response; Loading defines that to
+-- TPM2_ContextLoad of an object's context. TPM 2.0 Library, Part 3, sections 10.3
+-- (TPM2_IncrementalSelfTest), 10.4 (TPM2_GetTestResult), 15.4 (TPM2_Hash), 16.2
 -- (TPM2_StirRandom), 28.2 (TPM2_ContextSave), 28.3 (TPM2_ContextLoad), 30.2 (TPM2_GetCapability)
 -- and 30.3 (TPM2_TestParms).
 use Rattle.std.specs.Prelude.{ℕ, ◌==◌, ◌&&◌, not, Bool, false, List, [], length, if◌then◌else◌, Option, Some, None, Result, Ok, Err}
@@ -16,6 +17,7 @@ use Rattle.tpm_step.specs.Answer.{framed}
 use Rattle.tpm_completion.specs.Answer.{is_refusal, refusal, success}
 use Rattle.tpm_completion.specs.Capability.{asked_at, capability_told}
 use Rattle.tpm_completion.specs.Command.{Command, plain_command, tag_of}
+use Rattle.tpm_completion.specs.Context.{names_session}
 use Rattle.tpm_completion.specs.Hashing.{hash_row}
 use Rattle.tpm_completion.specs.Saving.{Reply, loaded, refused, saved}
 use Rattle.tpm_completion.specs.Testing.{incremental_row, test_parms_row, test_result_row}
@@ -58,11 +60,17 @@ row_served r c command response =
     else (if command.code == 0x18a then replied c (test_parms_row command.parameters)
     else stands c response)))
 
+-- the answer to TPM2_ContextLoad of a session's context; the context of an object is loaded after
+-- this answer
+abbrev pub load_asked : Record → Completion → (context response : List ℕ) → Reply
+load_asked r c context response =
+    if names_session context then loaded r c context else stands c response
+
 -- the answer to a command that the device does not serve
 abbrev pub served : Record → Completion → Command → (response : List ℕ) → Reply
 served r c command response =
     if command.code == 0x146 then stirred c command.parameters response
-    else (if command.code == 0x161 then loaded r c command.parameters
+    else (if command.code == 0x161 then load_asked r c command.parameters response
     else (if command.code == 0x162 then
     save_asked r c response (number_at w32 command.parameters)
     else row_served r c command response))

@@ -1,19 +1,21 @@
--- TPM2_ContextSave and TPM2_ContextLoad by tokens. TPM 2.0 Library, Part 3, sections 28.2 and
--- 28.3.
+-- TPM2_ContextSave, and TPM2_ContextLoad of a session's context. TPM 2.0 Library, Part 3, sections
+-- 28.2 and 28.3.
 use Rattle.std.specs.Prelude.{ℕ, ◌+◌, ◌-◌, ◌^◌, ◌==◌, ◌&&◌, nat_lt, not, List, is_some, if◌then◌else◌, Option, Some, None, Result, Ok, Err, slice_set}
 use Rattle.std.specs.Int.{w32, to_be_bytes}
 use Rattle.tpm_bytes.specs.declared.cursor.Short.{Short}
 use Rattle.tpm_containers.specs.Numbered.{place_of}
+use Rattle.tpm_object.specs.declared.object.Object.{Object}
 use Rattle.tpm_session.specs.Sessions.{session_at}
 use Rattle.tpm_types.specs.declared.handle.Handle.{Handle}
 use Rattle.tpm_types.specs.Handle.{is_session, is_transient}
 use Rattle.tpm_record.specs.Objects.{object_at}
 use Rattle.tpm_record.specs.Record.{Record}
+use Rattle.tpm_context.specs.Context.{context_text as object_context_text}
+use Rattle.tpm_context.specs.declared.binding.Binding.{Binding}
 use Rattle.tpm_completion.specs.Answer.{refusal, success}
-use Rattle.tpm_completion.specs.Completion.{object_held, session_context}
-use Rattle.tpm_completion.specs.Context.{context_text, token_at}
+use Rattle.tpm_completion.specs.Completion.{session_context}
+use Rattle.tpm_completion.specs.Context.{context_text, names_session, token_at}
 use Rattle.tpm_completion.specs.declared.completion.Completion.{Completion}
-use Rattle.tpm_completion.specs.declared.completion.Held.{Held}
 use Rattle.tpm_completion.specs.declared.context.Token.{Token}
 
 -- a response, and the layer after it
@@ -21,51 +23,58 @@ pub record Reply : Type 0 where
   pub response : List ℕ
   pub after : Completion
 
--- the place that a handle names
+-- the slot that a handle names
 abbrev pub place_named : Handle → ℕ
 place_named handle = place_of handle.number
 
--- the layer that remembers this of the object, or of the session, in a place
-abbrev pub with_object : Completion → ℕ → Held → Completion
-with_object c place held = record c { objects = slice_set c.objects place held }
-
+-- the layer with this context number for the session in a slot
 abbrev pub with_session : Completion → ℕ → (context : ℕ) → Completion
 with_session c place context = record c { sessions = slice_set c.sessions place context }
 
--- the number of the next context or flush, if one is left
+-- the number of the next context, if one is left; and the layer after that context
 abbrev pub next_number : Completion → Option ℕ
 next_number c = if nat_lt c.count (2 ^ 64 - 1) then Some (c.count + 1) else None
 
 abbrev pub counted : Completion → (number : ℕ) → Completion
 counted c number = record c { count = number }
 
--- the reply with a context
+-- the reply with a refusal, which leaves the layer as it was
+abbrev pub refused : Completion → ℕ → Reply
+refused c code = record { response = refusal code; after = c }
+
+-- ---- TPM2_ContextSave of an object
+
+-- what the context of an object is bound to: the start of the layer, and the device's counts of TPM
+-- Resets and TPM Restarts
+abbrev pub binding_of : Record → Completion → Binding
+binding_of r c = record {
+  start = c.start;
+  reset_count = r.fixed.reset_count;
+  restart_count = r.fixed.restart_count;
+}
+
+-- the reply with the context of an object, whose sequence is the next number; TOO_MANY_CONTEXTS
+-- (12E) if no number is left. The object stays loaded
+abbrev pub object_numbered : Record → Completion → Object → Option ℕ → Reply
+object_numbered r c object (Some number) = record {
+  response = success (object_context_text r.fixed.hierarchies (binding_of r c) number object);
+  after = counted c number;
+}
+object_numbered r c object None = refused c 0x12e
+
+-- the reply that saves the object of a handle; REFERENCE_H0 (910) if there is none
+abbrev pub object_saved : Record → Completion → Option Object → Reply
+object_saved r c (Some object) = object_numbered r c object (next_number c)
+object_saved r c None = refused c 0x910
+
+-- ---- TPM2_ContextSave of a session
+
+-- the reply with a session's context
 abbrev pub context_given : Completion → Handle → (context : ℕ) → Reply
 context_given c handle context = record {
   response = success (context_text c.start (record { context = context; handle = handle }));
   after = c;
 }
-
--- the reply with a refusal, which leaves the layer as it was
-abbrev pub refused : Completion → ℕ → Reply
-refused c code = record { response = refusal code; after = c }
-
--- the reply with a new context of an object that had none; TOO_MANY_CONTEXTS (12E) if no number is
--- left
-abbrev pub object_numbered : Completion → Handle → Option ℕ → Reply
-object_numbered c handle (Some number) =
-    context_given
-    (with_object (counted c number) (place_named handle) (record { context = number; waits = 0 }))
-    handle number
-object_numbered c handle None = refused c 0x12e
-
--- the reply that saves an object, with the context that it has or a new one; REFERENCE_H0 if the
--- object is not there or waits, since its handle names nothing
-abbrev pub object_saved : Record → Completion → Handle → Held → Reply
-object_saved r c handle held =
-    if not (is_some (object_at r.objects handle) && (held.waits == 0)) then refused c 0x910
-    else (if held.context == 0 then object_numbered c handle (next_number c)
-    else context_given c handle held.context)
 
 -- the reply that saves a session with a new context, each time; the session is no longer loaded
 -- then
@@ -85,28 +94,17 @@ session_saved r c handle context =
 -- nor a session's
 unfoldable pub saved : Record → Completion → Handle → Reply
 saved r c handle =
-    if is_transient handle then object_saved r c handle (object_held c (place_named handle))
+    if is_transient handle then object_saved r c (object_at r.objects handle)
     else (if is_session handle then
     session_saved r c handle (session_context c (place_named handle))
     else refused c 0x184)
 
--- ---- TPM2_ContextLoad
+-- ---- TPM2_ContextLoad of a session's context
 
 -- the reply with the handle of a loaded context
 abbrev pub handle_given : Completion → Handle → Reply
 handle_given c handle =
     record { response = success (to_be_bytes w32 handle.number); after = c }
-
--- the reply that loads the object of a context, any number of times while the object is there; it
--- no longer waits then
-abbrev pub object_loaded : Record → Completion → Token → Reply
-object_loaded r c token =
-    if is_some (object_at r.objects token.handle)
-    && (not (token.context == 0)
-    && (token.context == (object_held c (place_named token.handle)).context)) then
-    handle_given (with_object c (place_named token.handle)
-    (record { context = token.context; waits = 0 })) token.handle
-    else refused c 0x1cb
 
 -- the reply that loads the session of a context, once
 abbrev pub session_loaded : Record → Completion → Token → Reply
@@ -117,16 +115,11 @@ session_loaded r c token =
     handle_given (with_session c (place_named token.handle) 0) token.handle
     else refused c 0x1cb
 
-abbrev pub token_loaded : Record → Completion → Token → Reply
-token_loaded r c token =
-    if is_transient token.handle then object_loaded r c token
-    else (if is_session token.handle then session_loaded r c token else refused c 0x1cb)
-
--- the reply to TPM2_ContextLoad of these bytes. INTEGRITY for parameter 1 (1DF): they are not a
--- context of this layer since its start. HANDLE for parameter 1 (1CB): what they name is gone, or
--- another object or session has its place, or the session was loaded since
+-- the reply to TPM2_ContextLoad of these bytes, which name a session. INTEGRITY for parameter 1
+-- (1DF): they are not a context of this layer since its start. HANDLE for parameter 1 (1CB): the
+-- session is gone, or another has its slot, or the session was loaded since
 abbrev pub loaded_by : Record → Completion → Result Token Short → Reply
-loaded_by r c (Ok token) = token_loaded r c token
+loaded_by r c (Ok token) = session_loaded r c token
 loaded_by r c (Err e) = refused c 0x1df
 
 unfoldable pub loaded : Record → Completion → List ℕ → Reply

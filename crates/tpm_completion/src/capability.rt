@@ -1,8 +1,8 @@
-//! TPM2_GetCapability: algorithms, properties, commands, and the handles of objects and sessions.
+//! TPM2_GetCapability: algorithms, properties, commands, and the handles of sessions.
 
 ghost use Rattle.std.specs.Prelude.{◌≡◌, ◌≤◌, ◌+◌, ◌*◌, ◌/◌, ◌%◌, ◌^◌, ◌++◌, [], length};
 ghost use Rattle.tpm_completion.specs.Capability.{algorithm_elements, asked_at, capability_told, command_elements, commands_by, handles_told, is_empty, refused_of, told_of};
-ghost use Rattle.tpm_completion.specs.Handles.{objects_shown, sessions_shown};
+ghost use Rattle.tpm_completion.specs.Handles.{sessions_shown};
 ghost use Rattle.tpm_completion.specs.PcrProperties.{pcr_property_elements};
 ghost use Rattle.tpm_completion.specs.Properties.{property_elements};
 ghost use Rattle.tpm_actions_capability.specs.Elements.{command_element};
@@ -14,7 +14,7 @@ ghost use Rattle.tpm_completion.specs.Told.{Tells};
 use crate::answer::is_refusal;
 use crate::codes::VALUE_OF_PARAMETER_1;
 use crate::completion::Completion;
-use crate::handles::{objects, sessions};
+use crate::handles::sessions;
 use crate::listing::{Elements, Form, LISTING_LIMIT, element, list};
 use crate::properties::properties;
 use arrayvec::ArrayVec;
@@ -129,17 +129,6 @@ fn commands(elements: &mut Commands)
     list_commands(CommandCode::ALL, elements);
 }
 
-fn tell_objects<K: Keep>(layer: &Completion, keep: &K, asked: Asked, text: &mut Listing)
-    requires { text.old ≡ [] }
-    ensures { text.new ≡ listing form.Value 1 asked.property asked.count
-        (objects_shown (K.record_of keep.now) layer.now) }
-{
-    let mut elements = ArrayVec::new();
-    objects(layer, keep, &mut elements);
-    let from = asked.property;
-    list(elements.as_slice(), Form::Value, 1, from, asked.count, text);
-}
-
 fn tell_sessions<K: Keep>(
     layer: &Completion,
     keep: &K,
@@ -157,14 +146,13 @@ fn tell_sessions<K: Keep>(
     list(elements.as_slice(), Form::Value, 1, from, asked.count, text);
 }
 
-/// Writes the handles of objects or sessions, if these are asked for.
+/// Writes the handles of sessions, if these are asked for.
 fn tell_handles<K: Keep>(layer: &Completion, keep: &K, asked: Asked, text: &mut Listing) -> bool
     requires { text.old ≡ [] }
     ensures { Tells (handles_told (K.record_of keep.now) layer.now asked (asked.property / 2 ^ 24))
         result text.new }
 {
     match asked.property >> 24 {
-        0x80 => tell_objects(layer, keep, asked, text),
         0x02 => tell_sessions(layer, keep, asked, false, text),
         0x03 => tell_sessions(layer, keep, asked, true, text),
         _ => return false,

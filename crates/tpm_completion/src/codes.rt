@@ -1,19 +1,13 @@
 //! The numbers of the commands and response codes that the layer knows. TPM 2.0 Library, Part 2,
 //! sections 6.5 (TPM_CC) and 6.6 (TPM_RC).
 
-pub const CREATE_PRIMARY: u32 = 0x131;
-
 pub const INCREMENTAL_SELF_TEST: u32 = 0x142;
 
 pub const STIR_RANDOM: u32 = 0x146;
 
-pub const LOAD: u32 = 0x157;
-
 pub const CONTEXT_LOAD: u32 = 0x161;
 
 pub const CONTEXT_SAVE: u32 = 0x162;
-
-pub const FLUSH_CONTEXT: u32 = 0x165;
 
 pub const GET_CAPABILITY: u32 = 0x17a;
 
@@ -40,5 +34,7 @@ pub const HANDLE_OF_PARAMETER_1: u32 = 0x1cb;
 pub const INTEGRITY_OF_PARAMETER_1: u32 = 0x1df;
 
 pub const OBJECT_MEMORY: u32 = 0x902;
+
+pub const MEMORY: u32 = 0x904;
 
 pub const REFERENCE_H0: u32 = 0x910;

@@ -1,31 +1,21 @@
-//! The context of an object or a session: a token that names its place in the device.
+//! The context of a session: a token that names its slot in the device.
 
 ghost use Rattle.std.specs.Prelude.{◌≡◌, length};
-ghost use Rattle.tpm_completion.specs.Context.{context_text, mark, saved_handle, token_at, token_text};
+ghost use Rattle.tpm_completion.specs.Context.{context_text, mark, names_session, saved_handle_at, token_at, token_text};
 
 use tpm_bytes::{Cursor, Short, Sink, is_equal};
 use tpm_types::Handle;
 
 /// The size of a token's blob, in bytes; and of its whole context.
-pub const TOKEN_SIZE: usize = 20;
+const TOKEN_SIZE: usize = 20;
 
-pub const CONTEXT_SIZE: usize = 38;
+pub const SESSION_CONTEXT_SIZE: usize = 38;
 
-/// What a context names: its number, and the handle of its object or session.
+/// What the context of a session names: its number, and the handle of the session.
 #[derive(Clone, Copy, PartialEq, Eq)]
 pub struct Token {
     pub context: u64,
     pub handle: Handle,
-}
-
-fn saved_handle(handle: Handle) -> u32
-    ensures { result ≡ saved_handle handle }
-{
-    if handle.is_transient() {
-        0x8000_0000
-    } else {
-        handle.number
-    }
 }
 
 fn token_text(start: u64, handle: Handle) -> Sink<TOKEN_SIZE>
@@ -41,14 +31,14 @@ fn token_text(start: u64, handle: Handle) -> Sink<TOKEN_SIZE>
 
 /// The context of a token.
 #[tactic(auto, unfolding(crate::specs::Context::context_text))]
-pub fn context_text(start: u64, token: Token) -> Sink<CONTEXT_SIZE>
+pub fn context_text(start: u64, token: Token) -> Sink<SESSION_CONTEXT_SIZE>
     ensures text { result ≡ context_text start token }
-    ensures size { length result ≡ CONTEXT_SIZE }
+    ensures size { length result ≡ SESSION_CONTEXT_SIZE }
 {
     let blob = token_text(start, token.handle);
     let mut text = Sink::new();
     text.append_u64(token.context);
-    text.append_u32(saved_handle(token.handle));
+    text.append_u32(token.handle.number);
     text.append_u32(Handle::NULL.number);
     text.append_sized(blob.as_slice());
     text
@@ -70,4 +60,24 @@ pub fn read_token(start: u64, bytes: &[u8]) -> Result<Token, Short>
         return Err(Short);
     }
     Ok(token)
+}
+
+#[tactic(auto, unfolding(crate::specs::Context::saved_handle_at))]
+fn read_saved_handle(context: &[u8]) -> Result<Handle, Short>
+    ensures { result ≡ saved_handle_at context.now }
+{
+    let mut text = Cursor::new(context);
+    let _sequence = text.u64()?;
+    let number = text.u32()?;
+    Ok(Handle { number })
+}
+
+/// Whether the savedHandle of a context is a session's.
+pub fn names_session(context: &[u8]) -> bool
+    ensures { result ≡ names_session context.now }
+{
+    match read_saved_handle(context) {
+        Ok(handle) => handle.is_session(),
+        Err(_) => false,
+    }
 }

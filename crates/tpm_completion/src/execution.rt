@@ -1,16 +1,19 @@
 //! The execution of one event, with the layer or without it.
 
-ghost use Rattle.std.specs.Prelude.{◌≡◌, ◌<◌, ◌-◌, ◌^◌, [], true, false};
-ghost use Rattle.tpm_types.specs.Limits.{object_limit};
+ghost use Rattle.std.specs.Prelude.{◌≡◌, Ok, Some, option_map, true, false};
 ghost use Rattle.tpm_types.specs.Locality.{locality_number};
 ghost use Rattle.tpm_step.specs.Events.{Given, plain_event};
 ghost use Rattle.tpm_machine.specs.State.{state_of};
 ghost use Rattle.tpm_completion.specs.Completed.{completed};
-ghost use Rattle.tpm_completion.specs.Execution.{AsksFirst, Behind, Completes, CompletesIf, GivesUp, Notes, Passes, given_up_behind, no_random, seen_of};
+ghost use Rattle.tpm_completion.specs.Execution.{AsksFirst, Behind, Completes, CompletesIf, Loads, Passes, asked_behind, opened_behind, seen_of};
 
+use crate::answer::answer;
+use crate::codes::{MEMORY, OBJECT_MEMORY, SUCCESS};
 use crate::completion::Completion;
-use crate::room::flush_text;
+use crate::loading::context_asked;
+use tpm_containers::SlotFault;
 use tpm_machine::Machine;
+use tpm_object::Object;
 use tpm_record::Keep;
 use tpm_step::{Event, Outcome};
 use tpm_types::Locality;
@@ -91,51 +94,8 @@ fn pass<K: Keep>(
     layer.forget(machine.keep());
 }
 
-/// Executes a command with the layer.
+/// Executes a command with the layer: the device executes it first, and the layer answers after it.
 fn complete<K: Keep>(
-    machine: &mut Machine<K>,
-    layer: &mut Completion,
-    buffer: &[u8],
-    locality: Locality,
-    elapsed_ms: u32,
-    random: &[u8; 256],
-    outcome: &mut Outcome,
-)
-    ensures { Completes K.can_refuse layer.old (state_of K.record_of machine.old)
-        (Given buffer.now (locality_number locality) elapsed_ms random.now)
-        (seen_of K.record_of machine.new layer.new outcome.new) }
-{
-    match layer.flush_asked(buffer) {
-        Some(place) => note(machine, layer, place, locality, elapsed_ms, random, outcome),
-        None => ask_first(
-            machine, layer, buffer, locality, elapsed_ms, random, outcome,
-        ),
-    }
-}
-
-/// Notes the flush of the object in a place. The device executes an empty command, so that its
-/// time goes on.
-fn note<K: Keep>(
-    machine: &mut Machine<K>,
-    layer: &mut Completion,
-    place: usize,
-    locality: Locality,
-    elapsed_ms: u32,
-    random: &[u8; 256],
-    outcome: &mut Outcome,
-)
-    requires { layer.old.count < 2 ^ 64 - 1 }
-    ensures { Notes K.can_refuse layer.old (state_of K.record_of machine.old)
-        (locality_number locality) elapsed_ms random.now place
-        (seen_of K.record_of machine.new layer.new outcome.new) }
-{
-    let tick = Event::of_command(&[], locality, elapsed_ms, *random);
-    pass(machine, layer, &tick, outcome);
-    layer.note(place, &mut outcome.response);
-}
-
-/// Has the device execute a command first, and answers after it.
-fn ask_first<K: Keep>(
     machine: &mut Machine<K>,
     layer: &mut Completion,
     buffer: &[u8],
@@ -150,25 +110,23 @@ fn ask_first<K: Keep>(
 {
     let event = Event::of_command(buffer, locality, elapsed_ms, *random);
     pass(machine, layer, &event, outcome);
-    answer_behind(machine, layer, buffer, locality, random, outcome);
+    answer_after(machine, layer, buffer, outcome);
 }
 
-/// Gives up an object for a command that found no place for its own, or answers after the device.
-fn answer_behind<K: Keep>(
+/// Loads the object whose context a command loads, or answers after the device.
+fn answer_after<K: Keep>(
     machine: &mut Machine<K>,
     layer: &mut Completion,
     buffer: &[u8],
-    locality: Locality,
-    random: &[u8; 256],
     outcome: &mut Outcome,
 )
     ensures { Behind K.can_refuse (seen_of K.record_of machine.old layer.old outcome.old)
-        buffer.now (locality_number locality) random.now
-        (given_up_behind (seen_of K.record_of machine.old layer.old outcome.old))
+        buffer.now
+        (asked_behind (seen_of K.record_of machine.old layer.old outcome.old) buffer.now)
         (seen_of K.record_of machine.new layer.new outcome.new) }
 {
-    match layer.given_up(outcome.row, outcome.response.as_slice()) {
-        Some(place) => give_up(machine, layer, place, buffer, locality, random, outcome),
+    match context_asked(machine.keep(), buffer, outcome.response.as_slice()) {
+        Some(context) => load(machine, layer, context, outcome),
         None => {
             let was_told = outcome.row.check == 0;
             layer.reply(machine.keep(), buffer, was_told, &mut outcome.response);
@@ -176,32 +134,37 @@ fn answer_behind<K: Keep>(
     }
 }
 
-/// The random bytes of the layer's own flush: zeros.
-#[tactic(auto, unfolding(crate::specs::Execution::no_random))]
-fn no_random() -> [u8; 256]
-    ensures { result ≡ no_random }
-{
-    [0; 256]
-}
-
-/// Flushes the object in a place, and executes a command again that found no place for its own.
-fn give_up<K: Keep>(
+/// Loads the object of a context, or refuses the context.
+fn load<K: Keep>(
     machine: &mut Machine<K>,
-    layer: &mut Completion,
-    place: usize,
-    buffer: &[u8],
-    locality: Locality,
-    random: &[u8; 256],
+    layer: &Completion,
+    context: &[u8],
     outcome: &mut Outcome,
 )
-    requires { place < object_limit }
-    ensures { GivesUp K.can_refuse (seen_of K.record_of machine.old layer.old outcome.old)
-        buffer.now (locality_number locality) random.now place
-        (seen_of K.record_of machine.new layer.new outcome.new) }
+    ensures { Loads K.can_refuse (seen_of K.record_of machine.old layer.now outcome.old)
+        (opened_behind (seen_of K.record_of machine.old layer.now outcome.old) context.now)
+        (seen_of K.record_of machine.new layer.now outcome.new) }
 {
-    let text = flush_text(place);
-    let flush = Event::of_command(&text, locality, 0, no_random());
-    pass(machine, layer, &flush, outcome);
-    let again = Event::of_command(buffer, locality, 0, *random);
-    pass(machine, layer, &again, outcome);
+    match layer.open_object(machine.keep(), context) {
+        Ok(object) => place(machine, layer, object, outcome),
+        Err(fault) => answer(fault.rc().number(), &[], &mut outcome.response),
+    }
+}
+
+/// Places an object in the lowest free slot of the device.
+fn place<K: Keep>(
+    machine: &mut Machine<K>,
+    layer: &Completion,
+    object: Object,
+    outcome: &mut Outcome,
+)
+    ensures { Loads K.can_refuse (seen_of K.record_of machine.old layer.now outcome.old)
+        (Ok object) (seen_of K.record_of machine.new layer.now outcome.new) }
+{
+    let text = &mut outcome.response;
+    match machine.place(object) {
+        Ok(handle) => answer(SUCCESS, &handle.number.to_be_bytes(), text),
+        Err(SlotFault::Full) => answer(OBJECT_MEMORY, &[], text),
+        Err(SlotFault::NoMemory) => answer(MEMORY, &[], text),
+    }
 }

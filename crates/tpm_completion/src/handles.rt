@@ -1,8 +1,9 @@
-//! The handles of transient objects and of sessions that the layer lists.
+//! The handles of sessions that the layer lists, and of the transient objects that it counts.
 
 ghost use Rattle.std.specs.Prelude.{◌≡◌, ◌≤◌, ◌<◌, ◌+◌, ◌++◌, [], length};
 ghost use Rattle.tpm_types.specs.Limits.{object_limit, session_limit};
-ghost use Rattle.tpm_completion.specs.Handles.{is_in_state, object_shown, objects_shown, session_shown, sessions_shown};
+ghost use Rattle.tpm_actions_capability.specs.Elements.{object_element, object_elements};
+ghost use Rattle.tpm_completion.specs.Handles.{is_in_state, session_shown, sessions_shown};
 
 use crate::completion::Completion;
 use crate::listing::{Elements, element};
@@ -11,31 +12,30 @@ use tpm_record::Keep;
 use tpm_session::handle_of;
 use tpm_types::{Handle, OBJECT_LIMIT, SESSION_LIMIT};
 
-/// Lists the transient object in a place, if there is one that does not wait.
-#[tactic(auto, unfolding(crate::specs::Handles::object_shown))]
-fn object<K: Keep>(layer: &Completion, keep: &K, place: u32, elements: &mut Elements)
+/// Lists the transient object in a slot, if there is one.
+fn object<K: Keep>(keep: &K, place: u32, elements: &mut Elements)
     requires place { place < object_limit }
     requires room { length elements.old.items < 64 }
     ensures added { elements.new.items
-        ≡ elements.old.items ++ object_shown (K.record_of keep.now) layer.now place }
+        ≡ elements.old.items ++ object_element (K.record_of keep.now) place }
     ensures few { length elements.new.items ≤ length elements.old.items + 1 }
 {
     let handle = Handle {
         number: numbered::number_of(0x80, place as usize),
     };
-    if layer.object(place as usize).waits == 0 && keep.objects().get(handle).is_some() {
+    if keep.objects().get(handle).is_some() {
         elements.push(element(handle.number, handle.number));
     }
 }
 
-/// Lists the transient objects that do not wait.
+/// Lists the transient objects.
 #[tactic(auto, using(tpm_actions_capability::proofs::Listing::one_more))]
-pub fn objects<K: Keep>(layer: &Completion, keep: &K, elements: &mut Elements)
+pub fn objects<K: Keep>(keep: &K, elements: &mut Elements)
     requires { elements.old.items ≡ [] }
-    ensures { elements.new.items ≡ objects_shown (K.record_of keep.now) layer.now }
+    ensures { elements.new.items ≡ object_elements (K.record_of keep.now) }
 {
     for place in 0..OBJECT_LIMIT as u32 {
-        object(layer, keep, place, elements);
+        object(keep, place, elements);
     }
 }
 
@@ -47,7 +47,7 @@ fn is_in_state(saved: bool, context: u64) -> bool
     if saved { context != 0 } else { context == 0 }
 }
 
-/// Lists the session in a place, if it is in the state that `saved` says: saved (true) or loaded
+/// Lists the session in a slot, if it is in the state that `saved` says: saved (true) or loaded
 /// (false).
 #[tactic(auto, unfolding(crate::specs::Handles::session_shown))]
 fn session<K: Keep>(layer: &Completion, keep: &K, saved: bool, place: u32, elements: &mut Elements)

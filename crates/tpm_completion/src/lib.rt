@@ -7,9 +7,12 @@
 //! The device executes the command first. If it refuses one that the layer knows, or lists less
 //! than the layer has, the client gets the layer's [`reply`]. Otherwise it gets the device's
 //! response, byte for byte. [`capability`], [`handles`] and [`properties`] have the lists,
-//! [`context`] and [`saving`] the contexts, [`testing`] and [`hashing`] four more commands.
-//! [`room`] chooses the object that gives its place up, and [`execution`] is the one call.
+//! [`context`], [`saving`] and [`loading`] the contexts, [`testing`] and [`hashing`] four more
+//! commands. [`execution`] is the one call.
 //!
+//! The context of a session is a token, and the session stays in its slot. The context of an object
+//! contains the whole object, encrypted and authenticated (tpm_context). TPM2_ContextLoad of it is
+//! the one command after which the layer changes the device: it places the object in a free slot.
 //! The layer changes the device by events of tpm_machine alone.
 
 mod answer;
@@ -23,11 +26,11 @@ mod handles;
 mod hashing;
 pub mod laws;
 mod listing;
+mod loading;
 mod properties;
 mod reply;
-mod room;
 mod saving;
 mod testing;
 
-pub use completion::{Completion, Held};
+pub use completion::Completion;
 pub use execution::execute;

@@ -5,12 +5,13 @@ ghost use Rattle.tpm_nv.specs.Head.{heads_of};
 ghost use Rattle.tpm_completion.specs.Properties.{active_count, attribute_if, command_count, count_elements, counter_count, identity_elements, index_count, is_counter, is_set, limit_elements, lockout_elements, object_count, permanent_attributes, property_elements, session_count, startup_attributes, values_set};
 
 use crate::completion::Completion;
-use crate::context::CONTEXT_SIZE;
+use crate::context::SESSION_CONTEXT_SIZE;
 use crate::handles::{objects, sessions};
 use crate::listing::{Elements, element};
 use arrayvec::ArrayVec;
 use tpm_actions_capability::element::Element;
 use tpm_commands::CommandCode;
+use tpm_context::CONTEXT_SIZE;
 use tpm_lockout::Lockout;
 use tpm_nv::{Head, Indices};
 use tpm_record::{Fixed, Hierarchies, Keep, PersistentObjects};
@@ -52,9 +53,9 @@ fn identity() -> [Element; 13]
     ]
 }
 
-/// How much the device holds and takes.
+/// How much the device holds and takes, and how the contexts of objects are protected.
 #[tactic(auto, unfolding(crate::specs::Properties::limit_elements))]
-fn limits() -> [Element; 22]
+fn limits() -> [Element; 25]
     ensures { result ≡ limit_elements }
 {
     [
@@ -69,11 +70,14 @@ fn limits() -> [Element; 22]
         element(0x116, NV_INDEX_LIMIT as u32),
         element(0x117, NV_DATA_LIMIT as u32),
         element(0x118, 0),
+        element(0x11a, 0x0b),
+        element(0x11b, 0x06),
+        element(0x11c, 128),
         element(0x11e, BUFFER_LIMIT as u32),
         element(0x11f, BUFFER_LIMIT as u32),
         element(0x120, 32),
         element(0x121, CONTEXT_SIZE as u32),
-        element(0x122, CONTEXT_SIZE as u32),
+        element(0x122, SESSION_CONTEXT_SIZE as u32),
         element(0x128, 0),
         element(0x129, command_count()),
         element(0x12a, command_count()),
@@ -142,12 +146,12 @@ fn active_count<K: Keep>(layer: &Completion, keep: &K) -> u32
     session_count(layer, keep, false) + session_count(layer, keep, true)
 }
 
-/// How many transient objects do not wait.
-fn object_count<K: Keep>(layer: &Completion, keep: &K) -> u32
-    ensures { result ≡ object_count (K.record_of keep.now) layer.now }
+/// How many transient objects are loaded.
+fn object_count<K: Keep>(keep: &K) -> u32
+    ensures { result ≡ object_count (K.record_of keep.now) }
 {
     let mut elements = ArrayVec::new();
-    objects(layer, keep, &mut elements);
+    objects(keep, &mut elements);
     elements.len() as u32
 }
 
@@ -197,7 +201,7 @@ fn counts<K: Keep>(layer: &Completion, keep: &K) -> [Element; 11]
 {
     let loaded = session_count(layer, keep, false);
     let active = active_count(layer, keep);
-    let objects = object_count(layer, keep);
+    let objects = object_count(keep);
     let persistent = persistent_count(keep);
     [
         element(0x200, permanent_attributes(keep.fixed())),

@@ -3,7 +3,7 @@
 ghost use Rattle.std.specs.Prelude.{◌≡◌, [], length};
 ghost use Rattle.tpm_bytes.specs.Reading.{sized_at};
 ghost use Rattle.tpm_completion.specs.Command.{command_of};
-ghost use Rattle.tpm_completion.specs.Reply.{capability_asked, command_reply, is_stirred, probed, replied, reply, row_served, save_asked, served, stirred};
+ghost use Rattle.tpm_completion.specs.Reply.{capability_asked, command_reply, is_stirred, load_asked, probed, replied, reply, row_served, save_asked, served, stirred};
 ghost use Rattle.tpm_completion.specs.Capability.{asked_at};
 ghost use Rattle.std.specs.Int.{w32};
 ghost use Rattle.tpm_bytes.specs.Reading.{number_at};
@@ -16,6 +16,7 @@ use crate::codes::{
 };
 use crate::command::{PlainCommand, tag_of};
 use crate::completion::Completion;
+use crate::context::names_session;
 use crate::hashing::hash;
 use crate::testing::{Body, incremental_self_test, test_parms, test_result};
 use tpm_bytes::{Cursor, Sink, is_equal};
@@ -72,6 +73,16 @@ impl Completion {
         }
     }
 
+    /// Answers TPM2_ContextLoad of a session's context.
+    fn ask_load<K: Keep>(&mut self, keep: &K, context: &[u8], text: &mut Response)
+        ensures { record { response = text.new.items; after = self.new }
+            ≡ load_asked (K.record_of keep.now) self.old context.now text.old.items }
+    {
+        if names_session(context) {
+            self.load(keep, context, text);
+        }
+    }
+
     /// Answers by the success or the refusal of a row.
     fn give(&self, row: Result<Body, Refused>, text: &mut Response)
         ensures { record { response = text.new.items; after = self.now }
@@ -107,7 +118,7 @@ impl Completion {
     {
         match command.code {
             STIR_RANDOM => self.stir(command.parameters, text),
-            CONTEXT_LOAD => self.load(keep, command.parameters, text),
+            CONTEXT_LOAD => self.ask_load(keep, command.parameters, text),
             CONTEXT_SAVE => self.ask_save(keep, command.parameters, text),
             _ => self.serve_row(keep, command, text),
         }

@@ -1,21 +1,24 @@
-//! TPM2_ContextSave and TPM2_ContextLoad by tokens.
+//! TPM2_ContextSave, and TPM2_ContextLoad of a session's context.
 
 ghost use Rattle.std.specs.Prelude.{◌≡◌, ◌<◌, ◌^◌, IfSome, List, ℕ};
-ghost use Rattle.tpm_types.specs.Limits.{object_limit, session_limit};
+ghost use Rattle.tpm_types.specs.Limits.{session_limit};
+ghost use Rattle.tpm_record.specs.Objects.{object_at};
 ghost use Rattle.tpm_step.specs.declared.event.Outcome.{Outcome as Told};
-ghost use Rattle.tpm_completion.specs.Saving.{Reply, context_given, counted, handle_given, loaded, next_number, object_loaded, object_saved, place_named, refused, saved, session_loaded, session_saved, token_loaded, with_object, with_session};
+ghost use Rattle.tpm_completion.specs.Saving.{Reply, binding_of, context_given, counted, handle_given, loaded, next_number, object_numbered, object_saved, place_named, refused, saved, session_loaded, session_saved, with_session};
 
 use crate::answer::answer;
 use crate::codes::{
     HANDLE_OF_PARAMETER_1, INTEGRITY_OF_PARAMETER_1, REFERENCE_H0, SUCCESS, TOO_MANY_CONTEXTS,
     VALUE_OF_HANDLE_1,
 };
-use crate::completion::{Completion, Held};
+use crate::completion::Completion;
 use crate::context::{Token, context_text, read_token};
-use tpm_containers::numbered;
+use tpm_bytes::Sink;
+use tpm_context::{Binding, CONTEXT_SIZE, seal};
+use tpm_object::Object;
 use tpm_record::Keep;
 use tpm_step::Response;
-use tpm_types::{Handle, OBJECT_LIMIT, SESSION_LIMIT};
+use tpm_types::{Handle, SESSION_LIMIT};
 
 fn place_named(handle: Handle) -> usize
     ensures { result ≡ place_named handle }
@@ -24,16 +27,7 @@ fn place_named(handle: Handle) -> usize
 }
 
 impl Completion {
-    /// Sets what the layer remembers of the object in a place.
-    pub(crate) fn set_object(&mut self, place: usize, held: Held)
-        ensures { self.new ≡ with_object self.old place held }
-    {
-        if place < OBJECT_LIMIT {
-            self.objects[place] = held;
-        }
-    }
-
-    /// Sets the number of the context of the session in a place.
+    /// Sets the number of the context of the session in a slot.
     fn set_session(&mut self, place: usize, context: u64)
         ensures { self.new ≡ with_session self.old place context }
     {
@@ -42,8 +36,8 @@ impl Completion {
         }
     }
 
-    /// The number of the next context or flush, if one is left.
-    pub(crate) fn next_number(&self) -> Option<u64>
+    /// The number of the next context, if one is left.
+    fn next_number(&self) -> Option<u64>
         ensures { result ≡ next_number self.now }
     {
         if self.count < u64::MAX {
@@ -69,30 +63,48 @@ impl Completion {
         answer(code, &[], text);
     }
 
-    /// Saves the object of a handle.
-    fn save_object<K: Keep>(&mut self, keep: &K, handle: Handle, held: Held, text: &mut Response)
-        ensures { record { response = text.new.items; after = self.new }
-            ≡ object_saved (K.record_of keep.now) self.old handle held }
+    /// What the context of an object is bound to.
+    pub(crate) fn binding<K: Keep>(&self, keep: &K) -> Binding
+        ensures { result ≡ binding_of (K.record_of keep.now) self.now }
     {
-        if keep.objects().get(handle).is_none() || held.waits != 0 {
-            return self.refuse(REFERENCE_H0, text);
+        let fixed = keep.fixed();
+        Binding {
+            start: self.start,
+            reset_count: fixed.reset_count,
+            restart_count: fixed.restart_count,
         }
-        if held.context != 0 {
-            return self.give_context(handle, held.context, text);
-        }
-        match self.next_number() {
-            Some(number) => {
-                self.count = number;
-                self.set_object(
-                    place_named(handle),
-                    Held {
-                        context: number,
-                        waits: 0,
-                    },
-                );
-                self.give_context(handle, number, text);
-            }
-            None => self.refuse(TOO_MANY_CONTEXTS, text),
+    }
+
+    /// Answers with a new context of an object.
+    fn give_object<K: Keep>(&mut self, keep: &K, object: &Object, text: &mut Response)
+        ensures { record { response = text.new.items; after = self.new }
+            ≡ object_numbered (K.record_of keep.now) self.old object.now (next_number self.old) }
+    {
+        let Some(number) = self.next_number() else {
+            return self.refuse(TOO_MANY_CONTEXTS, text);
+        };
+        let hierarchies = &keep.fixed().hierarchies;
+        let mut context: Sink<CONTEXT_SIZE> = Sink::new();
+        seal(
+            hierarchies,
+            self.binding(keep),
+            number,
+            object,
+            &mut context,
+        );
+        self.count = number;
+        answer(SUCCESS, context.as_slice(), text);
+    }
+
+    /// Saves the object of a handle.
+    fn save_object<K: Keep>(&mut self, keep: &K, handle: Handle, text: &mut Response)
+        ensures { record { response = text.new.items; after = self.new }
+            ≡ object_saved (K.record_of keep.now) self.old
+            (object_at (K.record_of keep.now).objects handle) }
+    {
+        match keep.objects().get(handle) {
+            Some(object) => self.give_object(keep, object, text),
+            None => self.refuse(REFERENCE_H0, text),
         }
     }
 
@@ -121,8 +133,7 @@ impl Completion {
             ≡ saved (K.record_of keep.now) self.old handle }
     {
         if handle.is_transient() {
-            let held = self.object(place_named(handle));
-            self.save_object(keep, handle, held, text);
+            self.save_object(keep, handle, text);
         } else if handle.is_session() {
             let context = self.session(place_named(handle));
             self.save_session(keep, handle, context, text);
@@ -139,26 +150,6 @@ impl Completion {
         answer(SUCCESS, &handle.number.to_be_bytes(), text);
     }
 
-    /// Loads the object of a context again.
-    fn load_object<K: Keep>(&mut self, keep: &K, token: Token, text: &mut Response)
-        ensures { record { response = text.new.items; after = self.new }
-            ≡ object_loaded (K.record_of keep.now) self.old token }
-    {
-        let place = place_named(token.handle);
-        let is_there = keep.objects().get(token.handle).is_some();
-        if !is_there || token.context == 0 || token.context != self.object(place).context {
-            return self.refuse(HANDLE_OF_PARAMETER_1, text);
-        }
-        self.set_object(
-            place,
-            Held {
-                context: token.context,
-                waits: 0,
-            },
-        );
-        self.give_handle(token.handle, text);
-    }
-
     /// Loads the session of a context again.
     fn load_session<K: Keep>(&mut self, keep: &K, token: Token, text: &mut Response)
         ensures { record { response = text.new.items; after = self.new }
@@ -173,27 +164,14 @@ impl Completion {
         self.give_handle(token.handle, text);
     }
 
-    fn load_token<K: Keep>(&mut self, keep: &K, token: Token, text: &mut Response)
-        ensures { record { response = text.new.items; after = self.new }
-            ≡ token_loaded (K.record_of keep.now) self.old token }
-    {
-        if token.handle.is_transient() {
-            self.load_object(keep, token, text);
-        } else if token.handle.is_session() {
-            self.load_session(keep, token, text);
-        } else {
-            self.refuse(HANDLE_OF_PARAMETER_1, text);
-        }
-    }
-
-    /// TPM2_ContextLoad of these bytes.
+    /// TPM2_ContextLoad of these bytes, which name a session.
     #[tactic(auto, unfolding(crate::specs::Saving::loaded))]
     pub(crate) fn load<K: Keep>(&mut self, keep: &K, context: &[u8], text: &mut Response)
         ensures { record { response = text.new.items; after = self.new }
             ≡ loaded (K.record_of keep.now) self.old context.now }
     {
         match read_token(self.start, context) {
-            Ok(token) => self.load_token(keep, token, text),
+            Ok(token) => self.load_session(keep, token, text),
             Err(_) => self.refuse(INTEGRITY_OF_PARAMETER_1, text),
         }
     }

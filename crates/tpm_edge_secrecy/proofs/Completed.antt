@@ -1,18 +1,22 @@
 -- The effect of an event with the completing layer, on two devices that differ in secret data
 -- alone.
 use Rattle.std.proofs.Common.{ap, refl, subst, sym, ◌∙◌}
-use Rattle.std.specs.Prelude.{Bool, List, None, Option, Some, [], false, true, ℕ, ◌==◌, ◌∷◌, ◌≡◌}
-use Rattle.tpm_completion.specs.Completed.{behind, completed, completed_by, completed_with, done_behind, gave_up_behind, passed}
+use Rattle.std.proofs.lemmas.Bool.{false≢true}
+use Rattle.std.specs.Prelude.{Bool, Err, List, None, Ok, Option, Result, Some, [], false, true, ℕ, ◌==◌, ◌||◌, ◌∷◌, ◌≡◌}
+use Rattle.tpm_completion.specs.Completed.{behind, completed, completed_with, done_behind, loaded_behind, passed}
 use Rattle.tpm_completion.specs.Completion.{forgotten}
-use Rattle.tpm_completion.specs.Execution.{Seen, answered, given_up_behind, no_random, reply_behind}
+use Rattle.tpm_completion.specs.Execution.{Seen, answered, asked_behind, opened_behind, reply_behind}
+use Rattle.tpm_completion.specs.Loading.{context_asked, object_opened, placed_reply}
 use Rattle.tpm_completion.specs.Properties.{values_set}
 use Rattle.tpm_completion.specs.Reply.{reply}
-use Rattle.tpm_completion.specs.Room.{flush_asked, flush_text, given_up, noted}
-use Rattle.tpm_completion.specs.Saving.{Reply}
+use Rattle.tpm_completion.specs.Saving.{Reply, refused}
 use Rattle.tpm_completion.specs.declared.completion.Completion.{Completion}
-use Rattle.tpm_edge_secrecy.proofs.Layer.{forgotten_same, layer_answers_alike}
-use Rattle.tpm_edge_secrecy.proofs.Repeated.{again_unread, flush_unread, tick_unread}
-use Rattle.tpm_edge_secrecy.specs.Layer.{CompletedRunTellsNothing, CompletedTellsNothing, Completions, CompletesAlike, NoneReadsWith, SetAlike, answers_with}
+use Rattle.tpm_context.specs.Head.{fault_rc}
+use Rattle.tpm_context.specs.declared.fault.ContextFault.{ContextFault}
+use Rattle.tpm_edge_secrecy.proofs.Layer.{asked_context_alike, forgotten_same, layer_answers_alike, next_alike, opened_alike}
+use Rattle.tpm_edge_secrecy.specs.Layer.{CompletedRunTellsNothing, CompletedTellsNothing, Completions, CompletesAlike, NoneReadsWith, SetAlike, answers_with, reads_with, saves_secret, saves_then}
+use Rattle.tpm_object.specs.declared.object.Object.{Object}
+use Rattle.tpm_record.specs.Objects.{next_handle}
 use Rattle.tpm_record.specs.Record.{Record}
 use Rattle.tpm_row_secrecy.specs.Secrecy.{DifferInSecrets, Secrecy, of_data}
 use Rattle.tpm_secrecy.proofs.Data.{data_told_nothing}
@@ -20,6 +24,7 @@ use Rattle.tpm_secrecy.specs.Tells.{TellsNothing, is_reading}
 use Rattle.tpm_step.specs.Events.{Cycled, Given, Placed, PlainEvent}
 use Rattle.tpm_step.specs.Step.{step}
 use Rattle.tpm_step.specs.declared.event.Row.{Row}
+use Rattle.tpm_types.specs.Rc.{rc_number}
 use Rattle.tpm_types_object.specs.declared.public.Public.{Public}
 
 module _ (indices : ℕ → Bool) (objects : Public → Bool) where
@@ -54,64 +59,74 @@ module _ (indices : ℕ → Bool) (objects : Public → Bool) where
   sets_alike : (r t : Record) → DifferInSecrets s r t → SetAlike r t
   sets_alike r t differ = ap (λ (x : Record). values_set x.fixed.hierarchies) differ
 
-  reply_alike : (x y : Seen) → CompletesAlike s x y → (buffer : List ℕ) → reply_behind x buffer ≡ reply_behind y buffer
-  reply_alike x y alike buffer =
-      layer_answers_alike s x.step.after y.step.after x.layer buffer x.step.response (x.step.row.check == 0) alike.step.after (sets_alike x.step.after y.step.after alike.step.after)
+  reply_alike : (x y : Seen) → CompletesAlike s x y → (buffer : List ℕ) → saves_secret s x.step.after buffer ≡ false → reply_behind x buffer ≡ reply_behind y buffer
+  reply_alike x y alike buffer free =
+      layer_answers_alike s x.step.after y.step.after x.layer buffer x.step.response (x.step.row.check == 0) alike.step.after (sets_alike x.step.after y.step.after alike.step.after) free
       ∙ ap (λ (c : Completion). reply y.step.after c buffer x.step.response (x.step.row.check == 0)) alike.layer
       ∙ ap (λ (response : List ℕ). reply y.step.after y.layer buffer response (x.step.row.check == 0)) alike.step.response
       ∙ ap (λ (row : Row). reply y.step.after y.layer buffer y.step.response (row.check == 0)) alike.step.row
 
-  given_up_alike : (x y : Seen) → CompletesAlike s x y → given_up_behind x ≡ given_up_behind y
-  given_up_alike x y alike =
-      ap (λ (c : Completion). given_up c x.step.row x.step.response) alike.layer
-      ∙ ap (λ (row : Row). given_up y.layer row x.step.response) alike.step.row
-      ∙ ap (given_up y.layer y.step.row) alike.step.response
+  asked_alike : (x y : Seen) → CompletesAlike s x y → (buffer : List ℕ) → asked_behind x buffer ≡ asked_behind y buffer
+  asked_alike x y alike buffer =
+      asked_context_alike s x.step.after y.step.after alike.step.after buffer x.step.response
+      ∙ ap (context_asked y.step.after buffer) alike.step.response
 
-  -- ---- an object is given up, or the layer answers
+  contents_alike : (x y : Seen) → CompletesAlike s x y → (context : List ℕ) → opened_behind x context ≡ opened_behind y context
+  contents_alike x y alike context =
+      opened_alike s x.step.after y.step.after alike.step.after x.layer context
+      ∙ ap (λ (c : Completion). object_opened y.step.after c context) alike.layer
 
-  module _ (r t : Record) (c : Completion) (buffer : List ℕ) (locality elapsed : ℕ) (random : List ℕ) where
-    abbrev x : Seen
-    x = passed c r (Given buffer locality elapsed random)
+  -- ---- a context is loaded, or the layer answers
 
-    abbrev y : Seen
-    y = passed c t (Given buffer locality elapsed random)
+  placed_alike : (x y : Seen) → CompletesAlike s x y → (object : Object) → CompletesAlike s (loaded_behind x (Ok object)) (loaded_behind y (Ok object))
+  placed_alike x y alike object =
+      let told : TellsNothing s (step x.step.after (Placed object)) (step y.step.after (Placed object)) =
+      data_told_nothing indices objects x.step.after y.step.after false (Placed object) alike.step.after refl in
+      let same : placed_reply x.layer (next_handle x.step.after.objects) ≡ placed_reply y.layer (next_handle y.step.after.objects) =
+      ap (λ (c : Completion). placed_reply c (next_handle x.step.after.objects)) alike.layer
+      ∙ ap (placed_reply y.layer) (next_alike s x.step.after y.step.after alike.step.after) in
+      record {
+        step = record { response = ap (λ (z : Reply). z.response) same; row = alike.step.row; after = told.after };
+        layer = ap (λ (z : Reply). z.after) same;
+      }
 
-    gave_up_alike : CompletesAlike s x y → (place : ℕ) → given_up_behind x ≡ Some place → CompletesAlike s (gave_up_behind x buffer locality random place) (gave_up_behind y buffer locality random place)
-    unfolding passed
-    gave_up_alike alike place is =
-        let flushed = passed_alike x.layer y.layer alike.layer x.step.after y.step.after alike.step.after (Given (flush_text place) locality 0 no_random) (flush_unread s x.step.after locality place) in
-        let one : Seen = passed x.layer x.step.after (Given (flush_text place) locality 0 no_random) in
-        let other : Seen = passed y.layer y.step.after (Given (flush_text place) locality 0 no_random) in
-        passed_alike one.layer other.layer flushed.layer one.step.after other.step.after flushed.step.after (Given buffer locality 0 random)
-        (again_unread s r one.step.after x.layer buffer locality elapsed random place is)
+  loaded_alike : (x y : Seen) → CompletesAlike s x y → (content : Result Object ContextFault) → CompletesAlike s (loaded_behind x content) (loaded_behind y content)
+  loaded_alike x y alike (Ok object) = placed_alike x y alike object
+  loaded_alike x y alike (Err fault) =
+      answered_alike x y (refused x.layer (rc_number (fault_rc fault))) (refused y.layer (rc_number (fault_rc fault))) alike
+      (ap (λ (c : Completion). refused c (rc_number (fault_rc fault))) alike.layer)
 
-    done_alike : CompletesAlike s x y → (place : Option ℕ) → given_up_behind x ≡ place → CompletesAlike s (done_behind x buffer locality random place) (done_behind y buffer locality random place)
-    done_alike alike (Some place) is = gave_up_alike alike place is
-    done_alike alike None is = answered_alike x y (reply_behind x buffer) (reply_behind y buffer) alike (reply_alike x y alike buffer)
+  done_alike : (x y : Seen) → CompletesAlike s x y → (buffer : List ℕ) → saves_secret s x.step.after buffer ≡ false → (asked : Option (List ℕ)) → CompletesAlike s (done_behind x buffer asked) (done_behind y buffer asked)
+  done_alike x y alike buffer free (Some context) =
+      subst (λ (content : Result Object ContextFault). CompletesAlike s (loaded_behind x (opened_behind x context)) (loaded_behind y content))
+      (contents_alike x y alike context) (loaded_alike x y alike (opened_behind x context))
+  done_alike x y alike buffer free None =
+      answered_alike x y (reply_behind x buffer) (reply_behind y buffer) alike (reply_alike x y alike buffer free)
 
-    behind_alike : CompletesAlike s x y → CompletesAlike s (behind x buffer locality random) (behind y buffer locality random)
-    behind_alike alike =
-        subst (λ (place : Option ℕ). CompletesAlike s (done_behind x buffer locality random (given_up_behind x)) (done_behind y buffer locality random place)) (given_up_alike x y alike)
-        (done_alike alike (given_up_behind x) refl)
+  behind_alike : (x y : Seen) → CompletesAlike s x y → (buffer : List ℕ) → saves_secret s x.step.after buffer ≡ false → CompletesAlike s (behind x buffer) (behind y buffer)
+  behind_alike x y alike buffer free =
+      subst (λ (asked : Option (List ℕ)). CompletesAlike s (done_behind x buffer (asked_behind x buffer)) (done_behind y buffer asked))
+      (asked_alike x y alike buffer) (done_alike x y alike buffer free (asked_behind x buffer))
 
-    -- ---- an event
+  -- ---- an event
 
-    by_flush : DifferInSecrets s r t → is_reading s r (Given buffer locality elapsed random) ≡ false → (place : Option ℕ) → CompletesAlike s (completed_by c r buffer locality elapsed random place) (completed_by c t buffer locality elapsed random place)
-    by_flush differ free (Some place) =
-        let tick = passed_alike c c refl r t differ (Given [] locality elapsed random) (tick_unread s r locality elapsed random) in
-        let one : Seen = passed c r (Given [] locality elapsed random) in
-        let other : Seen = passed c t (Given [] locality elapsed random) in
-        answered_alike one other (noted one.layer place) (noted other.layer place) tick (ap (λ (d : Completion). noted d place) tick.layer)
-    by_flush differ free None = behind_alike (passed_alike c c refl r t differ (Given buffer locality elapsed random) free)
+  reads_none : (a b : Bool) → (a || b) ≡ false → (a ≡ false) × (b ≡ false)
+  reads_none false b is = (refl, is)
+  reads_none true b is = absurd (false≢true (sym is))
 
-  with_alike : (r t : Record) (c : Completion) → DifferInSecrets s r t → (event : PlainEvent) → is_reading s r event ≡ false → CompletesAlike s (completed_with c r event) (completed_with c t event)
-  with_alike r t c differ (Given buffer locality elapsed random) free = by_flush r t c buffer locality elapsed random differ free (flush_asked c buffer)
-  with_alike r t c differ Cycled free = passed_alike c c refl r t differ Cycled free
-  with_alike r t c differ (Placed object) free = passed_alike c c refl r t differ (Placed object) free
+  with_alike : (r t : Record) (c : Completion) → DifferInSecrets s r t → (event : PlainEvent) → is_reading s r event ≡ false → saves_then s r event ≡ false → CompletesAlike s (completed_with c r event) (completed_with c t event)
+  unfolding passed
+  with_alike r t c differ (Given buffer locality elapsed random) free none =
+      let event : PlainEvent = Given buffer locality elapsed random in
+      behind_alike (passed c r event) (passed c t event) (passed_alike c c refl r t differ event free) buffer none
+  with_alike r t c differ Cycled free none = passed_alike c c refl r t differ Cycled free
+  with_alike r t c differ (Placed object) free none = passed_alike c c refl r t differ (Placed object) free
 
-  pub completed_alike : (completes : Bool) (r t : Record) (c : Completion) → DifferInSecrets s r t → (event : PlainEvent) → is_reading s r event ≡ false → CompletesAlike s (completed completes c r event) (completed completes c t event)
-  completed_alike false r t c differ event free = passed_alike c c refl r t differ event free
-  completed_alike true r t c differ event free = with_alike r t c differ event free
+  pub completed_alike : (completes : Bool) (r t : Record) (c : Completion) → DifferInSecrets s r t → (event : PlainEvent) → reads_with s completes r event ≡ false → CompletesAlike s (completed completes c r event) (completed completes c t event)
+  completed_alike false r t c differ event free = passed_alike c c refl r t differ event (reads_none (is_reading s r event) false free).0
+  completed_alike true r t c differ event free =
+      let none = reads_none (is_reading s r event) (saves_then s r event) free in
+      with_alike r t c differ event none.0 none.1
 
   -- ---- events
 

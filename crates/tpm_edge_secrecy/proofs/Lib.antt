@@ -1,4 +1,3 @@
 pub mod Layer
-pub mod Repeated
 pub mod Completed
 pub mod Opened

@@ -16,7 +16,7 @@ use tpm_record::Keep;
 
 /// Reads a device into a new `Keep`.
 #[tactic(auto, unfolding(crate::specs::Body::device_in))]
-fn read_device<K: Keep>(keep: &mut K, text: &mut Cursor) -> Result<(), FillFault>
+pub fn read_device<K: Keep>(keep: &mut K, text: &mut Cursor) -> Result<(), FillFault>
     requires { K.record_of keep.old ≡ manufactured (replicate 256 0) }
     ensures { Fills K.can_refuse (device_in text.old) (K.record_of keep.new) result text.new }
 {
@@ -24,7 +24,7 @@ fn read_device<K: Keep>(keep: &mut K, text: &mut Cursor) -> Result<(), FillFault
     read_volatile(keep, text)
 }
 
-/// Reads a whole body into a new `Keep`, and returns its layer.
+/// Reads a whole body of version 2 into a new `Keep`, and returns its layer.
 #[tactic(auto, unfolding(crate::specs::Body::state_of_body, crate::specs::Body::body_in))]
 pub fn read_body<K: Keep>(keep: &mut K, body: &[u8]) -> Result<Option<Layer>, FillFault>
     requires { K.record_of keep.old ≡ manufactured (replicate 256 0) }

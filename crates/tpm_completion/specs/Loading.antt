@@ -1,0 +1,39 @@
+-- TPM2_ContextLoad of an object's context. TPM 2.0 Library, Part 3, section 28.3.
+use Rattle.std.specs.Prelude.{ℕ, ◌==◌, ◌&&◌, not, List, if◌then◌else◌, Option, Some, None, Result, Ok, Err}
+use Rattle.tpm_bytes.specs.declared.cursor.Short.{Short}
+use Rattle.tpm_object.specs.declared.object.Object.{Object}
+use Rattle.tpm_types.specs.declared.handle.Handle.{Handle}
+use Rattle.tpm_record.specs.Record.{Record}
+use Rattle.tpm_context.specs.Context.{opened}
+use Rattle.tpm_context.specs.declared.fault.ContextFault.{ContextFault}
+use Rattle.tpm_completion.specs.Answer.{is_refusal}
+use Rattle.tpm_completion.specs.Command.{Command, plain_command}
+use Rattle.tpm_completion.specs.Context.{names_session}
+use Rattle.tpm_completion.specs.Saving.{Reply, binding_of, handle_given, refused}
+use Rattle.tpm_completion.specs.declared.completion.Completion.{Completion}
+
+-- the context that a command loads as an object's: TPM2_ContextLoad (161) of a context that names
+-- no session
+abbrev pub object_context_in : Result Command Short → Option (List ℕ)
+object_context_in (Ok command) =
+    if (command.code == 0x161) && not (names_session command.parameters) then
+    Some command.parameters
+    else None
+object_context_in (Err e) = None
+
+-- the context of an object that a buffer loads, if the device is started and refused the buffer
+-- with COMMAND_CODE (143)
+unfoldable pub context_asked : Record → (buffer response : List ℕ) → Option (List ℕ)
+context_asked r buffer response =
+    if r.fixed.started && is_refusal 0x143 response then object_context_in (plain_command buffer)
+    else None
+
+-- the object of a context, or why it is not loaded
+abbrev pub object_opened : Record → Completion → (context : List ℕ) → Result Object ContextFault
+object_opened r c context = opened r.fixed.hierarchies (binding_of r c) context
+
+-- the reply after an object was placed: the handle that it got; OBJECT_MEMORY (902) if no slot was
+-- free
+abbrev pub placed_reply : Completion → Option Handle → Reply
+placed_reply c (Some handle) = handle_given c handle
+placed_reply c None = refused c 0x902
