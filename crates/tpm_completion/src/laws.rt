@@ -4,9 +4,8 @@ ghost use Rattle.tpm_completion.specs.DeviceFirst.{DeviceFirst};
 ghost use Rattle.tpm_completion.specs.Loaded.{LoadsOnlyWhatWasMade, LoadsWhatWasSaved};
 ghost use Rattle.tpm_completion.specs.Run.{RunsFollow};
 
-/// The client gets the device's response, unless it is one of three refusals, or answers a
-/// capability of which the layer has a list.
-#[tactic(auto, using(crate::proofs::DeviceFirst::device_first))]
+/// The client gets the device's response, and no object is loaded, unless the response is one of
+/// three refusals, or answers a capability of which the layer has a list.
 pub fn device_first()
     ensures { DeviceFirst }
 {}

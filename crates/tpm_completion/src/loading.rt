@@ -32,11 +32,7 @@ fn object_context_in(buffer: &[u8]) -> Option<&[u8]>
 /// The context of an object that a buffer loads, if the device is started and refused the buffer
 /// with COMMAND_CODE.
 #[tactic(auto, unfolding(crate::specs::Loading::context_asked))]
-pub fn context_asked<'a, K: Keep>(
-    keep: &K,
-    buffer: &'a [u8],
-    response: &[u8],
-) -> Option<&'a [u8]>
+pub fn context_asked<'a, K: Keep>(keep: &K, buffer: &'a [u8], response: &[u8]) -> Option<&'a [u8]>
     ensures { option_map (λ context. context.now) result
         ≡ context_asked (K.record_of keep.now) buffer.now response.now }
 {

@@ -85,7 +85,13 @@ impl Completion {
         };
         let hierarchies = &keep.fixed().hierarchies;
         let mut context: Sink<CONTEXT_SIZE> = Sink::new();
-        seal(hierarchies, self.binding(keep), number, object, &mut context);
+        seal(
+            hierarchies,
+            self.binding(keep),
+            number,
+            object,
+            &mut context,
+        );
         self.count = number;
         answer(SUCCESS, context.as_slice(), text);
     }

@@ -13,9 +13,9 @@ use Rattle.tpm_bytes.specs.Reading.{◌>>=◌, bytes_at, number_at, refused_if, 
 use Rattle.tpm_bytes.specs.declared.cursor.Short.{Short}
 use Rattle.tpm_record.specs.Record.{Record}
 use Rattle.tpm_session.specs.Sessions.{session_at}
-use Rattle.tpm_types.specs.Handle.{is_session, is_transient, numbered}
+use Rattle.tpm_types.specs.Handle.{numbered}
 use Rattle.tpm_completion.specs.Context.{context_text, token_at}
-use Rattle.tpm_completion.specs.Saving.{Reply, handle_given, loaded, loaded_by, object_loaded, place_named, refused, session_loaded, token_loaded, with_session}
+use Rattle.tpm_completion.specs.Saving.{Reply, handle_given, loaded, loaded_by, place_named, refused, session_loaded, with_session}
 use Rattle.tpm_completion.specs.declared.completion.Completion.{Completion}
 use Rattle.tpm_completion.specs.declared.context.Token.{Token}
 use Rattle.tpm_completion_laws.specs.Contexts.{IsLoadedOnce, RefusesAnotherStart}
@@ -58,49 +58,28 @@ session_once : (loads : Bool) (later : Record) (c : Completion) (token : Token) 
 session_once true later c token accepted = loaded_no_more later c token
 session_once false later c token accepted = absurd (accepted refl)
 
-abbrev session_if : Bool → Record → Completion → Token → Reply
-session_if is r c token = if is then session_loaded r c token else refused c 0x1cb
-
-handle_once : (is : Bool) (r later : Record) (c : Completion) (token : Token) → session_if is r c token ≢ refused c 0x1cb
-    → session_if is later (session_if is r c token).after token ≡ refused (session_if is r c token).after 0x1cb
-handle_once true r later c token accepted = session_once _ later c token accepted
-handle_once false r later c token accepted = absurd (accepted refl)
-
-token_once : (r later : Record) (c : Completion) (token : Token) → is_transient token.handle ≡ false → token_loaded r c token ≢ refused c 0x1cb
-    → token_loaded later (token_loaded r c token).after token ≡ refused (token_loaded r c token).after 0x1cb
-token_once r later c token no_object =
-    let Once : Bool → Type 0 = λ b.
-    (if b then object_loaded r c token else session_if (is_session token.handle) r c token) ≢ refused c 0x1cb
-    → (if b then object_loaded later (if b then object_loaded r c token else session_if (is_session token.handle) r c token).after token
-    else session_if (is_session token.handle) later (if b then object_loaded r c token else session_if (is_session token.handle) r c token).after token)
-    ≡ refused (if b then object_loaded r c token else session_if (is_session token.handle) r c token).after 0x1cb in
-    subst Once (sym no_object) (handle_once (is_session token.handle) r later c token)
+token_once : (r later : Record) (c : Completion) (token : Token) → session_loaded r c token ≢ refused c 0x1cb
+    → session_loaded later (session_loaded r c token).after token ≡ refused (session_loaded r c token).after 0x1cb
+token_once r later c token accepted = session_once _ later c token accepted
 
 -- a reply of the layer leaves its start
-session_starts : (loads : Bool) (c : Completion) (token : Token) → (loaded_if loads c token).after.start ≡ c.start
-session_starts true c token = refl
-session_starts false c token = refl
+starts_if : (loads : Bool) (c : Completion) (token : Token) → (loaded_if loads c token).after.start ≡ c.start
+starts_if true c token = refl
+starts_if false c token = refl
 
-handle_starts : (is : Bool) (r : Record) (c : Completion) (token : Token) → (session_if is r c token).after.start ≡ c.start
-handle_starts true r c token = session_starts _ c token
-handle_starts false r c token = refl
-
-token_starts : (r : Record) (c : Completion) (token : Token) → is_transient token.handle ≡ false → (token_loaded r c token).after.start ≡ c.start
-token_starts r c token no_object =
-    let Starts : Bool → Type 0 = λ b.
-    (if b then object_loaded r c token else session_if (is_session token.handle) r c token).after.start ≡ c.start in
-    subst Starts (sym no_object) (handle_starts (is_session token.handle) r c token)
+token_starts : (r : Record) (c : Completion) (token : Token) → (session_loaded r c token).after.start ≡ c.start
+token_starts r c token = starts_if _ c token
 
 pub is_loaded_once : IsLoadedOnce
 unfolding loaded
-is_loaded_once r later c context token is no_object accepted =
-    let first : loaded r c context ≡ token_loaded r c token = ap (loaded_by r c) is in
-    let allowed : token_loaded r c token ≢ refused c 0x1cb = λ e. accepted (first ∙ e) in
+is_loaded_once r later c context token is accepted =
+    let first : loaded r c context ≡ session_loaded r c token = ap (loaded_by r c) is in
+    let allowed : session_loaded r c token ≢ refused c 0x1cb = λ e. accepted (first ∙ e) in
     let Once : Reply → Type 0 = λ reply. loaded later reply.after context ≡ refused reply.after 0x1cb in
     subst Once (sym first)
-    (ap (λ (start : ℕ). loaded_by later (token_loaded r c token).after (token_at start context)) (token_starts r c token no_object)
-    ∙ ap (loaded_by later (token_loaded r c token).after) is
-    ∙ token_once r later c token no_object allowed)
+    (ap (λ (start : ℕ). loaded_by later (session_loaded r c token).after (token_at start context)) (token_starts r c token)
+    ∙ ap (loaded_by later (session_loaded r c token).after) is
+    ∙ token_once r later c token allowed)
 
 -- ---- a context of another start
 

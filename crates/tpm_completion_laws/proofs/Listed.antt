@@ -15,8 +15,8 @@ use Rattle.tpm_session.specs.Sessions.{handle_of}
 use Rattle.tpm_session.specs.declared.session.Session.{Session}
 use Rattle.tpm_types.specs.Limits.{object_limit, session_limit}
 use Rattle.tpm_completion.specs.Capability.{commands_by}
-use Rattle.tpm_completion.specs.Completion.{object_held, session_context}
-use Rattle.tpm_completion.specs.Handles.{object_shown, session_shown}
+use Rattle.tpm_completion.specs.Completion.{session_context}
+use Rattle.tpm_completion.specs.Handles.{session_shown}
 use Rattle.tpm_completion.specs.Properties.{active_count, count_elements, identity_elements, limit_elements, object_count, property_elements}
 use Rattle.tpm_completion.specs.Reply.{stands}
 use Rattle.tpm_completion.specs.declared.completion.Completion.{Completion}
@@ -96,10 +96,6 @@ of_either : (b : Bool) (xs : List Element) → length (if b then xs else []) + l
 of_either true xs = omega arith
 of_either false xs = omega arith
 
-shorter : (b : Bool) (xs : List Element) → length xs ≤ 1 → length (if b then xs else []) ≤ 1
-shorter true xs few = few
-shorter false xs few = omega arith
-
 there : (b : Bool) (e : Element) → length (if_there b e) ≤ 1
 there true e = omega arith
 there false e = omega arith
@@ -119,9 +115,8 @@ module _ (r : Record) (c : Completion) where
   unfolding session_shown
   session_either place = of_either (session_context c place == 0) (session_element r place)
 
-  object_one : (place : ℕ) → length (object_shown r c place) ≤ 1
-  unfolding object_shown
-  object_one place = shorter ((object_held c place).waits == 0) (object_element r place) (there _ _)
+  object_one : (place : ℕ) → length (object_element r place) ≤ 1
+  object_one place = there _ _
 
   all_sessions : active_count r c ≡ length (flat_map (session_element r) (numbers_below session_limit))
   all_sessions = both_parts (session_shown r c false) (session_shown r c true) (session_element r) session_either (numbers_below session_limit)
@@ -129,8 +124,8 @@ module _ (r : Record) (c : Completion) where
   few_sessions : length (flat_map (session_element r) (numbers_below session_limit)) ≤ 16
   few_sessions = one_each (session_element r) session_one (numbers_below session_limit)
 
-  few_objects : object_count r c ≤ 8
-  few_objects = one_each (object_shown r c) object_one (numbers_below object_limit)
+  few_objects : object_count r ≤ 8
+  few_objects = one_each (object_element r) object_one (numbers_below object_limit)
 
 pub counts_add_up : CountsAddUp
 counts_add_up r c =

@@ -83,14 +83,14 @@ PcrPropertiesHold =
 
 -- ---- counts
 
--- Loaded and saved sessions are all sessions, and what is there makes the limit with what there is
--- place for: HR_LOADED and HR_LOADED_AVAIL, HR_ACTIVE and HR_ACTIVE_AVAIL, and the transient
--- objects that do not wait and HR_TRANSIENT_AVAIL.
+-- Loaded and saved sessions are all sessions. What is there and what there is room for make the
+-- limit together: HR_LOADED and HR_LOADED_AVAIL, HR_ACTIVE and HR_ACTIVE_AVAIL, and the transient
+-- objects and HR_TRANSIENT_AVAIL.
 pub record AddsUp (r : Record) (c : Completion) : Type 0 where
   pub all : active_count r c ≡ length (session_elements r)
   pub loaded : session_count r c false + (session_limit - session_count r c false) ≡ session_limit
   pub active : active_count r c + (session_limit - active_count r c) ≡ session_limit
-  pub objects : object_count r c + (object_limit - object_count r c) ≡ object_limit
+  pub objects : object_count r + (object_limit - object_count r) ≡ object_limit
 
 abbrev pub CountsAddUp : Type 0
 CountsAddUp = (r : Record) (c : Completion) → AddsUp r c
