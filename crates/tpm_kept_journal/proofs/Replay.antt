@@ -147,7 +147,7 @@ module _ (c : Completion) (old : Record) (buffer : List ℕ) (locality elapsed :
   abbrev first : Seen
   first = passed c old (Given buffer locality elapsed random)
 
-  -- how many bytes are drawn to load a context, or to refuse it: none that the device did not draw
+  -- the number of bytes drawn to load a context, or to refuse it: none that the device did not draw
   few_content : (content : Result Object ContextFault) → (loaded_behind first content).drawn ≤ length random
   few_content (Ok object) = omega arith
   few_content (Err fault) = few_drawn c old buffer locality elapsed random
