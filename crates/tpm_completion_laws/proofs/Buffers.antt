@@ -1,5 +1,5 @@
 -- The device refuses a command that it lacks by COMMAND_CODE, and the layer reads it.
-use Rattle.std.proofs.Common.{arith, ◌≡◌, ℕ, ◌+◌, ◌^◌, ◌<◌, ◌≤◌, ◌&&◌, Bool, true, false, ltb, List, [], ◌++◌, length, Option, Some, None, Result, Ok, Err, refl, sym, ap, ◌∙◌}
+use Rattle.std.proofs.Common.{arith, ◌≡◌, ℕ, ◌+◌, ◌^◌, ◌<◌, ◌≤◌, ◌&&◌, Bool, true, false, ltb, List, ◌++◌, length, Option, Some, None, Result, Ok, Err, refl, sym, ap, ◌∙◌}
 use Rattle.std.specs.Prelude.{◌==◌, ◌||◌, not, ok_or, if◌then◌else◌}
 use Rattle.std.specs.Int.{w16, w32, to_be_bytes}
 use Rattle.std.proofs.lemmas.Bool.{eq-eqb, le-ltb}
@@ -13,6 +13,7 @@ use Rattle.tpm_record.specs.Record.{Record}
 use Rattle.tpm_record.specs.Tick.{ticked}
 use Rattle.tpm_types.specs.Check.{check_number}
 use Rattle.tpm_types.specs.Limits.{buffer_limit}
+use Rattle.tpm_types.specs.Rc.{code_number}
 use Rattle.tpm_types.specs.declared.check.Check.TheVariants as check
 use Rattle.tpm_types_command.proofs.Tags.{tag_named-again}
 use Rattle.tpm_types_command.specs.Header.{code_field, header_at, size_field, tag_field}
@@ -26,7 +27,7 @@ use Rattle.tpm_step.specs.Answer.{framed}
 use Rattle.tpm_step.specs.Events.{Given}
 use Rattle.tpm_step.specs.General.{body_of, general, in_command, in_header}
 use Rattle.tpm_step.specs.Step.{Stepped, accepted, acceptance, answer_where, step}
-use Rattle.tpm_completion.specs.Answer.{refusal}
+use Rattle.tpm_completion.specs.Answer.{is_refusal, refusal}
 use Rattle.tpm_completion.specs.Command.{Command, plain_command}
 use Rattle.tpm_completion.specs.Loading.{context_asked, object_context_in}
 use Rattle.tpm_completion.specs.Reply.{command_reply, reply, reply_by, served}
@@ -70,7 +71,7 @@ lacking_step t = record {
 }
 
 pub step_lacks : (r : Record) (buffer : List ℕ) (locality elapsed : ℕ) (random : List ℕ) → header_at buffer ≡ Err fault.Code → step r (Given buffer locality elapsed random) ≡ lacking_step (ticked r elapsed)
-unfolding accepted general
+unfolding accepted general code_number
 step_lacks r buffer locality elapsed random e =
     let t = ticked r elapsed in
     ap (λ (h : Result (Header × List ℕ) HeaderFault). answer_where false t random
@@ -100,7 +101,7 @@ pub asked_again : (t : Record) (code : ℕ) (body : List ℕ) → code < 2 ^ 32 
     → context_asked t (framed 0x8001 code body) (refusal 0x143) ≡ object_context_in (Ok (record { code = code; parameters = body }))
 unfolding context_asked
 asked_again t code body small few started =
-    ap (λ (b : Bool). if b then object_context_in (plain_command (framed 0x8001 code body)) else None) started
+    ap (λ (b : Bool). if b && is_refusal 0x143 (refusal 0x143) then object_context_in (plain_command (framed 0x8001 code body)) else None) started
     ∙ ap object_context_in (plain_again code body small few)
 
 -- the reply to a command that the device lacks
@@ -112,4 +113,4 @@ reply_again t c code body was_told small few started =
     ∙ by t.fixed.started started _ _
   where
     by : (b : Bool) → b ≡ true → (stand is : Reply) → (if not b then stand else is) ≡ is
-    by b yes stand is = rw yes refl
+    by b holds stand is = rw holds refl

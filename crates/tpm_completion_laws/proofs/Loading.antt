@@ -1,5 +1,5 @@
 -- TPM2_ContextLoad of a valid context brings back the object.
-use Rattle.std.proofs.Common.{arith, ◌≡◌, ℕ, ◌+◌, ◌^◌, ◌<◌, ◌≤◌, ◌&&◌, Bool, true, false, List, [], ◌++◌, length, Option, Some, None, Result, Ok, Err, refl, sym, ap, subst, ◌∙◌}
+use Rattle.std.proofs.Common.{arith, ◌≡◌, ℕ, ◌^◌, ◌<◌, ◌≤◌, Bool, false, List, ◌++◌, length, Option, Some, None, Result, Ok, refl, sym, ap, subst, ◌∙◌}
 use Rattle.std.specs.Prelude.{is_none, not, if◌then◌else◌, option_map}
 use Rattle.std.specs.Int.{w32, w64, to_be_bytes}
 use Rattle.std.proofs.lemmas.List.{length-append}
@@ -16,38 +16,34 @@ use Rattle.tpm_machine.specs.Drawn.{drawn_by}
 use Rattle.tpm_object.specs.Object.{IsObject, transient_byte}
 use Rattle.tpm_object.specs.declared.object.Object.{Object}
 use Rattle.tpm_record.specs.Objects.{next_handle, object_at, object_handle}
-use Rattle.tpm_record.specs.IsRecord.{IsRecord}
 use Rattle.tpm_record.specs.Record.{Record}
 use Rattle.tpm_record.specs.Tick.{ticked}
 use Rattle.tpm_step.specs.Events.{Given, Placed}
-use Rattle.tpm_step.specs.Placing.{placed, placed_at}
-use Rattle.tpm_step.specs.Step.{Stepped, step}
+use Rattle.tpm_step.specs.Placing.{placed_at}
+use Rattle.tpm_step.specs.Step.{step}
 use Rattle.tpm_types.specs.Handle.{hierarchy_handle, is_session, numbered}
-use Rattle.tpm_types.specs.declared.handle.Handle.{Handle}
 use Rattle.tpm_context.specs.Context.{blob_text, context_text, object_cipher, proof_of}
 use Rattle.tpm_context.specs.Head.{head_of, saved_number, saved_of}
 use Rattle.tpm_context.specs.Protection.{integrity_of, restart_bound}
 use Rattle.tpm_context.specs.declared.binding.Binding.{Binding}
-use Rattle.tpm_context.specs.declared.fault.ContextFault.{ContextFault}
 use Rattle.tpm_context.specs.declared.head.SavedHandle.{SavedHandle}
 use Rattle.tpm_context.specs.declared.head.SavedHandle.TheVariants as saved
 use Rattle.tpm_context.proofs.HeadLaws.{saved_small}
 use Rattle.tpm_context.proofs.Reading.{cipher_small, integrity_size}
 use Rattle.tpm_record.specs.declared.hierarchy.Hierarchies.{Hierarchies}
 use Rattle.tpm_completion.proofs.Loaded.{loads_what_was_saved}
-use Rattle.tpm_completion.specs.Answer.{refusal, success}
 use Rattle.tpm_completion.specs.Command.{Command}
-use Rattle.tpm_completion.specs.Completed.{behind, done_behind, loaded_behind, passed}
+use Rattle.tpm_completion.specs.Completed.{behind, done_behind, loaded_behind}
 use Rattle.tpm_completion.specs.Completion.{forgotten}
 use Rattle.tpm_completion.specs.Context.{is_of_session, names_session, saved_handle_at}
-use Rattle.tpm_completion.specs.Execution.{Seen, opened_behind, placed_behind}
-use Rattle.tpm_completion.specs.Saving.{Reply, binding_of}
+use Rattle.tpm_completion.specs.Execution.{Seen, placed_behind}
+use Rattle.tpm_completion.specs.Saving.{binding_of}
 use Rattle.tpm_completion.specs.Loaded.{StaysValid, saved_context}
-use Rattle.tpm_completion.specs.Loading.{object_context_in, object_opened, placed_reply}
+use Rattle.tpm_completion.specs.Loading.{object_context_in, placed_reply}
 use Rattle.tpm_completion.specs.declared.completion.Completion.{Completion}
 use Rattle.tpm_completion_laws.proofs.Buffers.{IsLacking, asked_again, header_lacks, lacking_step, step_lacks}
 use Rattle.tpm_completion_laws.proofs.Saving.{lacking_effect, passed_lacks}
-use Rattle.tpm_completion_laws.specs.Objects.{IsFull, IsLoaded, IsPlaced, LoadsObjects, load_buffer}
+use Rattle.tpm_completion_laws.specs.Objects.{IsLoaded, LoadsObjects, load_buffer}
 
 lacks_load : IsLacking 0x161
 unfolding code_named

@@ -1,10 +1,9 @@
 -- TPM2_ContextSave of a loaded object returns its context.
-use Rattle.std.proofs.Common.{arith, ◌≡◌, ℕ, ◌+◌, ◌-◌, ◌^◌, ◌<◌, Bool, true, false, List, [], ◌++◌, length, Option, Some, None, Result, Ok, refl, sym, ap, subst, ◌∙◌, append-nil}
-use Rattle.std.specs.Prelude.{nat_lt, if◌then◌else◌}
+use Rattle.std.proofs.Common.{arith, ◌≡◌, ℕ, ◌+◌, ◌-◌, ◌^◌, ◌<◌, Bool, true, false, List, [], Option, Some, None, Ok, refl, sym, ap, subst, ◌∙◌, append-nil}
+use Rattle.std.specs.Prelude.{if◌then◌else◌}
 use Rattle.std.specs.Int.{w32, to_be_bytes}
 use Rattle.std.proofs.lemmas.Bool.{lt-ltb}
 use Rattle.tpm_bytes.specs.Reading.{number_at}
-use Rattle.tpm_bytes.specs.declared.cursor.Short.{Short}
 use Rattle.tpm_bytes.proofs.Fields.{number_again, wide32}
 use Rattle.tpm_commands.specs.CommandCode.{code_named}
 use Rattle.tpm_machine.specs.Drawn.{drawn_by}
@@ -14,15 +13,15 @@ use Rattle.tpm_record.specs.Record.{Record}
 use Rattle.tpm_record.specs.Tick.{ticked}
 use Rattle.tpm_step.specs.Events.{Given}
 use Rattle.tpm_step.specs.Step.{Stepped, step}
-use Rattle.tpm_types.specs.Handle.{is_transient, numbered}
+use Rattle.tpm_types.specs.Handle.{is_transient}
 use Rattle.tpm_types.specs.declared.handle.Handle.{Handle}
 use Rattle.tpm_completion.specs.Answer.{refusal, success}
-use Rattle.tpm_completion.specs.Completed.{behind, completed_with, done_behind, passed}
+use Rattle.tpm_completion.specs.Completed.{behind, done_behind, passed}
 use Rattle.tpm_completion.specs.Completion.{forgotten}
-use Rattle.tpm_completion.specs.Execution.{Seen, answered, asked_behind, reply_behind}
+use Rattle.tpm_completion.specs.Execution.{Seen, answered}
 use Rattle.tpm_completion.specs.Loaded.{saved_context}
 use Rattle.tpm_completion.specs.Reply.{save_asked, served}
-use Rattle.tpm_completion.specs.Saving.{Reply, counted, next_number, object_numbered, object_saved, saved, session_saved}
+use Rattle.tpm_completion.specs.Saving.{Reply, counted, next_number, object_numbered, object_saved, saved}
 use Rattle.tpm_completion.specs.declared.completion.Completion.{Completion}
 use Rattle.tpm_completion_laws.proofs.Buffers.{IsLacking, asked_again, header_lacks, lacking_step, reply_again, step_lacks}
 use Rattle.tpm_completion_laws.specs.Objects.{IsSaved, SavesObjects, save_buffer}
@@ -45,7 +44,7 @@ lacks_save = record { small = omega arith; unnamed = refl }
 
 chosen : (t : Record) (c : Completion) (handle : Handle) (b : Bool) (found : Option Object) (object : Object) (other : Reply) → b ≡ true → found ≡ Some object
     → (if b then object_saved t c found else other) ≡ object_numbered t c object (next_number c)
-chosen t c handle b found object other yes there = rw (yes, there) refl
+chosen t c handle b found object other holds there = rw (holds, there) refl
 
 numbered_next : (c : Completion) → c.count < 2 ^ 64 - 1 → next_number c ≡ Some (c.count + 1)
 numbered_next c less = ap (λ (b : Bool). if b then Some (c.count + 1) else None) (lt-ltb c.count (2 ^ 64 - 1) less)

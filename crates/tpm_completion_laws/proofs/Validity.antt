@@ -6,7 +6,6 @@ use Rattle.tpm_commands.specs.Part as part
 use Rattle.tpm_commands.specs.Part.{Part}
 use Rattle.tpm_commands.specs.declared.command_code.CommandCode.{CommandCode}
 use Rattle.tpm_commands.specs.declared.command_code.CommandCode.TheVariants as command
-use Rattle.tpm_object.specs.declared.object.Object.{Object}
 use Rattle.tpm_record.specs.Hierarchy.{secrets_of}
 use Rattle.tpm_record.specs.Record.{Record}
 use Rattle.tpm_record.specs.Tick.{ticked}
@@ -24,7 +23,6 @@ use Rattle.tpm_step.specs.rows.Acceptance.{IsAcceptance, LeavesEffect}
 use Rattle.tpm_step.specs.rows.Footprint.{KeepsSecrets, Touches}
 use Rattle.tpm_context.specs.Meaning.{restart_of}
 use Rattle.tpm_context.specs.declared.binding.Binding.{Binding}
-use Rattle.tpm_completion.specs.Loaded.{StaysValid}
 use Rattle.tpm_completion.specs.Saving.{binding_of}
 use Rattle.tpm_completion.specs.declared.completion.Completion.{Completion}
 use Rattle.tpm_completion_laws.specs.Objects.{StaysValidThrough}
@@ -68,27 +66,29 @@ nothing_changed : (f : Fixed) → Keeps f f
 nothing_changed f = same_keeps f f refl refl refl
 
 touched_keeps : (p : Part) (old new : Record) → keeps_counts p ≡ true → Touches p old new → Equal old new
-touched_keeps part.Nothing old new yes is = by_record old new _ is (nothing_changed old.fixed)
-touched_keeps part.Sessions old new yes is = by_record old new _ is (nothing_changed old.fixed)
-touched_keeps part.Objects old new yes is = by_record old new _ is (nothing_changed old.fixed)
-touched_keeps part.SessionsAndObjects old new yes is = by_record old new _ is (nothing_changed old.fixed)
-touched_keeps part.Persistent old new yes is = by_record old new _ is (nothing_changed old.fixed)
-touched_keeps part.NvData old new yes is = by_record old new _ is (nothing_changed old.fixed)
-touched_keeps part.NvCounter old new yes is = by_record old new _ is (nothing_changed old.fixed)
-touched_keeps part.NvAuthValue old new yes is = by_record old new _ is (nothing_changed old.fixed)
-touched_keeps part.NvDefined old new yes is = by_record old new _ is (nothing_changed old.fixed)
-touched_keeps part.NvUndefined old new yes is = by_record old new _ is (nothing_changed old.fixed)
-touched_keeps part.AuthValues old new yes (is, secrets) = by_record old new _ is (record { secrets = secrets; reset_count = refl; restart_count = refl })
-touched_keeps part.Lockout old new yes is = by_record old new _ is (same_keeps _ _ refl refl refl)
-touched_keeps part.Banks old new yes is = by_record old new _ is (same_keeps _ _ refl refl refl)
-touched_keeps part.Saved old new yes is = by_record old new _ is (same_keeps _ _ refl refl refl)
-touched_keeps part.DisableClear old new yes is = by_record old new _ is (same_keeps _ _ refl refl refl)
-touched_keeps part.Beginning old new yes is = absurd (false≢true yes)
-touched_keeps part.Cleared old new yes is = absurd (false≢true yes)
+unfolding keeps_counts
+touched_keeps part.Nothing old new holds is = by_record old new _ is (nothing_changed old.fixed)
+touched_keeps part.Sessions old new holds is = by_record old new _ is (nothing_changed old.fixed)
+touched_keeps part.Objects old new holds is = by_record old new _ is (nothing_changed old.fixed)
+touched_keeps part.SessionsAndObjects old new holds is = by_record old new _ is (nothing_changed old.fixed)
+touched_keeps part.Persistent old new holds is = by_record old new _ is (nothing_changed old.fixed)
+touched_keeps part.NvData old new holds is = by_record old new _ is (nothing_changed old.fixed)
+touched_keeps part.NvCounter old new holds is = by_record old new _ is (nothing_changed old.fixed)
+touched_keeps part.NvAuthValue old new holds is = by_record old new _ is (nothing_changed old.fixed)
+touched_keeps part.NvDefined old new holds is = by_record old new _ is (nothing_changed old.fixed)
+touched_keeps part.NvUndefined old new holds is = by_record old new _ is (nothing_changed old.fixed)
+touched_keeps part.AuthValues old new holds (is, secrets) = by_record old new _ is (record { secrets = secrets; reset_count = refl; restart_count = refl })
+touched_keeps part.Lockout old new holds is = by_record old new _ is (same_keeps _ _ refl refl refl)
+touched_keeps part.Banks old new holds is = by_record old new _ is (same_keeps _ _ refl refl refl)
+touched_keeps part.Saved old new holds is = by_record old new _ is (same_keeps _ _ refl refl refl)
+touched_keeps part.DisableClear old new holds is = by_record old new _ is (same_keeps _ _ refl refl refl)
+touched_keeps part.Beginning old new holds is = absurd (false≢true holds)
+touched_keeps part.Cleared old new holds is = absurd (false≢true holds)
 
 -- ---- commands
 
 part_keeps : (c : CommandCode) → code_number c ≢ code_number command.Startup → code_number c ≢ code_number command.Clear → keeps_counts (part_of c) ≡ true
+unfolding keeps_counts
 part_keeps command.Startup no_startup no_clear = absurd (no_startup refl)
 part_keeps command.Clear no_startup no_clear = absurd (no_clear refl)
 part_keeps _ no_startup no_clear = refl

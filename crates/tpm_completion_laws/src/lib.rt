@@ -24,7 +24,6 @@ pub fn context_laws()
 /// is none. Every command except TPM2_Startup and TPM2_Clear leaves the context valid, also
 /// TPM2_FlushContext of the object.
 #[inline(always)]
-#[tactic(auto, using(crate::proofs::Saving::saves_objects, crate::proofs::Loading::loads_objects, crate::proofs::Validity::stays_valid_through))]
 pub fn object_laws()
     ensures saved { SavesObjects }
     ensures loaded { LoadsObjects }
