@@ -141,29 +141,6 @@ loaded_by_fine r c (Ok token) is =
     choice LeavesFine _ _ (refused c 0x1cb) (with_session_fine c (place_named token.handle) 0 is (omega arith)) is
 loaded_by_fine r c (Err e) is = is
 
-loaded_fine : (r : Record) (c : Completion) (token : Token) → IsFine c → LeavesFine (object_loaded r c token)
-object_loaded_fine r c token is =
-    let place : ℕ = place_named token.handle in
-    choice_when LeavesFine _ _ (refused c 0x1cb)
-    (λ so. (
-    let same : token.context ≡ (object_held c place).context = eqb-true _ _ (and_right _ _ (and_right _ _ so)) in
-    let held : IsHeld (held_of (object_held c place)) = held_fine c is place in
-    with_object_fine c place (record { context = token.context; waits = 0 }) is
-    (record { context = omega (arith, same, held.context); waits = omega arith })
-    ))
-    is
-
-token_loaded_fine : (r : Record) (c : Completion) (token : Token) → IsFine c → LeavesFine (token_loaded r c token)
-token_loaded_fine r c token is =
-    choice LeavesFine _ (object_loaded r c token) _ (object_loaded_fine r c token is)
-    (choice LeavesFine _ (session_loaded r c token) _
-    (choice LeavesFine _ _ (refused c 0x1cb) (with_session_fine c (place_named token.handle) 0 is (omega arith)) is)
-    is)
-
-loaded_by_fine : (r : Record) (c : Completion) (token : Result Token Short) → IsFine c → LeavesFine (loaded_by r c token)
-loaded_by_fine r c (Ok token) is = token_loaded_fine r c token is
-loaded_by_fine r c (Err e) is = is
-
 loaded_fine : (r : Record) (c : Completion) (context : List ℕ) → IsFine c → LeavesFine (loaded r c context)
 unfolding loaded
 loaded_fine r c context is = loaded_by_fine r c (token_at c.start context) is
