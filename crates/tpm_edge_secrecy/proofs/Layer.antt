@@ -1,41 +1,42 @@
--- The completing layer reads nothing secret of a device, but whether three of its values are
--- empty.
+-- The completing layer reads nothing secret of a device, except whether three of its values are
+-- empty, and the objects of which it makes contexts.
 use Rattle.std.proofs.Common.{ap, refl, sym, ◌∙◌}
 use Rattle.std.proofs.lemmas.List.Folds.{fold-map}
 use Rattle.std.proofs.lemmas.List.{length-map}
 use Rattle.std.specs.Int.{w32}
-use Rattle.std.specs.Prelude.{Bool, Err, List, None, Ok, Option, Result, Some, [], cond, false, if◌then◌else◌, is_some, length, map, not, true, ℕ, ◌&&◌, ◌+◌, ◌++◌, ◌-◌, ◌/◌, ◌==◌, ◌^◌, ◌∷◌, ◌≡◌}
+use Rattle.std.specs.Option.{option_map_or}
+use Rattle.std.specs.Prelude.{Bool, Err, List, None, Ok, Option, Result, Some, [], cond, false, if◌then◌else◌, is_some, length, map, not, option_map, true, ℕ, ◌&&◌, ◌+◌, ◌++◌, ◌-◌, ◌/◌, ◌==◌, ◌^◌, ◌∷◌, ◌≡◌}
+use Rattle.tpm_actions_capability.specs.Elements.{object_element, object_elements}
 use Rattle.tpm_actions_capability.specs.declared.element.Element.{Element}
 use Rattle.tpm_bytes.specs.Numbers.{numbers_below}
 use Rattle.tpm_bytes.specs.Reading.{number_at, ◌>>=◌}
 use Rattle.tpm_bytes.specs.Writing.{sized_text}
 use Rattle.tpm_bytes.specs.declared.cursor.Short.{Short}
-use Rattle.tpm_completion.specs.Answer.{is_refusal}
+use Rattle.tpm_completion.specs.Answer.{is_refusal, success}
 use Rattle.tpm_completion.specs.Capability.{asked_at, capability_told, command_elements, handles_told, told_of}
 use Rattle.tpm_completion.specs.Command.{Command, plain_command}
-use Rattle.tpm_completion.specs.Completion.{forgotten, no_context, object_held, object_kept, session_context, session_kept}
-use Rattle.tpm_completion.specs.Context.{token_at}
-use Rattle.tpm_completion.specs.Handles.{is_in_state, object_shown, objects_shown, session_shown, sessions_shown}
+use Rattle.tpm_completion.specs.Completion.{forgotten, session_context, session_kept}
+use Rattle.tpm_completion.specs.Context.{names_session, token_at}
+use Rattle.tpm_completion.specs.Handles.{is_in_state, session_shown, sessions_shown}
 use Rattle.tpm_completion.specs.Hashing.{hash_row, hash_text, hierarchy_at, ticket_hierarchy, ticket_text}
 use Rattle.tpm_completion.specs.Listing.{element, listing}
 use Rattle.tpm_completion.specs.Properties.{active_count, attribute_if, count_elements, counter_count, identity_elements, index_count, is_counter, limit_elements, lockout_elements, object_count, permanent_attributes, property_elements, session_count, startup_attributes, values_set}
-use Rattle.tpm_completion.specs.Reply.{capability_asked, command_reply, listed, replied, reply, reply_by, row_served, save_asked, served, stands, stirred}
-use Rattle.tpm_completion.specs.Saving.{Reply, context_given, handle_given, loaded, loaded_by, next_number, object_loaded, object_numbered, object_saved, place_named, refused, saved, session_loaded, session_numbered, session_saved, token_loaded, with_object, with_session}
+use Rattle.tpm_completion.specs.Reply.{capability_asked, command_reply, listed, load_asked, replied, reply, reply_by, row_served, save_asked, served, stands, stirred}
+use Rattle.tpm_completion.specs.Saving.{Reply, handle_given, loaded, loaded_by, next_number, object_numbered, object_saved, place_named, refused, saved, session_loaded, session_numbered, session_saved, with_session}
 use Rattle.tpm_completion.specs.Testing.{incremental_row, test_parms_row, test_result_row}
 use Rattle.tpm_completion.specs.declared.capability.Asked.{Asked}
 use Rattle.tpm_completion.specs.declared.completion.Completion.{Completion}
-use Rattle.tpm_completion.specs.declared.completion.Held.{Held}
 use Rattle.tpm_completion.specs.declared.context.Token.{Token}
 use Rattle.tpm_containers.specs.Slots.{at_place}
-use Rattle.tpm_edge_secrecy.specs.Layer.{LayerAnswersAlike, LayerForgetsAlike, SetAlike}
+use Rattle.tpm_edge_secrecy.proofs.Contexts.{context_alike, same_bind, same_object, secrets_alike}
+use Rattle.tpm_edge_secrecy.specs.Layer.{LayerAnswersAlike, LayerForgetsAlike, SetAlike, command_saves, handle_saves, has_secret, saves_object, saves_secret}
 use Rattle.tpm_lockout.specs.Tries.{is_locked}
 use Rattle.tpm_mac.specs.Digest.{hash_of}
 use Rattle.tpm_nv.specs.Head.{head_of}
 use Rattle.tpm_nv.specs.Index.{NvIndex}
 use Rattle.tpm_nv.specs.declared.head.Head.{Head}
 use Rattle.tpm_object.specs.declared.object.Object.{Object}
-use Rattle.tpm_record.specs.Hierarchy.{secrets_of}
-use Rattle.tpm_record.specs.Objects.{object_at, object_handle}
+use Rattle.tpm_record.specs.Objects.{object_at}
 use Rattle.tpm_record.specs.Record.{Record}
 use Rattle.tpm_record.specs.declared.hierarchy.Secrets.{Secrets}
 use Rattle.tpm_record.specs.rows.Rows.{all_read, parameter}
@@ -49,10 +50,8 @@ use Rattle.tpm_types.specs.Buffer.{buffer_at}
 use Rattle.tpm_types.specs.Handle.{is_session, is_transient, numbered}
 use Rattle.tpm_types.specs.Limits.{data_limit, object_limit, persistent_limit, session_limit}
 use Rattle.tpm_types.specs.declared.handle.Handle.{Handle}
-use Rattle.tpm_types.specs.declared.handle.HierarchyHandle.{HierarchyHandle}
 use Rattle.tpm_types.specs.declared.refused.Refused.{Refused}
 use Rattle.tpm_completion.specs.declared.listing.Form.TheVariants as form
-use Rattle.tpm_types.specs.declared.handle.HierarchyHandle.TheVariants as hierarchy
 
 map_same : {A B : Type 0} (f g : A → B) → ((a : A) → f a ≡ g a) → (xs : List A) → map f xs ≡ map g xs
 map_same f g same [] = refl
@@ -68,9 +67,6 @@ counted n e = n + cond (is_counter e) 1 0
 module _ (s : Secrecy) (r : Record) where
   -- ---- what is there
 
-  object_there : (handle : Handle) → is_some (object_at (places (bare_object s) r.objects) handle) ≡ is_some (object_at r.objects handle)
-  object_there handle = ap is_some (object_at_bare s r.objects handle) ∙ is_some_of (bare_object s) (object_at r.objects handle)
-
   session_there : (handle : Handle) → is_some (session_at (places (bare_session s) r.sessions) handle) ≡ is_some (session_at r.sessions handle)
   session_there handle = ap is_some (session_at_bare s r.sessions handle) ∙ is_some_of (bare_session s) (session_at r.sessions handle)
 
@@ -79,10 +75,6 @@ module _ (s : Secrecy) (r : Record) where
 
   -- ---- what is remembered
 
-  object_kept_same : (c : Completion) (place : ℕ) → object_kept (without_secrets s r) c place ≡ object_kept r c place
-  unfolding object_kept
-  object_kept_same c place = ap (λ (there : Bool). if there then object_held c place else no_context) (object_there (object_handle place))
-
   session_kept_same : (c : Completion) (place : ℕ) → session_kept (without_secrets s r) c place ≡ session_kept r c place
   unfolding session_kept
   session_kept_same c place = ap (λ (there : Bool). if there then session_context c place else 0) (place_there place)
@@ -90,9 +82,7 @@ module _ (s : Secrecy) (r : Record) where
   pub forgotten_same : (c : Completion) → forgotten (without_secrets s r) c ≡ forgotten r c
   unfolding forgotten
   forgotten_same c =
-      ap (λ (objects : List Held). record c { objects = objects; sessions = map (session_kept (without_secrets s r) c) (numbers_below session_limit) })
-      (map_same (object_kept (without_secrets s r) c) (object_kept r c) (object_kept_same c) (numbers_below object_limit))
-      ∙ ap (λ (sessions : List ℕ). record c { objects = map (object_kept r c) (numbers_below object_limit); sessions = sessions })
+      ap (λ (sessions : List ℕ). record c { sessions = sessions })
       (map_same (session_kept (without_secrets s r) c) (session_kept r c) (session_kept_same c) (numbers_below session_limit))
 
   -- ---- counts
@@ -116,23 +106,25 @@ module _ (s : Secrecy) (r : Record) where
 
   -- ---- handles
 
-  object_shown_bare : (c : Completion) (place : ℕ) → object_shown (without_secrets s r) c place ≡ object_shown r c place
-  unfolding object_shown
-  object_shown_bare c place = ap (λ (x : List Element). if (object_held c place).waits == 0 then x else []) (object_same s r place)
-
   session_shown_bare : (c : Completion) (is_saved : Bool) (place : ℕ) → session_shown (without_secrets s r) c is_saved place ≡ session_shown r c is_saved place
   unfolding session_shown
   session_shown_bare c is_saved place = ap (λ (x : List Element). if is_in_state is_saved (session_context c place) then x else []) (session_same s r place)
 
-  objects_bare : (c : Completion) → objects_shown (without_secrets s r) c ≡ objects_shown r c
-  objects_bare c = of_places s r (object_shown (without_secrets s r) c) (object_shown r c) (object_shown_bare c) (numbers_below object_limit)
+  objects_bare : object_elements (without_secrets s r) ≡ object_elements r
+  objects_bare = of_places s r (object_element (without_secrets s r)) (object_element r) (object_same s r) (numbers_below object_limit)
 
   sessions_bare : (c : Completion) (is_saved : Bool) → sessions_shown (without_secrets s r) c is_saved ≡ sessions_shown r c is_saved
   sessions_bare c is_saved = of_places s r (session_shown (without_secrets s r) c is_saved) (session_shown r c is_saved) (session_shown_bare c is_saved) (numbers_below session_limit)
 
-same_bind : {A B E : Type 0} (x : Result A E) (f g : A → Result B E) → ((a : A) → f a ≡ g a) → (x >>= f) ≡ (x >>= g)
-same_bind (Ok a) f g same = same a
-same_bind (Err e) f g same = refl
+-- ---- choices whose condition is part of a premise
+
+if_same : {X : Type 0} (b rest : Bool) (x y z w : X) → b && rest ≡ false → (rest ≡ false → x ≡ y) → z ≡ w → (if b then x else z) ≡ (if b then y else w)
+if_same true rest x y z w free chosen left = chosen free
+if_same false rest x y z w free chosen left = left
+
+unless_same : {X : Type 0} (b rest : Bool) (x y z : X) → b && rest ≡ false → (rest ≡ false → x ≡ y) → (if not b then z else x) ≡ (if not b then z else y)
+unless_same true rest x y z free chosen = chosen free
+unless_same false rest x y z free chosen = refl
 
 -- the counts of a device, as they are listed
 abbrev counted_elements : (permanent startup indices loaded active objects persistent counters : ℕ) → List Element
@@ -156,48 +148,51 @@ module _ (s : Secrecy) (one other : Record) (differ : DifferInSecrets s one othe
   through : {X : Type 0} (f : Record → X) → ((r : Record) → f (without_secrets s r) ≡ f r) → f one ≡ f other
   through f same = sym (same one) ∙ ap f differ ∙ same other
 
-  object_alike : (handle : Handle) → is_some (object_at one.objects handle) ≡ is_some (object_at other.objects handle)
-  object_alike handle = through (λ (r : Record). is_some (object_at r.objects handle)) (λ (r : Record). object_there s r handle)
-
   session_alike : (handle : Handle) → is_some (session_at one.sessions handle) ≡ is_some (session_at other.sessions handle)
   session_alike handle = through (λ (r : Record). is_some (session_at r.sessions handle)) (λ (r : Record). session_there s r handle)
 
-  objects_alike : (c : Completion) → objects_shown one c ≡ objects_shown other c
-  objects_alike c = through (λ (r : Record). objects_shown r c) (λ (r : Record). objects_bare s r c)
+  objects_alike : object_elements one ≡ object_elements other
+  objects_alike = through object_elements (objects_bare s)
 
   sessions_alike : (c : Completion) (is_saved : Bool) → sessions_shown one c is_saved ≡ sessions_shown other c is_saved
   sessions_alike c is_saved = through (λ (r : Record). sessions_shown r c is_saved) (λ (r : Record). sessions_bare s r c is_saved)
 
-  secrets_alike : (of : HierarchyHandle) → secrets_of one.fixed.hierarchies of ≡ secrets_of other.fixed.hierarchies of
-  secrets_alike hierarchy.Owner = ap (λ (r : Record). r.fixed.hierarchies.owner.secrets) differ
-  secrets_alike hierarchy.Endorsement = ap (λ (r : Record). r.fixed.hierarchies.endorsement.secrets) differ
-  secrets_alike hierarchy.Platform = ap (λ (r : Record). r.fixed.hierarchies.platform.secrets) differ
-  secrets_alike hierarchy.Null = ap (λ (r : Record). r.fixed.hierarchies.null) differ
-
   -- ---- contexts
 
-  saved_alike : (c : Completion) (handle : Handle) → saved one c handle ≡ saved other c handle
-  unfolding saved
-  saved_alike c handle =
-      ap (λ (x : Reply). if is_transient handle then x else (if is_session handle then session_saved one c handle (session_context c (place_named handle)) else refused c 0x184)) (of_object (object_held c (place_named handle)))
-      ∙ ap (λ (x : Reply). if is_transient handle then object_saved other c handle (object_held c (place_named handle)) else (if is_session handle then x else refused c 0x184)) (of_session (session_context c (place_named handle)))
+  object_saved_alike : (c : Completion) (a b : Option Object) → option_map (bare_object s) a ≡ option_map (bare_object s) b → is_some (next_number c) && option_map_or (has_secret s) a false ≡ false → object_saved one c a ≡ object_saved other c b
+  object_saved_alike c None None same free = refl
+  object_saved_alike c None (Some b) same free = absurd cc
+  object_saved_alike c (Some a) None same free = absurd cc
+  object_saved_alike c (Some a) (Some b) same free = by (next_number c) free
     where
-      of_object : (held : Held) → object_saved one c handle held ≡ object_saved other c handle held
-      of_object held = ap (λ (there : Bool). if not (there && (held.waits == 0)) then refused c 0x910 else (if held.context == 0 then object_numbered c handle (next_number c) else context_given c handle held.context)) (object_alike handle)
+      bare_or : Option Object → Object
+      bare_or None = a
+      bare_or (Some o) = o
 
+      by : (number : Option ℕ) → is_some number && has_secret s a ≡ false → object_numbered one c a number ≡ object_numbered other c b number
+      by None free = refl
+      by (Some number) free =
+          ap (λ (x : List ℕ). let y : Reply = record { response = success x; after = record c { count = number } } in y) (context_alike s one other differ c number a)
+          ∙ ap (λ (o : Object). object_numbered other c o (Some number)) (same_object s a b (ap bare_or same) free)
+
+  object_at_alike : (handle : Handle) → option_map (bare_object s) (object_at one.objects handle) ≡ option_map (bare_object s) (object_at other.objects handle)
+  object_at_alike handle =
+      sym (object_at_bare s one.objects handle)
+      ∙ ap (λ (r : Record). object_at r.objects handle) differ
+      ∙ object_at_bare s other.objects handle
+
+  saved_alike : (c : Completion) (handle : Handle) → saves_object s one c handle ≡ false → saved one c handle ≡ saved other c handle
+  unfolding saved
+  saved_alike c handle free =
+      if_same (is_transient handle) (is_some (next_number c) && option_map_or (has_secret s) (object_at one.objects handle) false) _ _ _ _ free
+      (object_saved_alike c (object_at one.objects handle) (object_at other.objects handle) (object_at_alike handle))
+      (ap (λ (x : Reply). if is_session handle then x else refused c 0x184) (of_session (session_context c (place_named handle))))
+    where
       of_session : (context : ℕ) → session_saved one c handle context ≡ session_saved other c handle context
       of_session context = ap (λ (there : Bool). if there && (context == 0) then session_numbered c handle (next_number c) else refused c 0x910) (session_alike handle)
 
-  token_alike : (c : Completion) (token : Token) → token_loaded one c token ≡ token_loaded other c token
-  token_alike c token =
-      ap (λ (x : Reply). if is_transient token.handle then x else (if is_session token.handle then session_loaded one c token else refused c 0x1cb)) of_object
-      ∙ ap (λ (x : Reply). if is_transient token.handle then object_loaded other c token else (if is_session token.handle then x else refused c 0x1cb)) of_session
-    where
-      of_object : object_loaded one c token ≡ object_loaded other c token
-      of_object = ap (λ (there : Bool). if there && (not (token.context == 0) && (token.context == (object_held c (place_named token.handle)).context)) then handle_given (with_object c (place_named token.handle) (record { context = token.context; waits = 0 })) token.handle else refused c 0x1cb) (object_alike token.handle)
-
-      of_session : session_loaded one c token ≡ session_loaded other c token
-      of_session = ap (λ (there : Bool). if there && (not (token.context == 0) && (token.context == session_context c (place_named token.handle))) then handle_given (with_session c (place_named token.handle) 0) token.handle else refused c 0x1cb) (session_alike token.handle)
+  token_alike : (c : Completion) (token : Token) → session_loaded one c token ≡ session_loaded other c token
+  token_alike c token = ap (λ (there : Bool). if there && (not (token.context == 0) && (token.context == session_context c (place_named token.handle))) then handle_given (with_session c (place_named token.handle) 0) token.handle else refused c 0x1cb) (session_alike token.handle)
 
   loaded_alike : (c : Completion) (context : List ℕ) → loaded one c context ≡ loaded other c context
   unfolding loaded
@@ -222,14 +217,14 @@ module _ (s : Secrecy) (one other : Record) (differ : DifferInSecrets s one othe
   counts_alike : (c : Completion) → count_elements one c ≡ count_elements other c
   unfolding count_elements
   counts_alike c =
-      ap (λ (n : ℕ). counted_elements n (startup_attributes one.fixed) (index_count one.nv) (session_count one c false) (active_count one c) (object_count one c) (length one.persistent) (counter_count one.nv)) permanent_alike
-      ∙ ap (λ (r : Record). counted_elements (permanent_attributes other.fixed) (startup_attributes r.fixed) (index_count one.nv) (session_count one c false) (active_count one c) (object_count one c) (length one.persistent) (counter_count one.nv)) differ
-      ∙ ap (λ (n : ℕ). counted_elements (permanent_attributes other.fixed) (startup_attributes other.fixed) n (session_count one c false) (active_count one c) (object_count one c) (length one.persistent) (counter_count one.nv)) (through (λ (r : Record). index_count r.nv) (λ (r : Record). index_count_same s r))
-      ∙ ap (λ (xs : List Element). counted_elements (permanent_attributes other.fixed) (startup_attributes other.fixed) (index_count other.nv) (length xs) (active_count one c) (object_count one c) (length one.persistent) (counter_count one.nv)) (sessions_alike c false)
-      ∙ ap (λ (n : ℕ). counted_elements (permanent_attributes other.fixed) (startup_attributes other.fixed) (index_count other.nv) (session_count other c false) n (object_count one c) (length one.persistent) (counter_count one.nv)) (active_alike c)
-      ∙ ap (λ (xs : List Element). counted_elements (permanent_attributes other.fixed) (startup_attributes other.fixed) (index_count other.nv) (session_count other c false) (active_count other c) (length xs) (length one.persistent) (counter_count one.nv)) (objects_alike c)
-      ∙ ap (λ (n : ℕ). counted_elements (permanent_attributes other.fixed) (startup_attributes other.fixed) (index_count other.nv) (session_count other c false) (active_count other c) (object_count other c) n (counter_count one.nv)) (through (λ (r : Record). length r.persistent) (λ (r : Record). persistent_count_same s r))
-      ∙ ap (λ (n : ℕ). counted_elements (permanent_attributes other.fixed) (startup_attributes other.fixed) (index_count other.nv) (session_count other c false) (active_count other c) (object_count other c) (length other.persistent) n) (through (λ (r : Record). counter_count r.nv) (λ (r : Record). counter_count_same s r))
+      ap (λ (n : ℕ). counted_elements n (startup_attributes one.fixed) (index_count one.nv) (session_count one c false) (active_count one c) (object_count one) (length one.persistent) (counter_count one.nv)) permanent_alike
+      ∙ ap (λ (r : Record). counted_elements (permanent_attributes other.fixed) (startup_attributes r.fixed) (index_count one.nv) (session_count one c false) (active_count one c) (object_count one) (length one.persistent) (counter_count one.nv)) differ
+      ∙ ap (λ (n : ℕ). counted_elements (permanent_attributes other.fixed) (startup_attributes other.fixed) n (session_count one c false) (active_count one c) (object_count one) (length one.persistent) (counter_count one.nv)) (through (λ (r : Record). index_count r.nv) (λ (r : Record). index_count_same s r))
+      ∙ ap (λ (xs : List Element). counted_elements (permanent_attributes other.fixed) (startup_attributes other.fixed) (index_count other.nv) (length xs) (active_count one c) (object_count one) (length one.persistent) (counter_count one.nv)) (sessions_alike c false)
+      ∙ ap (λ (n : ℕ). counted_elements (permanent_attributes other.fixed) (startup_attributes other.fixed) (index_count other.nv) (session_count other c false) n (object_count one) (length one.persistent) (counter_count one.nv)) (active_alike c)
+      ∙ ap (λ (xs : List Element). counted_elements (permanent_attributes other.fixed) (startup_attributes other.fixed) (index_count other.nv) (session_count other c false) (active_count other c) (length xs) (length one.persistent) (counter_count one.nv)) objects_alike
+      ∙ ap (λ (n : ℕ). counted_elements (permanent_attributes other.fixed) (startup_attributes other.fixed) (index_count other.nv) (session_count other c false) (active_count other c) (object_count other) n (counter_count one.nv)) (through (λ (r : Record). length r.persistent) (λ (r : Record). persistent_count_same s r))
+      ∙ ap (λ (n : ℕ). counted_elements (permanent_attributes other.fixed) (startup_attributes other.fixed) (index_count other.nv) (session_count other c false) (active_count other c) (object_count other) (length other.persistent) n) (through (λ (r : Record). counter_count r.nv) (λ (r : Record). counter_count_same s r))
 
   properties_alike : (c : Completion) → property_elements one c ≡ property_elements other c
   unfolding property_elements
@@ -240,7 +235,7 @@ module _ (s : Secrecy) (one other : Record) (differ : DifferInSecrets s one othe
   -- ---- lists
 
   handles_alike : (c : Completion) (asked : Asked) (kind : ℕ) → handles_told one c asked kind ≡ handles_told other c asked kind
-  handles_alike c asked kind = rw (objects_alike c, sessions_alike c false, sessions_alike c true) refl
+  handles_alike c asked kind = rw (sessions_alike c false, sessions_alike c true) refl
 
   told_alike : (c : Completion) (asked : Asked) → told_of one c asked ≡ told_of other c asked
   told_alike c asked =
@@ -261,43 +256,47 @@ module _ (s : Secrecy) (one other : Record) (differ : DifferInSecrets s one othe
       same_bind (parameter 2 (hash_at message.1)) _ _ (λ hash.
       same_bind (parameter 3 (hierarchy_at hash.1)) _ _ (λ asked.
       same_bind (all_read asked.1) _ _ (λ ended.
-      ap (λ (x : Secrets). let z : Result (List ℕ) Refused = Ok (sized_text (hash_of hash.0 message.0) ++ ticket_text (ticket_hierarchy asked.0 message.0) x.proof (hash_of hash.0 message.0)) in z) (secrets_alike (ticket_hierarchy asked.0 message.0))))))
+      ap (λ (x : Secrets). let z : Result (List ℕ) Refused = Ok (sized_text (hash_of hash.0 message.0) ++ ticket_text (ticket_hierarchy asked.0 message.0) x.proof (hash_of hash.0 message.0)) in z) (secrets_alike s one other differ (ticket_hierarchy asked.0 message.0))))))
 
   row_alike : (c : Completion) (command : Command) (response : List ℕ) → row_served one c command response ≡ row_served other c command response
   row_alike c command response =
       ap (λ (x : Result (List ℕ) Refused). if command.code == 0x142 then replied c (incremental_row command.parameters) else (if command.code == 0x17c then replied c (test_result_row command.parameters) else (if command.code == 0x17d then replied c x else (if command.code == 0x18a then replied c (test_parms_row command.parameters) else stands c response)))) (hash_alike command.parameters)
 
-  served_alike : (c : Completion) (command : Command) (response : List ℕ) → served one c command response ≡ served other c command response
-  served_alike c command response =
-      ap (λ (x : Reply). if command.code == 0x146 then stirred c command.parameters response else (if command.code == 0x161 then x else (if command.code == 0x162 then save_asked one c response (number_at w32 command.parameters) else row_served one c command response))) (loaded_alike c command.parameters)
-      ∙ ap (λ (x : Reply). if command.code == 0x146 then stirred c command.parameters response else (if command.code == 0x161 then loaded other c command.parameters else (if command.code == 0x162 then x else row_served one c command response))) (by (number_at w32 command.parameters))
-      ∙ ap (λ (x : Reply). if command.code == 0x146 then stirred c command.parameters response else (if command.code == 0x161 then loaded other c command.parameters else (if command.code == 0x162 then save_asked other c response (number_at w32 command.parameters) else x))) (row_alike c command response)
-    where
-      by : (x : Result (ℕ × List ℕ) Short) → save_asked one c response x ≡ save_asked other c response x
-      by (Ok handle) = ap (λ (x : Reply). if length handle.1 == 0 then x else stands c response) (saved_alike c (numbered handle.0))
-      by (Err e) = refl
+  load_alike : (c : Completion) (context response : List ℕ) → load_asked one c context response ≡ load_asked other c context response
+  load_alike c context response = ap (λ (x : Reply). if names_session context then x else stands c response) (loaded_alike c context)
+
+  save_alike : (c : Completion) (response : List ℕ) (x : Result (ℕ × List ℕ) Short) → handle_saves s one c x ≡ false → save_asked one c response x ≡ save_asked other c response x
+  save_alike c response (Ok handle) free = if_same (length handle.1 == 0) (saves_object s one c (numbered handle.0)) _ _ _ _ free (saved_alike c (numbered handle.0)) refl
+  save_alike c response (Err e) free = refl
+
+  served_alike : (c : Completion) (command : Command) (response : List ℕ) → command_saves s one c (Ok command) ≡ false → served one c command response ≡ served other c command response
+  served_alike c command response free =
+      ap (λ (x : Reply). if command.code == 0x146 then stirred c command.parameters response else (if command.code == 0x161 then x else (if command.code == 0x162 then save_asked one c response (number_at w32 command.parameters) else row_served one c command response))) (load_alike c command.parameters response)
+      ∙ ap (λ (x : Reply). if command.code == 0x146 then stirred c command.parameters response else (if command.code == 0x161 then load_asked other c command.parameters response else x))
+      (if_same (command.code == 0x162) (handle_saves s one c (number_at w32 command.parameters)) _ _ _ _ free (save_alike c response (number_at w32 command.parameters)) (row_alike c command response))
 
   asked_alike : (c : Completion) (response : List ℕ) (was_told : Bool) (x : Result Asked Short) → capability_asked one c response was_told x ≡ capability_asked other c response was_told x
   asked_alike c response was_told (Ok asked) = ap (listed c response) (capability_alike c asked was_told response)
   asked_alike c response was_told (Err e) = refl
 
-  command_alike : (c : Completion) (command : Command) (response : List ℕ) (was_told : Bool) → command_reply one c command response was_told ≡ command_reply other c command response was_told
+  command_alike : (c : Completion) (command : Command) (response : List ℕ) (was_told : Bool) → one.fixed.started && (is_refusal 0x143 response && command_saves s one c (Ok command)) ≡ false → command_reply one c command response was_told ≡ command_reply other c command response was_told
   unfolding command_reply
-  command_alike c command response was_told =
-      ap (λ (r : Record). if not r.fixed.started then stands c response else (if is_refusal 0x143 response then served one c command response else (if command.code == 0x17a then capability_asked one c response was_told (asked_at command.parameters) else stands c response))) differ
-      ∙ ap (λ (x : Reply). if not other.fixed.started then stands c response else (if is_refusal 0x143 response then x else (if command.code == 0x17a then capability_asked one c response was_told (asked_at command.parameters) else stands c response))) (served_alike c command response)
-      ∙ ap (λ (x : Reply). if not other.fixed.started then stands c response else (if is_refusal 0x143 response then served other c command response else (if command.code == 0x17a then x else stands c response))) (asked_alike c response was_told (asked_at command.parameters))
+  command_alike c command response was_told free =
+      unless_same one.fixed.started (is_refusal 0x143 response && command_saves s one c (Ok command)) _ _ (stands c response) free (λ refused_free.
+      if_same (is_refusal 0x143 response) (command_saves s one c (Ok command)) _ _ _ _ refused_free (served_alike c command response)
+      (ap (λ (x : Reply). if command.code == 0x17a then x else stands c response) (asked_alike c response was_told (asked_at command.parameters))))
+      ∙ ap (λ (r : Record). if not r.fixed.started then stands c response else (if is_refusal 0x143 response then served other c command response else (if command.code == 0x17a then capability_asked other c response was_told (asked_at command.parameters) else stands c response))) differ
 
-  pub reply_alike : (c : Completion) (buffer response : List ℕ) (was_told : Bool) → reply one c buffer response was_told ≡ reply other c buffer response was_told
+  pub reply_alike : (c : Completion) (buffer response : List ℕ) (was_told : Bool) → saves_secret s one c buffer response ≡ false → reply one c buffer response was_told ≡ reply other c buffer response was_told
   unfolding reply
   reply_alike c buffer response was_told = by (plain_command buffer)
     where
-      by : (x : Result Command Short) → reply_by one c buffer response was_told x ≡ reply_by other c buffer response was_told x
-      by (Ok command) = command_alike c command response was_told
-      by (Err e) = refl
+      by : (x : Result Command Short) → one.fixed.started && (is_refusal 0x143 response && command_saves s one c x) ≡ false → reply_by one c buffer response was_told x ≡ reply_by other c buffer response was_told x
+      by (Ok command) free = command_alike c command response was_told free
+      by (Err e) free = refl
 
 pub layer_answers_alike : LayerAnswersAlike
-layer_answers_alike s one other c buffer response was_told differ alike = reply_alike s one other differ alike c buffer response was_told
+layer_answers_alike s one other c buffer response was_told differ alike free = reply_alike s one other differ alike c buffer response was_told free
 
 pub layer_forgets_alike : LayerForgetsAlike
 layer_forgets_alike s r c = forgotten_same s r c

@@ -1,4 +1,4 @@
+pub mod Contexts
 pub mod Layer
-pub mod Repeated
 pub mod Completed
 pub mod Opened
