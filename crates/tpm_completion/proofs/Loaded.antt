@@ -1,8 +1,7 @@
 -- Which contexts of objects are loaded.
-use Rattle.std.proofs.Common.{◌≡◌, ℕ, ◌<◌, ◌^◌, List, ◌++◌, Ok, refl, sym, ap, ◌∙◌}
+use Rattle.std.proofs.Common.{◌≡◌, ℕ, List, ◌++◌, refl, sym, ap, ◌∙◌}
 use Rattle.tpm_bytes.specs.Writing.{sized_text}
 use Rattle.tpm_image_text.specs.Body.{object_fields_text}
-use Rattle.tpm_object.specs.Object.{IsObject}
 use Rattle.tpm_object.specs.declared.object.Object.{Object}
 use Rattle.tpm_record.specs.declared.hierarchy.Hierarchies.{Hierarchies}
 use Rattle.tpm_context.proofs.ContextLaws.{opens_only_as_made}

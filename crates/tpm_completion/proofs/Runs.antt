@@ -1,5 +1,5 @@
 -- What the device executes for one event leads from its record to the one after the event.
-use Rattle.std.proofs.Common.{◌≡◌, ℕ, Bool, true, false, List, [], Option, Some, None, Result, Ok, Err, refl, ap}
+use Rattle.std.proofs.Common.{◌≡◌, ℕ, Bool, true, false, List, Option, Some, None, Result, Ok, Err, refl, ap}
 use Rattle.tpm_machine.specs.Executions.{Leads}
 use Rattle.tpm_machine.proofs.Following.{stretch_follows}
 use Rattle.tpm_object.specs.declared.object.Object.{Object}

@@ -14,7 +14,7 @@ use Rattle.tpm_context.specs.Context.{context_text as object_context_text}
 use Rattle.tpm_context.specs.declared.binding.Binding.{Binding}
 use Rattle.tpm_completion.specs.Answer.{refusal, success}
 use Rattle.tpm_completion.specs.Completion.{session_context}
-use Rattle.tpm_completion.specs.Context.{context_text, names_session, token_at}
+use Rattle.tpm_completion.specs.Context.{context_text, token_at}
 use Rattle.tpm_completion.specs.declared.completion.Completion.{Completion}
 use Rattle.tpm_completion.specs.declared.context.Token.{Token}
 

@@ -19,7 +19,6 @@ pub fn runs_follow()
 /// A context of an object contains the object that was saved, as long as the start of the layer,
 /// the proof of the object's hierarchy and the counts to which the object is bound are the same.
 /// Whatever is loaded was made with the same ones, or the HMAC has a collision.
-#[tactic(auto, using(crate::proofs::Loaded::loads_what_was_saved, crate::proofs::Loaded::loads_only_what_was_made))]
 pub fn loading_laws()
     ensures again { LoadsWhatWasSaved }
     ensures only { LoadsOnlyWhatWasMade }

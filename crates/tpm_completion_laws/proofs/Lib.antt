@@ -1,3 +1,6 @@
 pub mod Contexts
 pub mod Listed
-pub mod Waiting
+pub mod Buffers
+pub mod Saving
+pub mod Loading
+pub mod Validity

@@ -1,3 +1,3 @@
 pub mod Contexts
 pub mod Listed
-pub mod Waiting
+pub mod Objects

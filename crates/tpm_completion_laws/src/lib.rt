@@ -1,7 +1,6 @@
 #![tactic(auto)]
 
-//! Laws of the completing layer: of the contexts that it loads, of the object that gives its place
-//! up, and of what it lists.
+//! Laws of the completing layer: on the contexts that it makes and loads, and on what it lists.
 //!
 //! The laws are of the definitions of tpm_completion: each is the contract of a function that does
 //! nothing. No crate uses this one.
@@ -9,9 +8,9 @@
 ghost use Rattle.tpm_completion_laws.specs.Contexts.{IsLoadedOnce, RefusesAnotherStart};
 ghost use Rattle.tpm_completion_laws.specs.Listed.{CommandsAscend, CountsAddUp, CountsAll, ListsItsOwn};
 ghost use Rattle.tpm_completion_laws.specs.Listed.{PcrPropertiesHold, PropertiesAscend, ServesItsOwn};
-ghost use Rattle.tpm_completion_laws.specs.Waiting.{GivesUpTheLongest};
+ghost use Rattle.tpm_completion_laws.specs.Objects.{LoadsObjects, SavesObjects, StaysValidThrough};
 
-/// A session's context is loaded once, and refused from then on. A context of another start is
+/// The context of a session is loaded once, and refused from then on. One of another start is
 /// always refused.
 #[inline(always)]
 #[tactic(auto, using(crate::proofs::Contexts::is_loaded_once, crate::proofs::Contexts::refuses_another_start))]
@@ -20,11 +19,15 @@ pub fn context_laws()
     ensures start { RefusesAnotherStart }
 {}
 
-/// The object that gives its place up waits, and no object has waited longer.
+/// TPM2_ContextSave of an object changes nothing on the device except the time. TPM2_ContextLoad of
+/// the context brings back the same object under a free handle, or is refused by OBJECT_MEMORY if
+/// all slots are taken. Every command except TPM2_Startup and TPM2_Clear leaves the context valid,
+/// also TPM2_FlushContext of the object.
 #[inline(always)]
-#[tactic(auto, using(crate::proofs::Waiting::gives_up_the_longest))]
-pub fn waiting_laws()
-    ensures { GivesUpTheLongest }
+pub fn object_laws()
+    ensures saved { SavesObjects }
+    ensures loaded { LoadsObjects }
+    ensures valid { StaysValidThrough }
 {}
 
 /// The layer serves no command but its own, and lists and counts each of them. Commands and

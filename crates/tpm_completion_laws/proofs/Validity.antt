@@ -1,0 +1,127 @@
+-- Which commands leave contexts valid.
+use Rattle.std.proofs.Common.{◌≡◌, ◌≢◌, ℕ, Bool, true, false, List, Result, Ok, Err, IfOk, refl, sym, ap, subst, ◌∙◌}
+use Rattle.std.proofs.lemmas.Bool.{false≢true}
+use Rattle.tpm_commands.specs.CommandCode.{code_number, part_of}
+use Rattle.tpm_commands.specs.Part as part
+use Rattle.tpm_commands.specs.Part.{Part}
+use Rattle.tpm_commands.specs.declared.command_code.CommandCode.{CommandCode}
+use Rattle.tpm_commands.specs.declared.command_code.CommandCode.TheVariants as command
+use Rattle.tpm_record.specs.Hierarchy.{secrets_of}
+use Rattle.tpm_record.specs.Record.{Record}
+use Rattle.tpm_record.specs.Tick.{ticked}
+use Rattle.tpm_record.specs.declared.fixed.Fixed.{Fixed}
+use Rattle.tpm_record.specs.declared.hierarchy.Hierarchies.{Hierarchies}
+use Rattle.tpm_record.specs.declared.hierarchy.Secrets.{Secrets}
+use Rattle.tpm_record.specs.rows.Rows.{Success}
+use Rattle.tpm_step.proofs.rows.Acceptance.{accepted_is}
+use Rattle.tpm_step.proofs.rows.Leaving.{success_leaves}
+use Rattle.tpm_step.proofs.rows.Table.{row_touches}
+use Rattle.tpm_step.specs.Step.{Accepted, accepted, stepped_of, success_step}
+use Rattle.tpm_step.specs.Table.{row_of}
+use Rattle.tpm_step.specs.declared.refused_command.RefusedCommand.{RefusedCommand}
+use Rattle.tpm_step.specs.rows.Acceptance.{IsAcceptance, LeavesEffect}
+use Rattle.tpm_step.specs.rows.Footprint.{KeepsSecrets, Touches}
+use Rattle.tpm_context.specs.Meaning.{restart_of}
+use Rattle.tpm_context.specs.declared.binding.Binding.{Binding}
+use Rattle.tpm_completion.specs.Saving.{binding_of}
+use Rattle.tpm_completion.specs.declared.completion.Completion.{Completion}
+use Rattle.tpm_completion_laws.specs.Objects.{StaysValidThrough}
+
+-- The proofs of the hierarchies and the counts are the same.
+record Keeps (old new : Fixed) : Type 0 where
+  secrets : KeepsSecrets old.hierarchies new.hierarchies
+  reset_count : new.reset_count ≡ old.reset_count
+  restart_count : new.restart_count ≡ old.restart_count
+
+then_keeps : (a b c : Fixed) → Keeps a b → Keeps b c → Keeps a c
+then_keeps a b c first second = record {
+  secrets = λ h. second.secrets h ∙ first.secrets h;
+  reset_count = second.reset_count ∙ first.reset_count;
+  restart_count = second.restart_count ∙ first.restart_count;
+}
+
+-- a record whose fixed part differs from another's only in what does not count
+same_keeps : (old new : Fixed) → new.hierarchies ≡ old.hierarchies → new.reset_count ≡ old.reset_count → new.restart_count ≡ old.restart_count → Keeps old new
+same_keeps old new same reset restart = record {
+  secrets = λ h. ap (λ (x : Hierarchies). secrets_of x h) same;
+  reset_count = reset;
+  restart_count = restart;
+}
+
+-- ---- parts of the state
+
+-- whether a success that touches this part keeps the proofs and the counts
+keeps_counts : Part → Bool
+keeps_counts part.Beginning = false
+keeps_counts part.Cleared = false
+keeps_counts _ = true
+
+abbrev Equal : Record → Record → Type 0
+Equal old new = Keeps old.fixed new.fixed
+
+by_record : (old new other : Record) → new ≡ other → Keeps old.fixed other.fixed → Equal old new
+by_record old new other is keeps = subst (λ (r : Record). Keeps old.fixed r.fixed) (sym is) keeps
+
+nothing_changed : (f : Fixed) → Keeps f f
+nothing_changed f = same_keeps f f refl refl refl
+
+touched_keeps : (p : Part) (old new : Record) → keeps_counts p ≡ true → Touches p old new → Equal old new
+unfolding keeps_counts
+touched_keeps part.Nothing old new holds is = by_record old new _ is (nothing_changed old.fixed)
+touched_keeps part.Sessions old new holds is = by_record old new _ is (nothing_changed old.fixed)
+touched_keeps part.Objects old new holds is = by_record old new _ is (nothing_changed old.fixed)
+touched_keeps part.SessionsAndObjects old new holds is = by_record old new _ is (nothing_changed old.fixed)
+touched_keeps part.Persistent old new holds is = by_record old new _ is (nothing_changed old.fixed)
+touched_keeps part.NvData old new holds is = by_record old new _ is (nothing_changed old.fixed)
+touched_keeps part.NvCounter old new holds is = by_record old new _ is (nothing_changed old.fixed)
+touched_keeps part.NvAuthValue old new holds is = by_record old new _ is (nothing_changed old.fixed)
+touched_keeps part.NvDefined old new holds is = by_record old new _ is (nothing_changed old.fixed)
+touched_keeps part.NvUndefined old new holds is = by_record old new _ is (nothing_changed old.fixed)
+touched_keeps part.AuthValues old new holds (is, secrets) = by_record old new _ is (record { secrets = secrets; reset_count = refl; restart_count = refl })
+touched_keeps part.Lockout old new holds is = by_record old new _ is (same_keeps _ _ refl refl refl)
+touched_keeps part.Banks old new holds is = by_record old new _ is (same_keeps _ _ refl refl refl)
+touched_keeps part.Saved old new holds is = by_record old new _ is (same_keeps _ _ refl refl refl)
+touched_keeps part.DisableClear old new holds is = by_record old new _ is (same_keeps _ _ refl refl refl)
+touched_keeps part.Beginning old new holds is = absurd (false≢true holds)
+touched_keeps part.Cleared old new holds is = absurd (false≢true holds)
+
+-- ---- commands
+
+part_keeps : (c : CommandCode) → code_number c ≢ code_number command.Startup → code_number c ≢ code_number command.Clear → keeps_counts (part_of c) ≡ true
+unfolding keeps_counts
+part_keeps command.Startup no_startup no_clear = absurd (no_startup refl)
+part_keeps command.Clear no_startup no_clear = absurd (no_clear refl)
+part_keeps _ no_startup no_clear = refl
+
+left_keeps : (old new : Record) → LeavesEffect old new → Equal old new
+left_keeps old new is = by_record old new _ is (same_keeps _ _ refl refl refl)
+
+row_keeps : (t : Record) (a : Accepted) → row_of t a.command.code a.request ≡ Ok a.success → keeps_counts (part_of a.command.code) ≡ true → Equal t a.success.after
+row_keeps t a row keeps =
+    touched_keeps (part_of a.command.code) t a.success.after keeps
+    (subst (λ (x : Result Success _). IfOk x (λ s. Touches (part_of a.command.code) t s.after)) row (row_touches t a.command.code a.request))
+
+stepped_keeps : (t : Record) (locality : ℕ) (random : List ℕ) (x : Result Accepted RefusedCommand) → IfOk x (IsAcceptance t locality random)
+    → (stepped_of t random x).row.code ≢ code_number command.Startup → (stepped_of t random x).row.code ≢ code_number command.Clear
+    → Equal t (stepped_of t random x).after
+stepped_keeps t locality random (Ok a) is no_startup no_clear =
+    then_keeps t.fixed a.success.after.fixed (success_step a random).after.fixed
+    (row_keeps t a is.row (part_keeps a.command.code no_startup no_clear))
+    (left_keeps a.success.after (success_step a random).after (success_leaves a random))
+stepped_keeps t locality random (Err e) is no_startup no_clear = same_keeps _ _ refl refl refl
+
+same_binding : (r later : Record) (c : Completion) → later.fixed.reset_count ≡ r.fixed.reset_count → later.fixed.restart_count ≡ r.fixed.restart_count → binding_of later c ≡ binding_of r c
+same_binding r later c reset restart = rw (reset, restart) refl
+
+pub stays_valid_through : StaysValidThrough
+stays_valid_through r c object buffer locality elapsed random no_startup no_clear =
+    let t = ticked r elapsed in
+    let x = accepted t buffer locality random in
+    let keeps = stepped_keeps t locality random x (accepted_is t buffer locality random) no_startup no_clear in
+    record {
+      proof = ap (λ (s : Secrets). s.proof) (keeps.secrets object.hierarchy);
+      start = refl;
+      reset_count = keeps.reset_count;
+      restart_count = ap (λ (b : Binding). restart_of b object)
+          (same_binding r (stepped_of t random x).after c keeps.reset_count keeps.restart_count);
+    }

@@ -1,0 +1,100 @@
+-- What TPM2_ContextSave and TPM2_ContextLoad of an object do, as whole commands on a device with the
+-- layer. TPM 2.0 Library, Part 3, sections 28.2 and 28.3.
+use Rattle.std.specs.Prelude.{◌≡◌, ◌≢◌, ℕ, ◌+◌, ◌-◌, ◌<◌, ◌^◌, true, List, Option, Some, None}
+use Rattle.std.specs.Int.{w32, to_be_bytes}
+use Rattle.tpm_object.specs.Object.{IsObject}
+use Rattle.tpm_object.specs.declared.object.Object.{Object}
+use Rattle.tpm_types.specs.Handle.{is_transient}
+use Rattle.tpm_types.specs.declared.handle.Handle.{Handle}
+use Rattle.tpm_commands.specs.CommandCode.{code_number}
+use Rattle.tpm_commands.specs.declared.command_code.CommandCode.TheVariants as command
+use Rattle.tpm_record.specs.IsRecord.{IsRecord}
+use Rattle.tpm_record.specs.Objects.{next_handle, object_at}
+use Rattle.tpm_record.specs.Record.{Record}
+use Rattle.tpm_record.specs.Tick.{ticked}
+use Rattle.tpm_step.specs.Answer.{framed}
+use Rattle.tpm_step.specs.Events.{Given}
+use Rattle.tpm_step.specs.Placing.{placed}
+use Rattle.tpm_step.specs.Step.{step}
+use Rattle.tpm_completion.specs.Answer.{refusal, success}
+use Rattle.tpm_completion.specs.Completed.{completed}
+use Rattle.tpm_completion.specs.Completion.{forgotten}
+use Rattle.tpm_completion.specs.Execution.{Seen}
+use Rattle.tpm_completion.specs.Loaded.{StaysValid, saved_context}
+use Rattle.tpm_completion.specs.Saving.{counted}
+use Rattle.tpm_completion.specs.declared.completion.Completion.{Completion}
+
+-- TPM2_ContextSave (162) of a handle, and TPM2_ContextLoad (161) of a context, without sessions
+abbrev pub save_buffer : Handle → List ℕ
+save_buffer handle = framed 0x8001 0x162 (to_be_bytes w32 handle.number)
+
+abbrev pub load_buffer : (context : List ℕ) → List ℕ
+load_buffer context = framed 0x8001 0x161 context
+
+-- the effect of a command on a device with the layer, if no memory is refused
+abbrev pub effect_of : Completion → Record → (buffer : List ℕ) → (locality elapsed : ℕ) → List ℕ
+    → Seen
+effect_of c r buffer locality elapsed random =
+    completed true c r (Given buffer locality elapsed random)
+
+-- ---- saving
+
+-- An object was saved with the next number. Time passed, and nothing else changed on the device.
+pub record IsSaved (r : Record) (c : Completion) (object : Object) (seen : Seen) : Type 0 where
+  pub response : seen.step.response ≡ success (saved_context r c (c.count + 1) object)
+  pub device : seen.step.after ≡ r
+  pub layer : seen.layer ≡ counted c (c.count + 1)
+
+-- TPM2_ContextSave of a loaded object returns its context, and leaves the device as it was, apart
+-- from the time. The next context has the next number.
+abbrev pub SavesObjects : Type 0
+SavesObjects =
+    (r : Record) (c : Completion) (handle : Handle) (object : Object) (locality elapsed : ℕ)
+    (random : List ℕ)
+    → r.fixed.started ≡ true → handle.number < 2 ^ 32 → is_transient handle ≡ true
+    → c.count < 2 ^ 64 - 1 → object_at r.objects handle ≡ Some object
+    → IsSaved (ticked r elapsed) (forgotten (ticked r elapsed) c) object
+    (effect_of c r (save_buffer handle) locality elapsed random)
+
+-- ---- loading
+
+-- The object got a free handle: the response contains the handle, which now names this object. The
+-- device is otherwise unchanged.
+pub record IsPlaced (r : Record) (object : Object) (handle : Handle) (seen : Seen) : Type 0 where
+  pub response : seen.step.response ≡ success (to_be_bytes w32 handle.number)
+  pub free : object_at r.objects handle ≡ None
+  pub found : object_at seen.step.after.objects handle ≡ Some object
+  pub device : seen.step.after ≡ placed r object
+
+-- No slot was free: the response is OBJECT_MEMORY (902), and the device is unchanged.
+pub record IsFull (r : Record) (seen : Seen) : Type 0 where
+  pub response : seen.step.response ≡ refusal 0x902
+  pub device : seen.step.after ≡ r
+
+abbrev pub IsLoaded : Record → Object → Option Handle → Seen → Type 0
+IsLoaded r object (Some handle) seen = IsPlaced r object handle seen
+IsLoaded r object None seen = IsFull r seen
+
+-- TPM2_ContextLoad of a valid context brings back the same object, with its public area, its
+-- sensitive area and its Name, under a free handle. If all slots are taken, it is refused by
+-- OBJECT_MEMORY (902).
+abbrev pub LoadsObjects : Type 0
+LoadsObjects =
+    (r later : Record) (c d : Completion) (number : ℕ) (object : Object) (locality elapsed : ℕ)
+    (random : List ℕ)
+    → number < 2 ^ 64 → IsObject object → IsRecord later → later.fixed.started ≡ true
+    → StaysValid r later c d object
+    → IsLoaded (ticked later elapsed) object (next_handle later.objects)
+    (effect_of d later (load_buffer (saved_context r c number object)) locality elapsed random)
+
+-- ---- what ends the validity of a context
+
+-- Every command of the device, such as TPM2_FlushContext of the object itself, leaves each context
+-- valid, except TPM2_Startup and TPM2_Clear.
+abbrev pub StaysValidThrough : Type 0
+StaysValidThrough =
+    (r : Record) (c : Completion) (object : Object) (buffer : List ℕ) (locality elapsed : ℕ)
+    (random : List ℕ)
+    → (step r (Given buffer locality elapsed random)).row.code ≢ code_number command.Startup
+    → (step r (Given buffer locality elapsed random)).row.code ≢ code_number command.Clear
+    → StaysValid r (step r (Given buffer locality elapsed random)).after c c object
