@@ -22,7 +22,6 @@ from tpmsim.model.object_commands import OBJECTS
 from tpmsim.model.state import CLEAR, STATE
 from tpmsim.model.state_text import open_state, state_text
 from tpmsim.standard import CC, command, mac, number, RH_LOCKOUT, RH_OWNER, RH_PLATFORM, SHA256
-from tpmsim.standard import TRANSIENT
 from tpmsim.standard.handle_kinds import PRIMARY_HIERARCHIES
 from tpmsim.standard.objects import Attribute
 from tests.common.shims import fail

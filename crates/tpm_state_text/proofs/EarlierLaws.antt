@@ -1,6 +1,6 @@
 -- Version 1 of a state text: decoding returns a state exactly if the bytes are its body. Without the
 -- objects that wait, the state is possible for a device.
-use Rattle.std.proofs.Common.{◌≡◌, ℕ, zero, suc, ◌+◌, ◌^◌, ◌<◌, ◌≤◌, Bool, true, false, List, [], ◌∷◌, ◌++◌, length, slice_set, Option, Some, None, IfSome, Result, Ok, refl, sym, ap, ◌∙◌, arith, length-append}
+use Rattle.std.proofs.Common.{◌≡◌, ℕ, zero, suc, ◌+◌, ◌<◌, ◌≤◌, Bool, true, false, List, [], ◌∷◌, length, slice_set, Option, Some, None, IfSome, Ok, refl, sym, ap, ◌∙◌, arith, length-append}
 use Rattle.std.specs.Prelude.{◌==◌, cond, is_some, option_map}
 use Rattle.std.specs.Int.{w64, to_be_bytes}
 use Rattle.std.specs.List.{flat_map, fold}
@@ -17,13 +17,12 @@ use Rattle.tpm_record.specs.Objects.{object_handle, without_object}
 use Rattle.tpm_record.specs.Record.{Record}
 use Rattle.tpm_types.proofs.Spelled.{Spelled, all_read, first, four_texts, respelled, then, two_texts}
 use Rattle.tpm_types.specs.Limits.{object_limit, session_limit}
-use Rattle.tpm_image_text.specs.Sizes.{body_size}
 use Rattle.tpm_image_text.proofs.FieldSpelling.{filling_again, filling_taken}
-use Rattle.tpm_state_text.specs.Body.{IsWholeState, WholeState, device_text}
+use Rattle.tpm_state_text.specs.Body.{IsWholeState, device_text}
 use Rattle.tpm_state_text.specs.Earlier.{EarlierState, IsEarlierLayer, IsEarlierState, IsHeld, current, device_of, earlier_body_in, earlier_body_text, earlier_layer_in, earlier_layer_text, earlier_state_of_body, held_in, held_text, layer_of, without_one, without_waiting}
 use Rattle.tpm_state_text.specs.Layer.{IsLayer}
 use Rattle.tpm_state_text.specs.Places.{optional_text}
-use Rattle.tpm_state_text.specs.Sizes.{earlier_layer_size, state_text_size, volatile_size}
+use Rattle.tpm_state_text.specs.Sizes.{earlier_layer_size, state_text_size}
 use Rattle.tpm_state_text.specs.declared.earlier.EarlierLayer.{EarlierLayer}
 use Rattle.tpm_state_text.specs.declared.earlier.Held.{Held}
 use Rattle.tpm_state_text.proofs.BodyLaws.{device_spelled}

@@ -1,6 +1,6 @@
 -- State texts: decoding returns a state exactly if the text is its state text. No proper prefix
 -- of a state text is a state text.
-use Rattle.std.proofs.Common.{◌≡◌, ℕ, ◌+◌, ◌<◌, ◌≤◌, ◌^◌, Some, List, ◌++◌, length, take, Result, Ok, Err, left, right, refl, subst, sym, ap, ◌∙◌, append_assoc, arith}
+use Rattle.std.proofs.Common.{◌≡◌, ℕ, ◌+◌, ◌<◌, ◌≤◌, ◌^◌, Some, List, ◌++◌, length, take, Result, Ok, Err, inl, inr, refl, subst, sym, ap, ◌∙◌, append_assoc, arith}
 use Rattle.std.proofs.lemmas.List.{length-take, take_at}
 use Rattle.tpm_bytes.specs.Reading.{◌>>=◌, or_fault, refused_if}
 use Rattle.tpm_bytes.proofs.Fields.{AreBytes, bind_ok, ok_is, or_fault_ok}
@@ -41,14 +41,13 @@ current_by said =
     refused_if (is_earlier said.0) fault.Earlier >>= λ is_current. or_fault (state_of_body said.1) fault.Body
 
 state_numbered : AreNumbered state_format
+unfolding state_version_numbered
 state_numbered = record { is = is; again = again; small = small }
   where
     is : (n : ℕ) (version : StateVersion) → state_version_numbered n ≡ Some version → n ≡ state_version_number version
-    unfolding state_version_numbered
     is n version = link state_version_number n One _ version λ o. link state_version_number n Two _ o (none state_version_number n)
 
     again : (version : StateVersion) → state_version_numbered (state_version_number version) ≡ Some version
-    unfolding state_version_numbered
     again One = refl
     again Two = refl
 
@@ -92,10 +91,10 @@ found_in One body state fits e =
     let a = bind_ok (earlier_state_of_body body) (λ s. Ok (current s)) state e in
     let b = earlier_taken body a.0 fits a.1 in
     let same : state ≡ current a.0 = sym (ok_is {E = Malformed} (current a.0) state a.2) in
-    (subst IsWholeState (sym same) (current_is a.0 b.1), right (a.0, b.1, ap (framed_state One) b.0, same))
+    (subst IsWholeState (sym same) (current_is a.0 b.1), inr (a.0, b.1, ap (framed_state One) b.0, same))
 found_in Two body state fits e =
     let b = body_taken body state fits e in
-    (b.1, left (ap (framed_state Two) b.0))
+    (b.1, inl (ap (framed_state Two) b.0))
 
 pub text_found : (text : List ℕ) (state : WholeState) → AreBytes text → state_of_text text ≡ Ok state → IsWholeState state × Encodes text state
 text_found text state fits e =

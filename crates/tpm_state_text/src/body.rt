@@ -2,11 +2,11 @@
 
 ghost use Rattle.std.specs.Prelude.{◌≡◌, ◌≤◌, ◌+◌, ◌++◌, [], length, option_copied, replicate};
 ghost use Rattle.tpm_image_text.specs.Filling.{Fills};
-ghost use Rattle.tpm_image_text.specs.Sizes.{body_size, more_size};
+ghost use Rattle.tpm_image_text.specs.Sizes.{body_size};
 ghost use Rattle.tpm_record.specs.Record.{manufactured};
 ghost use Rattle.tpm_state_text.specs.Body.{body_text, device_in, device_text, state_of_body};
 ghost use Rattle.tpm_state_text.specs.Filling.{FillsState, state_of};
-ghost use Rattle.tpm_state_text.specs.Sizes.{volatile_size};
+ghost use Rattle.tpm_state_text.specs.Sizes.{layer_size, volatile_size};
 
 use crate::layer::{Layer, read_optional_layer, write_optional_layer};
 use crate::volatile::{read_volatile, write_volatile};
@@ -57,7 +57,7 @@ pub fn write_body<K: Keep>(keep: &K, layer: Option<&Layer>, text: &mut Text)
     requires { text.old ≡ [] }
     ensures written { text.new
         ≡ body_text (state_of (K.record_of keep.now) (option_copied layer.entry)) }
-    ensures small { length text.new ≤ body_size + more_size }
+    ensures small { length text.new ≤ body_size + (volatile_size + 1 + layer_size) }
 {
     write_device(keep, text);
     write_optional_layer(layer, text);

@@ -51,6 +51,8 @@ pub enum Said {
     HoldsNoImage,
     /// The head's state text is not a state text of this version of the program.
     HoldsNoState,
+    /// The head's state text is one of an earlier version, in which flushed objects could wait.
+    HoldsEarlierState,
     WasAnsweredOtherwise,
     /// The keeper has this fault.
     Keeper(Fault),
@@ -127,6 +129,9 @@ impl Said {
             Said::IsNoJournal => "is no journal of a device",
             Said::HoldsNoImage => "holds an image that this program does not open",
             Said::HoldsNoState => "holds a state that this program does not open",
+            Said::HoldsEarlierState => {
+                "holds a state of an earlier version: take a snapshot with that version, and restore it with this one"
+            }
             Said::WasAnsweredOtherwise => {
                 "was written by a program that answers otherwise than this one, and stays as it is"
             }
@@ -143,6 +148,7 @@ impl Said {
             Said::IsNoJournal
                 | Said::HoldsNoImage
                 | Said::HoldsNoState
+                | Said::HoldsEarlierState
                 | Said::WasAnsweredOtherwise
                 | Said::Keeper(Fault::Damaged)
         )
